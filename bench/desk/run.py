@@ -1,0 +1,58 @@
+#!/usr/bin/env python3
+"""Times threads that verify while one upgrades: by sessions of a desk, and with a lock round the book. Prints a table.
+
+Each thread that verifies does so 20000 times on accounts all over a book of 4096, each time with a beginning, a cheap hash
+and a close. In a row with upgrades one more thread upgrades without pause, as often. A row is the turn with the best rate of
+verifies out of several; the rows take turns, so that the machine's other work meets all of them.
+
+The crate desk_load is proved and built with `rt`, in its own folder. The gate runs it on a small load, and compares the totals.
+
+    bench/desk/run.py [TURNS]
+"""
+
+import pathlib
+import re
+import subprocess
+import sys
+
+CRATE = pathlib.Path(__file__).resolve().parent.parent.parent / "crates" / "desk_load"
+VERIFIES = 20000
+
+# what is round the book, threads that verify, upgrades
+ROWS = [(book, readers, upgrades) for readers in (1, 2, 4) for book in ("desk", "lock") for upgrades in (0, VERIFIES)]
+
+
+def build():
+    """Proves and links the program, and gives its path."""
+    program = CRATE / "out/desk_load"
+    done = subprocess.run(["rt", "run", "--", "desk", "1", "10", "10"], cwd=CRATE, capture_output=True, text=True)
+    if done.returncode != 0 or not program.exists():
+        sys.exit(done.stdout + done.stderr)
+    return program
+
+
+def figures(program, row):
+    """Verifies a second in all threads, the longest beginning in microseconds, and upgrades a second."""
+    book, readers, upgrades = row
+    words = [program, book, str(readers), str(VERIFIES), str(upgrades), "figures"]
+    done = subprocess.run(words, capture_output=True, text=True, check=True)
+    totals, rates = done.stdout.splitlines()
+    if totals != f"{readers * VERIFIES} verifies, {upgrades} upgrades, {upgrades} changes":
+        sys.exit(f"other totals at {row}: {totals}")
+    return tuple(int(number) for number in re.findall(r"\d+", rates))
+
+
+def main():
+    turns = int(sys.argv[1]) if len(sys.argv) > 1 else 7
+    program = build()
+    best = {row: (0, 0, 0) for row in ROWS}
+    for _ in range(turns):
+        for row in ROWS:
+            best[row] = max(best[row], figures(program, row))
+    print("| Book | Threads that verify | Upgrades | Verifies a second | Longest beginning, us | Upgrades a second |")
+    print("|------|--------------------:|----------|------------------:|----------------------:|------------------:|")
+    for (book, readers, upgrades), (rate, worst, other) in best.items():
+        print(f"| {book} | {readers:19} | {'yes' if upgrades else 'no ':8} | {rate:17} | {worst:21} | {other:17} |")
+
+
+main()

@@ -1,0 +1,10 @@
+-- The memory while it is filled, with so many segments of each lane worked.
+use Rattle.std.proofs.Common.{◌≡◌, ℕ, List}
+use Rattle.cred_argon.specs.declared.memory.Memory.{Memory}
+use Rattle.cred_argon.specs.Slices.{IsMemory, MemoryHolds}
+
+pub record IsFilled (start now : Memory) (passes g : ℕ) : Type 0 where
+  pub params : now.shared.params ≡ start.shared.params
+  pub passes_are : passes ≡ start.shared.params.passes
+  pub shape : IsMemory g now
+  pub holds : (h : List ℕ) → MemoryHolds h 0 start → MemoryHolds h g now

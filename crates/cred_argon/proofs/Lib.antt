@@ -1,0 +1,15 @@
+pub mod QuadLemmas
+pub mod Whole
+pub mod Ranges
+pub mod Sets
+pub mod Picks
+pub mod CellLaw
+pub mod Slots
+pub mod Steps
+pub mod Working
+pub mod Turns
+pub mod Filling
+pub mod FirstCells
+pub mod LastBlocks
+pub mod Halves
+pub mod Vectors

@@ -1,0 +1,133 @@
+-- The place that two words name, in time.
+use Rattle.std.proofs.Common.{◌≡◌, ℕ, zero, suc, ◌<◌, ◌≤◌, ◌+◌, ◌-◌, ◌*◌, ◌/◌, ◌%◌, Bool, true, false, min, ◌==◌, ◌||◌, if◌then◌else◌, refl, sym, arith, zero-mul}
+use Rattle.std.proofs.Math.Nat.{div-add-mod, mod-add-mod, mod-lt, mul-le-mul_right, mul-lt-mul_of_pos_right, mod-eq_of_lt}
+use Rattle.std.proofs.lemmas.Nat.{mod-mul-add}
+use Rattle.std.proofs.lemmas.Bool.Decides.{nat_tests}
+use Rattle.std.proofs.lemmas.List.FromFn.{length-map-range_with_len, get_or-map-range_with_len}
+use Rattle.cred_argon.specs.declared.place.Place.{Place}
+use Rattle.cred_argon.specs.Places.{segment_of, IsComputed, reference_lane, pick, reference_place}
+use Rattle.cred_argon.specs.Times.{time_of, reference_count, IsBefore}
+use Rattle.cred_argon.proofs.Sets.{at_time, first_of, count_of, set_is, time_is, three_segments}
+
+-- a segment before, or two blocks of the own one, leave an element
+count_later : (s w k : ℕ) (own : Bool) → 2 ≤ s → s ≤ w → 0 < w + (if own then k else 0) - (if own || (k == 0) then 1 else 0)
+count_later s w k true some h = omega arith
+count_later s w zero false some h = omega arith
+count_later s w (suc k) false some h = let more : (suc k == 0) ≡ false = grind (arith, nat_tests) in rw more (omega arith)
+
+at_least_one : (g s : ℕ) → 0 < g → s ≤ min 3 g * s
+at_least_one g s h = let one : 1 * s ≤ min 3 g * s = mul-le-mul_right s (omega arith) in omega (arith, one)
+
+-- the list always has the element that is picked
+pub count_some : (s lanes : ℕ) (p : Place) (j2 : ℕ) → 2 ≤ s → IsComputed s lanes p
+    → 0 < count_of s p (reference_lane s lanes p j2 == p.lane)
+count_some s lanes p j2 some computed = go (segment_of s p) refl
+  where
+    go : (g : ℕ) → segment_of s p ≡ g → 0 < count_of s p (reference_lane s lanes p j2 == p.lane)
+    go zero same =
+        let column_small : p.column / s ≡ 0 = omega (arith, same) in
+        let whole : s * (p.column / s) + p.column % s ≡ p.column = div-add-mod p.column s in
+        let parts : s * 0 + p.column % s ≡ p.column = rw column_small at whole in
+        let offset : 2 ≤ p.column % s = omega (arith, parts, computed.not_first (omega (arith, same))) in
+        let own : (p.lane == p.lane) ≡ true = grind (arith, nat_tests) in
+        rw (same, own) (omega (arith, offset))
+    go (suc g) same =
+        rw same (count_later s (min 3 (suc g) * s) (p.column % s) _ some (at_least_one (suc g) s (omega arith)))
+
+pub pick_below : (n j1 : ℕ) → 0 < n → pick n j1 < n
+pick_below n j1 h = omega arith
+
+-- the place that the words name is that of a time
+pub reference_is : (s lanes : ℕ) (p : Place) (j1 j2 : ℕ) → 2 ≤ s → IsComputed s lanes p
+    → let l = reference_lane s lanes p j2 in
+    reference_place s lanes p j1 j2 ≡ at_time s l (first_of s p + pick (count_of s p (l == p.lane)) j1)
+unfolding reference_place
+reference_is s lanes p j1 j2 some computed =
+    let l = reference_lane s lanes p j2 in
+    let n = count_of s p (l == p.lane) in
+    rw (set_is s p l (omega arith) computed.column_inside, length-map-range_with_len (at_time s l) (first_of s p) n)
+    (get_or-map-range_with_len (at_time s l) (first_of s p) n (pick n j1) (first_of s p + pick n j1) p
+    (pick_below n j1 (count_some s lanes p j2 some computed)) refl)
+
+time_at : (s l n : ℕ) → time_of s (at_time s l n) ≡ n
+time_at s l n = let whole : 4 * s * (n / (4 * s)) + n % (4 * s) ≡ n = div-add-mod n (4 * s) in omega (arith, whole)
+
+lane_inside : (s lanes : ℕ) (p : Place) (j2 : ℕ) → p.lane < lanes → reference_lane s lanes p j2 < lanes
+lane_inside s lanes p j2 h = go (segment_of s p == 0)
+  where
+    go : (b : Bool) → (if b then p.lane else j2 % lanes) < lanes
+    go true = h
+    go false = mod-lt j2 (omega arith)
+
+-- where it lies, for the own lane and for another
+before_own : (s lanes : ℕ) (p : Place) (l n : ℕ) → 2 ≤ s → IsComputed s lanes p → l < lanes → l ≡ p.lane
+    → n < count_of s p true → IsBefore s lanes p (at_time s l (first_of s p + n))
+before_own s lanes p l n some computed inside same below =
+    let stretch : first_of s p + min 3 (segment_of s p) * s ≡ segment_of s p * s = three_segments (segment_of s p) s in
+    let time : segment_of s p * s + p.column % s ≡ time_of s p = time_is s p in
+    let at : time_of s (at_time s l (first_of s p + n)) ≡ first_of s p + n = time_at s l (first_of s p + n) in
+    record {
+      column_inside = mod-lt (first_of s p + n) (omega arith);
+      lane_inside = inside;
+      earlier = rw at (omega (arith, stretch, time, below));
+      recent = rw at (omega arith);
+      finished = λ other. absurd (other same);
+    }
+
+before_other : (s lanes : ℕ) (p : Place) (l n : ℕ) → 2 ≤ s → IsComputed s lanes p → l < lanes
+    → n < count_of s p false → IsBefore s lanes p (at_time s l (first_of s p + n))
+before_other s lanes p l n some computed inside below =
+    let stretch : first_of s p + min 3 (segment_of s p) * s ≡ segment_of s p * s = three_segments (segment_of s p) s in
+    let time : segment_of s p * s + p.column % s ≡ time_of s p = time_is s p in
+    let at : time_of s (at_time s l (first_of s p + n)) ≡ first_of s p + n = time_at s l (first_of s p + n) in
+    let within : n < min 3 (segment_of s p) * s = omega (arith, below) in
+    record {
+      column_inside = mod-lt (first_of s p + n) (omega arith);
+      lane_inside = inside;
+      earlier = rw at (omega (arith, stretch, time, within));
+      recent = rw at (omega arith);
+      finished = λ _. rw at (omega (arith, stretch, within));
+    }
+
+pub reference_before : (s lanes : ℕ) (p : Place) (j1 j2 : ℕ) → 2 ≤ s → IsComputed s lanes p
+    → IsBefore s lanes p (reference_place s lanes p j1 j2)
+reference_before s lanes p j1 j2 some computed =
+    rw (reference_is s lanes p j1 j2 some computed) (go (l == p.lane) refl (count_some s lanes p j2 some computed))
+  where
+    l : ℕ
+    l = reference_lane s lanes p j2
+
+    go : (own : Bool) → (l == p.lane) ≡ own → 0 < count_of s p own → IsBefore s lanes p (at_time s l (first_of s p + pick (count_of s p own) j1))
+    go true same n =
+        before_own s lanes p l (pick (count_of s p true) j1) some computed (lane_inside s lanes p j2 computed.lane_inside)
+        (grind (arith, nat_tests, same)) (pick_below (count_of s p true) j1 n)
+    go false same n =
+        before_other s lanes p l (pick (count_of s p false) j1) some computed (lane_inside s lanes p j2 computed.lane_inside)
+        (pick_below (count_of s p false) j1 n)
+
+-- the column at which the stretch starts
+pub start_first : (u s : ℕ) → u < 4 → 0 < s → 0 ≡ (4 * 0 + u - 3) * s % (4 * s)
+start_first u s h some =
+    let none : 4 * 0 + u - 3 ≡ 0 = omega arith in
+    rw (none, zero-mul s) (sym (mod-eq_of_lt {n = 0} {m = 4 * s} (omega arith)))
+
+spread : (a b s : ℕ) → (4 * a + b) * s ≡ a * (4 * s) + b * s
+spread a b s = omega arith
+
+pub start_later : (r u s : ℕ) → 0 < r → 0 < s → (u + 1) % 4 * s ≡ (4 * r + u - 3) * s % (4 * s)
+start_later r u s later some =
+    let turn : 4 * r + u - 3 ≡ 4 * (r - 1 + (u + 1) / 4) + (u + 1) % 4 = omega arith in
+    let part : (u + 1) % 4 * s < 4 * s = mul-lt-mul_of_pos_right (omega arith) some in
+    rw (turn, spread (r - 1 + (u + 1) / 4) ((u + 1) % 4) s) (sym (mod-mul-add (r - 1 + (u + 1) / 4) (4 * s) ((u + 1) % 4 * s) part))
+
+-- lane and column of the place that the words name, where slice and offset stand for the column
+pub column_is : (s lanes : ℕ) (p : Place) (j1 j2 slice offset : ℕ) → 2 ≤ s → IsComputed s lanes p
+    → slice ≡ p.column / s → offset ≡ p.column % s
+    → let l = if 4 * p.pass + slice == 0 then p.lane else j2 % lanes in
+    (((4 * p.pass + slice - 3) * s % (4 * s) + pick (reference_count s (4 * p.pass + slice) offset (l == p.lane)) j1) % (4 * s)
+    ≡ (reference_place s lanes p j1 j2).column)
+    × (l ≡ (reference_place s lanes p j1 j2).lane)
+column_is s lanes p j1 j2 slice offset some computed slice_is offset_is =
+    let l = reference_lane s lanes p j2 in
+    rw (slice_is, offset_is, reference_is s lanes p j1 j2 some computed)
+    (mod-add-mod (first_of s p) (4 * s) (pick (count_of s p (l == p.lane)) j1), refl)

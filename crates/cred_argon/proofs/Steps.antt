@@ -1,0 +1,90 @@
+-- One block of a segment: what is made of the block before and the reference is the cell.
+use Rattle.std.proofs.Common.{◌≡◌, ◌≢◌, ℕ, ◌<◌, ◌≤◌, ◌+◌, ◌-◌, ◌*◌, ◌/◌, ◌%◌, ◌^◌, List, ◌++◌, length, slice_index_or, slice_set, Bool, true, false, not, if◌then◌else◌, slice_index, refl, ap, ap₂, sym, ◌∙◌, inl, inr, arith}
+use Rattle.std.proofs.lemmas.Nat.{div-mul-add, mod-mul-add}
+use Rattle.std.proofs.lemmas.Bool.{cases_eq}
+use Rattle.std.proofs.lemmas.Bool.Decides.{nat_tests}
+use Rattle.std.proofs.lemmas.List.{get_or_append_left, get_or-append_right, set-append_right, get_or-set_same, get_or-set_other, length-append}
+use Rattle.cred_argon.specs.declared.block.Block.{Block}
+use Rattle.cred_argon.specs.declared.place.Place.{Place}
+use Rattle.cred_argon.specs.declared.segment.Shared.{Shared}
+use Rattle.cred_argon.specs.Parameters.{Parameters, segment_len}
+use Rattle.cred_argon.specs.Compress.{compress, xor_words}
+use Rattle.cred_argon.specs.Places.{IsComputed, reference_place}
+use Rattle.cred_argon.specs.Cells.{is_dependent, address_block, previous, older, word_by, mixed_by, is_first, is_fresh, cell_by, cell}
+use Rattle.cred_argon.specs.Segments.{place_in, DoneHolds, OwnHolds}
+use Rattle.cred_argon.proofs.CellLaw.{cell_is, later_pass}
+
+not_first : (s lanes : ℕ) (p : Place) → IsComputed s lanes p → is_first p ≡ false
+not_first s lanes p computed = go p.pass refl
+  where
+    go : (r : ℕ) → p.pass ≡ r → is_first p ≡ false
+    go r same = grind (arith, nat_tests, computed.not_first)
+
+equation : (a : Parameters) (h : List ℕ) (p : Place) → 2 ≤ segment_len a → IsComputed (segment_len a) a.lanes p → (fresh : Bool)
+    → is_fresh a.version p.pass ≡ fresh
+    → cell a h p ≡ (if fresh then mixed_by a (cell a h) p else xor_words (cell a h (older p)) (mixed_by a (cell a h) p))
+unfolding cell_by
+equation a h p some computed fresh same =
+    cell_is a h p some (record { lane_inside = computed.lane_inside; column_inside = computed.column_inside })
+    ∙ rw (not_first (segment_len a) a.lanes p computed, same) refl
+
+-- the word that the code reads is the one that names the reference
+pub word_is : (c : Shared) (h before addresses : List ℕ) (l k : ℕ) → k < segment_len c.params
+    → before ≡ cell c.params h (previous (segment_len c.params) (place_in c l k))
+    → (is_dependent c.params.kind c.pass c.slice ≡ false → addresses ≡ address_block c.params c.pass l c.slice (k / 128 + 1))
+    → (if is_dependent c.params.kind c.pass c.slice then slice_index before 0 else slice_index addresses (k % 128))
+    ≡ word_by c.params (cell c.params h) (place_in c l k)
+word_is c h before addresses l k inside before_is addresses_are =
+    let slice : (c.slice * segment_len c.params + k) / segment_len c.params ≡ c.slice = div-mul-add c.slice (segment_len c.params) k inside in
+    let offset : (c.slice * segment_len c.params + k) % segment_len c.params ≡ k = mod-mul-add c.slice (segment_len c.params) k inside in
+    rw (slice, offset) (go (is_dependent c.params.kind c.pass c.slice) refl)
+  where
+    go : (b : Bool) → is_dependent c.params.kind c.pass c.slice ≡ b
+        → (if b then slice_index before 0 else slice_index addresses (k % 128))
+        ≡ (if b then slice_index (cell c.params h (previous (segment_len c.params) (place_in c l k))) 0
+        else slice_index (address_block c.params c.pass l c.slice (k / 128 + 1)) (k % 128))
+    go true same = ap (λ (x : List ℕ). slice_index x 0) before_is
+    go false same = ap (λ (x : List ℕ). slice_index x (k % 128)) (addresses_are same)
+
+-- G of the block before and the reference
+pub mixed_is : (a : Parameters) (h before other : List ℕ) (p : Place) (w : ℕ)
+    → before ≡ cell a h (previous (segment_len a) p) → w ≡ word_by a (cell a h) p
+    → other ≡ cell a h (reference_place (segment_len a) a.lanes p (w % 2 ^ 32) (w / 2 ^ 32))
+    → compress before other ≡ mixed_by a (cell a h) p
+mixed_is a h before other p w before_is word other_is =
+    ap₂ compress before_is (other_is ∙ ap (λ (v : ℕ). cell a h (reference_place (segment_len a) a.lanes p (v % 2 ^ 32) (v / 2 ^ 32))) word)
+
+-- what replaces a block, or is added to it, makes the cell
+pub made_is : (a : Parameters) (h old mixed out : List ℕ) (p : Place) (fresh : Bool) → 2 ≤ segment_len a → IsComputed (segment_len a) a.lanes p
+    → is_fresh a.version p.pass ≡ fresh → (0 < p.pass → old ≡ cell a h (older p)) → mixed ≡ mixed_by a (cell a h) p
+    → out ≡ (if not fresh then xor_words old mixed else mixed) → out ≡ cell a h p
+made_is a h old mixed out p true some computed same old_is mixed_is made = made ∙ mixed_is ∙ sym (equation a h p some computed true same)
+made_is a h old mixed out p false some computed same old_is mixed_is made =
+    made ∙ ap₂ xor_words (old_is (later_pass a.version p.pass same)) mixed_is ∙ sym (equation a h p some computed false same)
+
+-- a segment whose blocks before k are done, once the block at k is made of them
+pub own_step : (h : List ℕ) (c : Shared) (l k : ℕ) (done rest : List Block) (made d : Block) → length done ≡ k → 0 < length rest
+    → k < segment_len c.params → OwnHolds h c l k (done ++ rest)
+    → (DoneHolds h c l done → (0 < c.pass → (slice_index_or rest 0 d).0 ≡ cell c.params h (older (place_in c l (length done))))
+    → made.0 ≡ cell c.params h (place_in c l (length done)))
+    → OwnHolds h c l (k + 1) (done ++ slice_set rest 0 made)
+own_step h c l k done rest made d len some inside own step =
+    let here : done ++ slice_set rest 0 made ≡ slice_set (done ++ rest) k made =
+    let first : k - k ≡ 0 = omega arith in
+    sym (rw first at (set-append_right done rest k k made len (omega arith))) in
+    let fits : k < length (done ++ rest) = rw length-append (omega (arith, len, some)) in
+    let made_is : made.0 ≡ cell c.params h (place_in c l k) = rw len at (step
+    (λ i e below. ap (λ (b : Block). b.0) (sym (get_or_append_left done rest e i below)) ∙ own.new i e (omega (arith, below, len)))
+    (λ later. ap (λ (b : Block). b.0) (old_at d) ∙ rw len (own.old k d (omega arith) inside later))) in
+    rw here (record {
+      new = λ i e below. elim (cases_eq i k) [
+        | inl same ↦ rw (same, get_or-set_same (done ++ rest) k made e fits) made_is
+        | inr other ↦ rw (get_or-set_other (done ++ rest) k i made e other) (own.new i e (omega (arith, below, other)))
+      ];
+      old = λ i e above below later.
+          let other : i ≢ k = λ same. absurd (omega (arith, same, above)) in
+          rw (get_or-set_other (done ++ rest) k i made e other) (own.old i e (omega arith) below later);
+    })
+  where
+    old_at : (e : Block) → slice_index_or rest 0 e ≡ slice_index_or (done ++ rest) k e
+    old_at e = let first : k - k ≡ 0 = omega arith in sym (rw first at (get_or-append_right done rest k k e len (omega arith)))

@@ -1,0 +1,13 @@
+pub mod Numbers
+pub mod Parameters
+pub mod Errors
+pub mod Faults
+pub mod Compress
+pub mod Quads
+pub mod Places
+pub mod Times
+pub mod Cells
+pub mod Addresses
+pub mod Segments
+pub mod Argon
+pub mod Slices

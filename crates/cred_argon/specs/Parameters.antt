@@ -1,0 +1,31 @@
+-- What an Argon2 tag is asked for (RFC 9106, section 3.1), and how the memory is cut (section 3.2).
+use Rattle.std.specs.Prelude.{ℕ, ◌*◌, ◌/◌, ◌≤◌}
+use Rattle.cred_argon.specs.declared.kind.Kind.{Kind}
+use Rattle.cred_argon.specs.declared.kind.Version.{Version}
+
+-- version v, type y, memory size m in KiB, number of passes t, degree of parallelism p, tag length T in bytes
+pub record Parameters : Type 0 where
+  pub version : Version
+  pub kind : Kind
+  pub memory : ℕ
+  pub passes : ℕ
+  pub lanes : ℕ
+  pub tag_len : ℕ
+
+abbrev pub parameters : Version → Kind → ℕ → ℕ → ℕ → ℕ → Parameters
+parameters version kind memory passes lanes tag_len =
+    record { version = version; kind = kind; memory = memory; passes = passes; lanes = lanes; tag_len = tag_len }
+
+-- the columns of a segment: the memory has m' = 4 * p * floor(m / 4p) blocks, a lane m' / p of them, in four segments
+abbrev pub segment_len : Parameters → ℕ
+segment_len a = a.memory / (4 * a.lanes)
+
+-- the ranges that this library takes
+pub record IsParameters (a : Parameters) : Type 0 where
+  pub some_lane : 1 ≤ a.lanes
+  pub lanes_at_most : a.lanes ≤ 255
+  pub memory_at_least : 8 * a.lanes ≤ a.memory
+  pub memory_at_most : a.memory ≤ 2097152
+  pub some_pass : 1 ≤ a.passes
+  pub tag_at_least : 4 ≤ a.tag_len
+  pub tag_at_most : a.tag_len ≤ 64

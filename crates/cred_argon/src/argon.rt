@@ -1,0 +1,59 @@
+//! Argon2 as a whole (RFC 9106, section 3.2).
+ghost use Rattle.std.specs.Prelude.{◌≡◌, ◌^◌, ◌<◌, ◌≤◌, ◌↔◌, ◌⊎◌, IsTrue, IfOk, IfErr, length};
+ghost use Rattle.cred_argon.specs.Argon.{argon};
+
+use crate::bytes::bytes_of_block;
+use crate::error::ArgonError;
+use crate::inputs::first_hash;
+use crate::params::Params;
+use crate::start::start;
+use cred_blake::hprime;
+use cred_pool::Gate;
+use std::alloc::Global;
+use std::marker::Sync;
+use std::thread::Threads;
+
+/// The Argon2 tag of a password and a salt, a secret and associated data, which may be empty (RFC
+/// 9106, section 3.1). In each slice the lanes are worked by at most `workers` threads, behind the
+/// gate; the tag is the same for any number.
+///
+/// Refused as `InputLen` where an input has 2^32 bytes or more, before memory is taken, or else as
+/// `Memory`. The memory that is taken is that of the parameters, at most, and some KiB.
+pub fn argon2<R: Threads + Sync, G: Gate + Sync>(
+    rt: &R,
+    alloc: Global,
+    workers: u8,
+    gate: &G,
+    params: &Params,
+    pw: &[u8],
+    salt: &[u8],
+    secret: &[u8],
+    assoc: &[u8],
+) -> Result<Vec<u8>, ArgonError>
+    ensures ok { IfOk result (λ tag. tag.items
+        ≡ argon params.now pw.now salt.now secret.now assoc.now) }
+    ensures size { IfOk result (λ tag. length tag.items ≡ params.now.tag_len) }
+    ensures input_len { (result ≡ Err ArgonError.InputLen)
+        ↔ ((2 ^ 32 ≤ length pw.now) ⊎ (2 ^ 32 ≤ length salt.now)
+        ⊎ (2 ^ 32 ≤ length secret.now) ⊎ (2 ^ 32 ≤ length assoc.now)) }
+    ensures err { IfErr result (λ e. (e ≡ ArgonError.InputLen) ⊎ (e ≡ ArgonError.Memory)) }
+{
+    if is_too_long(pw) || is_too_long(salt) || is_too_long(secret) || is_too_long(assoc) {
+        return Err(ArgonError::InputLen);
+    }
+    let hash = first_hash(params, pw, salt, secret, assoc);
+    let mut memory = start(alloc, params, hash.bytes())?;
+    memory.fill(rt, workers, gate);
+    let last = bytes_of_block(&memory.last_blocks());
+    match hprime(alloc, params.tag_len(), &last) {
+        Ok(tag) => Ok(tag),
+        Err(_) => Err(ArgonError::Memory),
+    }
+}
+
+/// Whether an input's length doesn't fit the 32 bits that it is written in.
+fn is_too_long(input: &[u8]) -> bool
+    ensures { IsTrue result ↔ (2 ^ 32 ≤ length input.now) }
+{
+    u32::try_from(input.len()).is_err()
+}

@@ -1,0 +1,186 @@
+//! A block of the memory, and the compression function G (RFC 9106, section 3.5).
+ghost use Rattle.std.specs.Prelude.{◌≡◌, ℕ, ◌+◌, ◌*◌, ◌<◌, ◌≤◌, ◌⊎◌, length, bit_xor, if◌then◌else◌, slice_index};
+ghost use Rattle.cred_argon.specs.Compress.{compress, rows, xor_words};
+ghost use Rattle.cred_argon.specs.Quads.{lane_at, put_word, half_word};
+
+use crate::mix::xor;
+use crate::permute::{four_columns, four_rows};
+use std::simd::u64x4;
+
+/// A block of 1024 bytes, as 128 words of 64 bits.
+#[derive(Clone, Copy, Debug, PartialEq, Eq)]
+pub struct Block(pub [u64; 128]);
+
+impl Block {
+    /// The block of zeros.
+    pub(crate) const ZERO: Block = Block([0; 128]);
+}
+
+/// The compression function G of two blocks (RFC 9106, section 3.5).
+pub fn compress(x: &Block, y: &Block) -> Block
+    ensures { result.0 ≡ compress x.now.0 y.now.0 }
+{
+    let mut out = Block::ZERO;
+    compress_to(x, y, &mut out, false);
+    out
+}
+
+/// Writes G of two blocks over a third, or adds it to the third by exclusive or.
+#[inline(always)]
+pub(crate) fn compress_to(x: &Block, y: &Block, out: &mut Block, onto: bool)
+    ensures { let made = compress x.now.0 y.now.0 in
+        out.new.0 ≡ (if onto then xor_words out.old.0 made else made) }
+{
+    let [
+        z0,
+        z1,
+        z2,
+        z3,
+        z4,
+        z5,
+        z6,
+        z7,
+        z8,
+        z9,
+        z10,
+        z11,
+        z12,
+        z13,
+        z14,
+        z15,
+    ] = rows_from(&x.0, &y.0, 0);
+    let [
+        z16,
+        z17,
+        z18,
+        z19,
+        z20,
+        z21,
+        z22,
+        z23,
+        z24,
+        z25,
+        z26,
+        z27,
+        z28,
+        z29,
+        z30,
+        z31,
+    ] = rows_from(&x.0, &y.0, 4);
+    let left = four_columns([
+        z0, z1, z4, z5, z8, z9, z12, z13, z16, z17, z20, z21, z24, z25, z28, z29,
+    ]);
+    let right = four_columns([
+        z2, z3, z6, z7, z10, z11, z14, z15, z18, z19, z22, z23, z26, z27, z30, z31,
+    ]);
+    put_half(&x.0, &y.0, &mut out.0, 0, left, onto);
+    put_half(&x.0, &y.0, &mut out.0, 8, right, onto);
+}
+
+/// Four rows of the exclusive or of two blocks, with P on each.
+#[inline(always)]
+fn rows_from(x: &[u64; 128], y: &[u64; 128], row: usize) -> [u64x4; 16]
+    requires { row + 4 ≤ 8 }
+    ensures { (m : ℕ) → m < 16 → (e : ℕ) → e < 4
+        → lane_at result m e ≡ slice_index (rows (xor_words x.now y.now)) (16 * row + 4 * m + e) }
+{
+    four_rows([
+        xored(x, y, 16 * row + 0),
+        xored(x, y, 16 * row + 4),
+        xored(x, y, 16 * row + 8),
+        xored(x, y, 16 * row + 12),
+        xored(x, y, 16 * row + 16),
+        xored(x, y, 16 * row + 20),
+        xored(x, y, 16 * row + 24),
+        xored(x, y, 16 * row + 28),
+        xored(x, y, 16 * row + 32),
+        xored(x, y, 16 * row + 36),
+        xored(x, y, 16 * row + 40),
+        xored(x, y, 16 * row + 44),
+        xored(x, y, 16 * row + 48),
+        xored(x, y, 16 * row + 52),
+        xored(x, y, 16 * row + 56),
+        xored(x, y, 16 * row + 60),
+    ])
+}
+
+/// Puts the exclusive or of three blocks into half of each row of a block: the third comes as its
+/// half, in vectors.
+#[inline(always)]
+fn put_half(
+    x: &[u64; 128],
+    y: &[u64; 128],
+    out: &mut [u64; 128],
+    at: usize,
+    half: [u64x4; 16],
+    onto: bool,
+)
+    requires { at ≤ 8 }
+    ensures len { length out.new ≡ 128 }
+    ensures written { (i : ℕ) → i < 8 → (e : ℕ) → e < 8
+        → slice_index out.new (16 * i + at + e)
+        ≡ put_word onto (slice_index out.old (16 * i + at + e))
+        (half_word x.now y.now half at i e) }
+    ensures kept { (i : ℕ) → i < 8 → (r : ℕ) → r < 16 → (r < at) ⊎ (at + 8 ≤ r)
+        → slice_index out.new (16 * i + r) ≡ slice_index out.old (16 * i + r) }
+{
+    'rows: for i in 0..8 {
+        let start = 16 * i + at;
+        put(out, start, xor(xored(x, y, start), half[2 * i]), onto);
+        put(
+            out,
+            start + 4,
+            xor(xored(x, y, start + 4), half[2 * i + 1]),
+            onto,
+        );
+    }
+}
+
+/// The exclusive or of four words of each of two blocks.
+#[inline(always)]
+fn xored(x: &[u64; 128], y: &[u64; 128], at: usize) -> u64x4
+    requires { at + 4 ≤ 128 }
+    ensures { (j : ℕ) → j < 4
+        → slice_index result j ≡ bit_xor (slice_index x.now (at + j)) (slice_index y.now (at + j)) }
+{
+    u64x4::from_array([
+        x[at] ^ y[at],
+        x[at + 1] ^ y[at + 1],
+        x[at + 2] ^ y[at + 2],
+        x[at + 3] ^ y[at + 3],
+    ])
+}
+
+/// Puts four words into a block.
+#[inline(always)]
+fn put(out: &mut [u64; 128], at: usize, words: u64x4, onto: bool)
+    requires { at + 4 ≤ 128 }
+    ensures len { length out.new ≡ 128 }
+    ensures written { (j : ℕ) → j < 4
+        → slice_index out.new (at + j)
+        ≡ put_word onto (slice_index out.old (at + j)) (slice_index words j) }
+    ensures kept { (n : ℕ) → (n < at) ⊎ (at + 4 ≤ n)
+        → slice_index out.new n ≡ slice_index out.old n }
+{
+    let [w0, w1, w2, w3] = words.to_array();
+    out[at] = put_word(onto, out[at], w0);
+    out[at + 1] = put_word(onto, out[at + 1], w1);
+    out[at + 2] = put_word(onto, out[at + 2], w2);
+    out[at + 3] = put_word(onto, out[at + 3], w3);
+}
+
+#[inline(always)]
+fn put_word(onto: bool, old: u64, new: u64) -> u64
+    ensures { result ≡ put_word onto old new }
+{
+    if onto { old ^ new } else { new }
+}
+
+/// Adds a block to another by exclusive or.
+pub(crate) fn add_onto(x: &Block, out: &mut Block)
+    ensures { out.new.0 ≡ xor_words out.old.0 x.now.0 }
+{
+    'words: for i in 0..128 {
+        out.0[i] ^= x.0[i];
+    }
+}

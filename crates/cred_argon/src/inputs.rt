@@ -1,0 +1,81 @@
+//! The first hash of all inputs, and the first two blocks of each lane (RFC 9106, section 3.2,
+//! steps 1, 3 and 4).
+ghost use Rattle.std.specs.Prelude.{◌≡◌, ℕ, ◌+◌, ◌^◌, ◌<◌, ◌≤◌, List, ◌++◌, length, take};
+ghost use Rattle.cred_blake.specs.Hasher.{Holds};
+ghost use Rattle.cred_argon.specs.Argon.{le32, first_hash};
+ghost use Rattle.cred_argon.specs.Cells.{first_cell};
+
+use crate::block::Block;
+use crate::bytes::block_of_bytes;
+use crate::params::Params;
+use cred_blake::{Blake2b, Digest, hprime_block};
+
+/// The first hash, of the parameters and the four inputs, each behind its length.
+pub(crate) fn first_hash(
+    params: &Params,
+    pw: &[u8],
+    salt: &[u8],
+    secret: &[u8],
+    assoc: &[u8],
+) -> Digest
+    requires pw { length pw.now < 2 ^ 32 }
+    requires salt { length salt.now < 2 ^ 32 }
+    requires secret { length secret.now < 2 ^ 32 }
+    requires assoc { length assoc.now < 2 ^ 32 }
+    ensures value { result ≡ first_hash params.now pw.now salt.now secret.now assoc.now }
+    ensures len { length result ≡ 64 }
+{
+    let mut hasher = match Blake2b::new(64, &[]) {
+        Ok(hasher) => hasher,
+        Err(_) => unreachable!(),
+    };
+    feed_number(&mut hasher, params.lanes());
+    feed_number(&mut hasher, params.tag_len());
+    feed_number(&mut hasher, params.memory());
+    feed_number(&mut hasher, params.passes());
+    feed_number(&mut hasher, params.version().number());
+    feed_number(&mut hasher, params.kind().number());
+    feed_input(&mut hasher, pw);
+    feed_input(&mut hasher, salt);
+    feed_input(&mut hasher, secret);
+    feed_input(&mut hasher, assoc);
+    hasher.finalize()
+}
+
+fn feed_number(hasher: &mut Blake2b, number: u32)
+    ensures { (n : ℕ) → (key m : List ℕ) → Holds n key hasher.old m
+        → Holds n key hasher.new (m ++ le32 number) }
+{
+    hasher.update(&number.to_le_bytes());
+}
+
+/// Feeds an input behind its length.
+fn feed_input(hasher: &mut Blake2b, input: &[u8])
+    requires { length input.now < 2 ^ 32 }
+    ensures { (n : ℕ) → (key m : List ℕ) → Holds n key hasher.old m
+        → Holds n key hasher.new (m ++ le32 (length input.now) ++ input.now) }
+{
+    feed_number(hasher, input.len() as u32);
+    hasher.update(input);
+}
+
+/// The block of one of the first two columns of a lane.
+pub(crate) fn first_block(hash: &[u8], lane: u32, column: u32) -> Block
+    requires { length hash.now ≡ 64 }
+    ensures { result.0 ≡ first_cell hash.now lane column }
+{
+    let mut input = [0; 72];
+    put(&mut input, 0, hash);
+    put(&mut input, 64, &column.to_le_bytes());
+    put(&mut input, 68, &lane.to_le_bytes());
+    block_of_bytes(&hprime_block(&input))
+}
+
+/// Writes a piece behind the bytes that are there.
+fn put(out: &mut [u8; 72], at: usize, piece: &[u8])
+    requires { at + length piece.now ≤ 72 }
+    ensures len { length out.new ≡ 72 }
+    ensures front { take (at + length piece.now) out.new ≡ take at out.old ++ piece.now }
+{
+    out[at..at + piece.len()].copy_from_slice(piece);
+}

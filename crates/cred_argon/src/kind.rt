@@ -1,0 +1,49 @@
+//! The three kinds of Argon2, and its two versions.
+ghost use Rattle.std.specs.Prelude.{◌≡◌};
+ghost use Rattle.cred_argon.specs.Numbers.{kind_number, version_number};
+
+/// How Argon2 chooses the blocks that it reads (RFC 9106, section 3.1, type y).
+#[derive(Clone, Copy, Debug, PartialEq, Eq)]
+pub enum Kind {
+    /// By what stands in the memory, and so by the password.
+    D,
+    /// By the place alone.
+    I,
+    /// By the place alone in the first half of the first pass, and then by what stands in the
+    /// memory.
+    Id,
+}
+
+impl Kind {
+    /// The number that stands for the kind in Argon2's inputs: 0, 1 or 2.
+    pub fn number(self) -> u32
+        ensures { result ≡ kind_number self }
+    {
+        match self {
+            Kind::D => 0,
+            Kind::I => 1,
+            Kind::Id => 2,
+        }
+    }
+}
+
+/// A version of Argon2 (RFC 9106, section 3.1, version v).
+#[derive(Clone, Copy, Debug, PartialEq, Eq)]
+pub enum Version {
+    /// 0x10, whose later passes overwrite the memory. Old records alone have it.
+    V10,
+    /// 0x13, that of RFC 9106, whose later passes are added to the memory by exclusive or.
+    V13,
+}
+
+impl Version {
+    /// The version's number: 16 or 19.
+    pub fn number(self) -> u32
+        ensures { result ≡ version_number self }
+    {
+        match self {
+            Version::V10 => 0x10,
+            Version::V13 => 0x13,
+        }
+    }
+}

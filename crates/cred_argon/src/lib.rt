@@ -1,0 +1,35 @@
+//! Argon2, the memory-hard function of RFC 9106: kinds d, i and id, version 0x13 and the older
+//! 0x10.
+//!
+//! [`argon2`] makes a tag from a password, a salt and [`Params`], its lanes worked by threads.
+//! [`compress`] and [`reference`] are the two parts that its memory is filled with, for whoever
+//! wants to look at them alone.
+#![tactic(auto)]
+
+mod address;
+mod argon;
+mod block;
+mod bytes;
+mod error;
+mod inputs;
+mod kind;
+mod law;
+mod memory;
+mod mix;
+mod params;
+mod permute;
+mod place;
+mod segment;
+mod start;
+#[cfg(test)]
+mod tests;
+mod window;
+
+pub use argon::argon2;
+pub use block::{Block, compress};
+pub use error::ArgonError;
+pub use kind::{Kind, Version};
+pub use law::cells_meet_their_equation;
+pub use params::Params;
+pub use place::Place;
+pub use window::reference;

@@ -1,0 +1,181 @@
+//! What an Argon2 tag is asked for.
+ghost use Rattle.std.specs.Prelude.{◌≡◌, ◌*◌, ◌≤◌, ◌↔◌, IfOk};
+ghost use Rattle.cred_argon.specs.Parameters.{parameters, IsParameters, segment_len};
+ghost use Rattle.cred_argon.specs.Faults.{IsFirstFault};
+
+use crate::error::ArgonError;
+use crate::kind::{Kind, Version};
+use std::marker::Model;
+
+/// The most lanes that a memory may have.
+const MAX_LANES: u32 = 255;
+
+/// The most memory, in KiB: 2 GiB.
+const MAX_MEMORY: u32 = 2_097_152;
+
+/// The fewest and the most bytes of a tag: RFC 9106 has no fewer, and one BLAKE2b digest has no
+/// more.
+const MIN_TAG: u32 = 4;
+
+const MAX_TAG: u32 = 64;
+
+/// The version, kind, costs and tag length of an Argon2 tag (RFC 9106, section 3.1), always in
+/// range.
+#[derive(Clone, Copy, Debug)]
+pub struct Params {
+    version: Version,
+    kind: Kind,
+    memory: u32,
+    passes: u32,
+    lanes: u32,
+    tag_len: u32,
+    segment: u32,
+}
+
+impl Model for Params {
+    ghost use Rattle.std.specs.Prelude.{◌≡◌, ℕ, ◌*◌, ◌/◌};
+    ghost use Rattle.std.proofs.Common.{sym, ap};
+    ghost use Rattle.cred_argon.specs.Parameters.{Parameters, parameters, IsParameters};
+
+    ghost Value = { Parameters };
+
+    ghost view = { λ a. parameters a.version a.kind a.memory a.passes a.lanes a.tag_len };
+
+    ghost invariant = { λ a.
+        IsParameters (parameters a.version a.kind a.memory a.passes a.lanes a.tag_len)
+        × (a.segment ≡ a.memory / (4 * a.lanes)) };
+
+    ghost inverse = { λ v. record {
+      version = v.version;
+      kind = v.kind;
+      memory = v.memory;
+      passes = v.passes;
+      lanes = v.lanes;
+      tag_len = v.tag_len;
+      segment = v.memory / (4 * v.lanes);
+    } };
+
+    ghost inverse_ok = { λ a h. ap (λ (s : ℕ). record {
+      version = a.version;
+      kind = a.kind;
+      memory = a.memory;
+      passes = a.passes;
+      lanes = a.lanes;
+      tag_len = a.tag_len;
+      segment = s;
+    }) (sym h.1) };
+}
+
+impl Params {
+    /// Parameters of version 0x13: `memory` in KiB, from 8 a lane to 2 GiB, at least one pass, 1 to
+    /// 255 lanes, and a tag of 4 to 64 bytes. Refused as `Lanes`, `Cost`, `Passes` or `TagLen`,
+    /// judged in this order.
+    pub fn new(
+        kind: Kind,
+        memory: u32,
+        passes: u32,
+        lanes: u32,
+        tag_len: u32,
+    ) -> Result<Self, ArgonError>
+        ensures ok { IfOk result (λ a. (a ≡ parameters Version.V13 kind memory passes lanes tag_len)
+            × IsParameters (parameters Version.V13 kind memory passes lanes tag_len)) }
+        ensures err { (e : ArgonError) → (result ≡ Err e)
+            ↔ IsFirstFault (parameters Version.V13 kind memory passes lanes tag_len) e }
+    {
+        Params::with_version(Version::V13, kind, memory, passes, lanes, tag_len)
+    }
+
+    /// The same at a version of the caller's choice.
+    pub fn with_version(
+        version: Version,
+        kind: Kind,
+        memory: u32,
+        passes: u32,
+        lanes: u32,
+        tag_len: u32,
+    ) -> Result<Self, ArgonError>
+        ensures ok { IfOk result (λ a. (a ≡ parameters version kind memory passes lanes tag_len)
+            × IsParameters (parameters version kind memory passes lanes tag_len)) }
+        ensures err { (e : ArgonError) → (result ≡ Err e)
+            ↔ IsFirstFault (parameters version kind memory passes lanes tag_len) e }
+    {
+        if lanes == 0 || lanes > MAX_LANES {
+            return Err(ArgonError::Lanes);
+        }
+        if memory < 8 * lanes || memory > MAX_MEMORY {
+            return Err(ArgonError::Cost);
+        }
+        if passes == 0 {
+            return Err(ArgonError::Passes);
+        }
+        if tag_len < MIN_TAG || tag_len > MAX_TAG {
+            return Err(ArgonError::TagLen);
+        }
+        Ok(Params {
+            version,
+            kind,
+            memory,
+            passes,
+            lanes,
+            tag_len,
+            segment: memory / (4 * lanes),
+        })
+    }
+
+    /// The version.
+    pub fn version(&self) -> Version
+        ensures { result ≡ self.now.version }
+    {
+        self.version
+    }
+
+    /// The kind.
+    pub fn kind(&self) -> Kind
+        ensures { result ≡ self.now.kind }
+    {
+        self.kind
+    }
+
+    /// The memory that was asked for, in KiB.
+    pub fn memory(&self) -> u32
+        ensures { result ≡ self.now.memory }
+    {
+        self.memory
+    }
+
+    /// The number of passes.
+    pub fn passes(&self) -> u32
+        ensures value { result ≡ self.now.passes }
+        ensures some { 1 ≤ result }
+    {
+        self.passes
+    }
+
+    /// The number of lanes.
+    pub fn lanes(&self) -> u32
+        ensures value { result ≡ self.now.lanes }
+        ensures some { 1 ≤ result }
+        ensures at_most { result ≤ 255 }
+    {
+        self.lanes
+    }
+
+    /// The length of the tag, in bytes.
+    pub fn tag_len(&self) -> u32
+        ensures value { result ≡ self.now.tag_len }
+        ensures some { 4 ≤ result }
+        ensures at_most { result ≤ 64 }
+    {
+        self.tag_len
+    }
+
+    /// How many columns a segment has: a quarter of a lane.
+    pub(crate) fn segment_len(&self) -> u32
+        ensures value { result ≡ segment_len self.now }
+        ensures at_least { 2 ≤ result }
+        ensures fits { 4 * result * self.now.lanes ≤ 2097152 }
+        ensures at_most { 4 * result ≤ 2097152 }
+    {
+        self.segment
+    }
+}

@@ -1,0 +1,8 @@
+pub mod Blocks
+pub mod Feeding
+pub mod Halves
+pub mod Lengths
+pub mod Schedule
+pub mod States
+pub mod Vectors
+pub mod WordBytes

@@ -1,0 +1,5 @@
+pub mod BlakeError
+pub mod Words
+pub mod Blake2b
+pub mod Hasher
+pub mod HashPrime

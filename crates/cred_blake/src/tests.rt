@@ -1,0 +1,183 @@
+ghost use Rattle.std.specs.Prelude.{◌≤◌, length};
+
+use crate::{Blake2b, BlakeError, hprime, hprime_block};
+use std::alloc::Global;
+use std::fmt::Write;
+use std::test::Fail;
+
+// RFC 7693, appendix A.
+const ABC: &str = "ba80a53f981c4d0d6a2797b69f12f6e94c212f14685ac4b74b12bb6fdbffa2d1\
+    7d87c5392aab792dc252d5de4533cc9518d38aa8dbf1925ab92386edd4009923";
+
+const EMPTY: &str = "786a02f742015903c6c6fd852552d272912f4740e15847618a86e217f71f5419\
+    d25e1031afee585313896444934eb04b903a685b1448b755d56f701afe9be2ce";
+
+// The bytes 0 to 127, and 0 to 128.
+const ONE_BLOCK: &str = "2319e3789c47e2daa5fe807f61bec2a1a6537fa03f19ff32e87eecbfd64b7e0e\
+    8ccff439ac333b040f19b0c4ddd11a61e24ac1fe0f10a039806c5dcc0da3d115";
+
+const TWO_BLOCKS: &str = "f59711d44a031d5f97a9413c065d1e614c417ede998590325f49bad2fd444d3e\
+    4418be19aec4e11449ac1a57207898bc57d76a1bcf3566292c20c683a5c4648f";
+
+// The bytes 0 to 254 under the key 0 to 63, the last of the keyed vectors of the BLAKE2 authors.
+const KEYED: &str = "142709d62e28fcccd0af97fad0f8465b971e82201dc51070faa0372aa43e9248\
+    4be1c1e73ba10906d5d1853db6a4106e0a7bf9800d373d6dee2d46d62ef2a461";
+
+// H' of `abc` to 1, 64, 65, 96 and 97 bytes, and the 64-byte hash of the one to 1024 bytes.
+const PRIME_1: &str = "79";
+
+const PRIME_64: &str = "f32577a3172f56657d531faaa43077bb8c9726ada7bb04dd337ec5a65454abff\
+    241ad6b87a72440e5127c6f9caa70327f2a699096e52d163eb52d9cd99620593";
+
+const PRIME_65: &str = "77baa447fe6f777c9bcb519545ce80badaf08ecb973fbb4ff45af7d8b569ec7c\
+    aad65f72669d05153cdeaa563a162bb5ae4c42214551593816008dc560c5a653\
+    91";
+
+const PRIME_96: &str = "41b5590d909a09f99c2c5475f782ba721397c7dc626736a3b5b0b369bab78af2\
+    4a800ffd07bd9b94e073fe5451b20caf770b68afe0839842b4723550bdf083cf\
+    9e205e5304aaec1584f10008285f563252fcfcf207ca8c755d1652168b9024af";
+
+const PRIME_97: &str = "c82ccb541fdbecd1ce8090f61f39905cbf4bc03cebd133a002c7babe4ea204fb\
+    a111552004c5a5338c62d4c7561af5de2665d24d30de9407b9ba1a6ab372054d\
+    3e6fdd0c7aa46b48980189af43f3502d68d007a02b1c4efe04c13b9f39d932f3\
+    35";
+
+const PRIME_1024_HASHED: &str = "74e1e21a31d8062c02e7ff282659d9361f74761d6b97a3f1b549795df7b4d21c\
+    60596bacec333f4916ac60262d09b5f691d81e2f701449bb63522b67740f025c";
+
+const LONG_KEY: [u8; 65] = [7; 65];
+
+// Fills `bytes` with 0, 1, 2 and so on.
+fn count_up(bytes: &mut [u8])
+    requires { length bytes.old ≤ 256 }
+{
+    for i in 0..bytes.len() {
+        bytes[i] = i as u8;
+    }
+}
+
+fn hex(alloc: Global, bytes: &[u8]) -> Result<String, Fail> {
+    let mut text = String::new(alloc);
+    for byte in bytes {
+        write!(text, "{byte:02x}")?;
+    }
+    Ok(text)
+}
+
+// The digest of 64 bytes of these pieces, one after the other.
+fn hash_of(alloc: Global, pieces: &[&[u8]]) -> Result<String, Fail> {
+    let mut hasher = Blake2b::new(64, &[])?;
+    for piece in pieces {
+        hasher.update(piece);
+    }
+    hex(alloc, hasher.finalize().bytes())
+}
+
+#[test]
+fn abc(rt: HostRuntime) -> Result<(), Fail> {
+    let text = hash_of(rt.alloc(), &[b"a", b"", b"bc"])?;
+    assert_eq!(rt; text.as_str(), ABC);
+    Ok(())
+}
+
+#[test]
+fn empty(rt: HostRuntime) -> Result<(), Fail> {
+    assert_eq!(rt; hash_of(rt.alloc(), &[])?.as_str(), EMPTY);
+    assert_eq!(rt; hash_of(rt.alloc(), &[b""])?.as_str(), EMPTY);
+    Ok(())
+}
+
+#[test]
+fn whole_and_byte_by_byte(rt: HostRuntime) -> Result<(), Fail> {
+    let mut message = [0u8; 129];
+    count_up(&mut message);
+    for (len, want) in [(128, ONE_BLOCK), (129, TWO_BLOCKS)] {
+        let whole = &message[..len];
+        assert_eq!(rt;
+            hash_of(rt.alloc(), &[whole])?.as_str(),
+            want,
+            "{len} bytes whole"
+        );
+        let mut hasher = Blake2b::new(64, &[])?;
+        for piece in whole.chunks(1) {
+            hasher.update(piece);
+        }
+        let text = hex(rt.alloc(), hasher.finalize().bytes())?;
+        assert_eq!(rt; text.as_str(), want, "{len} bytes one by one");
+    }
+    Ok(())
+}
+
+#[test]
+fn keyed(rt: HostRuntime) -> Result<(), Fail> {
+    let mut key = [0u8; 64];
+    count_up(&mut key);
+    let mut message = [0u8; 255];
+    count_up(&mut message);
+    let mut hasher = Blake2b::new(64, &key)?;
+    hasher.update(&message);
+    let text = hex(rt.alloc(), hasher.finalize().bytes())?;
+    assert_eq!(rt; text.as_str(), KEYED);
+    Ok(())
+}
+
+#[test]
+fn refused(rt: HostRuntime) {
+    let no_key: &[u8] = &[];
+    for (out_len, key, number, word) in [
+        (0, no_key, 1, "outlen"),
+        (65, no_key, 1, "outlen"),
+        (64, &LONG_KEY, 2, "keylen"),
+        (0, &LONG_KEY, 1, "outlen"),
+    ] {
+        let error = Blake2b::new(out_len, key).err();
+        assert_eq!(rt; error.map(|e| e.number()), Some(number), "{out_len}");
+        assert_eq!(rt; error.map(|e| e.word()), Some(word), "{out_len}");
+    }
+    assert_eq!(rt;
+        hprime(rt.alloc(), 0, b"abc").err(),
+        Some(BlakeError::OutLen)
+    );
+    assert_eq!(rt; BlakeError::Memory.number(), 3);
+    assert_eq!(rt; BlakeError::Memory.word(), "memory");
+}
+
+#[test]
+fn messages(rt: HostRuntime) -> Result<(), Fail> {
+    for (error, want) in [
+        (
+            BlakeError::OutLen,
+            "the length of the digest is out of range",
+        ),
+        (BlakeError::KeyLen, "the key is longer than 64 bytes"),
+        (BlakeError::Memory, "out of memory"),
+    ] {
+        let text = format!(in rt.alloc(); "{error}")?;
+        assert_eq!(rt; text.as_str(), want);
+    }
+    Ok(())
+}
+
+#[test]
+fn hash_prime_shapes(rt: HostRuntime) -> Result<(), Fail> {
+    for (len, want) in [
+        (1, PRIME_1),
+        (64, PRIME_64),
+        (65, PRIME_65),
+        (96, PRIME_96),
+        (97, PRIME_97),
+    ] {
+        let value = hprime(rt.alloc(), len, b"abc")?;
+        assert_eq!(rt; hex(rt.alloc(), &value)?.as_str(), want, "{len} bytes");
+    }
+    Ok(())
+}
+
+#[test]
+fn hash_prime_block(rt: HostRuntime) -> Result<(), Fail> {
+    let block = hprime_block(b"abc");
+    assert_eq!(rt; hash_of(rt.alloc(), &[&block])?.as_str(), PRIME_1024_HASHED);
+    let value = hprime(rt.alloc(), 1024, b"abc")?;
+    assert_eq!(rt; value.as_slice(), block.as_slice());
+    Ok(())
+}

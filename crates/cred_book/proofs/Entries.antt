@@ -1,0 +1,138 @@
+-- Entries in the order of their keys: what a binary search finds among them, and what a write at its place does.
+use Rattle.std.proofs.Common.{◌≡◌, ℕ, zero, suc, ◌<◌, ◌≤◌, List, [], ◌∷◌, length, lit≤, get_or, set, Some, None, Result, Ok, Err, T, Bool, true, false, refl, sym, ap, subst, ◌∙◌, arith, ◌&&◌}
+use Rattle.std.specs.List.{insert}
+use Rattle.std.specs.List.Sorted.{IsSearchInRange, IsBinarySearchResult, IsNonDecreasingBy}
+use Rattle.std.specs.Ordering.{ordering_index, ordering_reverse, is_lt}
+use Rattle.std.specs.declared.cmp.Ordering.{Ordering}
+use Rattle.std.specs.declared.cmp.Ordering.TheVariants.{Less, Equal, Greater}
+use Rattle.std.specs.Bool.{IsTrue}
+use Rattle.std.specs.Cmp.{IsTotalOrder}
+use Rattle.std.proofs.lemmas.Cmp.{alike_right}
+use Rattle.std.proofs.lemmas.Bool.{cases_eq}
+use Rattle.std.proofs.Common.{inl, inr}
+use Rattle.std.specs.Result.{MatchResult}
+use Rattle.cred_book.specs.Places.{IsPlaceOf, IsGapFor}
+use Rattle.std.specs.FinMap.{find, put, is_sorted, get, insert as map_insert, len, from_sorted, same_entries_map, entries-from_sorted, entries-insert, get-from_sorted, len-entries, empty, empty_of_len}
+use Rattle.std.specs.FinMap.Entries.{is_sorted-put}
+use Rattle.std.specs.FinMap.Entries.{below_all}
+
+first : (a b : Bool) → T (a && b) → T a
+first true b h = tt
+first false b h = absurd h
+
+second : (a b : Bool) → T (a && b) → T b
+second true b h = h
+second false b h = absurd h
+
+less : (o : Ordering) → T (is_lt o) → o ≡ Less
+less Less h = refl
+less Equal h = absurd h
+less Greater h = absurd h
+
+turned : {K : Type 0} {R : K → K → Ordering} → IsTotalOrder R → (x y : K) (r : Ordering) → R x y ≡ r → R y x ≡ ordering_reverse r
+turned o x y r e = o.antisymm y x ∙ ap ordering_reverse e
+
+-- what a smaller key compares as is no greater
+compares_below : {K : Type 0} {R : K → K → Ordering} → IsTotalOrder R → (x y q : K) → R x y ≡ Less → (r : Ordering) → R y q ≡ r → ordering_index (R x q) ≤ ordering_index r
+compares_below o x y q lt Less e = rw (o.trans x y q lt e) (lit≤ tt)
+compares_below o x y q lt Equal e = rw (sym (alike_right o y q x e) ∙ lt) (lit≤ tt)
+compares_below {R = R} o x y q lt Greater e = elim (R x q) as (λ s. ordering_index s ≤ 2) [ Less ↦ lit≤ tt | Equal ↦ lit≤ tt | Greater ↦ lit≤ tt ]
+
+tested : (b : Bool) → IsTrue b → T b
+tested b e = subst T (sym e) tt
+
+told : (b : Bool) → T b → IsTrue b
+told true h = refl
+told false h = absurd h
+
+module _ {K X : Type 0} (R : K → K → Ordering) (o : IsTotalOrder R) where
+  -- a key below all others is below the one at each place
+  below_each : (x : K) (es : List (K × X)) → T (below_all R x es) → (j : ℕ) (d : K × X) → j < length es → R x (get_or es j d).0 ≡ Less
+  below_each x [] h j d lt = absurd (omega arith)
+  below_each x (e ∷ es) h zero d lt = less _ (first _ _ h)
+  below_each x (e ∷ es) h (suc j) d lt = below_each x es (second _ _ h) j d (omega arith)
+
+  -- the keys rise
+  rises : (es : List (K × X)) → T (is_sorted R es) → (i j : ℕ) (d : K × X) → i < j → j < length es → R (get_or es i d).0 (get_or es j d).0 ≡ Less
+  rises [] h i j d lt within = absurd (omega arith)
+  rises (e ∷ es) h i zero d lt within = absurd (omega arith)
+  rises (e ∷ es) h zero (suc j) d lt within = below_each e.0 es (first _ _ h) j d (omega arith)
+  rises (e ∷ es) h (suc i) (suc j) d lt within = rises es (second _ _ h) i j d (omega arith) (omega arith)
+
+  place_behind : (e : K × X) (es : List (K × X)) (q : K) (i : ℕ) → IsPlaceOf R (e ∷ es) q (suc i) → IsPlaceOf R es q i
+  place_behind e es q i p = record { within = omega (arith, p.within); before = λ k d lt. p.before (suc k) d (omega arith); here = p.here }
+
+  gap_behind : (e : K × X) (es : List (K × X)) (q : K) (i : ℕ) → IsGapFor R (e ∷ es) q (suc i) → IsGapFor R es q i
+  gap_behind e es q i p = record {
+    within = omega (arith, p.within);
+    before = λ k d lt. p.before (suc k) d (omega arith);
+    behind = λ k d le lt. p.behind (suc k) d (omega arith) (omega arith);
+  }
+
+  pub find_place : (es : List (K × X)) (q : K) (i : ℕ) (d : K × X) → IsPlaceOf R es q i → find R q es ≡ Some (get_or es i d).1
+  find_place [] q i d p = absurd (omega (arith, p.within))
+  find_place (e ∷ es) q zero d p = rw (turned o e.0 q Equal (p.here d)) refl
+  find_place (e ∷ es) q (suc i) d p = rw (turned o e.0 q Less (p.before 0 d (omega arith))) (find_place es q i d (place_behind e es q i p))
+
+  pub put_place : (es : List (K × X)) (q : K) (v : X) (i : ℕ) (d : K × X) → IsPlaceOf R es q i → put R q v es ≡ set es i ((get_or es i d).0, v)
+  put_place [] q v i d p = absurd (omega (arith, p.within))
+  put_place (e ∷ es) q v zero d p = rw (turned o e.0 q Equal (p.here d)) refl
+  put_place (e ∷ es) q v (suc i) d p = rw (turned o e.0 q Less (p.before 0 d (omega arith))) (ap (λ t. e ∷ t) (put_place es q v i d (place_behind e es q i p)))
+
+  pub find_gap : (es : List (K × X)) (q : K) (i : ℕ) → IsGapFor R es q i → find R q es ≡ None
+  find_gap [] q i p = refl
+  find_gap (e ∷ es) q zero p =
+      rw (turned o e.0 q Greater (p.behind 0 e (omega arith) (omega arith))) (find_gap es q zero (record { within = omega arith; before = λ k d lt. absurd (omega arith); behind = λ k d le lt. p.behind (suc k) d (omega arith) (omega arith) }))
+  find_gap (e ∷ es) q (suc i) p = rw (turned o e.0 q Less (p.before 0 e (omega arith))) (find_gap es q i (gap_behind e es q i p))
+
+  pub put_gap : (es : List (K × X)) (q : K) (v : X) (i : ℕ) → IsGapFor R es q i → put R q v es ≡ insert es i (q, v)
+  put_gap [] q v zero p = refl
+  put_gap [] q v (suc i) p = absurd (omega (arith, p.within))
+  put_gap (e ∷ es) q v zero p = rw (turned o e.0 q Greater (p.behind 0 e (omega arith) (omega arith))) refl
+  put_gap (e ∷ es) q v (suc i) p = rw (turned o e.0 q Less (p.before 0 e (omega arith))) (ap (λ t. e ∷ t) (put_gap es q v i (gap_behind e es q i p)))
+
+  comparisons_rise : (es : List (K × X)) → IsTrue (is_sorted R es) → (q : K) → IsNonDecreasingBy (λ e. ordering_index (R e.0 q)) es
+  comparisons_rise es sorted q i j d le within = elim (cases_eq i j) [
+    | inl same ↦ rw same (omega arith)
+    | inr apart ↦ compares_below o (get_or es i d).0 (get_or es j d).0 q (rises es (tested _ sorted) i j d (omega arith) within) _ refl
+  ]
+
+  -- a binary search ends at the key, or at the gap for it
+  pub searched : (es : List (K × X)) → IsTrue (is_sorted R es) → (q : K) (r : Result ℕ ℕ) → IsSearchInRange r (length es) → IsBinarySearchResult (λ e. R e.0 q) es r → MatchResult r (IsPlaceOf R es q) (IsGapFor R es q)
+  searched es sorted q (Ok i) within equal = record {
+    within = within;
+    before = λ k d lt. sym (alike_right o (get_or es i d).0 q (get_or es k d).0 (equal d)) ∙ rises es (tested _ sorted) k i d lt within;
+    here = equal;
+  }
+  searched es sorted q (Err i) within parted =
+      let parts = parted (comparisons_rise es sorted q) in
+      record { within = within; before = λ k d lt. parts.0 k d (omega arith) lt; behind = λ k d le lt. parts.1 k d le lt }
+
+  -- an entry put among sorted entries is an insertion into their map
+  pub from_sorted-put : (es : List (K × X)) → IsTrue (is_sorted R es) → (q : K) (v : X) → from_sorted {R = R} (put R q v es) ≡ map_insert (from_sorted es) q v
+  from_sorted-put es sorted q v = same_entries_map _ _ (entries-from_sorted R (put R q v es) (is_sorted-put R o q v es (tested _ sorted)) ∙ sym (entries-insert o (from_sorted es) q v ∙ ap (put R q v) (entries-from_sorted R es (tested _ sorted))))
+
+  pub len-from_sorted : (es : List (K × X)) → IsTrue (is_sorted R es) → len (from_sorted {R = R} es) ≡ length es
+  len-from_sorted es sorted = len-entries (from_sorted es) ∙ ap length (entries-from_sorted R es (tested _ sorted))
+
+  pub get_place : (es : List (K × X)) → IsTrue (is_sorted R es) → (q : K) (i : ℕ) (d : K × X) → IsPlaceOf R es q i → get (from_sorted {R = R} es) q ≡ Some (get_or es i d).1
+  get_place es sorted q i d p = get-from_sorted R es q (tested _ sorted) ∙ find_place es q i d p
+
+  pub get_gap : (es : List (K × X)) → IsTrue (is_sorted R es) → (q : K) (i : ℕ) → IsGapFor R es q i → get (from_sorted {R = R} es) q ≡ None
+  get_gap es sorted q i p = get-from_sorted R es q (tested _ sorted) ∙ find_gap es q i p
+
+  pub sorted_place : (es : List (K × X)) → IsTrue (is_sorted R es) → (q : K) (v : X) (i : ℕ) (d : K × X) → IsPlaceOf R es q i → IsTrue (is_sorted R (set es i ((get_or es i d).0, v)))
+  sorted_place es sorted q v i d p = rw (← put_place es q v i d p) (told _ (is_sorted-put R o q v es (tested _ sorted)))
+
+  pub sorted_gap : (es : List (K × X)) → IsTrue (is_sorted R es) → (q : K) (v : X) (i : ℕ) → IsGapFor R es q i → IsTrue (is_sorted R (insert es i (q, v)))
+  sorted_gap es sorted q v i p = rw (← put_gap es q v i p) (told _ (is_sorted-put R o q v es (tested _ sorted)))
+
+  pub set_place : (es : List (K × X)) → IsTrue (is_sorted R es) → (q : K) (v : X) (i : ℕ) (d : K × X) → IsPlaceOf R es q i → from_sorted {R = R} (set es i ((get_or es i d).0, v)) ≡ map_insert (from_sorted es) q v
+  set_place es sorted q v i d p = rw (← put_place es q v i d p) (from_sorted-put es sorted q v)
+
+  pub insert_gap : (es : List (K × X)) → IsTrue (is_sorted R es) → (q : K) (v : X) (i : ℕ) → IsGapFor R es q i → from_sorted {R = R} (insert es i (q, v)) ≡ map_insert (from_sorted es) q v
+  insert_gap es sorted q v i p = rw (← put_gap es q v i p) (from_sorted-put es sorted q v)
+
+-- no entry makes the empty map
+pub from_sorted-none : {K X : Type 0} (R : K → K → Ordering) → from_sorted {X = X} {R = R} [] ≡ empty
+from_sorted-none {X = X} R = empty_of_len _ (len-entries (from_sorted {X = X} {R = R} []) ∙ ap length (entries-from_sorted {X = X} R [] tt))

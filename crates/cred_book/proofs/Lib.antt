@@ -1,0 +1,4 @@
+pub mod Commitments
+pub mod Entries
+pub mod Equality
+pub mod Kept

@@ -1,0 +1,22 @@
+-- A book: a finite map from names to at most one record each.
+use Rattle.std.specs.Prelude.{ℕ, ◌≤◌, List, length, Option, IsTrue, nat_lt, ◌||◌, if◌then◌else◌}
+use Rattle.std.specs.FinMap as map
+use Rattle.cred_phc.specs.Values.{RecordValue}
+use Rattle.cred_book.specs.Names.{name_cmp}
+
+abbrev pub Accounts : Type 0
+Accounts = map.FinMap name_cmp (Option RecordValue)
+
+-- how many names a book has room for
+abbrev pub most_accounts : ℕ
+most_accounts = 4096
+
+-- a record or none is put at a name; a new name is added while there is room
+abbrev pub with_entry : Accounts → List ℕ → Option RecordValue → Accounts
+with_entry book name now = if map.contains_key book name || nat_lt (map.len book) most_accounts then map.insert book name now else book
+
+-- how the code keeps it: entries in the order of their names, with room for all that may come
+pub record IsKept (entries : List (List ℕ × Option RecordValue)) (capacity : ℕ) : Type 0 where
+  pub sorted : IsTrue (map.is_sorted name_cmp entries)
+  pub few : length entries ≤ most_accounts
+  pub room : most_accounts ≤ capacity

@@ -1,0 +1,55 @@
+-- What beginnings and commits do, by their answers.
+use Rattle.std.specs.Prelude.{◌≡◌, ℕ, List, Bool, true, false, if◌then◌else◌, Option, Some, None, Result, Ok, Err}
+use Rattle.std.specs.FinMap as map
+use Rattle.cred_phc.specs.Values.{RecordValue}
+use Rattle.cred_book.specs.Accounts.{Accounts}
+use Rattle.cred_book.specs.Works.{Task, name_of, same, whole, makes_change}
+use Rattle.cred_book.specs.declared.error.BookError.{BookError}
+use Rattle.cred_book.specs.declared.error.BookError.TheVariants as error
+use Rattle.cred_book.specs.declared.reply.Reply.{Reply}
+use Rattle.cred_book.specs.declared.reply.Reply.TheVariants as reply
+use Rattle.cred_book.specs.declared.request.Request.{Request}
+
+-- a ticket is the request with the record of its name
+abbrev pub Begins : Accounts → Request → Result Task (Request × BookError) → Type 0
+Begins book request (Ok ticket) = (ticket.0 ≡ request) × (map.get book (name_of request) ≡ Some ticket.1)
+Begins book request (Err e) = (e ≡ (request, error.NoAccount)) × (map.get book (name_of request) ≡ None)
+
+-- the reply, the record after, and whether that is a change
+abbrev pub judged_at : Task → Option (Option RecordValue) → Reply × Option RecordValue × Bool
+judged_at work None = (reply.NoAccount, None, false)
+judged_at work (Some now) =
+    if same now work.1
+    then ((whole work.0 now).0, (whole work.0 now).1, makes_change (whole work.0 now).0)
+    else (reply.Changed now, now, false)
+
+unfoldable pub judged : Accounts → Task → Reply × Option RecordValue × Bool
+judged book work = judged_at work (map.get book (name_of work.0))
+
+-- the reply and the book after
+abbrev pub committed_at : Accounts → Task → Option (Option RecordValue) → Reply × Accounts
+committed_at book work None = (reply.NoAccount, book)
+committed_at book work (Some now) =
+    if same now work.1
+    then ((whole work.0 now).0, map.insert book (name_of work.0) (whole work.0 now).1)
+    else (reply.Changed now, book)
+
+unfoldable pub committed : Accounts → Task → Reply × Accounts
+committed book work = committed_at book work (map.get book (name_of work.0))
+
+abbrev pub Commits : Accounts → Accounts → Task → Result Reply (Task × BookError) → Type 0
+Commits old new work (Ok r) = (r, new) ≡ committed old work
+Commits old new work (Err (back, error.Memory)) = (back ≡ work) × (new ≡ old)
+Commits old new work (Err (back, error.Exists)) = ⊥
+Commits old new work (Err (back, error.Full)) = ⊥
+Commits old new work (Err (back, error.Name)) = ⊥
+Commits old new work (Err (back, error.NoAccount)) = ⊥
+
+-- an entry is put at a name that is there
+abbrev pub Sets : Accounts → Accounts → List ℕ → Option RecordValue → Result (Unit {0}) BookError → Type 0
+Sets old new name now (Ok _) = (map.contains_key old name ≡ true) × (new ≡ map.insert old name now)
+Sets old new name now (Err error.NoAccount) = (map.contains_key old name ≡ false) × (new ≡ old)
+Sets old new name now (Err error.Memory) = ⊥
+Sets old new name now (Err error.Name) = ⊥
+Sets old new name now (Err error.Exists) = ⊥
+Sets old new name now (Err error.Full) = ⊥

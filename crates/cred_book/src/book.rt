@@ -1,0 +1,207 @@
+//! The book: the names of all accounts, and the record that stands at each.
+
+ghost use Rattle.std.specs.Prelude.{◌≡◌, ◌<◌, ◌≤◌, IfOk, IfErr, IsTrue, MatchBool, MatchResult, true};
+ghost use Rattle.std.specs.FinMap as map;
+ghost use Rattle.cred_book.specs.Accounts.{most_accounts, with_entry};
+ghost use Rattle.cred_book.specs.Calls.{Admits, Loads, Shows};
+ghost use Rattle.cred_book.specs.Commits.{Begins, Sets, committed, judged};
+ghost use Rattle.cred_book.specs.Names.{name_cmp};
+ghost use Rattle.cred_book.specs.Places.{IsGapFor, IsPlaceOf};
+ghost use Rattle.cred_book.specs.Works.{is_for_current};
+
+use crate::error::BookError;
+use crate::name::Name;
+use crate::reply::Reply;
+use crate::request::Request;
+use crate::same::is_same;
+use crate::ticket::{Ticket, Worked};
+use cred_phc::Record;
+use std::alloc::Global;
+use std::marker::Model;
+
+/// How many names a book has room for.
+const MOST_ACCOUNTS: usize = 4096;
+
+/// A map from at most 4096 names to at most one record each.
+///
+/// It takes the memory for all names as it is made, so that no later call takes any.
+#[derive(Drop)]
+pub struct Book {
+    accounts: Vec<(Name, Option<Record>)>,
+}
+
+impl Model for Book {
+    ghost use Rattle.std.specs.Prelude.{ℕ, List, vec_capacity};
+    ghost use Rattle.std.specs.Coded.{coded_ℕ, coded_list, coded_option};
+    ghost use Rattle.std.specs.FinMap as map;
+    ghost use Rattle.cred_phc.specs.contracts.Record as stored;
+    ghost use Rattle.cred_book.specs.Accounts.{Accounts, IsKept};
+
+    ghost Value = { Accounts };
+
+    ghost coded = { map.code (coded_list coded_ℕ) (coded_option stored.the_row.coded) };
+
+    ghost view = { λ b. map.from_sorted b.accounts.items };
+
+    ghost invariant = { λ b. IsKept b.accounts.items (vec_capacity b.accounts) };
+}
+
+impl Book {
+    /// A book with no name. `Memory` where there is none for 4096 accounts.
+    pub fn new(alloc: Global) -> Result<Book, BookError>
+        ensures empty { IfOk result (λ book. book ≡ map.empty) }
+        ensures memory { IfErr result (λ e. e ≡ BookError.Memory) }
+    {
+        match Vec::with_capacity(alloc, MOST_ACCOUNTS) {
+            Ok(accounts) => Ok(Book { accounts }),
+            Err(_) => Err(BookError::Memory),
+        }
+    }
+
+    /// Adds a name, with no record. Refused with `Exists` where it is there, and with `Full` at 4096 names.
+    pub fn admit(&mut self, name: Name) -> Result<(), BookError>
+        ensures done { Admits self.old self.new name result }
+        ensures granted { result ≡ Err BookError.Memory → ⊥ }
+    {
+        match place_of(&self.accounts, &name) {
+            Ok(_) => Err(BookError::Exists),
+            Err(place) => {
+                if self.is_full() {
+                    return Err(BookError::Full);
+                }
+                match self.accounts.insert(place, (name, None)) {
+                    Ok(()) => Ok(()),
+                    Err(_) => unreachable!(),
+                }
+            }
+        }
+    }
+
+    /// Whether there is no room for another name.
+    pub fn is_full(&self) -> bool
+        ensures { MatchBool result (most_accounts ≤ map.len self.now) (map.len self.now < most_accounts) }
+    {
+        self.accounts.len() == MOST_ACCOUNTS
+    }
+
+    /// Puts a record at a name, in the place of one that stands there. Refused with `NoAccount` where the name isn't there.
+    pub fn load(&mut self, name: &Name, stored: Record) -> Result<(), BookError>
+        ensures done { Loads self.old self.new name.now stored result }
+        ensures granted { result ≡ Err BookError.Memory → ⊥ }
+    {
+        match place_of(&self.accounts, name) {
+            Ok(place) => {
+                self.accounts[place].1 = Some(stored);
+                Ok(())
+            }
+            Err(_) => Err(BookError::NoAccount),
+        }
+    }
+
+    /// The record that stands at a name, if one does. Refused with `NoAccount` where the name isn't there.
+    pub fn show(&self, name: &Name) -> Result<Option<Record>, BookError>
+        ensures { Shows self.now name.now result }
+    {
+        match place_of(&self.accounts, name) {
+            Ok(place) => Ok(self.accounts[place].1),
+            Err(_) => Err(BookError::NoAccount),
+        }
+    }
+
+    /// Copies the record of the request's account into a ticket. Refused with `NoAccount` where the name isn't there; the request comes back.
+    pub fn begin(&self, request: Request) -> Result<Ticket, (Request, BookError)>
+        requires { is_for_current request ≡ true }
+        ensures { Begins self.now request result }
+    {
+        match self.show(&request.name()) {
+            Ok(stored) => Ok(Ticket::new(request, stored)),
+            Err(_) => Err((request, BookError::NoAccount)),
+        }
+    }
+
+    /// Does the whole operation, if the record is the one that was copied, and else nothing.
+    pub fn commit(&mut self, worked: Worked) -> Reply
+        ensures { (result, self.new) ≡ committed self.old worked }
+    {
+        match place_of(&self.accounts, &worked.request().name()) {
+            Ok(place) => {
+                let now = self.accounts[place].1;
+                if !is_same(&now, &worked.copy()) {
+                    return Reply::Changed { now };
+                }
+                self.accounts[place].1 = worked.after();
+                worked.reply()
+            }
+            Err(_) => Reply::NoAccount,
+        }
+    }
+
+    /// What `commit` would answer, the record that would stand then (none where the name isn't there), and whether that would be a change.
+    pub fn judge(&self, worked: &Worked) -> (Reply, Option<Record>, bool)
+        ensures { result ≡ judged self.now worked.now }
+    {
+        match self.show(&worked.request().name()) {
+            Ok(now) => {
+                if !is_same(&now, &worked.copy()) {
+                    return (Reply::Changed { now }, now, false);
+                }
+                let reply = worked.reply();
+                (reply, worked.after(), reply.makes_change())
+            }
+            Err(_) => (Reply::NoAccount, None, false),
+        }
+    }
+
+    /// Puts a record, or none, at a name. Refused with `NoAccount` where the name isn't there.
+    pub fn set(&mut self, name: &Name, now: Option<Record>) -> Result<(), BookError>
+        ensures { Sets self.old self.new name.now now result }
+    {
+        match place_of(&self.accounts, name) {
+            Ok(place) => {
+                self.accounts[place].1 = now;
+                Ok(())
+            }
+            Err(_) => Err(BookError::NoAccount),
+        }
+    }
+
+    /// Puts a record, or none, at a name, and adds the name where it is new and there is room for it. It can't fail: without room nothing changes.
+    pub fn put(&mut self, name: &Name, now: Option<Record>)
+        ensures { self.new ≡ with_entry self.old name.now now }
+    {
+        match place_of(&self.accounts, name) {
+            Ok(place) => self.accounts[place].1 = now,
+            Err(place) => {
+                if self.accounts.len() < MOST_ACCOUNTS {
+                    match self.accounts.insert(place, (*name, now)) {
+                        Ok(()) => {}
+                        Err(_) => unreachable!(),
+                    }
+                }
+            }
+        }
+    }
+
+    /// An equal book. `Memory` where there is none for 4096 accounts.
+    pub fn copy(&self) -> Result<Book, BookError>
+        ensures equal { IfOk result (λ book. book ≡ self.now) }
+        ensures memory { IfErr result (λ e. e ≡ BookError.Memory) }
+    {
+        let mut accounts = match Vec::with_capacity(*self.accounts.allocator(), MOST_ACCOUNTS) {
+            Ok(accounts) => accounts,
+            Err(_) => return Err(BookError::Memory),
+        };
+        match accounts.extend_from_slice(&self.accounts) {
+            Ok(()) => Ok(Book { accounts }),
+            Err(_) => Err(BookError::Memory),
+        }
+    }
+}
+
+// The place of the name, or the place where it would go.
+fn place_of(accounts: &[(Name, Option<Record>)], name: &Name) -> Result<usize, usize>
+    requires { IsTrue (map.is_sorted name_cmp accounts.now) }
+    ensures { MatchResult result (IsPlaceOf name_cmp accounts.now name.now) (IsGapFor name_cmp accounts.now name.now) }
+{
+    accounts.binary_search_by_key(name, |&(there, _)| there)
+}

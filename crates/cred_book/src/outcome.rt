@@ -1,0 +1,160 @@
+//! What a whole operation does at a record: the part that hashes.
+
+ghost use Rattle.std.specs.Prelude.{◌≡◌, ◌≤◌, IfOk, if◌then◌else◌};
+ghost use Rattle.cred_phc.specs.Tags.{tag};
+ghost use Rattle.cred_book.specs.Works.{made, right, upgraded, whole};
+
+use crate::reply::Reply;
+use crate::request::Request;
+use crate::ticket::Ticket;
+use cred_phc::{Password, Record, Setting, Tag, TagError, tag_of};
+use cred_pool::Gate;
+use std::alloc::Global;
+use std::thread::Threads;
+
+/// How many bytes the tag of a new record has.
+const NEW_TAG: u8 = 32;
+
+/// A reply, and the record after it.
+pub(crate) type Outcome = (Reply, Option<Record>);
+
+/// With what passwords are hashed: at most `workers` threads, each lane or piece behind the gate.
+#[derive(Drop)]
+pub struct Hashing<'a, R, G> {
+    pub rt: &'a R,
+    pub alloc: Global,
+    pub workers: u8,
+    pub gate: &'a G,
+}
+
+impl<R: Threads + Sync, G: Gate + Sync> Hashing<'_, R, G> {
+    /// What the whole operation does at the ticket's copy.
+    pub(crate) fn outcome(&self, ticket: &Ticket) -> Result<Outcome, TagError>
+        ensures { IfOk result (λ outcome. outcome ≡ whole ticket.now.0 ticket.now.1) }
+    {
+        match ticket.copy() {
+            None => self.at_none(&ticket.request()),
+            Some(stored) => self.at_record(&ticket.request(), &stored),
+        }
+    }
+
+    fn at_none(&self, request: &Request) -> Result<Outcome, TagError>
+        ensures { IfOk result (λ outcome. outcome ≡ whole request.now None) }
+    {
+        match *request {
+            Request::Enrol { pw, setting, .. } => {
+                let made = self.made(&setting, &pw)?;
+                Ok((Reply::Enrolled, Some(made)))
+            }
+            Request::Verify { .. }
+            | Request::Change { .. }
+            | Request::Upgrade { .. }
+            | Request::Remove { .. } => Ok((Reply::Absent, None)),
+        }
+    }
+
+    fn at_record(&self, request: &Request, stored: &Record) -> Result<Outcome, TagError>
+        ensures { IfOk result (λ outcome. outcome ≡ whole request.now (Some stored.now)) }
+    {
+        match *request {
+            Request::Enrol { .. } => Ok((Reply::Exists, Some(*stored))),
+            Request::Verify { pw, .. } => self.verify(stored, &pw),
+            Request::Change {
+                pw,
+                new_pw,
+                setting,
+                ..
+            } => self.change(stored, &pw, &new_pw, &setting),
+            Request::Upgrade { pw, setting, .. } => self.upgrade(stored, &pw, &setting),
+            Request::Remove { pw, .. } => self.remove(stored, &pw),
+        }
+    }
+
+    fn verify(&self, stored: &Record, pw: &Password) -> Result<Outcome, TagError>
+        ensures { IfOk result (λ outcome. outcome ≡ (if right stored.now pw.now then Reply.Yes else Reply.No, Some stored.now)) }
+    {
+        let reply = if self.is_right(stored, pw)? {
+            Reply::Yes
+        } else {
+            Reply::No
+        };
+        Ok((reply, Some(*stored)))
+    }
+
+    fn change(
+        &self,
+        stored: &Record,
+        pw: &Password,
+        new_pw: &Password,
+        setting: &Setting,
+    ) -> Result<Outcome, TagError>
+        ensures { IfOk result (λ outcome. outcome ≡ (if right stored.now pw.now then (Reply.Replaced, Some (made setting.now new_pw.now)) else (Reply.Wrong, Some stored.now))) }
+    {
+        if !self.is_right(stored, pw)? {
+            return Ok((Reply::Wrong, Some(*stored)));
+        }
+        let made = self.made(setting, new_pw)?;
+        Ok((Reply::Replaced, Some(made)))
+    }
+
+    fn upgrade(
+        &self,
+        stored: &Record,
+        pw: &Password,
+        setting: &Setting,
+    ) -> Result<Outcome, TagError>
+        ensures { IfOk result (λ outcome. outcome ≡ upgraded stored.now pw.now setting.now) }
+    {
+        if !self.is_right(stored, pw)? {
+            return Ok((Reply::Wrong, Some(*stored)));
+        }
+        if stored.setting().scheme() == setting.scheme() {
+            return Ok((Reply::Kept, Some(*stored)));
+        }
+        let made = self.made(setting, pw)?;
+        Ok((Reply::Upgraded, Some(made)))
+    }
+
+    fn remove(&self, stored: &Record, pw: &Password) -> Result<Outcome, TagError>
+        ensures { IfOk result (λ outcome. outcome ≡ (if right stored.now pw.now then (Reply.Removed, None) else (Reply.Wrong, Some stored.now))) }
+    {
+        if !self.is_right(stored, pw)? {
+            return Ok((Reply::Wrong, Some(*stored)));
+        }
+        Ok((Reply::Removed, None))
+    }
+
+    /// Whether the record is one of this password: the tag of the password under the record's setting, with the length of the record's tag, is the record's tag.
+    #[tactic(auto, unfolding(crate::specs::Works::right))]
+    pub fn is_right(&self, stored: &Record, pw: &Password) -> Result<bool, TagError>
+        ensures { IfOk result (λ answer. answer ≡ right stored.now pw.now) }
+    {
+        let tag = stored.tag();
+        let found = self.tag(&stored.setting(), tag.bytes().len() as u8, pw)?;
+        Ok(found == tag)
+    }
+
+    /// The record of this password under this setting, with a tag of 32 bytes.
+    pub fn made(&self, setting: &Setting, pw: &Password) -> Result<Record, TagError>
+        ensures { IfOk result (λ stored. stored ≡ made setting.now pw.now) }
+    {
+        let tag = self.tag(setting, NEW_TAG, pw)?;
+        Ok(Record::with_tag(*setting, tag))
+    }
+
+    fn tag(&self, setting: &Setting, len: u8, pw: &Password) -> Result<Tag, TagError>
+        requires low { 4 ≤ len }
+        requires high { len ≤ 64 }
+        ensures { IfOk result (λ found. found ≡ tag setting.now len pw.now) }
+    {
+        tag_of(
+            self.rt,
+            self.alloc,
+            self.workers,
+            self.gate,
+            setting,
+            len,
+            pw,
+        )
+    }
+}

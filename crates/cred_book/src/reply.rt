@@ -1,0 +1,47 @@
+//! What a commit answers.
+
+use cred_phc::Record;
+
+/// The answer to an operation, at the moment of its commit.
+#[derive(Clone, Copy, Debug, PartialEq, Eq)]
+pub enum Reply {
+    /// The account has its first record.
+    Enrolled,
+    /// A record stands already.
+    Exists,
+    /// The password is right.
+    Yes,
+    /// The password is wrong.
+    No,
+    /// No record stands.
+    Absent,
+    /// The new password's record stands.
+    Replaced,
+    /// The password is wrong, and nothing was done.
+    Wrong,
+    /// The record was made anew.
+    Upgraded,
+    /// The record is of this scheme with these numbers already.
+    Kept,
+    /// The record was taken away.
+    Removed,
+    /// The record isn't the one that was copied at the beginning, but `now`; nothing was done.
+    Changed { now: Option<Record> },
+    /// The book doesn't have the name; nothing was done.
+    NoAccount,
+}
+
+impl Reply {
+    ghost use Rattle.std.specs.Prelude.{◌≡◌};
+    ghost use Rattle.cred_book.specs.Works.{makes_change};
+
+    /// Whether the operation made a change: `Enrolled`, `Replaced`, `Upgraded` or `Removed`.
+    pub fn makes_change(&self) -> bool
+        ensures { result ≡ makes_change self.now }
+    {
+        matches!(
+            self,
+            Reply::Enrolled | Reply::Replaced | Reply::Upgraded | Reply::Removed
+        )
+    }
+}

@@ -1,0 +1,69 @@
+//! What is asked of an account.
+
+ghost use Rattle.std.specs.Prelude.{◌≡◌};
+
+use crate::name::Name;
+use cred_phc::{Password, Setting};
+
+/// An operation on the record of one account.
+#[derive(Clone, Copy, Debug, PartialEq, Eq)]
+pub enum Request {
+    /// Makes the account's first record, under `setting`.
+    Enrol {
+        name: Name,
+        pw: Password,
+        setting: Setting,
+    },
+    /// Asks whether `pw` is the account's password.
+    Verify {
+        name: Name,
+        pw: Password,
+    },
+    /// Puts a record of `new_pw` in the place of that of `pw`.
+    Change {
+        name: Name,
+        pw: Password,
+        new_pw: Password,
+        setting: Setting,
+    },
+    /// Makes the record of the same password anew, where it isn't of this scheme with these numbers.
+    Upgrade {
+        name: Name,
+        pw: Password,
+        setting: Setting,
+    },
+    /// Takes the record away; the name stays.
+    Remove {
+        name: Name,
+        pw: Password,
+    },
+}
+
+impl Request {
+    ghost use Rattle.cred_book.specs.Works.{is_for_current, name_of};
+
+    /// The account's name.
+    pub fn name(&self) -> Name
+        ensures { result ≡ name_of self.now }
+    {
+        match *self {
+            Request::Enrol { name, .. }
+            | Request::Verify { name, .. }
+            | Request::Change { name, .. }
+            | Request::Upgrade { name, .. }
+            | Request::Remove { name, .. } => name,
+        }
+    }
+
+    /// Whether the setting of a new record, if one may be made, isn't of the version 0x10 of old ones.
+    pub fn is_for_current(&self) -> bool
+        ensures { result ≡ is_for_current self.now }
+    {
+        match self {
+            Request::Enrol { setting, .. }
+            | Request::Change { setting, .. }
+            | Request::Upgrade { setting, .. } => setting.is_current(),
+            Request::Verify { .. } | Request::Remove { .. } => true,
+        }
+    }
+}

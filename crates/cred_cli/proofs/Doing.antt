@@ -1,0 +1,65 @@
+-- What a begin and a commit do, step by step.
+use Rattle.std.proofs.Common.{◌≡◌, ℕ, zero, suc, ◌-◌, List, [], ◌∷◌, Option, Some, None, Result, Ok, Err, IfOk, true, false, is_some, set, get_or, refl, sym, ap, ◌∙◌}
+use Rattle.std.specs.FinMap as map
+use Rattle.std.specs.declared.alloc.AllocError.{AllocError}
+use Rattle.cred_phc.specs.Values.{RecordValue}
+use Rattle.cred_book.specs.Accounts.{Accounts}
+use Rattle.cred_book.specs.Commits.{Begins, Commits, committed}
+use Rattle.cred_book.specs.Works.{Task, name_of}
+use Rattle.cred_book.specs.declared.error.BookError.TheVariants as error
+use Rattle.cred_book.specs.declared.reply.Reply.{Reply}
+use Rattle.cred_book.specs.declared.request.Request.{Request}
+use Rattle.cred_cli.specs.declared.answer.AnswerLine.{AnswerLine}
+use Rattle.cred_cli.specs.declared.refusal.Refusal.TheVariants.{Book, Busy, Idle}
+use Rattle.cred_cli.specs.Answers.{IsDone, line_bytes}
+use Rattle.cred_cli.specs.History.{Answer, Begun, Refused}
+use Rattle.cred_cli.specs.Steps.{Step, stay, slot, begun, begun_at, committing, reply_answer}
+use Rattle.cred_cli.specs.Texts.{line_of}
+use Rattle.cred_cli.proofs.Simulation.{begun-at, committing-at}
+
+-- an answer that leaves all as it is
+pub stays_done : (result : Result AnswerLine AllocError) (step : Step) (answer : Answer) (book : Accounts) (slots : List (Option Task)) → step ≡ stay answer book slots →
+    IfOk result (λ line. line_bytes line ≡ line_of answer) → IfOk result (IsDone step book slots)
+stays_done (Ok line) step answer book slots is said = rw is (said, refl, refl)
+stays_done (Err e) step answer book slots is said = tt
+
+opened : (task : Option Task) → is_some task ≡ true → (book : Accounts) (slots : List (Option Task)) (key : ℕ) (request : Request) (entry : Option (Option RecordValue)) →
+    begun_at book slots key request task entry ≡ stay (Refused Busy) book slots
+opened None busy book slots key request entry = cc
+opened (Some task) busy book slots key request entry = refl
+
+pub begun_busy : (book : Accounts) (slots : List (Option Task)) (key : ℕ) (request : Request) → is_some (slot slots key) ≡ true → begun book slots key request ≡ stay (Refused Busy) book slots
+begun_busy book slots key request busy = begun-at book slots key request (slot slots key) _ refl refl ∙ opened (slot slots key) busy book slots key request _
+
+not_open : (task : Option Task) → is_some task ≡ false → task ≡ None
+not_open None free = refl
+not_open (Some task) free = cc
+
+pub begun_absent : (book : Accounts) (slots : List (Option Task)) (key : ℕ) (request : Request) → is_some (slot slots key) ≡ false → map.get book (name_of request) ≡ None →
+    begun book slots key request ≡ stay (Refused (Book error.NoAccount)) book slots
+begun_absent book slots key request free found = begun-at book slots key request None None (not_open _ free) found
+
+pub refused_with : {A B : Type 0} (a c : A) (b d : B) → ◌≡◌ {A = A × B} (a, b) (c, d) → b ≡ d
+refused_with {A} {B} a c b d same = ap {A = A × B} (λ p. p.1) same
+
+pub begun_fresh : (book : Accounts) (slots : List (Option Task)) (key : ℕ) (request : Request) (ticket : Task) → is_some (slot slots key) ≡ false → Begins book request (Ok ticket) →
+    begun book slots key request ≡ record { answer = Begun; book = book; slots = set slots (key - 1) (Some ticket) }
+begun_fresh book slots key request ticket free begins =
+    begun-at book slots key request None (Some ticket.1) (not_open _ free) begins.1 ∙ ap (λ r. record { answer = Begun; book = book; slots = set slots (key - 1) (Some (r, ticket.1)) }) (sym begins.0)
+
+-- ---- commits
+
+set_none : (slots : List (Option Task)) (i : ℕ) → get_or slots i None ≡ None → set slots i None ≡ slots
+set_none [] i none = refl
+set_none (t ∷ ts) zero none = ap (λ s. s ∷ ts) (sym none)
+set_none (t ∷ ts) (suc i) none = ap (λ s. t ∷ s) (set_none ts i none)
+
+pub commits_idle : (book : Accounts) (slots left : List (Option Task)) (key : ℕ) → None ≡ slot slots key → left ≡ set slots (key - 1) None → committing book slots key ≡ stay (Refused Idle) book left
+commits_idle book slots left key none closed =
+    committing-at book slots key None (sym none) ∙ ap (stay (Refused Idle) book) (sym (set_none slots (key - 1) (sym none)) ∙ sym closed)
+
+pub commits_done : (old new : Accounts) (slots left : List (Option Task)) (key : ℕ) (task work : Task) (reply : Reply) → Some task ≡ slot slots key → left ≡ set slots (key - 1) None → work ≡ task →
+    Commits old new work (Ok reply) → committing old slots key ≡ record { answer = reply_answer reply; book = new; slots = left }
+commits_done old new slots left key task work reply some closed is commits =
+    let done : committed old task ≡ (reply, new) = ap (committed old) (sym is) ∙ sym commits in
+    committing-at old slots key (Some task) (sym some) ∙ ap (λ c. record { answer = reply_answer c.0; book = c.1; slots = set slots (key - 1) None }) done ∙ ap (λ s. record { answer = reply_answer reply; book = new; slots = s }) (sym closed)

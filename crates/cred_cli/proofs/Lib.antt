@@ -1,0 +1,11 @@
+pub mod Doing
+pub mod Feeds
+pub mod Lines
+pub mod Names
+pub mod Openings
+pub mod Programs
+pub mod Readings
+pub mod Runs
+pub mod Simulation
+pub mod Writes
+pub mod Shelves

@@ -1,0 +1,161 @@
+-- The names of a history are those of its book.
+use Rattle.std.proofs.Common.{◌≡◌, ℕ, zero, suc, ◌+◌, ◌≤◌, List, [], ◌∷◌, ◌++◌, length, take, inl, inr, Option, Some, None, Bool, true, false, if◌then◌else◌, cond, nat_lt, ◌||◌, is_some, slice_get, refl, sym, ap, ◌∙◌, arith}
+use Rattle.std.specs.List.{list_any}
+use Rattle.std.specs.Str.{bytes_eq}
+use Rattle.std.specs.Ordering.{eq_by_cmp}
+use Rattle.std.specs.FinMap as map
+use Rattle.std.specs.Cmp.Lexicographic.{nat_list_cmp_total}
+use Rattle.std.proofs.lemmas.Map.Text.{is_eq-slice_cmp}
+use Rattle.std.proofs.lemmas.List.{length-append, length-map, take-append-le, take_all}
+use Rattle.std.proofs.lemmas.Bool.{cases_lt}
+use Rattle.std.proofs.lemmas.Slice.Eq.{bytes_eq-Decides}
+use Rattle.cred_phc.specs.Values.{RecordValue}
+use Rattle.cred_book.specs.Accounts.{Accounts, most_accounts}
+use Rattle.cred_book.specs.Names.{name_cmp}
+use Rattle.cred_book.specs.Works.{name_of, seq, seq_at, whole}
+use Rattle.cred_book.specs.declared.request.Request.{Request}
+use Rattle.cred_cli.specs.declared.event.Event.{Event}
+use Rattle.cred_cli.specs.declared.event.Event.TheVariants.{Account, Load, Show, Begin, Commit, Bad}
+use Rattle.cred_cli.specs.History.{is_among, names_after, names_at, Opened, open_at, Deed, Admission, Loading, Whole, closing, is_stale, deed_of, done, after, book_after, book_at}
+
+-- the names are those of the book
+pub record SameNames (names : List (List ℕ)) (book : Accounts) : Type 0 where
+  pub among : (name : List ℕ) → map.contains_key book name ≡ is_among names name
+  pub count : map.len book ≡ length names
+
+any_agree : (p q : List ℕ → Bool) → ((x : List ℕ) → p x ≡ q x) → (xs : List (List ℕ)) → list_any p xs ≡ list_any q xs
+any_agree p q same [] = refl
+any_agree p q same (x ∷ xs) = ap (λ b. b || list_any p xs) (same x) ∙ ap (λ b. q x || b) (any_agree p q same xs)
+
+pub any_more : (p : List ℕ → Bool) (xs : List (List ℕ)) (y : List ℕ) → list_any p (xs ++ y ∷ []) ≡ p y || list_any p xs
+any_more p [] y = refl
+any_more p (x ∷ xs) y = ap (λ b. p x || b) (any_more p xs y) ∙ turn (p x) (p y) (list_any p xs)
+  where
+    turn : (a b c : Bool) → a || (b || c) ≡ b || (a || c)
+    turn true true c = refl
+    turn true false c = refl
+    turn false b c = refl
+
+at_first : (book : Accounts) → SameNames (map.keys book) book
+at_first book = record {
+  among = λ name. map.contains_key-keys book name ∙ any_agree (eq_by_cmp name_cmp name) (bytes_eq name) (is_eq-slice_cmp name) (map.keys book);
+  count = map.len-entries book ∙ sym (length-map (map.entries book) (λ (e : List ℕ × Option RecordValue). e.0));
+}
+
+-- what an insertion does to the names
+contains_after : (book : Accounts) (name : List ℕ) (now : Option RecordValue) (q : List ℕ) → map.contains_key (map.insert book name now) q ≡ bytes_eq q name || map.contains_key book q
+contains_after book name now q = ap is_some (map.get-insert nat_list_cmp_total book name now q) ∙ ap (λ b. is_some (cond b (Some now) (map.get book q))) (is_eq-slice_cmp q name) ∙ either (bytes_eq q name) (map.get book q)
+  where
+    either : (b : Bool) (found : Option (Option RecordValue)) → is_some (cond b (Some now) found) ≡ b || is_some found
+    either true found = refl
+    either false found = refl
+
+admitted : (names : List (List ℕ)) (book : Accounts) (name : List ℕ) → SameNames names book → is_among names name ≡ false → SameNames (names ++ name ∷ []) (map.insert book name None)
+admitted names book name same new = record {
+  among = λ q. contains_after book name None q ∙ ap (λ b. bytes_eq q name || b) (same.among q) ∙ sym (any_more (bytes_eq q) names name);
+  count = map.len-insert nat_list_cmp_total book name None ∙ ap (λ b. cond b (map.len book) (map.len book + 1)) (same.among name ∙ new) ∙ omega (arith, same.count, length-append names (name ∷ []));
+}
+
+put : (names : List (List ℕ)) (book : Accounts) (name : List ℕ) (now : Option RecordValue) → SameNames names book → is_among names name ≡ true → SameNames names (map.insert book name now)
+put names book name now same there = record {
+  among = λ q. contains_after book name now q ∙ known q (bytes_eq q name) refl;
+  count = map.len-insert nat_list_cmp_total book name now ∙ ap (λ b. cond b (map.len book) (map.len book + 1)) (same.among name ∙ there) ∙ same.count;
+}
+  where
+    known : (q : List ℕ) (b : Bool) → bytes_eq q name ≡ b → b || map.contains_key book q ≡ is_among names q
+    known q true e = sym (ap (is_among names) ((bytes_eq-Decides q name).0 e) ∙ there)
+    known q false e = same.among q
+
+-- a whole operation leaves the names
+whole_done : (names : List (List ℕ)) (book : Accounts) (request : Request) → SameNames names book → SameNames names (seq book request).1
+unfolding seq
+whole_done names book request same = by_entry (map.get book (name_of request)) refl
+  where
+    by_entry : (entry : Option (Option RecordValue)) → map.get book (name_of request) ≡ entry → SameNames names (seq_at book request entry).1
+    by_entry None e = same
+    by_entry (Some now) e = put names book (name_of request) (whole request now).1 same (sym (same.among (name_of request)) ∙ ap is_some e)
+
+closed_one : (names : List (List ℕ)) (opening book : Accounts) (past : List (Option Deed)) (opened : Option Opened) → SameNames names book → SameNames names (after book (closing opening past opened))
+closed_one names opening book past None same = same
+closed_one names opening book past (Some opened) same = by_case (is_stale opening past opened)
+  where
+    by_case : (b : Bool) → SameNames names (after book (if b then None else Some (Whole opened.request)))
+    by_case true = same
+    by_case false = whole_done names book opened.request same
+
+-- one event more
+next : (opening book : Accounts) (events : List Event) (i : ℕ) (past : List (Option Deed)) (event : Option Event) → SameNames (names_at opening events i) book →
+    SameNames (names_after (names_at opening events i) event) (after book (deed_of opening events i past event))
+next opening book events i past None same = same
+next opening book events i past (Some (Show name)) same = same
+next opening book events i past (Some (Begin key request)) same = same
+next opening book events i past (Some (Commit key)) same = closed_one (names_at opening events i) opening book past (open_at opening events i key) same
+next opening book events i past (Some (Bad why)) same = same
+next opening book events i past (Some (Account name)) same = by_case (is_among (names_at opening events i) name) refl (nat_lt (length (names_at opening events i)) most_accounts)
+  where
+    by_case : (b : Bool) → is_among (names_at opening events i) name ≡ b → (c : Bool) →
+        SameNames (if b then names_at opening events i else if c then names_at opening events i ++ name ∷ [] else names_at opening events i) (after book (if b then None else if c then Some (Admission name) else None))
+    by_case true there c = same
+    by_case false there true = admitted (names_at opening events i) book name same there
+    by_case false there false = same
+next opening book events i past (Some (Load name stored)) same = by_case (is_among (names_at opening events i) name) refl
+  where
+    by_case : (b : Bool) → is_among (names_at opening events i) name ≡ b → SameNames (names_at opening events i) (after book (if b then Some (Loading name stored) else None))
+    by_case true there = put (names_at opening events i) book name (Some stored) same there
+    by_case false there = same
+
+-- ---- the recursion on the place
+
+pub done-zero : (book : Accounts) (events : List Event) → done book events 0 ≡ []
+unfolding done
+done-zero book events = refl
+
+pub done-suc : (book : Accounts) (events : List Event) (i : ℕ) → done book events (suc i) ≡ done book events i ++ deed_of book events i (done book events i) (slice_get events i) ∷ []
+unfolding done
+done-suc book events i = refl
+
+names_at-zero : (book : Accounts) (events : List Event) → names_at book events 0 ≡ map.keys book
+unfolding names_at
+names_at-zero book events = refl
+
+pub names_at-suc : (book : Accounts) (events : List Event) (i : ℕ) → names_at book events (suc i) ≡ names_after (names_at book events i) (slice_get events i)
+unfolding names_at
+names_at-suc book events i = refl
+
+book_after-none : (book : Accounts) → book_after book [] ≡ book
+unfolding book_after
+book_after-none book = refl
+
+book_after-more : (book : Accounts) (deeds : List (Option Deed)) (deed : Option Deed) → book_after book (deeds ++ deed ∷ []) ≡ after (book_after book deeds) deed
+unfolding book_after
+book_after-more book [] deed = refl
+book_after-more book (d ∷ ds) deed = book_after-more (after book d) ds deed
+
+pub book_at-zero : (book : Accounts) (events : List Event) → book_at book events 0 ≡ book
+book_at-zero book events = ap (book_after book) (done-zero book events) ∙ book_after-none book
+
+pub book_at-suc : (book : Accounts) (events : List Event) (i : ℕ) → book_at book events (suc i) ≡ after (book_at book events i) (deed_of book events i (done book events i) (slice_get events i))
+book_at-suc book events i = ap (book_after book) (done-suc book events i) ∙ book_after-more book (done book events i) (deed_of book events i (done book events i) (slice_get events i))
+
+-- the names at each place are those of the book there
+pub same_names : (book : Accounts) (events : List Event) (i : ℕ) → SameNames (names_at book events i) (book_at book events i)
+same_names book events zero = rw (names_at-zero book events, book_at-zero book events) (at_first book)
+same_names book events (suc i) = rw (names_at-suc book events i, book_at-suc book events i) (next book (book_at book events i) events i (done book events i) (slice_get events i) (same_names book events i))
+
+length-done : (book : Accounts) (events : List Event) (i : ℕ) → length (done book events i) ≡ i
+length-done book events zero = ap length (done-zero book events)
+length-done book events (suc i) = ap length (done-suc book events i) ∙ length-append (done book events i) _ ∙ omega (arith, length-done book events i)
+
+-- a front of a history is the earlier history
+pub take-done : (book : Accounts) (events : List Event) (j i : ℕ) → j ≤ i → take j (done book events i) ≡ done book events j
+take-done book events zero i le = sym (done-zero book events)
+take-done book events (suc j) zero le = absurd (omega (arith, le))
+take-done book events (suc j) (suc i) le = elim (cases_lt i (suc j)) [
+  | inl last ↦
+      let same : j ≡ i = omega (arith, last, le) in
+      rw same (take_all (suc i) (done book events (suc i)) (omega (arith, length-done book events (suc i))))
+  | inr earlier ↦
+      ap (take (suc j)) (done-suc book events i)
+      ∙ take-append-le (suc j) (done book events i) _ (omega (arith, earlier, length-done book events i))
+      ∙ take-done book events (suc j) i earlier
+]

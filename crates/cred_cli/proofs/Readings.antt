@@ -1,0 +1,68 @@
+-- What a read makes of a script: its start, the bytes that came, and its end.
+use Rattle.std.proofs.Common.{◌≡◌, ℕ, zero, suc, get_or, ◌-◌, replicate, List, [], ◌++◌, take, Option, Some, None, IfSome, refl, sym, ap, ◌∙◌, append_assoc}
+use Rattle.std.specs.Io.KnownBytes.{Consumes, IsAtEnd}
+use Rattle.std.proofs.KnownBytes.{Appends-nil}
+use Rattle.cred_book.specs.Accounts.{Accounts}
+use Rattle.cred_cli.specs.declared.progress.Progress.{Progress}
+use Rattle.std.proofs.lemmas.List.{length-replicate}
+use Rattle.cred_book.specs.Works.{Task}
+use Rattle.cred_cli.specs.declared.event.Event.{Event}
+use Rattle.cred_cli.specs.Feeding.{IsAt}
+use Rattle.cred_cli.specs.Tickets.{HoldTickets}
+use Rattle.cred_cli.proofs.Openings.{open_at-zero}
+use Rattle.cred_cli.specs.Script.{events_of}
+use Rattle.cred_cli.proofs.Names.{book_at-zero}
+use Rattle.cred_cli.proofs.Runs.{answers_before-zero}
+
+no_task : (n k : ℕ) → get_or (replicate {A = Option Task} n None) k None ≡ None
+no_task zero k = refl
+no_task (suc n) zero = refl
+no_task (suc n) (suc k) = no_task n k
+
+no_tickets : (book : Accounts) (events : List Event) (slots : List (Option Task)) → slots ≡ replicate 64 None → HoldTickets book events 0 slots
+no_tickets book events slots empty = record {
+  size = rw empty (length-replicate {A = Option Task} 64 None);
+  each = λ key low high. rw (open_at-zero book events key, empty, no_task 64 (key - 1)) tt;
+}
+
+-- no byte was taken
+pub opening : (book : Accounts) (all : List ℕ) (before : Option (List ℕ)) (slots : List (Option Task)) (progress : Progress) → slots ≡ replicate 64 None → progress.start ≡ [] → progress.lines ≡ 0 → progress.taken ≡ 0 →
+    IsAt book all [] before before book slots progress
+opening book all before slots progress empty start lines taken = record {
+  stands = record {
+    written = rw (lines, answers_before-zero book (events_of all)) (Appends-nil before);
+    accounts_are = rw lines (sym (book_at-zero book (events_of all)));
+  };
+  tickets = rw lines (no_tickets book (events_of all) slots empty);
+  lines_are = lines;
+  start_is = start;
+  taken_is = taken;
+}
+
+-- the bytes that came, and those that are left
+pub record HasCome (rest bytes : List ℕ) (now : Option (List ℕ)) : Type 0 where
+  pub left : List ℕ
+  pub now_is : now ≡ Some left
+  pub cut : rest ≡ bytes ++ left
+
+pub came : (old now : Option (List ℕ)) (rest bytes : List ℕ) → old ≡ Some rest → Consumes old now bytes → HasCome rest bytes now
+came None now rest bytes known consumed = cc
+came (Some xs) None rest bytes known consumed = absurd consumed
+came (Some xs) (Some ys) rest bytes known consumed = record { left = ys; now_is = refl; cut = cc }
+
+-- none is left
+pub came_to_end : (old now : Option (List ℕ)) (rest buffer : List ℕ) (n : ℕ) → n ≡ 0 → old ≡ Some rest → Consumes old now (take n buffer) → IsAtEnd now → rest ≡ []
+came_to_end None now rest buffer n none known consumed end = cc
+came_to_end (Some xs) None rest buffer n none known consumed end = absurd consumed
+came_to_end (Some xs) (Some ys) rest buffer n none known consumed end =
+    let these : xs ≡ ys = rw none at consumed in
+    cc
+
+-- what is known may be asked of as it is
+pub if_known : (known : Option (List ℕ)) (P : List ℕ → Type 0) → ((all : List ℕ) → known ≡ Some all → P all) → IfSome known P
+if_known None P h = tt
+if_known (Some all) P h = h all refl
+
+-- the cut moves behind the bytes that came
+pub cut_behind : (all front rest bytes left : List ℕ) → all ≡ front ++ rest → rest ≡ bytes ++ left → all ≡ (front ++ bytes) ++ left
+cut_behind all front rest bytes left cut came = cut ∙ ap (λ xs. front ++ xs) came ∙ sym (append_assoc front bytes left)

@@ -1,0 +1,81 @@
+-- A line that was done, or that met a fault.
+use Rattle.std.proofs.Common.{◌≡◌, ℕ, suc, ◌<◌, List, [], ◌++◌, length, Option, Some, Bool, false, Result, Ok, Err, OnOk, IfErr, MatchResult, refl, ap, ◌∙◌, arith, slice_get}
+use Rattle.std.specs.Io.KnownBytes.{Appends}
+use Rattle.std.proofs.KnownBytes.{Appends-trans}
+use Rattle.cred_book.specs.Accounts.{Accounts}
+use Rattle.cred_cli.specs.declared.event.Event.{Event}
+use Rattle.cred_cli.specs.declared.fault.ScriptFault.{ScriptFault}
+use Rattle.cred_cli.specs.declared.fault.ScriptFault.TheVariants.{Read, Write, Memory, TooLong}
+use Rattle.cred_book.specs.Works.{Task}
+use Rattle.cred_cli.specs.declared.answer.AnswerLine.{AnswerLine}
+use Rattle.cred_cli.specs.Answers.{IsDone, line_bytes}
+use Rattle.cred_cli.specs.Events.{IsSound}
+use Rattle.cred_cli.specs.Tickets.{HoldTickets}
+use Rattle.cred_cli.specs.History.{answer_at}
+use Rattle.cred_cli.specs.Outcome.{FrontWritten, HasCause, ScriptFails, StandsAfter, StopsIn}
+use Rattle.cred_cli.specs.Script.{answers_before, events_of}
+use Rattle.cred_cli.specs.Steps.{LineFails, WriteFails, step}
+use Rattle.cred_cli.specs.Texts.{line_of}
+use Rattle.cred_cli.proofs.Simulation.{IsStep, stepped_at}
+
+answers_before-suc : (book : Accounts) (events : List Event) (i : ℕ) → answers_before book events (suc i) ≡ answers_before book events i ++ line_of (answer_at book events i)
+unfolding answers_before
+answers_before-suc book events i = refl
+
+pub answers_before-zero : (book : Accounts) (events : List Event) → answers_before book events 0 ≡ []
+unfolding answers_before
+answers_before-zero book events = refl
+
+write_fault : (book : Accounts) (events : List Event) (i : ℕ) (before now : Option (List ℕ)) (accounts : Accounts) (e : ScriptFault) → e ≡ Write →
+    StopsIn book events i before now accounts → LineFails book events i before now accounts e
+write_fault book events i before now accounts e is stops = rw is stops
+
+module _ (book : Accounts) (events : List Event) (i : ℕ) (event : Event) (sound : IsSound event) (here : slice_get events i ≡ Some event) (before mid now : Option (List ℕ)) (accounts : Accounts)
+    (stands : StandsAfter book events i before mid accounts) (slots : List (Option Task)) (held : HoldTickets book events i slots) where
+  next : IsStep book events i (step accounts slots event)
+  next = stepped_at book events i slots held event sound here accounts stands.accounts_are
+
+  answer : line_of (step accounts slots event).answer ≡ line_of (answer_at book events i)
+  answer = ap line_of next.answer
+
+  -- the whole answer was written
+  line_done : (later : Accounts) (left : List (Option Task)) (line : AnswerLine) → IsDone (step accounts slots event) later left line → Appends mid now (line_bytes line) →
+      StandsAfter book events (suc i) before now later × HoldTickets book events (suc i) left
+  line_done later left line done written = (
+    record {
+      written = rw (answers_before-suc book events i, ← answer, ← done.0) (Appends-trans _ _ _ _ _ stands.written written);
+      accounts_are = done.1 ∙ next.book_is;
+    },
+    rw done.2 next.tickets,
+  )
+
+  -- a proper front of it was
+  line_stops : (later : Accounts) (left : List (Option Task)) (line : AnswerLine) → IsDone (step accounts slots event) later left line → FrontWritten mid now (line_bytes line) →
+      StopsIn book events i before now later
+  line_stops later left line done (n, short, written) = record {
+    written = rw (← answer, ← done.0) (n, short, Appends-trans _ _ _ _ _ stands.written written);
+    accounts_are = done.1 ∙ next.book_is;
+  }
+
+  -- and so however writing it ended
+  pub line_ended : (later : Accounts) (left : List (Option Task)) (line : AnswerLine) (failed : Bool) (r : Result (Unit {0}) ScriptFault) → IsDone (step accounts slots event) later left line →
+      OnOk r (Appends mid now (line_bytes line)) → IfErr r (WriteFails mid now (line_bytes line) failed) →
+      MatchResult r (λ _. StandsAfter book events (suc i) before now later × HoldTickets book events (suc i) left) (LineFails book events i before now later)
+  line_ended later left line failed (Ok x) done written fails = line_done later left line done written
+  line_ended later left line failed (Err e) done written (is_write, has_failed, front) =
+      write_fault book events i before now later e is_write (line_stops later left line done front)
+
+-- a line's fault is the script's
+pub fails_at : (book : Accounts) (all : List ℕ) (i : ℕ) (left before now : Option (List ℕ)) (accounts : Accounts) (e : ScriptFault) → i < length (events_of all) →
+    LineFails book (events_of all) i before now accounts e → ScriptFails book all left before now accounts e
+fails_at book all i left before now accounts Read within fails = absurd fails
+fails_at book all i left before now accounts Write within fails = (i, within, fails)
+fails_at book all i left before now accounts Memory within fails = (i, omega (arith, within), fails)
+fails_at book all i left before now accounts TooLong within fails = absurd fails
+
+-- where the reader is in no fault, the writer may be
+pub cause_of : (reader writer : Bool) (e : ScriptFault) → HasCause false writer e → HasCause reader writer e
+cause_of reader writer Read h = cc
+cause_of reader writer Write h = h
+cause_of reader writer Memory h = tt
+cause_of reader writer TooLong h = tt

@@ -1,0 +1,319 @@
+-- One event, done on the book that stands with the tickets that are open, is what the history says of its place.
+use Rattle.std.proofs.Common.{◌≡◌, ◌≢◌, ℕ, suc, ◌-◌, ◌≤◌, List, take, Option, Some, None, Bool, true, false, not, ◌&&◌, if◌then◌else◌, is_none, is_some, nat_lt, refl, sym, ap, ◌∙◌, slice_get, set, arith, inl, inr}
+use Rattle.std.specs.FinMap as map
+use Rattle.std.proofs.lemmas.Bool.Decides.{eqb_tells}
+use Rattle.std.proofs.Common.{eq-eqb}
+use Rattle.std.proofs.lemmas.Bool.{ne_eqb}
+use Rattle.std.proofs.lemmas.List.{get_or-set_same, get_or-set_other}
+use Rattle.std.proofs.Math.ListN.{length-set}
+use Rattle.cred_phc.specs.Values.{RecordValue}
+use Rattle.cred_book.specs.Accounts.{Accounts, most_accounts}
+use Rattle.cred_book.specs.Commits.{committed, committed_at}
+use Rattle.cred_book.specs.Works.{Task, name_of, right, same, same_scheme, seq, seq_at, whole}
+use Rattle.cred_book.specs.declared.error.BookError.TheVariants.{Exists, Full, NoAccount}
+use Rattle.cred_book.specs.declared.reply.Reply.{Reply}
+use Rattle.cred_book.specs.declared.reply.Reply.TheVariants as reply
+use Rattle.cred_book.specs.declared.request.Request.{Request}
+use Rattle.cred_book.specs.declared.request.Request.TheVariants as request
+use Rattle.cred_cli.specs.declared.event.Event.{Event}
+use Rattle.cred_cli.specs.declared.event.Event.TheVariants.{Account, Load, Show, Begin, Commit, Bad}
+use Rattle.cred_cli.specs.declared.refusal.Refusal.TheVariants.{Book, Busy, Idle}
+use Rattle.cred_cli.specs.Events.{IsSound}
+use Rattle.cred_cli.specs.History.{Answer, Done, Replied, Refused, Deed, Admission, Loading, Whole, Opened, open_after, open_at, answer_of, answer_at, book_at, book_after, names_at, deed_of, done, after, closing, closed, is_stale, is_among, same_entry}
+use Rattle.cred_cli.specs.Steps.{Step, step, stay, slot, begun, begun_at, committing, committing_at, reply_answer}
+use Rattle.cred_cli.specs.Tickets.{HoldTickets, IsTicketOf}
+use Rattle.cred_cli.proofs.Names.{same_names, book_at-suc, take-done}
+use Rattle.cred_cli.proofs.Openings.{IsKnown, known_at, open_at-suc}
+
+-- a step at place i of a history
+pub record IsStep (book : Accounts) (events : List Event) (i : ℕ) (step : Step) : Type 0 where
+  pub answer : step.answer ≡ answer_at book events i
+  pub book_is : step.book ≡ book_at book events (suc i)
+  pub tickets : HoldTickets book events (suc i) step.slots
+
+-- ---- a whole operation never answers that it was changed
+
+abbrev IsReplied : Reply × Option RecordValue → Type 0
+IsReplied outcome = reply_answer outcome.0 ≡ Replied outcome.0
+
+either : (b : Bool) (x y : Reply × Option RecordValue) → IsReplied x → IsReplied y → IsReplied (if b then x else y)
+either true x y h k = h
+either false x y h k = k
+
+whole_replies : (request : Request) (now : Option RecordValue) → IsReplied (whole request now)
+whole_replies (request.Enrol name pw setting) None = refl
+whole_replies (request.Enrol name pw setting) (Some stored) = refl
+whole_replies (request.Verify name pw) None = refl
+whole_replies (request.Verify name pw) (Some stored) = by_case (right stored pw)
+  where
+    by_case : (b : Bool) → reply_answer (if b then reply.Yes else reply.No) ≡ Replied (if b then reply.Yes else reply.No)
+    by_case true = refl
+    by_case false = refl
+whole_replies (request.Change name pw new setting) None = refl
+whole_replies (request.Change name pw new setting) (Some stored) = either (right stored pw) _ _ refl refl
+whole_replies (request.Upgrade name pw setting) None = refl
+whole_replies (request.Upgrade name pw setting) (Some stored) =
+    either (not (right stored pw)) _ _ refl (either (same_scheme stored.setting.scheme setting.scheme) _ _ refl refl)
+whole_replies (request.Remove name pw) None = refl
+whole_replies (request.Remove name pw) (Some stored) = either (right stored pw) _ _ refl refl
+
+-- ---- slots
+
+other_place : (key k : ℕ) → 1 ≤ key → 1 ≤ k → key ≢ k → k - 1 ≢ key - 1
+other_place key k low low' apart e = apart (omega (arith, e, low, low'))
+
+module _ (book : Accounts) (events : List Event) (i : ℕ) (slots : List (Option Task)) (held : HoldTickets book events i slots) (event : Event) (here : slice_get events i ≡ Some event) where
+  open_next : (key : ℕ) → open_at book events (suc i) key ≡ open_after (names_at book events i) i key (open_at book events i key) (Some event)
+  open_next key = open_at-suc book events i key ∙ ap (open_after (names_at book events i) i key (open_at book events i key)) here
+
+  -- where no number opens or closes
+  tickets_stay : ((key : ℕ) → open_after (names_at book events i) i key (open_at book events i key) (Some event) ≡ open_at book events i key) → HoldTickets book events (suc i) slots
+  tickets_stay same = record { size = held.size; each = λ key low high. rw (open_next key ∙ same key) (held.each key low high) }
+
+  -- a slot is written, as its number opens or closes
+  tickets_set : (key : ℕ) → 1 ≤ key → key ≤ 64 → (task : Option Task) → IsTicketOf book events (open_at book events (suc i) key) task →
+      ((k : ℕ) → key ≢ k → open_at book events (suc i) k ≡ open_at book events i k) → HoldTickets book events (suc i) (set slots (key - 1) task)
+  tickets_set key low high task this others = record {
+    size = rw length-set held.size;
+    each = λ k k_low k_high. elim (eqb_tells key k) [
+      | inl w ↦ rw (← w.1, get_or-set_same slots (key - 1) task None (omega (arith, held.size))) this
+      | inr w ↦ rw (others k w.1, get_or-set_other slots (key - 1) (k - 1) task None (other_place key k low k_low w.1)) (held.each k k_low k_high)
+    ];
+  }
+
+  stays : (answer : Answer) → answer ≡ answer_of book events i (Some event) → deed_of book events i (done book events i) (Some event) ≡ None → HoldTickets book events (suc i) slots → IsStep book events i (stay answer (book_at book events i) slots)
+  stays answer said none tickets = record {
+    answer = said ∙ ap (answer_of book events i) (sym here);
+    book_is = sym (book_at-suc book events i ∙ ap (λ e. after (book_at book events i) (deed_of book events i (done book events i) e)) here ∙ ap (after (book_at book events i)) none);
+    tickets = tickets;
+  }
+
+  moves : (step : Step) → step.answer ≡ answer_of book events i (Some event) → step.book ≡ after (book_at book events i) (deed_of book events i (done book events i) (Some event)) → HoldTickets book events (suc i) step.slots → IsStep book events i step
+  moves step said put tickets = record {
+    answer = said ∙ ap (answer_of book events i) (sym here);
+    book_is = put ∙ ap (λ e. after (book_at book events i) (deed_of book events i (done book events i) e)) (sym here) ∙ sym (book_at-suc book events i);
+    tickets = tickets;
+  }
+
+-- ---- the events that leave the tickets
+
+-- a step and what the history says
+abbrev Agree : Accounts → List (Option Task) → Step → Answer → Option Deed → Type 0
+Agree book slots step said deed = (step.answer ≡ said) × (step.book ≡ after book deed) × (step.slots ≡ slots)
+
+admission : (book : Accounts) (slots : List (Option Task)) (name : List ℕ) (b b' : Bool) → b ≡ b' → (c c' : Bool) → c ≡ c' →
+    Agree book slots (if b then stay (Refused (Book Exists)) book slots else if c then stay Done (map.insert book name None) slots else stay (Refused (Book Full)) book slots)
+    (if b' then Refused (Book Exists) else if c' then Done else Refused (Book Full))
+    (if b' then None else if c' then Some (Admission name) else None)
+admission book slots name true true e c c' d = (refl, refl, refl)
+admission book slots name true false e c c' d = (cc, cc, cc)
+admission book slots name false true e c c' d = (cc, cc, cc)
+admission book slots name false false e true true d = (refl, refl, refl)
+admission book slots name false false e true false d = (cc, cc, cc)
+admission book slots name false false e false true d = (cc, cc, cc)
+admission book slots name false false e false false d = (refl, refl, refl)
+
+loading : (book : Accounts) (slots : List (Option Task)) (name : List ℕ) (stored : RecordValue) (b b' : Bool) → b ≡ b' →
+    Agree book slots (if b then stay Done (map.insert book name (Some stored)) slots else stay (Refused (Book NoAccount)) book slots)
+    (if b' then Done else Refused (Book NoAccount))
+    (if b' then Some (Loading name stored) else None)
+loading book slots name stored true true e = (refl, refl, refl)
+loading book slots name stored true false e = (cc, cc, cc)
+loading book slots name stored false true e = (cc, cc, cc)
+loading book slots name stored false false e = (refl, refl, refl)
+
+-- ---- begins
+
+pub begun-at : (book : Accounts) (slots : List (Option Task)) (key : ℕ) (request : Request) (task : Option Task) (entry : Option (Option RecordValue)) →
+    slot slots key ≡ task → map.get book (name_of request) ≡ entry → begun book slots key request ≡ begun_at book slots key request task entry
+unfolding begun
+begun-at book slots key request task entry is found = ap (λ t. begun_at book slots key request t (map.get book (name_of request))) is ∙ ap (begun_at book slots key request task) found
+
+-- a begin that isn't accepted opens nothing
+abbrev Refuses : Accounts → List Event → ℕ → ℕ → Request → Type 0
+Refuses book events i key request = (is_none (open_at book events i key) && is_among (names_at book events i) (name_of request)) ≡ false
+
+opens_nothing : (book : Accounts) (events : List Event) (i key : ℕ) (request : Request) → Refuses book events i key request → (k : ℕ) →
+    open_after (names_at book events i) i k (open_at book events i k) (Some (Begin key request)) ≡ open_at book events i k
+opens_nothing book events i key request refuses k = elim (eqb_tells key k) [
+  | inl w ↦ rw (w.0, ← w.1, refuses) refl
+  | inr w ↦ rw w.0 refl
+]
+
+module _ (book : Accounts) (events : List Event) (i : ℕ) (slots : List (Option Task)) (held : HoldTickets book events i slots) (key : ℕ) (low : 1 ≤ key) (high : key ≤ 64) (request : Request)
+    (here : slice_get events i ≡ Some (Begin key request)) where
+  now : Accounts
+  now = book_at book events i
+
+  among : is_among (names_at book events i) (name_of request) ≡ is_some (map.get (book_at book events i) (name_of request))
+  among = sym ((same_names book events i).among (name_of request))
+
+  begin_refused : (answer : Answer) → answer ≡ answer_of book events i (Some (Begin key request)) → Refuses book events i key request → IsStep book events i (stay answer (book_at book events i) slots)
+  begin_refused answer said refuses =
+      stays book events i slots held (Begin key request) here answer said refl
+      (tickets_stay book events i slots held (Begin key request) here (opens_nothing book events i key request refuses))
+
+  begin_busy : (opened : Opened) → open_at book events i key ≡ Some opened → IsStep book events i (stay (Refused Busy) (book_at book events i) slots)
+  begin_busy opened is = begin_refused (Refused Busy) (rw is refl) (rw is refl)
+
+  begin_absent : open_at book events i key ≡ None → map.get (book_at book events i) (name_of request) ≡ None → IsStep book events i (stay (Refused (Book NoAccount)) (book_at book events i) slots)
+  begin_absent is found = begin_refused (Refused (Book NoAccount)) (rw (is, among, found) refl) (rw (is, among, found) refl)
+
+  begin_done : (copy : Option RecordValue) → open_at book events i key ≡ None → map.get (book_at book events i) (name_of request) ≡ Some copy →
+      IsStep book events i (begun_at (book_at book events i) slots key request None (Some copy))
+  begin_done copy is found =
+      let there : is_among (names_at book events i) (name_of request) ≡ true = among ∙ ap is_some found in
+      let opens : open_at book events (suc i) key ≡ Some (record { place = i; request = request }) =
+      open_next book events i slots held (Begin key request) here key ∙ rw (eq-eqb key key refl, is, there) refl in
+      moves book events i slots held (Begin key request) here (begun_at (book_at book events i) slots key request None (Some copy)) (rw (is, there) refl) refl
+      (tickets_set book events i slots held (Begin key request) here key low high (Some (request, copy)) (rw opens (refl, found))
+      (λ k apart. open_next book events i slots held (Begin key request) here k ∙ rw (ne_eqb key k apart) refl))
+
+  begins : IsStep book events i (begun (book_at book events i) slots key request)
+  begins = by_opened (open_at book events i key) refl (slot slots key) refl (held.each key low high)
+    where
+      by_entry : open_at book events i key ≡ None → slot slots key ≡ None → (entry : Option (Option RecordValue)) → map.get (book_at book events i) (name_of request) ≡ entry →
+          IsStep book events i (begun (book_at book events i) slots key request)
+      by_entry is none None found = rw (begun-at (book_at book events i) slots key request None None none found) (begin_absent is found)
+      by_entry is none (Some copy) found = rw (begun-at (book_at book events i) slots key request None (Some copy) none found) (begin_done copy is found)
+
+      by_opened : (opened : Option Opened) → open_at book events i key ≡ opened → (task : Option Task) → slot slots key ≡ task → IsTicketOf book events opened task →
+          IsStep book events i (begun (book_at book events i) slots key request)
+      by_opened None is None none h = by_entry is none (map.get (book_at book events i) (name_of request)) refl
+      by_opened None is (Some task) none h = absurd h
+      by_opened (Some opened) is None none h = absurd h
+      by_opened (Some opened) is (Some task) some h = rw (begun-at (book_at book events i) slots key request (Some task) _ some refl) (begin_busy opened is)
+
+-- ---- commits
+
+committed-at : (book : Accounts) (task : Task) (name : List ℕ) (entry : Option (Option RecordValue)) → name_of task.0 ≡ name → map.get book name ≡ entry → committed book task ≡ committed_at book task entry
+unfolding committed
+committed-at book task name entry is found = ap (λ n. committed_at book task (map.get book n)) is ∙ ap (committed_at book task) found
+
+seq-at : (book : Accounts) (request : Request) (entry : Option (Option RecordValue)) → map.get book (name_of request) ≡ entry → seq book request ≡ seq_at book request entry
+unfolding seq
+seq-at book request entry found = ap (seq_at book request) found
+
+pub committing-at : (book : Accounts) (slots : List (Option Task)) (key : ℕ) (task : Option Task) → slot slots key ≡ task → committing book slots key ≡ committing_at book slots key task
+unfolding committing
+committing-at book slots key task is = ap (committing_at book slots key) is
+
+stale-at : (book : Accounts) (past : List (Option Deed)) (opened : Opened) (now copy : Option RecordValue) → map.get (book_after book past) (name_of opened.request) ≡ Some now →
+    map.get (book_after book (take opened.place past)) (name_of opened.request) ≡ Some copy → is_stale book past opened ≡ not (same now copy)
+unfolding is_stale
+stale-at book past opened now copy found began = ap (λ e. not (same_entry e (map.get (book_after book (take opened.place past)) (name_of opened.request)))) found ∙ ap (λ e. not (same_entry (Some now) e)) began
+
+module _ (book : Accounts) (events : List Event) (i : ℕ) (slots : List (Option Task)) (held : HoldTickets book events i slots) (key : ℕ) (low : 1 ≤ key) (high : key ≤ 64)
+    (here : slice_get events i ≡ Some (Commit key)) where
+  closes : open_at book events (suc i) key ≡ None
+  closes = open_next book events i slots held (Commit key) here key ∙ rw (eq-eqb key key refl) refl
+
+  others : (k : ℕ) → key ≢ k → open_at book events (suc i) k ≡ open_at book events i k
+  others k apart = open_next book events i slots held (Commit key) here k ∙ rw (ne_eqb key k apart) refl
+
+  closed_tickets : HoldTickets book events (suc i) (set slots (key - 1) None)
+  closed_tickets = tickets_set book events i slots held (Commit key) here key low high None (rw closes tt) others
+
+  commit_idle : open_at book events i key ≡ None → IsStep book events i (stay (Refused Idle) (book_at book events i) slots)
+  commit_idle is =
+      stays book events i slots held (Commit key) here (Refused Idle) (rw is refl) (rw is refl) (tickets_stay book events i slots held (Commit key) here none_closes)
+    where
+      none_closes : (k : ℕ) → open_after (names_at book events i) i k (open_at book events i k) (Some (Commit key)) ≡ open_at book events i k
+      none_closes k = elim (eqb_tells key k) [
+        | inl w ↦ rw (w.0, ← w.1, is) refl
+        | inr w ↦ rw w.0 refl
+      ]
+
+  module _ (opened : Opened) (task : Task) (is : open_at book events i key ≡ Some opened) (asked : task.0 ≡ opened.request)
+      (copied : map.get (book_at book events opened.place) (name_of opened.request) ≡ Some task.1) (now : Option RecordValue) (found : map.get (book_at book events i) (name_of opened.request) ≡ Some now) where
+    known : IsKnown book events i opened
+    known = known_at book events i key opened is
+
+    began : map.get (book_after book (take opened.place (done book events i))) (name_of opened.request) ≡ Some task.1
+    began = ap (λ past. map.get (book_after book past) (name_of opened.request)) (take-done book events opened.place i (omega (arith, known.earlier))) ∙ copied
+
+    stale : is_stale book (done book events i) opened ≡ not (same now task.1)
+    stale = stale-at book (done book events i) opened now task.1 found began
+
+    commits : committed (book_at book events i) task ≡ committed_at (book_at book events i) task (Some now)
+    commits = committed-at (book_at book events i) task (name_of opened.request) (Some now) (ap name_of asked) found
+
+    told : answer_of book events i (Some (Commit key)) ≡ closed book (done book events i) (Some opened)
+    told = ap (closed book (done book events i)) is
+
+    deed : deed_of book events i (done book events i) (Some (Commit key)) ≡ closing book (done book events i) (Some opened)
+    deed = ap (closing book (done book events i)) is
+
+    seq_now : seq (book_at book events i) opened.request ≡ seq_at (book_at book events i) opened.request (Some now)
+    seq_now = seq-at (book_at book events i) opened.request (Some now) found
+
+    deed_stale : same now task.1 ≡ false → deed_of book events i (done book events i) (Some (Commit key)) ≡ None
+    deed_stale e = deed ∙ rw (stale, e) refl
+
+    deed_fresh : same now task.1 ≡ true → deed_of book events i (done book events i) (Some (Commit key)) ≡ Some (Whole opened.request)
+    deed_fresh e = deed ∙ rw (stale, e) refl
+
+    commit_stale : same now task.1 ≡ false → IsStep book events i (committing_at (book_at book events i) slots key (Some task))
+    commit_stale e =
+        let done : committed (book_at book events i) task ≡ (reply.Changed now, book_at book events i) = commits ∙ rw e refl in
+        moves book events i slots held (Commit key) here (committing_at (book_at book events i) slots key (Some task))
+        (ap (λ c. reply_answer c.0) done ∙ sym (told ∙ rw (stale, e) refl))
+        (ap (λ c. c.1) done ∙ sym (ap (after (book_at book events i)) (deed_stale e)))
+        closed_tickets
+
+    commit_fresh : same now task.1 ≡ true → IsStep book events i (committing_at (book_at book events i) slots key (Some task))
+    commit_fresh e =
+        let done : committed (book_at book events i) task ≡ seq (book_at book events i) opened.request = commits ∙ rw (e, asked) (sym seq_now) in
+        let replied : reply_answer (seq (book_at book events i) opened.request).0 ≡ Replied (seq (book_at book events i) opened.request).0 = rw seq_now (whole_replies opened.request now) in
+        moves book events i slots held (Commit key) here (committing_at (book_at book events i) slots key (Some task))
+        (ap (λ c. reply_answer c.0) done ∙ replied ∙ sym (told ∙ rw (stale, e) refl))
+        (ap (λ c. c.1) done ∙ sym (ap (after (book_at book events i)) (deed_fresh e)))
+        closed_tickets
+
+    commit_at : IsStep book events i (committing_at (book_at book events i) slots key (Some task))
+    commit_at = by_case (same now task.1) refl
+      where
+        by_case : (b : Bool) → same now task.1 ≡ b → IsStep book events i (committing_at (book_at book events i) slots key (Some task))
+        by_case true e = commit_fresh e
+        by_case false e = commit_stale e
+
+  -- an open number's name is there
+  entry_there : (opened : Opened) → open_at book events i key ≡ Some opened → is_some (map.get (book_at book events i) (name_of opened.request)) ≡ true
+  entry_there opened is = (same_names book events i).among (name_of opened.request) ∙ (known_at book events i key opened is).there
+
+  commits_all : IsStep book events i (committing (book_at book events i) slots key)
+  commits_all = by_opened (open_at book events i key) refl (slot slots key) refl (held.each key low high)
+    where
+      by_entry : (opened : Opened) (task : Task) → open_at book events i key ≡ Some opened → slot slots key ≡ Some task → IsTicketOf book events (Some opened) (Some task) →
+          (entry : Option (Option RecordValue)) → map.get (book_at book events i) (name_of opened.request) ≡ entry → is_some entry ≡ true → IsStep book events i (committing (book_at book events i) slots key)
+      by_entry opened task is some h None found there = cc
+      by_entry opened task is some h (Some now) found there = rw (committing-at (book_at book events i) slots key (Some task) some) (commit_at opened task is h.0 h.1 now found)
+
+      by_opened : (opened : Option Opened) → open_at book events i key ≡ opened → (task : Option Task) → slot slots key ≡ task → IsTicketOf book events opened task →
+          IsStep book events i (committing (book_at book events i) slots key)
+      by_opened None is None none h = rw (committing-at (book_at book events i) slots key None none) (commit_idle is)
+      by_opened None is (Some task) none h = absurd h
+      by_opened (Some opened) is None none h = absurd h
+      by_opened (Some opened) is (Some task) some h = by_entry opened task is some h (map.get (book_at book events i) (name_of opened.request)) refl (entry_there opened is)
+
+-- ---- any event
+
+stepped : (book : Accounts) (events : List Event) (i : ℕ) (slots : List (Option Task)) → HoldTickets book events i slots → (event : Event) → IsSound event → slice_get events i ≡ Some event →
+    IsStep book events i (step (book_at book events i) slots event)
+stepped book events i slots held (Account name) sound here =
+    let same = same_names book events i in
+    let told = admission (book_at book events i) slots name _ _ (same.among name) _ _ (ap (λ n. nat_lt n most_accounts) same.count) in
+    moves book events i slots held (Account name) here _ told.0 told.1 (rw told.2 (tickets_stay book events i slots held (Account name) here (λ k. refl)))
+stepped book events i slots held (Load name stored) sound here =
+    let told = loading (book_at book events i) slots name stored _ _ ((same_names book events i).among name) in
+    moves book events i slots held (Load name stored) here _ told.0 told.1 (rw told.2 (tickets_stay book events i slots held (Load name stored) here (λ k. refl)))
+stepped book events i slots held (Show name) sound here =
+    stays book events i slots held (Show name) here _ refl refl (tickets_stay book events i slots held (Show name) here (λ k. refl))
+stepped book events i slots held (Begin key request) sound here = begins book events i slots held key sound.0 sound.1 request here
+stepped book events i slots held (Commit key) sound here = commits_all book events i slots held key sound.0 sound.1 here
+stepped book events i slots held (Bad why) sound here =
+    stays book events i slots held (Bad why) here _ refl refl (tickets_stay book events i slots held (Bad why) here (λ k. refl))
+
+pub stepped_at : (book : Accounts) (events : List Event) (i : ℕ) (slots : List (Option Task)) → HoldTickets book events i slots → (event : Event) → IsSound event → slice_get events i ≡ Some event →
+    (accounts : Accounts) → accounts ≡ book_at book events i → IsStep book events i (step accounts slots event)
+stepped_at book events i slots held event sound here accounts is = rw is (stepped book events i slots held event sound here)

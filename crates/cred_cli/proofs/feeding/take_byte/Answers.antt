@@ -1,0 +1,49 @@
+use Rattle.std.proofs.Common.{◌≡◌, arith, sym, ap, ◌∙◌, length, ◌∷◌, [], add-one, Some, slice_get}
+use Rattle.std.proofs.lemmas.List.{length-append}
+use Rattle.std.proofs.lemmas.Option.{slice_get_within}
+use Rattle.cred_cli.specs.Events.{event_of}
+use Rattle.cred_cli.specs.Outcome.{longest_script}
+use Rattle.cred_cli.specs.Script.{events_of}
+use Rattle.cred_cli.proofs.Feeds.{ended_event, take-kept, take_front}
+use Rattle.cred_cli.proofs.Lines.{line_ends-end, line_ends-more, unfinished_from-end, unfinished_from-more}
+use Rattle.cred_cli.proofs.Runs.{fails_at}
+use Rattle.cred_cli.proofs.feeding.take_byte.Goals as goal
+
+-- a byte too many
+pub returns-then-progress-eq-LONGEST_SCRIPT-clause-fed : goal.returns-then-progress-eq-LONGEST_SCRIPT-clause-fed
+returns-then-progress-eq-LONGEST_SCRIPT-clause-fed g c = λ book all front rest before cut at left.
+    let size : length front ≡ longest_script = omega (arith, at.taken_is, c.if-progress-eq-LONGEST_SCRIPT.true) in (
+      omega (arith, size, ap length cut, length-append front (c.args.byte ∷ rest)),
+      rw (take_front all front (c.args.byte ∷ rest) longest_script cut size, ← at.lines_are) at.stands,
+    )
+
+-- a byte of a line
+pub returns-then-byte-ne10-clause-fed : goal.returns-then-byte-ne10-clause-fed
+returns-then-byte-ne10-clause-fed g c = λ book all front rest before cut at. record {
+  stands = at.stands;
+  tickets = at.tickets;
+  lines_are = at.lines_are ∙ sym (line_ends-more front c.args.byte c.if-byte-ne10.true);
+  start_is = c.push.ensures ∙ rw (at.start_is, unfinished_from-more [] front c.args.byte c.if-byte-ne10.true) (take-kept 1025 _ c.args.byte);
+  taken_is = omega (arith, at.taken_is, length-append front (c.args.byte ∷ []));
+}
+
+-- a line end
+pub returns-in-Ok-clause-fed : goal.returns-in-Ok-clause-fed
+returns-in-Ok-clause-fed g c = λ book all front rest before cut at.
+    let here = rw c.if-byte-ne10.false at cut in
+    let event : slice_get (events_of all) c.args.progress.now.lines ≡ Some (event_of c.bytes.result.now) = rw (c.bytes.ensures, at.lines_are, at.start_is) (ended_event all front rest here) in
+    let done = c.in-Ok.ensures.answered book (events_of all) c.args.progress.now.lines before at.stands at.tickets event in
+    record {
+      stands = rw add-one done.0;
+      tickets = rw add-one done.1;
+      lines_are = rw (c.if-byte-ne10.false, line_ends-end front) (omega (arith, at.lines_are));
+      start_is = rw (c.if-byte-ne10.false, unfinished_from-end [] front) c.clear.ensures;
+      taken_is = omega (arith, at.taken_is, length-append front (c.args.byte ∷ []));
+    }
+
+-- a fault at a line end
+pub returns-in-Err-clause-fed : goal.returns-in-Err-clause-fed
+returns-in-Err-clause-fed g c = λ book all front rest before cut at left.
+    let here = rw c.if-byte-ne10.false at cut in
+    let event : slice_get (events_of all) c.args.progress.now.lines ≡ Some (event_of c.bytes.result.now) = rw (c.bytes.ensures, at.lines_are, at.start_is) (ended_event all front rest here) in
+    fails_at book all c.args.progress.now.lines left before _ _ _ (slice_get_within _ _ _ event) (c.in-Err.ensures.answered book (events_of all) c.args.progress.now.lines before at.stands at.tickets event)

@@ -1,0 +1,40 @@
+use Rattle.std.proofs.Common.{◌≡◌, ◌++◌, arith, sym, ap, ◌∙◌, append-nil, ◌≤◌, ◌+◌, ◌-◌, ◌^◌, length, length-take-le, take}
+use Rattle.std.proofs.Math.Nat.{min-eq_left}
+use Rattle.cred_cli.proofs.Readings.{came, came_to_end, cut_behind}
+use Rattle.cred_cli.proofs.script.read_all.Goals as goal
+
+pub returns-in-Ok-finish-clause-ended : goal.returns-in-Ok-finish-clause-ended
+returns-in-Ok-finish-clause-ended g c = λ book all before known at.
+    let (front, rest, cut, left, fed) = c.loop-call.invariant.at book all before known at in
+    let none = came_to_end _ _ rest _ _ c.in-Ok-eq0.field-0-test left c.in-Ok-eq0.ensures.bytes.0 (c.in-Ok-eq0.ensures.bytes.1 c.in-Ok-eq0.field-0-test (omega (arith, c.loop-call.invariant.size))) in
+    let whole : front ≡ all = sym (rw (none, append-nil) at cut) in
+    let done = rw whole at fed in
+    (c.in-Ok-finish.ensures.answered book all before done, omega (arith, done.taken_is, c.loop-call.progress.not_too_long))
+
+pub returns-in-Err-finish-clause-ended : goal.returns-in-Err-finish-clause-ended
+returns-in-Err-finish-clause-ended g c = λ book all before known at.
+    let (front, rest, cut, left, fed) = c.loop-call.invariant.at book all before known at in
+    let none = came_to_end _ _ rest _ _ c.in-Ok-eq0.field-0-test left c.in-Ok-eq0.ensures.bytes.0 (c.in-Ok-eq0.ensures.bytes.1 c.in-Ok-eq0.field-0-test (omega (arith, c.loop-call.invariant.size))) in
+    let whole : front ≡ all = sym (rw (none, append-nil) at cut) in
+    c.in-Err-finish.ensures.answered book all before (rw whole at fed) _
+
+pub returns-in-Err-take_bytes-clause-ended : goal.returns-in-Err-take_bytes-clause-ended
+returns-in-Err-take_bytes-clause-ended g c = λ book all before known at.
+    let (front, rest, cut, left, fed) = c.loop-call.invariant.at book all before known at in
+    let more = came _ _ rest _ left c.in-Ok.ensures.bytes.0 in
+    c.in-Err-take_bytes.ensures.fed book all front more.left before (cut_behind all front rest _ _ cut more.cut) fed _
+
+pub loop-call-preserved : goal.loop-call-preserved
+loop-call-preserved g c =
+    let small : c.loop-call.reader.calls + 1 ≤ 2 ^ 64 - 1 = omega (arith, c.loop-call.invariant.calls) in
+    let within : c.in-Ok.n ≤ length c.read.new.buf = omega (arith, c.in-Ok.ensures.bound) in
+    record {
+      at = λ book all before known at.
+          let (front, rest, cut, left, fed) = c.loop-call.invariant.at book all before known at in
+          let more = came _ _ rest _ left c.in-Ok.ensures.bytes.0 in
+          let behind = cut_behind all front rest _ _ cut more.cut in
+          (front ++ take c.in-Ok.n c.read.new.buf, more.left, behind, more.now_is, c.in-Ok-take_bytes.ensures.fed book all front more.left before behind fed);
+      calls = c.read.ensures.calls ∙ min-eq_left small ∙ ap (λ n. n + 1) c.loop-call.invariant.calls;
+      taken = omega (arith, c.in-Ok-take_bytes.ensures.taken, c.loop-call.invariant.taken, c.in-Ok.n-test, length-take-le c.in-Ok.n c.read.new.buf within);
+      size = omega (arith, c.loop-call.invariant.size, c.read.auto.buf);
+    }

@@ -1,0 +1,16 @@
+-- The bytes of an answer as the code holds them, and what an event that was done leaves.
+use Rattle.std.specs.Prelude.{◌≡◌, ℕ, List, Option}
+use Rattle.cred_book.specs.Accounts.{Accounts}
+use Rattle.cred_book.specs.Works.{Task}
+use Rattle.cred_cli.specs.declared.answer.AnswerLine.{AnswerLine}
+use Rattle.cred_cli.specs.declared.answer.AnswerLine.TheVariants.{Fixed, Made}
+use Rattle.cred_cli.specs.Steps.{Step}
+use Rattle.cred_cli.specs.Texts.{line_of}
+
+abbrev pub line_bytes : AnswerLine → List ℕ
+line_bytes (Fixed bytes) = bytes.now
+line_bytes (Made bytes) = bytes.items
+
+-- the answer, the book and the tickets are the step's
+abbrev pub IsDone : Step → Accounts → List (Option Task) → AnswerLine → Type 0
+IsDone step book slots line = (line_bytes line ≡ line_of step.answer) × (book ≡ step.book) × (slots ≡ step.slots)

@@ -1,0 +1,140 @@
+-- The history that a list of events makes: which names there are, which numbers are open, what was done, and the book that it leaves.
+use Rattle.std.specs.Prelude.{ℕ, zero, suc, ◌==◌, ◌&&◌, if◌then◌else◌, Bool, true, false, not, Option, Some, None, is_none, List, [], ◌∷◌, ◌++◌, length, take, fold, nat_lt, slice_get}
+use Rattle.std.specs.List.{list_any}
+use Rattle.std.specs.Str.{bytes_eq}
+use Rattle.std.specs.FinMap as map
+use Rattle.cred_phc.specs.Values.{RecordValue}
+use Rattle.cred_book.specs.Accounts.{Accounts, most_accounts}
+use Rattle.cred_book.specs.Works.{name_of, same, seq}
+use Rattle.cred_book.specs.declared.error.BookError.TheVariants.{Exists, Full, NoAccount}
+use Rattle.cred_book.specs.declared.reply.Reply.{Reply}
+use Rattle.cred_book.specs.declared.request.Request.{Request}
+use Rattle.cred_cli.specs.declared.event.Event.{Event}
+use Rattle.cred_cli.specs.declared.event.Event.TheVariants.{Account, Load, Show, Begin, Commit, Bad}
+use Rattle.cred_cli.specs.declared.refusal.Refusal.{Refusal}
+use Rattle.cred_cli.specs.declared.refusal.Refusal.TheVariants.{Book, Busy, Idle}
+
+-- ---- the names
+
+abbrev pub is_among : List (List ℕ) → List ℕ → Bool
+is_among names name = list_any (bytes_eq name) names
+
+-- a new name is added while there is room
+abbrev pub names_after : List (List ℕ) → Option Event → List (List ℕ)
+names_after names (Some (Account name)) =
+    if is_among names name then names
+    else if nat_lt (length names) most_accounts then names ++ name ∷ []
+    else names
+names_after names _ = names
+
+-- the opening book's names and, in order, the new names of the account events before place i
+unfoldable pub names_at : Accounts → List Event → ℕ → List (List ℕ)
+names_at book events zero = map.keys book
+names_at book events (suc i) = names_after (names_at book events i) (slice_get events i)
+
+-- ---- the numbers that are open
+
+-- an accepted begin: its place and its request
+pub record Opened : Type 0 where
+  pub place : ℕ
+  pub request : Request
+
+-- a begin is accepted where its number isn't open and its name is there; a commit closes its number
+abbrev pub open_after : List (List ℕ) → ℕ → ℕ → Option Opened → Option Event → Option Opened
+open_after names i key now (Some (Begin k request)) =
+    if k == key && (is_none now && is_among names (name_of request)) then Some (record { place = i; request = request }) else now
+open_after names i key now (Some (Commit k)) = if k == key then None else now
+open_after names i key now _ = now
+
+-- the last accepted begin of the number before place i, where no commit of it stands between
+unfoldable pub open_at : Accounts → List Event → ℕ → ℕ → Option Opened
+open_at book events zero key = None
+open_at book events (suc i) key = open_after (names_at book events i) i key (open_at book events i key) (slice_get events i)
+
+-- ---- what was done
+
+pub data Deed : Type 0 where
+  Admission : (name : List ℕ) → Deed
+  Loading : (name : List ℕ) (stored : RecordValue) → Deed
+  Whole : (request : Request) → Deed
+
+abbrev pub after : Accounts → Option Deed → Accounts
+after book None = book
+after book (Some (Admission name)) = map.insert book name None
+after book (Some (Loading name stored)) = map.insert book name (Some stored)
+after book (Some (Whole request)) = (seq book request).1
+
+-- the book that the deeds leave
+unfoldable pub book_after : Accounts → List (Option Deed) → Accounts
+book_after book deeds = fold after book deeds
+
+abbrev pub same_entry : Option (Option RecordValue) → Option (Option RecordValue) → Bool
+same_entry None None = true
+same_entry (Some a) (Some b) = same a b
+same_entry None (Some b) = false
+same_entry (Some a) None = false
+
+-- after these deeds the account's record isn't the one that stood at the begin's place
+unfoldable pub is_stale : Accounts → List (Option Deed) → Opened → Bool
+is_stale book past opened =
+    not (same_entry (map.get (book_after book past) (name_of opened.request)) (map.get (book_after book (take opened.place past)) (name_of opened.request)))
+
+abbrev pub closing : Accounts → List (Option Deed) → Option Opened → Option Deed
+closing book past None = None
+closing book past (Some opened) = if is_stale book past opened then None else Some (Whole opened.request)
+
+-- an account event whose name is new, while there is room; a load on a name that is there; the request of a commit that closes a begin and isn't stale
+abbrev pub deed_of : Accounts → List Event → ℕ → List (Option Deed) → Option Event → Option Deed
+deed_of book events i past (Some (Account name)) =
+    if is_among (names_at book events i) name then None
+    else if nat_lt (length (names_at book events i)) most_accounts then Some (Admission name)
+    else None
+deed_of book events i past (Some (Load name stored)) = if is_among (names_at book events i) name then Some (Loading name stored) else None
+deed_of book events i past (Some (Commit key)) = closing book past (open_at book events i key)
+deed_of book events i past _ = None
+
+-- what was done before place i: at each place one deed or none
+unfoldable pub done : Accounts → List Event → ℕ → List (Option Deed)
+done book events zero = []
+done book events (suc i) = done book events i ++ deed_of book events i (done book events i) (slice_get events i) ∷ []
+
+abbrev pub book_at : Accounts → List Event → ℕ → Accounts
+book_at book events i = book_after book (done book events i)
+
+-- ---- the answers
+
+pub data Answer : Type 0 where
+  Done : Answer
+  Shown : (stored : Option RecordValue) → Answer
+  Begun : Answer
+  Changed : Answer
+  Replied : (reply : Reply) → Answer
+  Refused : (why : Refusal) → Answer
+
+abbrev pub shown : Option (Option RecordValue) → Answer
+shown None = Refused (Book NoAccount)
+shown (Some stored) = Shown stored
+
+-- a stale commit does nothing; another is answered by the whole operation at its own moment
+abbrev pub closed : Accounts → List (Option Deed) → Option Opened → Answer
+closed book past None = Refused Idle
+closed book past (Some opened) = if is_stale book past opened then Changed else Replied (seq (book_after book past) opened.request).0
+
+abbrev pub answer_of : Accounts → List Event → ℕ → Option Event → Answer
+answer_of book events i (Some (Account name)) =
+    if is_among (names_at book events i) name then Refused (Book Exists)
+    else if nat_lt (length (names_at book events i)) most_accounts then Done
+    else Refused (Book Full)
+answer_of book events i (Some (Load name stored)) = if is_among (names_at book events i) name then Done else Refused (Book NoAccount)
+answer_of book events i (Some (Show name)) = shown (map.get (book_at book events i) name)
+answer_of book events i (Some (Begin key request)) =
+    if not (is_none (open_at book events i key)) then Refused Busy
+    else if is_among (names_at book events i) (name_of request) then Begun
+    else Refused (Book NoAccount)
+answer_of book events i (Some (Commit key)) = closed book (done book events i) (open_at book events i key)
+answer_of book events i (Some (Bad why)) = Refused why
+answer_of book events i None = Done
+
+-- the answer to the event at place i
+abbrev pub answer_at : Accounts → List Event → ℕ → Answer
+answer_at book events i = answer_of book events i (slice_get events i)

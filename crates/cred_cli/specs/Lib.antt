@@ -1,0 +1,13 @@
+pub mod Answers
+pub mod Arguments
+pub mod Commands
+pub mod Events
+pub mod Faults
+pub mod Feeding
+pub mod History
+pub mod Outcome
+pub mod Script
+pub mod Steps
+pub mod Texts
+pub mod Tickets
+pub mod Watched

@@ -1,0 +1,57 @@
+-- How a script ends, and what stands then.
+use Rattle.std.specs.Prelude.{◌≡◌, ℕ, suc, ◌<◌, ◌≤◌, Option, Some, Bool, true, List, ◌++◌, length, take}
+use Rattle.std.specs.Io.KnownBytes.{Appends, Consumes}
+use Rattle.cred_book.specs.Accounts.{Accounts}
+use Rattle.cred_cli.specs.declared.event.Event.{Event}
+use Rattle.cred_cli.specs.declared.fault.ScriptFault.{ScriptFault}
+use Rattle.cred_cli.specs.declared.fault.ScriptFault.TheVariants.{Read, Write, Memory, TooLong}
+use Rattle.cred_cli.specs.History.{answer_at, book_at}
+use Rattle.cred_cli.specs.Script.{answers_before, events_of, line_ends, out}
+use Rattle.cred_cli.specs.Texts.{line_of}
+
+-- the longest script in bytes
+abbrev pub longest_script : ℕ
+longest_script = 1048576
+
+-- how often the reader is called at most
+abbrev pub most_calls : ℕ
+most_calls = 1048578
+
+-- a proper front of the bytes is written
+abbrev pub FrontWritten : Option (List ℕ) → Option (List ℕ) → List ℕ → Type 0
+FrontWritten before now bytes = (n : ℕ) × (n < length bytes) × Appends before now (take n bytes)
+
+-- every line is answered, and the book is that after them
+pub record IsAnswered (book : Accounts) (bytes : List ℕ) (before now : Option (List ℕ)) (accounts : Accounts) (lines : ℕ) : Type 0 where
+  pub written : Appends before now (out book bytes)
+  pub accounts_are : accounts ≡ book_at book (events_of bytes) (length (events_of bytes))
+  pub lines_are : lines ≡ length (events_of bytes)
+
+-- the first i lines are answered, and the book is that after them
+pub record StandsAfter (book : Accounts) (events : List Event) (i : ℕ) (before now : Option (List ℕ)) (accounts : Accounts) : Type 0 where
+  pub written : Appends before now (answers_before book events i)
+  pub accounts_are : accounts ≡ book_at book events i
+
+-- the first i lines are answered, a proper front of the next one's answer is written, and that line is done
+pub record StopsIn (book : Accounts) (events : List Event) (i : ℕ) (before now : Option (List ℕ)) (accounts : Accounts) : Type 0 where
+  pub written : (n : ℕ) × (n < length (line_of (answer_at book events i)))
+      × Appends before now (answers_before book events i ++ take n (line_of (answer_at book events i)))
+  pub accounts_are : accounts ≡ book_at book events (suc i)
+
+-- what stands after a fault; left is what the reader has left
+abbrev pub ScriptFails : Accounts → List ℕ → Option (List ℕ) → Option (List ℕ) → Option (List ℕ) → Accounts → ScriptFault → Type 0
+ScriptFails book bytes left before now accounts Read =
+    (front : List ℕ) × Consumes (Some bytes) left front × StandsAfter book (events_of bytes) (line_ends front) before now accounts
+ScriptFails book bytes left before now accounts Write =
+    (i : ℕ) × (i < length (events_of bytes)) × StopsIn book (events_of bytes) i before now accounts
+ScriptFails book bytes left before now accounts Memory =
+    (i : ℕ) × (i ≤ length (events_of bytes)) × StandsAfter book (events_of bytes) i before now accounts
+ScriptFails book bytes left before now accounts TooLong =
+    (longest_script < length bytes) × StandsAfter book (events_of bytes) (line_ends (take longest_script bytes)) before now accounts
+
+-- a fault of the reader or of the writer comes only where a call on it failed
+abbrev pub HasCause : Bool → Bool → ScriptFault → Type 0
+HasCause reader_failed writer_failed Read = reader_failed ≡ true
+HasCause reader_failed writer_failed Write = writer_failed ≡ true
+HasCause reader_failed writer_failed Memory = Unit {0}
+HasCause reader_failed writer_failed TooLong = Unit {0}

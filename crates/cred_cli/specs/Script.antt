@@ -1,0 +1,33 @@
+-- What a script is answered.
+use Rattle.std.specs.Prelude.{ℕ, zero, suc, ◌==◌, if◌then◌else◌, List, [], ◌∷◌, ◌++◌, length, map}
+use Rattle.cred_book.specs.Accounts.{Accounts}
+use Rattle.cred_cli.specs.declared.event.Event.{Event}
+use Rattle.cred_cli.specs.Events.{event_of}
+use Rattle.cred_cli.specs.History.{answer_at}
+use Rattle.cred_cli.specs.Texts.{line_of}
+
+abbrev pub onto_first : ℕ → List (List ℕ) → List (List ℕ)
+onto_first c [] = (c ∷ []) ∷ []
+onto_first c (line ∷ lines) = (c ∷ line) ∷ lines
+
+-- the pieces before each line end (byte 10), and the rest if it isn't empty
+abbrev pub lines_of : List ℕ → List (List ℕ)
+lines_of [] = []
+lines_of (c ∷ cs) = if c == 10 then [] ∷ lines_of cs else onto_first c (lines_of cs)
+
+abbrev pub events_of : List ℕ → List Event
+events_of bytes = map event_of (lines_of bytes)
+
+-- the answers to the first events, a line each
+unfoldable pub answers_before : Accounts → List Event → ℕ → List ℕ
+answers_before book events zero = []
+answers_before book events (suc i) = answers_before book events i ++ line_of (answer_at book events i)
+
+-- what is written for a script
+abbrev pub out : Accounts → List ℕ → List ℕ
+out book bytes = answers_before book (events_of bytes) (length (events_of bytes))
+
+-- how many lines end in these bytes
+abbrev pub line_ends : List ℕ → ℕ
+line_ends [] = 0
+line_ends (c ∷ cs) = if c == 10 then suc (line_ends cs) else line_ends cs

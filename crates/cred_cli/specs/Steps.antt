@@ -1,0 +1,87 @@
+-- How one event is done on the book that stands, with the tickets that are open.
+use Rattle.std.specs.Prelude.{◌≡◌, ℕ, ◌-◌, ◌<◌, if◌then◌else◌, true, Bool, Option, Some, None, List, length, take, nat_lt, slice_index_or, slice_set}
+use Rattle.std.specs.FinMap as map
+use Rattle.cred_phc.specs.Values.{RecordValue}
+use Rattle.cred_book.specs.Accounts.{Accounts, most_accounts}
+use Rattle.cred_book.specs.Commits.{committed}
+use Rattle.cred_book.specs.Works.{Task, name_of}
+use Rattle.cred_book.specs.declared.reply.Reply.{Reply}
+use Rattle.cred_book.specs.declared.reply.Reply.TheVariants as reply
+use Rattle.cred_book.specs.declared.request.Request.{Request}
+use Rattle.cred_book.specs.declared.error.BookError.TheVariants.{Exists, Full, NoAccount}
+use Rattle.cred_cli.specs.declared.event.Event.{Event}
+use Rattle.cred_cli.specs.declared.event.Event.TheVariants.{Account, Load, Show, Begin, Commit, Bad}
+use Rattle.cred_cli.specs.declared.fault.ScriptFault.{ScriptFault}
+use Rattle.cred_cli.specs.declared.fault.ScriptFault.TheVariants.{Read, Write, Memory, TooLong}
+use Rattle.cred_cli.specs.declared.refusal.Refusal.TheVariants.{Book, Busy, Idle}
+use Rattle.cred_cli.specs.History.{Answer, Done, Begun, Changed, Replied, Refused, shown}
+use Rattle.cred_cli.specs.Outcome.{FrontWritten, StandsAfter, StopsIn}
+
+-- the answer, the book after, and the open tickets after
+pub record Step : Type 0 where
+  pub answer : Answer
+  pub book : Accounts
+  pub slots : List (Option Task)
+
+abbrev pub stay : Answer → Accounts → List (Option Task) → Step
+stay answer book slots = record { answer = answer; book = book; slots = slots }
+
+abbrev pub slot : List (Option Task) → ℕ → Option Task
+slot slots key = slice_index_or slots (key - 1) None
+
+abbrev pub begun_at : Accounts → List (Option Task) → ℕ → Request → Option Task → Option (Option RecordValue) → Step
+begun_at book slots key request (Some task) entry = stay (Refused Busy) book slots
+begun_at book slots key request None None = stay (Refused (Book NoAccount)) book slots
+begun_at book slots key request None (Some copy) = record { answer = Begun; book = book; slots = slice_set slots (key - 1) (Some (request, copy)) }
+
+unfoldable pub begun : Accounts → List (Option Task) → ℕ → Request → Step
+begun book slots key request = begun_at book slots key request (slot slots key) (map.get book (name_of request))
+
+abbrev pub reply_answer : Reply → Answer
+reply_answer (reply.Changed now) = Changed
+reply_answer reply.Enrolled = Replied reply.Enrolled
+reply_answer reply.Exists = Replied reply.Exists
+reply_answer reply.Yes = Replied reply.Yes
+reply_answer reply.No = Replied reply.No
+reply_answer reply.Absent = Replied reply.Absent
+reply_answer reply.Replaced = Replied reply.Replaced
+reply_answer reply.Wrong = Replied reply.Wrong
+reply_answer reply.Upgraded = Replied reply.Upgraded
+reply_answer reply.Kept = Replied reply.Kept
+reply_answer reply.Removed = Replied reply.Removed
+reply_answer reply.NoAccount = Replied reply.NoAccount
+
+abbrev pub committing_at : Accounts → List (Option Task) → ℕ → Option Task → Step
+committing_at book slots key None = stay (Refused Idle) book slots
+committing_at book slots key (Some task) = record {
+  answer = reply_answer (committed book task).0;
+  book = (committed book task).1;
+  slots = slice_set slots (key - 1) None;
+}
+
+unfoldable pub committing : Accounts → List (Option Task) → ℕ → Step
+committing book slots key = committing_at book slots key (slot slots key)
+
+abbrev pub step : Accounts → List (Option Task) → Event → Step
+step book slots (Account name) =
+    if map.contains_key book name then stay (Refused (Book Exists)) book slots
+    else if nat_lt (map.len book) most_accounts then stay Done (map.insert book name None) slots
+    else stay (Refused (Book Full)) book slots
+step book slots (Load name stored) =
+    if map.contains_key book name then stay Done (map.insert book name (Some stored)) slots
+    else stay (Refused (Book NoAccount)) book slots
+step book slots (Show name) = stay (shown (map.get book name)) book slots
+step book slots (Begin key request) = begun book slots key request
+step book slots (Commit key) = committing book slots key
+step book slots (Bad why) = stay (Refused why) book slots
+
+-- what stands where a line met a fault
+abbrev pub LineFails : Accounts → List Event → ℕ → Option (List ℕ) → Option (List ℕ) → Accounts → ScriptFault → Type 0
+LineFails book events i before now accounts Memory = StandsAfter book events i before now accounts
+LineFails book events i before now accounts Write = StopsIn book events i before now accounts
+LineFails book events i before now accounts Read = ⊥
+LineFails book events i before now accounts TooLong = ⊥
+
+-- how writing them ends where it doesn't end well
+abbrev pub WriteFails : Option (List ℕ) → Option (List ℕ) → List ℕ → Bool → ScriptFault → Type 0
+WriteFails before now bytes failed e = (e ≡ Write) × (failed ≡ true) × FrontWritten before now bytes

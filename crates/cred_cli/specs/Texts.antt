@@ -1,0 +1,40 @@
+-- The text of each answer.
+use Rattle.std.specs.Prelude.{ℕ, List, [], ◌∷◌, ◌++◌, codes, decimal, Some, None}
+use Rattle.cred_phc.specs.Text.{record_text}
+use Rattle.cred_cli.specs.Faults.{number_of, word_of}
+use Rattle.cred_book.specs.declared.reply.Reply.{Reply}
+use Rattle.cred_book.specs.declared.reply.Reply.TheVariants as reply
+use Rattle.cred_cli.specs.History.{Answer, Done, Shown, Begun, Changed, Replied, Refused}
+use Rattle.cred_cli.specs.declared.refusal.Refusal.{Refusal}
+
+-- `bad N WORD`
+abbrev pub refusal_text : Refusal → List ℕ
+refusal_text why = codes "bad " ++ decimal (number_of why) ++ codes " " ++ word_of why
+
+-- the reply's name in lower case
+abbrev pub reply_text : Reply → List ℕ
+reply_text reply.Enrolled = codes "enrolled"
+reply_text reply.Exists = codes "exists"
+reply_text reply.Yes = codes "yes"
+reply_text reply.No = codes "no"
+reply_text reply.Absent = codes "absent"
+reply_text reply.Replaced = codes "replaced"
+reply_text reply.Wrong = codes "wrong"
+reply_text reply.Upgraded = codes "upgraded"
+reply_text reply.Kept = codes "kept"
+reply_text reply.Removed = codes "removed"
+reply_text (reply.Changed now) = codes "changed"
+reply_text reply.NoAccount = codes "noaccount"
+
+abbrev pub text_of : Answer → List ℕ
+text_of Done = codes "ok"
+text_of (Shown None) = codes "none"
+text_of (Shown (Some stored)) = record_text stored
+text_of Begun = codes "begun"
+text_of Changed = codes "changed"
+text_of (Replied reply) = reply_text reply
+text_of (Refused why) = refusal_text why
+
+-- with the line end
+abbrev pub line_of : Answer → List ℕ
+line_of answer = text_of answer ++ 10 ∷ []

@@ -1,0 +1,21 @@
+-- What the open tickets have to do with the history.
+use Rattle.std.specs.Prelude.{◌≡◌, ℕ, ◌≤◌, Option, Some, None, List, length}
+use Rattle.std.specs.FinMap as map
+use Rattle.cred_book.specs.Accounts.{Accounts}
+use Rattle.cred_book.specs.Works.{Task, name_of}
+use Rattle.cred_cli.specs.declared.event.Event.{Event}
+use Rattle.cred_cli.specs.History.{Opened, book_at, open_at}
+use Rattle.cred_cli.specs.Steps.{slot}
+
+-- a ticket is the begin's request, with the record of its name in the book at the begin's place
+abbrev pub IsTicketOf : Accounts → List Event → Option Opened → Option Task → Type 0
+IsTicketOf book events None None = Unit {0}
+IsTicketOf book events None (Some task) = ⊥
+IsTicketOf book events (Some opened) None = ⊥
+IsTicketOf book events (Some opened) (Some task) =
+    (task.0 ≡ opened.request) × (map.get (book_at book events opened.place) (name_of opened.request) ≡ Some task.1)
+
+-- each number that is open at place i has its ticket
+pub record HoldTickets (book : Accounts) (events : List Event) (i : ℕ) (slots : List (Option Task)) : Type 0 where
+  pub size : length slots ≡ 64
+  pub each : (key : ℕ) → 1 ≤ key → key ≤ 64 → IsTicketOf book events (open_at book events i key) (slot slots key)

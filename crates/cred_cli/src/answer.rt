@@ -1,0 +1,173 @@
+//! What an event does, and the line that answers it.
+
+ghost use Rattle.std.specs.Prelude.{◌≡◌, IfErr, IfOk, OnOk, OnErr, true};
+ghost use Rattle.std.specs.Io.KnownBytes.{Appends};
+ghost use Rattle.cred_book.specs.Works.{is_for_current};
+ghost use Rattle.cred_cli.specs.Answers.{IsDone, line_bytes};
+ghost use Rattle.cred_cli.specs.Events.{IsSound};
+ghost use Rattle.cred_cli.specs.History.{Done, Refused, Shown};
+ghost use Rattle.cred_cli.specs.Steps.{WriteFails, begun, committing, reply_answer, step};
+ghost use Rattle.cred_cli.specs.Texts.{line_of};
+ghost use Rattle.cred_cli.specs.Watched.{failed_of, inner_of};
+
+use crate::event::Event;
+use crate::fault::ScriptFault;
+use crate::key::Key;
+use crate::refusal::Refusal;
+use crate::resources::Resources;
+use crate::tickets::Tickets;
+use crate::watched::Watched;
+use crate::writing::write_whole;
+use cred_book::{BookError, Keeper, Reply, Request};
+use cred_phc::{Record, write_record};
+use cred_pool::NoGate;
+use std::alloc::{AllocError, Global};
+use std::io::Write;
+use std::sync::Wait;
+use std::thread::Threads;
+
+/// The bytes of an answer with its line end. One that follows a change is a fixed text, so that it can't be refused memory.
+#[derive(Drop)]
+pub(crate) enum AnswerLine {
+    Fixed(&'static [u8]),
+    Made(Vec<u8>),
+}
+
+impl AnswerLine {
+    /// Writes the line whole. Where that fails a proper front of it is written.
+    pub(crate) fn write_to<W: Write>(self, writer: &mut Watched<W>) -> Result<(), ScriptFault>
+        ensures done { OnOk result (Appends (W.contents (inner_of writer.old)) (W.contents (inner_of writer.new)) (line_bytes self)) }
+        ensures fails { IfErr result (WriteFails (W.contents (inner_of writer.old)) (W.contents (inner_of writer.new)) (line_bytes self) (failed_of writer.new)) }
+    {
+        match self {
+            AnswerLine::Fixed(bytes) => write_whole(writer, bytes),
+            AnswerLine::Made(bytes) => write_whole(writer, &bytes),
+        }
+    }
+}
+
+/// Does the event on the keeper's book and the open tickets. Where there is no memory the book stays.
+pub(crate) fn do_event<T: Threads + Wait + Sync, K: Keeper>(
+    resources: &Resources<'_, T>,
+    keeper: &mut K,
+    tickets: &mut Tickets,
+    event: Event,
+) -> Result<AnswerLine, AllocError>
+    requires { IsSound event }
+    ensures done { IfOk result (IsDone (step (K.book keeper.old) tickets.old event) (K.book keeper.new) tickets.new) }
+    ensures refused { OnErr result (K.book keeper.new ≡ K.book keeper.old) }
+{
+    match event {
+        Event::Account(name) => match keeper.admit(resources.rt, name) {
+            Ok(()) => Ok(AnswerLine::Fixed(b"ok\n")),
+            Err(refusal) => refused(resources.alloc, refusal),
+        },
+        Event::Load(name, stored) => match keeper.load(resources.rt, &name, stored) {
+            Ok(()) => Ok(AnswerLine::Fixed(b"ok\n")),
+            Err(refusal) => refused(resources.alloc, refusal),
+        },
+        Event::Show(name) => match keeper.show(&name) {
+            Ok(None) => Ok(AnswerLine::Fixed(b"none\n")),
+            Ok(Some(stored)) => shown(resources.alloc, &stored),
+            Err(refusal) => refused(resources.alloc, refusal),
+        },
+        Event::Begin(key, request) => begin(resources.alloc, keeper, tickets, key, request),
+        Event::Commit(key) => commit(resources, keeper, tickets, key),
+        Event::Bad(why) => bad(resources.alloc, why),
+    }
+}
+
+fn begin<K: Keeper>(
+    alloc: Global,
+    keeper: &K,
+    tickets: &mut Tickets,
+    key: Key,
+    request: Request,
+) -> Result<AnswerLine, AllocError>
+    requires { is_for_current request ≡ true }
+    ensures { IfOk result (IsDone (begun (K.book keeper.now) tickets.old key request) (K.book keeper.now) tickets.new) }
+{
+    if tickets.is_open(key) {
+        return bad(alloc, Refusal::Busy);
+    }
+    match keeper.begin(request) {
+        Ok(ticket) => {
+            tickets.open(key, ticket);
+            Ok(AnswerLine::Fixed(b"begun\n"))
+        }
+        Err((_, refusal)) => refused(alloc, refusal),
+    }
+}
+
+fn commit<T: Threads + Wait + Sync, K: Keeper>(
+    resources: &Resources<'_, T>,
+    keeper: &mut K,
+    tickets: &mut Tickets,
+    key: Key,
+) -> Result<AnswerLine, AllocError>
+    ensures done { IfOk result (IsDone (committing (K.book keeper.old) tickets.old key) (K.book keeper.new) tickets.new) }
+    ensures refused { OnErr result (K.book keeper.new ≡ K.book keeper.old) }
+{
+    let Some(ticket) = tickets.close(key) else {
+        return bad(resources.alloc, Refusal::Idle);
+    };
+    match ticket.work(resources.rt, resources.alloc, resources.workers, &NoGate) {
+        Ok(worked) => match keeper.commit(resources.rt, worked) {
+            Ok(reply) => Ok(AnswerLine::Fixed(reply_line(&reply))),
+            Err(_) => Err(AllocError),
+        },
+        Err(_) => Err(AllocError),
+    }
+}
+
+fn reply_line(reply: &Reply) -> &'static [u8]
+    ensures { result.now ≡ line_of (reply_answer reply.now) }
+{
+    match reply {
+        Reply::Enrolled => b"enrolled\n",
+        Reply::Exists => b"exists\n",
+        Reply::Yes => b"yes\n",
+        Reply::No => b"no\n",
+        Reply::Absent => b"absent\n",
+        Reply::Replaced => b"replaced\n",
+        Reply::Wrong => b"wrong\n",
+        Reply::Upgraded => b"upgraded\n",
+        Reply::Kept => b"kept\n",
+        Reply::Removed => b"removed\n",
+        Reply::Changed { .. } => b"changed\n",
+        Reply::NoAccount => b"noaccount\n",
+    }
+}
+
+fn refused(alloc: Global, refusal: BookError) -> Result<AnswerLine, AllocError>
+    ensures answer { IfOk result (λ line. line_bytes line ≡ line_of (Refused (Refusal.Book refusal))) }
+    ensures memory { refusal ≡ BookError.Memory → OnOk result ⊥ }
+{
+    match refusal {
+        BookError::Memory => Err(AllocError),
+        _ => bad(alloc, Refusal::Book(refusal)),
+    }
+}
+
+fn bad(alloc: Global, why: Refusal) -> Result<AnswerLine, AllocError>
+    ensures { IfOk result (λ line. line_bytes line ≡ line_of (Refused why)) }
+{
+    let text = format!(in alloc; "bad {} {}\n", why.number(), why.word())?;
+    Ok(AnswerLine::Made(text.into_bytes()))
+}
+
+fn shown(alloc: Global, stored: &Record) -> Result<AnswerLine, AllocError>
+    ensures { IfOk result (λ line. line_bytes line ≡ line_of (Shown (Some stored.now))) }
+{
+    let text = record_line(alloc, stored)?;
+    Ok(AnswerLine::Made(text))
+}
+
+/// A record's text with its line end.
+pub(crate) fn record_line(alloc: Global, stored: &Record) -> Result<Vec<u8>, AllocError>
+    ensures { IfOk result (λ line. line.items ≡ line_of (Shown (Some stored.now))) }
+{
+    let mut text = write_record(alloc, stored).map_err(|_| AllocError)?;
+    text.push(b'\n')?;
+    Ok(text)
+}

@@ -1,0 +1,45 @@
+//! Why a script ended before its last line was answered.
+
+ghost use Rattle.std.specs.Prelude.{◌≡◌};
+ghost use Rattle.cred_cli.specs.Faults.{script_number, script_word};
+
+use thiserror::Error;
+
+/// The fault that ended a script.
+#[derive(Clone, Copy, Debug, PartialEq, Eq, Error)]
+pub enum ScriptFault {
+    #[error("the reader failed")]
+    Read,
+    #[error("the writer failed, or took no byte")]
+    Write,
+    #[error("out of memory")]
+    Memory,
+    #[error("the script has over 1048576 bytes")]
+    TooLong,
+}
+
+impl ScriptFault {
+    /// The number of the fault, from 1 to 4.
+    pub fn number(self) -> u8
+        ensures { result ≡ script_number self }
+    {
+        match self {
+            ScriptFault::Read => 1,
+            ScriptFault::Write => 2,
+            ScriptFault::Memory => 3,
+            ScriptFault::TooLong => 4,
+        }
+    }
+
+    /// The name of the fault in lower case, as `toolong`.
+    pub fn word(self) -> &'static str
+        ensures { result.now ≡ script_word self }
+    {
+        match self {
+            ScriptFault::Read => "read",
+            ScriptFault::Write => "write",
+            ScriptFault::Memory => "memory",
+            ScriptFault::TooLong => "toolong",
+        }
+    }
+}

@@ -1,0 +1,31 @@
+//! The script engine: lines that ask for operations on a book, and an answer line for each.
+#![tactic(auto)]
+
+mod answer;
+mod arguments;
+mod event;
+mod fault;
+mod feeding;
+mod fields;
+mod key;
+mod law;
+mod line;
+mod printing;
+mod program;
+mod progress;
+mod refusal;
+mod resources;
+mod script;
+mod single;
+mod tickets;
+mod watched;
+mod writing;
+
+pub use fault::ScriptFault;
+pub use law::{history_is_a_front, names_are_the_books};
+pub use program::command;
+pub use script::{End, run_script};
+pub use watched::Watched;
+
+#[cfg(test)]
+mod tests;

@@ -1,0 +1,45 @@
+//! What the program prints: one line on its output, or the cause of its end on `faults`.
+
+ghost use Rattle.std.specs.Prelude.{◌≡◌};
+ghost use Rattle.cred_cli.specs.Commands.{Prints, status_of};
+ghost use Rattle.cred_cli.specs.Watched.{failed_of, inner_of};
+
+use crate::fault::ScriptFault;
+use crate::refusal::Refusal;
+use crate::watched::Watched;
+use crate::writing::write_whole;
+use std::io::Write;
+
+/// Writes the line whole, and answers the status `good`.
+pub(crate) fn print<W: Write, F: Write>(
+    writer: &mut Watched<W>,
+    faults: &mut F,
+    line: &[u8],
+    good: u8,
+) -> u8
+    ensures { Prints line.now good (W.contents (inner_of writer.old)) (W.contents (inner_of writer.new)) (failed_of writer.new) result }
+{
+    match write_whole(writer, line) {
+        Ok(()) => good,
+        Err(fault) => failed(faults, fault),
+    }
+}
+
+/// Names the fault on `faults`, and gives its status.
+pub(crate) fn failed<F: Write>(faults: &mut F, fault: ScriptFault) -> u8
+    ensures { result ≡ status_of fault }
+{
+    let _ = writeln!(faults, "credbook: {}", fault.word());
+    match fault {
+        ScriptFault::Read | ScriptFault::Write | ScriptFault::TooLong => 2,
+        ScriptFault::Memory => 3,
+    }
+}
+
+/// Says on `faults` why a value is refused.
+pub(crate) fn refused<F: Write>(faults: &mut F, why: Refusal) -> u8
+    ensures { result ≡ 1 }
+{
+    let _ = writeln!(faults, "credbook: {} {}", why.number(), why.word());
+    1
+}

@@ -1,0 +1,117 @@
+//! The program behind `main`.
+
+ghost use Rattle.std.specs.Prelude.{◌≡◌, ◌⊎◌, [], map};
+ghost use Rattle.std.specs.Io.KnownBytes.{Keeps};
+ghost use Rattle.clap.specs.Words.{fault_of, subcommand_of, subcommand_rows_of};
+ghost use Rattle.cred_cli.specs.Arguments.{credbook};
+ghost use Rattle.cred_cli.specs.Commands.{Acts, Ends, Runs, status_of};
+ghost use Rattle.cred_cli.specs.Watched.{IsNew, failed_of, inner_of};
+
+use crate::arguments::{matches_of, workers_of};
+use crate::fault::ScriptFault;
+use crate::printing::failed;
+use crate::resources::Resources;
+use crate::script::run_script;
+use crate::single::{check, hash};
+use crate::watched::Watched;
+use clap::ArgMatches;
+use clap::error::ErrorKind;
+use cred_book::Book;
+use std::alloc::Global;
+use std::io::{Read, Write};
+use std::sync::Wait;
+use std::thread::Threads;
+
+/// Runs the program on the words after its name, and answers its exit status.
+///
+/// `run` runs a script on an empty book: 0 where it was answered whole, 2 after the faults `Read`, `Write` and `TooLong`. `hash` prints the record of a password: 0. `check` prints `yes`, 0, or `no`, 4. A bad setting, record or password, and words that don't parse, are 1; a failed write is 2; want of memory is 3. What ended it is named on `faults`, as `credbook: read`, or by `clap`'s text. Whether `faults` takes its text changes nothing.
+pub fn command<T: Threads + Wait + Sync, R: Read, W: Write, F: Write>(
+    rt: &T,
+    alloc: Global,
+    words: &[&str],
+    reader: &mut Watched<R>,
+    writer: &mut Watched<W>,
+    faults: &mut F,
+) -> u8
+    requires new_reader { IsNew reader.old }
+    requires new_writer { IsNew writer.old }
+    ensures acts { fault_of credbook (map (λ s. s.now) words.entry.now) ≡ [] →
+        Acts (subcommand_of credbook (map (λ s. s.now) words.entry.now))
+        (R.remaining (inner_of reader.old)) (R.remaining (inner_of reader.new)) (W.contents (inner_of writer.old)) (W.contents (inner_of writer.new))
+        (failed_of reader.new) (failed_of writer.new) result
+        ⊎ Ends (status_of ScriptFault.Memory) (W.contents (inner_of writer.old)) (W.contents (inner_of writer.new)) result }
+    ensures refused { (fault_of credbook (map (λ s. s.now) words.entry.now) ≡ [] → ⊥) →
+        Ends 1 (W.contents (inner_of writer.old)) (W.contents (inner_of writer.new)) result
+        ⊎ Ends (status_of ScriptFault.Memory) (W.contents (inner_of writer.old)) (W.contents (inner_of writer.new)) result }
+{
+    match matches_of(alloc, words) {
+        Ok(matches) => act(rt, alloc, &matches, reader, writer, faults),
+        Err(error) => {
+            if error.kind() == ErrorKind::OutOfMemory {
+                return failed(faults, ScriptFault::Memory);
+            }
+            let _ = write!(faults, "{error}");
+            1
+        }
+    }
+}
+
+fn act<T: Threads + Wait + Sync, R: Read, W: Write, F: Write>(
+    rt: &T,
+    alloc: Global,
+    matches: &ArgMatches<'_>,
+    reader: &mut Watched<R>,
+    writer: &mut Watched<W>,
+    faults: &mut F,
+) -> u8
+    requires new_reader { IsNew reader.old }
+    requires new_writer { IsNew writer.old }
+    ensures { Acts (subcommand_rows_of matches.now)
+        (R.remaining (inner_of reader.old)) (R.remaining (inner_of reader.new)) (W.contents (inner_of writer.old)) (W.contents (inner_of writer.new))
+        (failed_of reader.new) (failed_of writer.new) result }
+{
+    let (word, values) = match matches.subcommand() {
+        Some(found) => found,
+        None => return 1,
+    };
+    let resources = Resources {
+        rt,
+        alloc,
+        workers: workers_of(values),
+    };
+    if word == "run" {
+        return run(&resources, reader, writer, faults);
+    }
+    if word == "hash" {
+        return hash(&resources, values, writer, faults);
+    }
+    check(&resources, values, writer, faults)
+}
+
+fn run<T: Threads + Wait + Sync, R: Read, W: Write, F: Write>(
+    resources: &Resources<'_, T>,
+    reader: &mut Watched<R>,
+    writer: &mut Watched<W>,
+    faults: &mut F,
+) -> u8
+    requires new_reader { IsNew reader.old }
+    requires new_writer { IsNew writer.old }
+    ensures { Runs (R.remaining (inner_of reader.old)) (R.remaining (inner_of reader.new)) (W.contents (inner_of writer.old)) (W.contents (inner_of writer.new))
+        (failed_of reader.new) (failed_of writer.new) result }
+{
+    let mut book = match Book::new(resources.alloc) {
+        Ok(book) => book,
+        Err(_) => return failed(faults, ScriptFault::Memory),
+    };
+    match run_script(
+        resources.rt,
+        resources.alloc,
+        resources.workers,
+        &mut book,
+        reader,
+        writer,
+    ) {
+        Ok(_) => 0,
+        Err(fault) => failed(faults, fault),
+    }
+}

@@ -1,0 +1,88 @@
+//! How far a script has been read.
+
+ghost use Rattle.std.specs.Prelude.{◌≡◌, [], ◌∷◌, ◌++◌, ◌≤◌, take};
+
+use std::marker::Model;
+
+/// The longest script in bytes.
+pub(crate) const LONGEST_SCRIPT: u64 = 1048576;
+
+/// How many bytes of a line are kept: one more than a line may have, as a longer one is refused whatever it goes on with.
+const KEPT: usize = 1025;
+
+/// The line that is being read, as far as it is kept.
+#[derive(Drop)]
+pub(crate) struct LineStart {
+    bytes: [u8; KEPT],
+    len: usize,
+}
+
+impl Model for LineStart {
+    ghost use Rattle.std.specs.Prelude.{◌≡◌, ◌≤◌, List, ℕ, length, take};
+
+    ghost Value = { List ℕ };
+
+    ghost view = { λ l. take l.len l.bytes };
+
+    ghost invariant = { λ l. (l.len ≤ 1025) × (length l.bytes ≡ 1025) };
+}
+
+impl LineStart {
+    pub(crate) fn new() -> LineStart
+        ensures { result ≡ [] }
+    {
+        LineStart {
+            bytes: [0; KEPT],
+            len: 0,
+        }
+    }
+
+    pub(crate) fn push(&mut self, byte: u8)
+        ensures { self.new ≡ take 1025 (self.old ++ byte ∷ []) }
+    {
+        if self.len < KEPT {
+            self.bytes[self.len] = byte;
+            self.len += 1;
+        }
+    }
+
+    pub(crate) fn clear(&mut self)
+        ensures { self.new ≡ [] }
+    {
+        self.len = 0;
+    }
+
+    pub(crate) fn bytes(&self) -> &[u8]
+        ensures { result.now ≡ self.now }
+    {
+        &self.bytes[..self.len]
+    }
+}
+
+/// What was read so far.
+#[derive(Drop)]
+pub(crate) struct Progress {
+    /// The line that has no end yet.
+    pub(crate) start: LineStart,
+    /// How many lines are answered.
+    pub(crate) lines: u64,
+    /// How many bytes were taken.
+    pub(crate) taken: u64,
+
+    ghost fewer_lines: { lines ≤ taken },
+    ghost not_too_long: { taken ≤ 1048576 },
+}
+
+impl Progress {
+    pub(crate) fn new() -> Progress
+        ensures start { result.start ≡ [] }
+        ensures lines { result.lines ≡ 0 }
+        ensures taken { result.taken ≡ 0 }
+    {
+        Progress {
+            start: LineStart::new(),
+            lines: 0,
+            taken: 0,
+        }
+    }
+}

@@ -1,0 +1,109 @@
+//! The subcommands on one setting or record: `hash` and `check`.
+
+ghost use Rattle.std.specs.Prelude.{◌≡◌, IfOk, codes, option_map};
+ghost use Rattle.std.specs.Io.KnownBytes.{Keeps};
+ghost use Rattle.clap.specs.Words.{first_of, found_of, rows_of};
+ghost use Rattle.cred_book.specs.Works.{made};
+ghost use Rattle.cred_cli.specs.Commands.{Checks, Hashes, password_word, record_line, to_check, to_hash};
+ghost use Rattle.cred_cli.specs.Watched.{failed_of, inner_of};
+
+use crate::answer::record_line;
+use crate::arguments::value;
+use crate::fault::ScriptFault;
+use crate::fields;
+use crate::printing::{failed, print, refused};
+use crate::refusal::Refusal;
+use crate::resources::Resources;
+use crate::watched::Watched;
+use clap::ArgMatches;
+use cred_phc::{Password, Record, Setting};
+use std::alloc::AllocError;
+use std::io::Write;
+use std::thread::Threads;
+
+/// Prints the record of the password under the setting, with a tag of 32 bytes.
+pub(crate) fn hash<T: Threads + Sync, W: Write, F: Write>(
+    resources: &Resources<'_, T>,
+    values: &ArgMatches<'_>,
+    writer: &mut Watched<W>,
+    faults: &mut F,
+) -> u8
+    ensures { Hashes (first_of (codes "setting") (rows_of (found_of values.now))) (first_of (codes "password") (rows_of (found_of values.now)))
+        (W.contents (inner_of writer.old)) (W.contents (inner_of writer.new)) (failed_of writer.new) result }
+{
+    let Some(text) = value(values, "setting") else {
+        return 1;
+    };
+    match to_hash(text, value(values, "password")) {
+        Ok((setting, pw)) => match hash_line(resources, &setting, &pw) {
+            Ok(line) => print(writer, faults, &line, 0),
+            Err(_) => failed(faults, ScriptFault::Memory),
+        },
+        Err(why) => refused(faults, why),
+    }
+}
+
+/// Prints whether the record is one of the password.
+pub(crate) fn check<T: Threads + Sync, W: Write, F: Write>(
+    resources: &Resources<'_, T>,
+    values: &ArgMatches<'_>,
+    writer: &mut Watched<W>,
+    faults: &mut F,
+) -> u8
+    ensures { Checks (first_of (codes "record") (rows_of (found_of values.now))) (first_of (codes "password") (rows_of (found_of values.now)))
+        (W.contents (inner_of writer.old)) (W.contents (inner_of writer.new)) (failed_of writer.new) result }
+{
+    let Some(text) = value(values, "record") else {
+        return 1;
+    };
+    match to_check(text, value(values, "password")) {
+        Ok((stored, pw)) => match resources.hashing().is_right(&stored, &pw) {
+            Ok(true) => print(writer, faults, b"yes\n", 0),
+            Ok(false) => print(writer, faults, b"no\n", 4),
+            Err(_) => failed(faults, ScriptFault::Memory),
+        },
+        Err(why) => refused(faults, why),
+    }
+}
+
+fn to_hash(text: &str, pw: Option<&str>) -> Result<(Setting, Password), Refusal>
+    ensures { result ≡ to_hash text.now (option_map (λ s. s.now) pw.entry) }
+{
+    let setting = fields::setting(text.as_bytes())?;
+    let pw = password_word(pw)?;
+    Ok((setting, pw))
+}
+
+fn to_check(text: &str, pw: Option<&str>) -> Result<(Record, Password), Refusal>
+    ensures { result ≡ to_check text.now (option_map (λ s. s.now) pw.entry) }
+{
+    let stored = fields::stored(text.as_bytes())?;
+    let pw = password_word(pw)?;
+    Ok((stored, pw))
+}
+
+fn password_word(pw: Option<&str>) -> Result<Password, Refusal>
+    ensures { result ≡ password_word (option_map (λ s. s.now) pw.entry) }
+{
+    match pw {
+        None => match Password::new(b"") {
+            Some(pw) => Ok(pw),
+            None => unreachable!(),
+        },
+        Some(text) => Password::from_base64(text.as_bytes()).ok_or(Refusal::Password),
+    }
+}
+
+fn hash_line<T: Threads + Sync>(
+    resources: &Resources<'_, T>,
+    setting: &Setting,
+    pw: &Password,
+) -> Result<Vec<u8>, AllocError>
+    ensures { IfOk result (λ line. line.items ≡ record_line (made setting.now pw.now)) }
+{
+    let stored = resources
+        .hashing()
+        .made(setting, pw)
+        .map_err(|_| AllocError)?;
+    record_line(resources.alloc, &stored)
+}

@@ -1,0 +1,118 @@
+//! A reader or a writer that counts the calls on it, and keeps in mind whether one failed.
+
+ghost use Rattle.std.specs.Prelude.{◌≡◌, ◌+◌, ◌-◌, ◌^◌, ◌<◌, min, true, length, IfOk, OnOk, OnErr};
+ghost use Rattle.std.specs.Io.{ReadsAtMost, WritesAtMost};
+ghost use Rattle.std.specs.Io.KnownBytes.{Keeps, ReadConsumes, WriteAppends};
+ghost use Rattle.cred_cli.specs.Watched.{IsNew, calls_of, failed_of, inner_of};
+
+use std::io;
+use std::io::{Read, Write};
+
+/// A reader or a writer whose calls are watched.
+#[derive(Drop)]
+pub struct Watched<X> {
+    inner: X,
+    calls: u64,
+    failed: bool,
+}
+
+impl<X> Watched<X> {
+    /// Watches `inner`, on which no call was made yet.
+    pub fn new(inner: X) -> Watched<X>
+        ensures new { IsNew result }
+        ensures inner { inner_of result ≡ inner }
+    {
+        Watched {
+            inner,
+            calls: 0,
+            failed: false,
+        }
+    }
+
+    /// How many calls were made; it stands still at `u64::MAX`.
+    pub fn calls(&self) -> u64
+        ensures { result ≡ calls_of self.now }
+    {
+        self.calls
+    }
+
+    /// Whether a call failed or, in writing, took none of one or more bytes.
+    pub fn failed(&self) -> bool
+        ensures { result ≡ failed_of self.now }
+    {
+        self.failed
+    }
+
+    /// The reader or writer itself.
+    pub fn into_inner(self) -> X
+        ensures { result ≡ inner_of self }
+    {
+        let Watched { inner, .. } = self;
+        inner
+    }
+}
+
+impl<R: Read> Read for Watched<R> {
+    ghost remaining = { λ w. R.remaining w.inner };
+
+    fn read(&mut self, buf: &mut [u8]) -> io::Result<usize>
+        ensures bound { ReadsAtMost result buf.new }
+        ensures bytes { ReadConsumes (R.remaining self.old.inner) (R.remaining self.new.inner) result buf.new }
+        ensures calls { self.new.calls ≡ min (self.old.calls + 1) (2 ^ 64 - 1) }
+        ensures failed { OnErr result (self.new.failed ≡ true) }
+        ensures kept { OnOk result (self.new.failed ≡ self.old.failed) }
+    {
+        self.calls = self.calls.saturating_add(1);
+        match self.inner.read(buf) {
+            Ok(n) => Ok(n),
+            Err(e) => {
+                self.failed = true;
+                Err(e)
+            }
+        }
+    }
+}
+
+impl<W: Write> Write for Watched<W> {
+    ghost contents = { λ w. W.contents w.inner };
+
+    fn write(&mut self, buf: &[u8]) -> io::Result<usize>
+        ensures bound { WritesAtMost result buf.now }
+        ensures bytes { WriteAppends (W.contents self.old.inner) (W.contents self.new.inner) result buf.now }
+        ensures calls { self.new.calls ≡ min (self.old.calls + 1) (2 ^ 64 - 1) }
+        ensures failed { OnErr result (self.new.failed ≡ true) }
+        ensures none { IfOk result (λ n. n ≡ 0 → 0 < length buf.now → self.new.failed ≡ true) }
+        ensures kept { IfOk result (λ n. 0 < n → self.new.failed ≡ self.old.failed) }
+        ensures nothing { OnOk result (length buf.now ≡ 0 → self.new.failed ≡ self.old.failed) }
+    {
+        self.calls = self.calls.saturating_add(1);
+        match self.inner.write(buf) {
+            Ok(n) => {
+                if n == 0 && !buf.is_empty() {
+                    self.failed = true;
+                }
+                Ok(n)
+            }
+            Err(e) => {
+                self.failed = true;
+                Err(e)
+            }
+        }
+    }
+
+    fn flush(&mut self) -> io::Result<()>
+        ensures bytes { Keeps (W.contents self.old.inner) (W.contents self.new.inner) }
+        ensures calls { self.new.calls ≡ min (self.old.calls + 1) (2 ^ 64 - 1) }
+        ensures failed { OnErr result (self.new.failed ≡ true) }
+        ensures kept { OnOk result (self.new.failed ≡ self.old.failed) }
+    {
+        self.calls = self.calls.saturating_add(1);
+        match self.inner.flush() {
+            Ok(()) => Ok(()),
+            Err(e) => {
+                self.failed = true;
+                Err(e)
+            }
+        }
+    }
+}

@@ -1,0 +1,29 @@
+//! Writing an answer line whole.
+
+ghost use Rattle.std.specs.Prelude.{◌≡◌, IfErr, OnOk};
+ghost use Rattle.std.specs.Io.KnownBytes.{Appends};
+ghost use Rattle.cred_cli.specs.Steps.{WriteFails};
+ghost use Rattle.cred_cli.specs.Watched.{failed_of, inner_of};
+
+use crate::fault::ScriptFault;
+use crate::watched::Watched;
+use std::io::Write;
+
+/// Writes all the bytes, in as many calls as the writer needs. It gives up where one fails, an interrupted one included, or takes no byte.
+pub(crate) fn write_whole<W: Write>(
+    writer: &mut Watched<W>,
+    bytes: &[u8],
+) -> Result<(), ScriptFault>
+    ensures done { OnOk result (Appends (W.contents (inner_of writer.old)) (W.contents (inner_of writer.new)) bytes.now) }
+    ensures fails { IfErr result (WriteFails (W.contents (inner_of writer.old)) (W.contents (inner_of writer.new)) bytes.now (failed_of writer.new)) }
+{
+    let mut rest = bytes;
+    while !rest.is_empty() {
+        match writer.write(rest) {
+            Ok(0) => return Err(ScriptFault::Write),
+            Ok(n) => rest = &rest[n..],
+            Err(_) => return Err(ScriptFault::Write),
+        }
+    }
+    Ok(())
+}

@@ -1,0 +1,71 @@
+-- Beginnings of one list, and books after entries.
+use Rattle.std.proofs.Common.{◌≡◌, ℕ, ◌+◌, ◌<◌, ◌≤◌, List, [], ◌∷◌, ◌++◌, length, Bool, true, false, MatchBool, Option, Some, None, inl, inr, is_some, refl, subst, arith, length-append, get_or}
+use Rattle.std.proofs.lemmas.Bool.Decides.{nat_tests}
+use Rattle.std.proofs.lemmas.Bool.{cases_eq}
+use Rattle.std.proofs.lemmas.List.{get_or_read}
+use lib.Dec.{leb}
+use mathlib.Core.List.{IsPrefix}
+use Rattle.std.specs.FinMap as map
+use Rattle.cred_phc.specs.Values.{RecordValue}
+use Rattle.cred_book.specs.Accounts.{Accounts, with_entry}
+use Rattle.cred_book.proofs.Kept.{with_known, with_new}
+use Rattle.cred_desk.specs.declared.entry.Entry.{Entry}
+use Rattle.cred_desk.specs.Commits.{list_after, weight}
+use Rattle.cred_desk.specs.Histories.{put, after, FollowsAt, Allowed, IsListed}
+use Rattle.cred_desk.specs.Rules.{IsLonger}
+
+-- of two beginnings of one list the shorter begins the longer
+pub prefix_shorter : {A : Type 0} (xs ys zs : List A) → IsPrefix xs zs → IsPrefix ys zs → length xs ≤ length ys → IsPrefix xs ys
+prefix_shorter [] ys zs p q le = (ys, refl)
+prefix_shorter (x ∷ xs) [] zs p q le = absurd (omega arith)
+prefix_shorter (x ∷ xs) (y ∷ ys) [] p q le = absurd (cc (p.1))
+prefix_shorter (x ∷ xs) (y ∷ ys) (z ∷ zs) p q le =
+    let heads : x ≡ y = cc (p.1, q.1) in
+    let rest = prefix_shorter xs ys zs (p.0, cc (p.1)) (q.0, cc (q.1)) (omega arith) in
+    (rest.0, cc (heads, rest.1))
+
+-- so it is enough to compare their lengths
+pub prefix_told : (xs ys zs : List Entry) → IsPrefix xs zs → IsPrefix ys zs → (b : Bool) → leb (length xs) (length ys) ≡ b → MatchBool b (IsPrefix xs ys) (IsLonger ys xs)
+prefix_told xs ys zs p q true is = let le : length xs ≤ length ys = grind (arith, nat_tests) in prefix_shorter xs ys zs p q le
+prefix_told xs ys zs p q false is = let lt : length ys < length xs = grind (arith, nat_tests) in (prefix_shorter ys xs zs q p (omega arith), lt)
+
+-- a beginning as long as the whole is the whole
+pub prefix_whole : {A : Type 0} (xs ys : List A) → IsPrefix xs ys → length ys ≤ length xs → xs ≡ ys
+prefix_whole [] [] p le = refl
+prefix_whole [] (y ∷ ys) p le = absurd (omega arith)
+prefix_whole (x ∷ xs) [] p le = absurd (cc (p.1))
+prefix_whole (x ∷ xs) (y ∷ ys) p le =
+    let rest = prefix_whole xs ys (p.0, cc (p.1)) (omega arith) in cc (p.1, rest)
+
+-- the book after one entry more
+pub after_snoc : (book : Accounts) (list : List Entry) (entry : Entry) → after book (list ++ entry ∷ []) ≡ put (after book list) entry
+after_snoc book [] entry = refl
+after_snoc book (e ∷ list) entry = after_snoc (put book e) list entry
+
+-- a list goes on with what is allowed after it
+pub listed_snoc : (loads : Bool) (book : Accounts) (list : List Entry) (entry : Entry) → IsListed loads book list → Allowed loads (after book list) entry → IsListed loads book (list ++ entry ∷ [])
+listed_snoc loads book [] entry listed allowed = (allowed, tt)
+listed_snoc loads book (e ∷ list) entry listed allowed = (listed.0, listed_snoc loads (put book e) list entry listed.1 allowed)
+
+-- an entry that may come next is put in a book as it stands, whose name is there or has room
+there : (found : Option (Option RecordValue)) (now : Option RecordValue) → FollowsAt found now → is_some found ≡ true
+there None now follows = absurd follows
+there (Some old) now follows = refl
+
+pub with_allowed : (loads : Bool) (book : Accounts) (entry : Entry) → Allowed loads book entry → with_entry book entry.name entry.now ≡ put book entry
+with_allowed false book entry made = with_known book entry.name entry.now (there (map.get book entry.name) entry.now made)
+with_allowed true book entry (inl made) = with_known book entry.name entry.now (there (map.get book entry.name) entry.now made)
+with_allowed true book entry (inr (inl admitted)) = with_new book entry.name entry.now admitted.0 admitted.1
+with_allowed true book entry (inr (inr loaded)) = with_known book entry.name entry.now loaded.0
+
+-- a change makes the list longer by one
+pub length_list_after : (list : List Entry) (change : Option Entry) → length (list_after list change) ≡ length list + weight change
+length_list_after list None = omega arith
+length_list_after list (Some entry) = length-append list (entry ∷ [])
+
+-- what holds of the elements before a place, and of the one there
+pub all_more : {A : Type 0} (P : A → Type 0) (xs : List A) (i : ℕ) (x : A) → i < length xs → x ≡ get_or xs i x → P x → ((k : ℕ) (d : A) → k < i → P (get_or xs k d)) → (k : ℕ) (d : A) → k < i + 1 → P (get_or xs k d)
+all_more P xs i x within is here before k d lt = elim (cases_eq k i) [
+  | inl same ↦ rw same (subst P (get_or_read xs i x within is d) here)
+  | inr apart ↦ before k d (omega arith)
+]

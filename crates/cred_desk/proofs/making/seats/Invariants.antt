@@ -1,0 +1,11 @@
+use Rattle.std.proofs.Common.{◌≡◌, ◌+◌, ◌≤◌, [], All, vec_len, vec_capacity}
+use Rattle.cred_desk.proofs.making.seats.Given as goal
+
+-- a session for each part that was taken
+abbrev pub invariant-loop-index : goal.invariant-loop-index
+invariant-loop-index g l =
+    (l.spare.parts + l._index ≡ l.count)
+    × (l.spare.amount ≡ 0)
+    × (vec_len l.sessions ≡ l._index)
+    × (l.count ≤ vec_capacity l.sessions)
+    × All (λ s. (s.known ≡ []) × (s.count ≡ 0)) l.sessions.items

@@ -1,0 +1,38 @@
+-- What a commit answers, and what becomes of the list.
+use Rattle.std.specs.Prelude.{ℕ, List, [], ◌∷◌, ◌++◌, if◌then◌else◌, Option, Some, None}
+use Rattle.cred_phc.specs.Values.{IsPassword}
+use Rattle.cred_book.specs.Accounts.{Accounts}
+use Rattle.cred_book.specs.Commits.{judged}
+use Rattle.cred_book.specs.Works.{Task, name_of}
+use Rattle.cred_book.specs.declared.reply.Reply.{Reply}
+use Rattle.cred_book.specs.declared.request.Request.{Request}
+use Rattle.cred_book.specs.declared.request.Request.TheVariants.{Enrol, Verify, Change, Upgrade, Remove}
+use Rattle.cred_desk.specs.Histories.{entry}
+use Rattle.cred_desk.specs.declared.entry.Entry.{Entry}
+
+-- the answer at this book
+abbrev pub reply_of : Accounts → Task → Reply
+reply_of book work = (judged book work).0
+
+-- the entry that the commit makes, if it is a change
+abbrev pub entry_of : Accounts → Task → Option Entry
+entry_of book work = if (judged book work).2 then Some (entry (name_of work.0) (judged book work).1) else None
+
+-- the list after it
+abbrev pub list_after : List Entry → Option Entry → List Entry
+list_after list None = list
+list_after list (Some entry) = list ++ entry ∷ []
+
+-- how many changes it is
+abbrev pub weight : Option Entry → ℕ
+weight None = 0
+weight (Some entry) = 1
+
+-- ---- the passwords of a request
+
+abbrev pub HavePasswords : Request → Type 0
+HavePasswords (Enrol name pw setting) = IsPassword pw
+HavePasswords (Verify name pw) = IsPassword pw
+HavePasswords (Change name pw new setting) = IsPassword pw × IsPassword new
+HavePasswords (Upgrade name pw setting) = IsPassword pw
+HavePasswords (Remove name pw) = IsPassword pw

@@ -1,0 +1,6 @@
+pub mod Commits
+pub mod Histories
+pub mod Published
+pub mod Refusals
+pub mod Rules
+pub mod Standing

@@ -1,0 +1,42 @@
+//! What a commit makes of a book.
+
+ghost use Rattle.std.specs.Prelude.{◌≡◌, IfSome};
+ghost use Rattle.cred_desk.specs.Commits.{HavePasswords, entry_of, reply_of};
+ghost use Rattle.cred_desk.specs.Histories.{IsMade};
+
+use crate::entry::Entry;
+use cred_book::{Book, Reply, Request, Worked};
+
+/// The answer that the commit of the work has at this book, and the entry that it makes if it is a change.
+pub(crate) fn judge(book: &Book, work: &Worked) -> (Reply, Option<Entry>)
+    ensures reply { result.0 ≡ reply_of book.now work.now }
+    ensures entry { result.1 ≡ entry_of book.now work.now }
+    ensures made { IfSome result.1 (λ entry. IsMade book.now entry) }
+{
+    let request = work.request();
+    hold_passwords(&request);
+    let (reply, now, change) = book.judge(work);
+    if !change {
+        return (reply, None);
+    }
+    let name = request.name();
+    (reply, Some(Entry { name, now }))
+}
+
+// A request's passwords have at most 256 bytes, which their accessor tells.
+fn hold_passwords(request: &Request)
+    ensures { HavePasswords request.now }
+{
+    match request {
+        Request::Enrol { pw, .. }
+        | Request::Verify { pw, .. }
+        | Request::Upgrade { pw, .. }
+        | Request::Remove { pw, .. } => {
+            let _ = pw.bytes();
+        }
+        Request::Change { pw, new_pw, .. } => {
+            let _ = pw.bytes();
+            let _ = new_pw.bytes();
+        }
+    }
+}

@@ -1,0 +1,163 @@
+//! The one who keeps a published book: what it changes, its sessions see.
+
+ghost use Rattle.std.specs.Prelude.{◌≡◌, ◌++◌, ◌∷◌, [], All, IfErr, IfOk, IsOk, MatchResult, None, Some, nat_le, true, vec_len};
+ghost use Rattle.cred_book.specs.Calls.{Admits, Loads};
+ghost use Rattle.cred_book.specs.Commits.{Commits};
+ghost use Rattle.cred_desk.specs.Commits.{entry_of, list_after, reply_of};
+ghost use Rattle.cred_desk.specs.Histories.{IsLawful, after, entry};
+ghost use Rattle.cred_desk.specs.Refusals.{IsRefusedToMake};
+ghost use Rattle.cred_desk.specs.declared.error.DeskError.TheVariants as error;
+
+use crate::entry::Entry;
+use crate::error::DeskError;
+use crate::making::{MOST_SESSIONS, Made, make};
+use crate::naming::{Naming, Opened};
+use crate::published::{Published, Shown, Step};
+use crate::publisher::Publisher;
+use crate::session::Session;
+use crate::told::Told;
+use cred_book::{Book, BookError, Keeper, Name, Reply, Request, Ticket, Worked};
+use cred_phc::Record;
+use crossbeam_utils::rule::Protocol;
+use left_right::Absorb;
+use std::alloc::Global;
+use std::marker::Model;
+use std::sync::Wait;
+
+/// Keeps a book that sessions read while it changes. It isn't `Drop`: end it by `end`.
+///
+/// Contracts see it as the list of entries that it has published.
+pub struct Committer<J: Naming>
+where
+    Shown<J>: Absorb<Step<J>, State = (Book, [Entry; 0])>,
+    Published<J>: Protocol<Shown<J>, ()>,
+{
+    publisher: Publisher<J>,
+}
+
+impl<J: Naming> Model for Committer<J>
+where
+    Shown<J>: Absorb<Step<J>, State = (Book, [Entry; 0])>,
+    Published<J>: Protocol<Shown<J>, ()>,
+{
+    ghost use Rattle.std.specs.Prelude.{◌≡◌, List, true};
+    ghost use Rattle.cred_desk.specs.declared.entry.Entry.{Entry};
+
+    ghost Value = { List Entry };
+
+    ghost view = { λ c. c.publisher };
+
+    ghost invariant = { λ c. J.loads ≡ true };
+}
+
+impl<J: Naming> Committer<J> {
+    /// Copies the book, and shows it to so many sessions, 0 to 32 of them.
+    ///
+    /// `Sessions` for another number, which is judged first. `Memory` where there is none, and `Reader` where a session gets no place to read.
+    pub fn new<R: Wait>(
+        rt: &R,
+        alloc: Global,
+        opened: Opened,
+        book: &Book,
+        sessions: u8,
+    ) -> Result<(Committer<J>, Vec<Session<J>>), DeskError>
+        requires name { (opened.seen.book ≡ J.book) × (opened.blank.name ≡ J.name) × (opened.blank.parts ≡ J.parts) }
+        requires opening { (book.now ≡ J.opening) × (J.parts ≡ sessions) × (J.loads ≡ true) }
+        ensures list { IfOk result (λ made. made.0 ≡ []) }
+        ensures sessions { IfOk result (λ made. (vec_len made.1 ≡ sessions) × All (λ s. (s.known ≡ []) × (s.count ≡ 0)) made.1.items) }
+        ensures few { IfOk result (λ _. nat_le sessions 32 ≡ true) }
+        ensures refused { IfErr result (IsRefusedToMake (nat_le sessions 32)) }
+    {
+        if sessions > MOST_SESSIONS {
+            return Err(DeskError::Sessions);
+        }
+        let Made {
+            publisher,
+            sessions,
+            total: _,
+            spare: _,
+        } = make(rt, alloc, opened, book, sessions)?;
+        Ok((Committer { publisher }, sessions))
+    }
+
+    /// Does the whole operation, if the record is the one that was copied, and else nothing, and tells the list then.
+    ///
+    /// `Memory` where an entry finds none. Nothing changes then, and the work comes back. A commit that makes no change takes no memory.
+    pub fn commit_told<R: Wait>(
+        &mut self,
+        rt: &R,
+        work: Worked,
+    ) -> Result<(Reply, Told<J>), (Worked, DeskError)>
+        ensures reply { IfOk result (λ r. r.0 ≡ reply_of (after J.opening self.old) work) }
+        ensures list { IfOk result (λ r. self.new ≡ list_after self.old (entry_of (after J.opening self.old) work)) }
+        ensures told { IfOk result (λ r. r.1 ≡ self.new) }
+        ensures lawful { IfOk result (λ _. IsLawful J.opening self.new) }
+        ensures refused { IfErr result (λ e. (e.0 ≡ work) × (e.1 ≡ error.Memory) × (self.new ≡ self.old)) }
+        ensures plain { entry_of (after J.opening self.old) work ≡ None → IsOk result }
+    {
+        let reply = self.publisher.commit(rt, work)?;
+        Ok((reply, self.publisher.told()))
+    }
+
+    /// Lets the sessions in to no book from now on. It waits for those that read it.
+    pub fn end<R: Wait>(self, rt: &R) {
+        let Committer { publisher } = self;
+        publisher.finish(rt);
+    }
+}
+
+/// Its calls answer from its present book, and publish what they change.
+impl<J: Naming> Keeper for Committer<J> {
+    ghost use Rattle.cred_desk.specs.Histories.{after};
+
+    ghost book = { λ c. after J.opening c };
+
+    #[tactic(auto, using(crate::proofs::Lists::after_snoc))]
+    fn admit<R: Wait>(&mut self, rt: &R, name: Name) -> Result<(), BookError>
+        ensures book { Admits (after J.opening self.old) (after J.opening self.new) name result }
+        ensures list { MatchResult result (λ _. self.new ≡ self.old ++ entry name None ∷ []) (λ _. self.new ≡ self.old) }
+    {
+        if self.show(&name).is_ok() {
+            return Err(BookError::Exists);
+        }
+        if self.publisher.book().is_full() {
+            return Err(BookError::Full);
+        }
+        match self.publisher.publish(rt, Entry { name, now: None }) {
+            Ok(()) => Ok(()),
+            Err(_) => Err(BookError::Memory),
+        }
+    }
+
+    #[tactic(auto, using(crate::proofs::Lists::after_snoc))]
+    fn load<R: Wait>(&mut self, rt: &R, name: &Name, stored: Record) -> Result<(), BookError>
+        ensures book { Loads (after J.opening self.old) (after J.opening self.new) name.now stored result }
+        ensures list { MatchResult result (λ _. self.new ≡ self.old ++ entry name.entry.now (Some stored) ∷ []) (λ _. self.new ≡ self.old) }
+    {
+        self.show(name)?;
+        let now = Some(stored);
+        match self.publisher.publish(rt, Entry { name: *name, now }) {
+            Ok(()) => Ok(()),
+            Err(_) => Err(BookError::Memory),
+        }
+    }
+
+    fn show(&self, name: &Name) -> Result<Option<Record>, BookError> {
+        self.publisher.book().show(name)
+    }
+
+    fn begin(&self, request: Request) -> Result<Ticket, (Request, BookError)> {
+        self.publisher.book().begin(request)
+    }
+
+    #[tactic(auto, using(crate::proofs::Changes::commits))]
+    fn commit<R: Wait>(&mut self, rt: &R, worked: Worked) -> Result<Reply, (Worked, BookError)>
+        ensures book { Commits (after J.opening self.old) (after J.opening self.new) worked result }
+        ensures list { MatchResult result (λ _. self.new ≡ list_after self.old (entry_of (after J.opening self.old) worked)) (λ _. self.new ≡ self.old) }
+    {
+        match self.publisher.commit(rt, worked) {
+            Ok(reply) => Ok(reply),
+            Err((worked, _)) => Err((worked, BookError::Memory)),
+        }
+    }
+}

@@ -1,0 +1,118 @@
+//! A desk: sessions settle their work behind its lock, and read its book with no lock.
+
+ghost use Rattle.std.specs.Prelude.{◌≡◌, ◌&&◌, [], All, IfErr, IfOk, MatchResult, false, length, map, nat_le, sum, true, vec_len};
+ghost use mathlib.Core.List.{IsPrefix};
+ghost use Rattle.cred_desk.specs.Histories.{IsLegal, after};
+ghost use Rattle.cred_desk.specs.Refusals.{IsRefusedToMake};
+ghost use Rattle.cred_desk.specs.Standing.{IsMissed, Settles};
+
+use crate::clerk::Clerk;
+use crate::closed::Closed;
+use crate::entry::Entry;
+use crate::error::DeskError;
+use crate::making::{MOST_SESSIONS, Made, make};
+use crate::naming::{Naming, Opened};
+use crate::published::{Published, Shown, Step};
+use crate::session::Session;
+use crate::told::Told;
+use cred_book::{Book, Reply, Worked};
+use crossbeam_utils::rule::Protocol;
+use left_right::Absorb;
+use std::alloc::Global;
+use std::sync::{Mutex, MutexGuard, Wait};
+
+/// Keeps a book that sessions read while they change it, and a journal of all changes. It isn't `Drop`: end it by `close` or `end`.
+pub struct Desk<J: Naming>
+where
+    Shown<J>: Absorb<Step<J>, State = (Book, [Entry; 0])>,
+    Published<J>: Protocol<Shown<J>, ()>,
+{
+    clerk: Mutex<Clerk<J>>,
+}
+
+impl<J: Naming> Desk<J> {
+    /// Copies the book, and shows it to so many sessions, 1 to 32 of them. The names are those of the book from then on.
+    ///
+    /// `Sessions` for another number, which is judged first. `Memory` where there is none, and `Reader` where a session gets no place to read.
+    pub fn new<R: Wait>(
+        rt: &R,
+        alloc: Global,
+        opened: Opened,
+        book: &Book,
+        sessions: u8,
+    ) -> Result<(Desk<J>, Vec<Session<J>>), DeskError>
+        requires name { (opened.seen.book ≡ J.book) × (opened.blank.name ≡ J.name) × (opened.blank.parts ≡ J.parts) }
+        requires opening { (book.now ≡ J.opening) × (J.parts ≡ sessions) × (J.loads ≡ false) }
+        ensures sessions { IfOk result (λ made. (vec_len made.1 ≡ sessions) × All (λ s. (s.known ≡ []) × (s.count ≡ 0)) made.1.items) }
+        ensures few { IfOk result (λ _. (nat_le 1 sessions && nat_le sessions 32) ≡ true) }
+        ensures refused { IfErr result (IsRefusedToMake (nat_le 1 sessions && nat_le sessions 32)) }
+    {
+        if sessions == 0 || sessions > MOST_SESSIONS {
+            return Err(DeskError::Sessions);
+        }
+        let Ok(counts) = Vec::with_capacity(alloc, usize::from(sessions)) else {
+            return Err(DeskError::Memory);
+        };
+        let made = make(rt, alloc, opened, book, sessions)?;
+        let Made {
+            publisher,
+            sessions: seats,
+            total,
+            spare,
+        } = made;
+        let clerk = Mutex::new(Clerk::new(publisher, total, spare, sessions, counts));
+        Ok((Desk { clerk }, seats))
+    }
+
+    /// Waits for the lock, and does the whole operation, if the record is the one that was copied, and else nothing. The session knows the list after it from then on, and counts a change.
+    ///
+    /// `Memory` where a change finds none, and `Reader` where the session knew more than the journal, which isn't met. Nothing changes then, and the work comes back.
+    pub fn settle<R: Wait>(
+        &self,
+        rt: &R,
+        session: &mut Session<J>,
+        work: Worked,
+    ) -> Result<(Reply, Told<J>), (Worked, DeskError)>
+        ensures done { Settles J.opening session.old session.new work result }
+        ensures known { IsPrefix session.old.known session.new.known }
+    {
+        let mut clerk = self.clerk.lock(rt);
+        let settled = clerk.settle(rt, session, work);
+        // Its drop would ask that a clerk be `Drop`.
+        MutexGuard::unlock(clerk);
+        settled
+    }
+
+    /// Gives the book, the journal and the counts, where all sessions of the desk are handed in, in any order. It waits for those that read the book.
+    ///
+    /// `Session` where some are missing, and `Reader` where one knew more than the journal, which isn't met. The desk and the sessions come back.
+    pub fn close<R: Wait>(
+        self,
+        rt: &R,
+        sessions: Vec<Session<J>>,
+    ) -> Result<Closed, (Desk<J>, Vec<Session<J>>, DeskError)>
+        ensures legal { IfOk result (λ closed. IsLegal J.opening closed.journal.items) }
+        ensures book { IfOk result (λ closed. closed.book ≡ after J.opening closed.journal.items) }
+        ensures known { IfOk result (λ closed. All (λ s. IsPrefix s.known closed.journal.items) sessions.items) }
+        ensures counts { IfOk result (λ closed. closed.counts.items ≡ map (λ s. s.count) sessions.items) }
+        ensures total { IfOk result (λ closed. sum closed.counts.items ≡ length closed.journal.items) }
+        ensures all { MatchResult result (λ _. vec_len sessions ≡ J.parts) (λ e. IsMissed (vec_len sessions) J.parts e.2) }
+        ensures back { IfErr result (λ e. e.1.items ≡ sessions.items) }
+    {
+        let Desk { clerk } = self;
+        let clerk = clerk.into_inner();
+        match clerk.look(&sessions) {
+            Ok(()) => Ok(clerk.close(rt, sessions)),
+            Err(error) => {
+                let clerk = Mutex::new(clerk);
+                Err((Desk { clerk }, sessions, error))
+            }
+        }
+    }
+
+    /// Lets the sessions in to no book from now on. It waits for those that read it.
+    pub fn end<R: Wait>(self, rt: &R) {
+        let Desk { clerk } = self;
+        clerk.into_inner().end(rt);
+    }
+}

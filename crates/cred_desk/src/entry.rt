@@ -1,0 +1,11 @@
+//! A change to a book.
+
+use cred_book::Name;
+use cred_phc::Record;
+
+/// What stands at a name from a change on: a record, or none.
+#[derive(Clone, Copy, Debug, PartialEq, Eq)]
+pub struct Entry {
+    pub name: Name,
+    pub now: Option<Record>,
+}

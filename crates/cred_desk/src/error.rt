@@ -1,0 +1,47 @@
+//! Why a call on a desk, a committer or a session is refused.
+
+ghost use Rattle.std.specs.Prelude.{◌≡◌};
+ghost use Rattle.cred_desk.specs.Refusals.{refusal_number, refusal_word};
+
+/// Why a desk, a committer or a session isn't made, or doesn't do what it is asked.
+#[derive(Clone, Copy, Debug, PartialEq, Eq)]
+pub enum DeskError {
+    /// Out of memory.
+    Memory,
+    /// The number of sessions is none that can be had.
+    Sessions,
+    /// Sessions of the desk are missing.
+    Session,
+    /// The reader got no place, or was let in to no book.
+    Reader,
+    /// The name isn't there.
+    NoAccount,
+}
+
+impl DeskError {
+    /// The number of the refusal, from 1 to 5.
+    pub fn number(self) -> u8
+        ensures { result ≡ refusal_number self }
+    {
+        match self {
+            DeskError::Memory => 1,
+            DeskError::Sessions => 2,
+            DeskError::Session => 3,
+            DeskError::Reader => 4,
+            DeskError::NoAccount => 5,
+        }
+    }
+
+    /// The name of the refusal in lower case, as `noaccount`.
+    pub fn word(self) -> &'static str
+        ensures { result.now ≡ refusal_word self }
+    {
+        match self {
+            DeskError::Memory => "memory",
+            DeskError::Sessions => "sessions",
+            DeskError::Session => "session",
+            DeskError::Reader => "reader",
+            DeskError::NoAccount => "noaccount",
+        }
+    }
+}

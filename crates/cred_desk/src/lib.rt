@@ -1,0 +1,31 @@
+//! A book of accounts that sessions in threads of their own read while one committer changes it, and a desk that
+//! settles their work behind a lock and keeps a journal of it.
+#![tactic(auto)]
+
+mod change;
+mod clerk;
+mod closed;
+mod committer;
+mod desk;
+mod entry;
+mod error;
+mod front;
+mod making;
+mod naming;
+mod published;
+mod publisher;
+mod rule;
+mod session;
+mod told;
+
+pub use closed::Closed;
+pub use committer::Committer;
+pub use desk::Desk;
+pub use entry::Entry;
+pub use error::DeskError;
+pub use naming::{Naming, Opened};
+pub use session::Session;
+pub use told::Told;
+
+#[cfg(test)]
+mod tests;

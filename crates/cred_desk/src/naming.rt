@@ -1,0 +1,72 @@
+//! Which list of entries it is, and from which book it starts.
+
+ghost use Rattle.std.specs.Prelude.{◌≡◌, []};
+ghost use Rattle.cred_desk.specs.Rules.{head_of};
+
+use crate::entry::Entry;
+use crate::front::{Front, Head};
+use crate::rule::Law;
+use logbook::{Seen, Start, Word};
+use std::marker::Brand;
+use std::sync::ledger::{Blank, Ledger};
+
+/// Names one desk or one committer. A function that is generic over it is called with `Brand`, and that call picks the name.
+pub trait Naming: Ledger {
+    ghost use Rattle.std.specs.Prelude.{Bool};
+    ghost use Rattle.logbook.specs.Pages.{Book};
+    ghost use Rattle.cred_book.specs.Accounts.{Accounts};
+
+    // Which list.
+    ghost book: { Book };
+
+    // The opening book.
+    ghost opening: { Accounts };
+
+    // Whether admissions and loads may stand in the list.
+    ghost loads: { Bool };
+}
+
+impl Naming for Brand {
+    ghost use Rattle.std.specs.Prelude.{false};
+    ghost use Rattle.std.specs.FinMap as map;
+
+    ghost book = { record { number = 0; log_name = 0; cells_name = 0 } };
+
+    ghost opening = { map.empty };
+
+    ghost loads = { false };
+}
+
+/// An empty list, and the count of what sessions do, that no name stands for yet.
+#[derive(Drop)]
+pub struct Opened {
+    head: Word<Entry, u64, Law>,
+    seen: Seen<Entry, u64, Law>,
+    blank: Blank,
+    pub ghost empty: { seen.log ≡ [] },
+    pub ghost head_is: { head ≡ head_of seen.book },
+}
+
+impl Opened {
+    /// For a desk or a committer with so many sessions.
+    pub fn new(sessions: u8) -> Opened
+        ensures { result.blank.parts ≡ sessions }
+    {
+        let (seen, mut first, _second) = Seen::open(Start::alone(), 0, 0);
+        Opened {
+            head: Word::tracked(0, &mut first),
+            seen,
+            blank: Blank::new(u64::from(sessions)),
+        }
+    }
+
+    /// The list under a name: its word, and its beginning.
+    pub(crate) fn named<J: Naming>(self) -> (Head<J>, Front<J>, Blank)
+        requires { self.seen.book ≡ J.book }
+        ensures front { result.1 ≡ [] }
+        ensures blank { result.2 ≡ self.blank }
+    {
+        let Opened { head, seen, blank } = self;
+        (Head::new(head), Front::first(seen), blank)
+    }
+}

@@ -1,0 +1,214 @@
+//! One who reads the published book in a thread of its own, with no lock.
+
+ghost use Rattle.std.specs.Prelude.{◌≡◌, ◌+◌, ◌<◌, ◌^◌, [], IfSome, IsTrue, MatchBool, true};
+ghost use mathlib.Core.List.{IsPrefix};
+ghost use Rattle.cred_book.specs.Commits.{Begins};
+ghost use Rattle.cred_book.specs.Works.{is_for_current};
+ghost use Rattle.cred_desk.specs.Commits.{reply_of};
+ghost use Rattle.cred_desk.specs.Histories.{IsListed, after};
+ghost use Rattle.cred_desk.specs.Standing.{BeginsAt, ClosesAt};
+
+use crate::error::DeskError;
+use crate::front::Front;
+use crate::naming::Naming;
+use crate::published::{BookReader, Published, Sees, Shown};
+use crate::told::Told;
+use core::mem::replace_with;
+use cred_book::{BookError, Reply, Request, Ticket, VerifyWorked};
+use crossbeam_utils::rule::Protocol;
+use std::marker::Model;
+use std::sync::ledger::{Book as Total, Share};
+
+/// Begins requests and closes verifies at the published book, in any thread. It reads no older book than it has read or was told of.
+///
+/// Contracts see it as the list of entries that it knows, and the number of changes that its settles made.
+#[derive(Drop)]
+pub struct Session<J: Naming>
+where
+    Published<J>: Protocol<Shown<J>, ()>,
+{
+    reader: BookReader<J>,
+    known: Front<J>,
+    settled: u64,
+    share: Share<J>,
+}
+
+impl<J: Naming> Model for Session<J>
+where
+    Published<J>: Protocol<Shown<J>, ()>,
+{
+    ghost use Rattle.std.specs.Prelude.{◌≡◌};
+    ghost use Rattle.cred_desk.specs.Histories.{IsListed};
+    ghost use Rattle.cred_desk.specs.Standing.{Standing};
+
+    ghost Value = { Standing };
+
+    ghost view = { λ s. record { known = s.known; count = s.settled } };
+
+    ghost invariant = { λ s. IsListed J.loads J.opening s.known × (s.share.parts ≡ 1) × (s.share.amount ≡ s.settled) };
+}
+
+impl<J: Naming> Session<J> {
+    /// One that knows nothing and has settled nothing.
+    pub(crate) fn new(reader: BookReader<J>, known: Front<J>, share: Share<J>) -> Session<J>
+        requires known { known ≡ [] }
+        requires share { (share.parts ≡ 1) × (share.amount ≡ 0) }
+        ensures known { result.known ≡ [] }
+        ensures count { result.count ≡ 0 }
+    {
+        Session {
+            reader,
+            known,
+            settled: 0,
+            share,
+        }
+    }
+
+    /// Whether this list begins with the one that it knows.
+    pub(crate) fn is_behind(&self, list: &Front<J>) -> bool
+        ensures { IsTrue result → IsPrefix self.now.known list.now }
+    {
+        self.known.begins(list)
+    }
+
+    /// Counts so many changes that it made.
+    pub(crate) fn count_changes(&mut self, total: &mut Total<J>, changes: u64)
+        requires { total.old.total + changes < 2 ^ 64 }
+        ensures total { total.new.total ≡ total.old.total + changes }
+        ensures count { self.new.count ≡ self.old.count + changes }
+        ensures known { self.new.known ≡ self.old.known }
+    {
+        total.add(&mut self.share, changes);
+        total.audit(&mut self.share);
+        self.settled += changes;
+    }
+
+    /// How many changes its settles made.
+    pub(crate) fn count(&self) -> u64
+        ensures { result ≡ self.now.count }
+    {
+        self.settled
+    }
+
+    /// The part of the total that it counted.
+    pub(crate) fn into_share(self) -> Share<J>
+        ensures parts { result.parts ≡ 1 }
+        ensures amount { result.amount ≡ self.count }
+    {
+        let Session {
+            reader: _,
+            known: _,
+            settled: _,
+            share,
+        } = self;
+        share
+    }
+
+    /// Copies the record of the request's account from the published book into a ticket, and knows that book's list from then on.
+    ///
+    /// `NoAccount` where the name isn't there. `Reader` where there is no book to read, as may be once its desk or committer was ended; nothing changes then. The request comes back.
+    pub fn begin(&mut self, request: Request) -> Result<Ticket, (Request, DeskError)>
+        requires { is_for_current request ≡ true }
+        ensures known { IsPrefix self.old.known self.new.known }
+        ensures listed { IsListed J.loads J.opening self.new.known }
+        ensures count { self.new.count ≡ self.old.count }
+        ensures done { BeginsAt (after J.opening self.new.known) self.old self.new request result }
+    {
+        let found = replace_with(
+            &mut self.reader,
+            &request,
+            |reader, request| begin_in(reader, request),
+        );
+        let Some((front, begun)) = found else {
+            return Err((request, DeskError::Reader));
+        };
+        if !self.know(front) {
+            return Err((request, DeskError::Reader));
+        }
+        begun.map_err(|(request, _)| (request, DeskError::NoAccount))
+    }
+
+    /// What the commit of the verify answers at the published book, whose list is known from then on.
+    ///
+    /// `Reader` where there is no book to read, as may be once its desk or committer was ended; nothing changes then, and the work comes back.
+    pub fn close_verify(&mut self, work: VerifyWorked) -> Result<Reply, (VerifyWorked, DeskError)>
+        ensures known { IsPrefix self.old.known self.new.known }
+        ensures listed { IsListed J.loads J.opening self.new.known }
+        ensures count { self.new.count ≡ self.old.count }
+        ensures done { ClosesAt (after J.opening self.new.known) self.old self.new work result }
+    {
+        let found = replace_with(
+            &mut self.reader,
+            &work,
+            |reader, work| judge_in(reader, work),
+        );
+        let Some((front, reply)) = found else {
+            return Err((work, DeskError::Reader));
+        };
+        if !self.know(front) {
+            return Err((work, DeskError::Reader));
+        }
+        Ok(reply)
+    }
+
+    /// Knows what was told from then on, beside what it knew.
+    pub fn learn(&mut self, told: &Told<J>)
+        ensures mine { IsPrefix self.old.known self.new.known }
+        ensures told { IsPrefix told.now self.new.known }
+        ensures count { self.new.count ≡ self.old.count }
+    {
+        self.know(told.front().again());
+    }
+
+    // Knows this list from now on, if it begins with the one that was known. Else that one begins with it.
+    fn know(&mut self, list: Front<J>) -> bool
+        ensures known { MatchBool result (self.new.known ≡ list) (IsPrefix list self.old.known × (self.new.known ≡ self.old.known)) }
+        ensures mine { IsPrefix self.old.known self.new.known }
+        ensures count { self.new.count ≡ self.old.count }
+        ensures listed { IsListed J.loads J.opening self.new.known }
+    {
+        if !self.known.begins(&list) {
+            return false;
+        }
+        self.known = list;
+        true
+    }
+}
+
+// Begins the request in the book that is shown, and gives that book's list too. None where there is no book.
+fn begin_in<J: Naming>(
+    reader: BookReader<J>,
+    request: &Request,
+) -> (
+    BookReader<J>,
+    Option<(Front<J>, Result<Ticket, (Request, BookError)>)>,
+)
+    requires { is_for_current request.now ≡ true }
+    ensures { IfSome result.1 (λ r. Begins (after J.opening r.0) request.now r.1) }
+{
+    match reader.enter_as::<Sees<J>>() {
+        Ok(reading) => {
+            let shown = reading.get();
+            let found = (shown.front.again(), shown.book.begin(*request));
+            (reading.leave(), Some(found))
+        }
+        Err(reader) => (reader, None),
+    }
+}
+
+// What the commit of the verify answers at the book that is shown, and that book's list. None where there is no book.
+fn judge_in<J: Naming>(
+    reader: BookReader<J>,
+    work: &VerifyWorked,
+) -> (BookReader<J>, Option<(Front<J>, Reply)>)
+    ensures { IfSome result.1 (λ r. r.1 ≡ reply_of (after J.opening r.0) work.now) }
+{
+    match reader.enter_as::<Sees<J>>() {
+        Ok(reading) => {
+            let shown = reading.get();
+            let found = (shown.front.again(), shown.book.judge(work.worked()).0);
+            (reading.leave(), Some(found))
+        }
+        Err(reader) => (reader, None),
+    }
+}

@@ -1,0 +1,36 @@
+//! What a session is told of a change.
+
+ghost use Rattle.std.specs.Prelude.{◌≡◌};
+
+use crate::front::Front;
+use crate::naming::Naming;
+use std::marker::Model;
+
+/// The list of entries as it stood after a commit. A session that learns it reads no older book from then on.
+#[derive(Drop)]
+pub struct Told<J: Naming> {
+    front: Front<J>,
+}
+
+impl<J: Naming> Model for Told<J> {
+    ghost use Rattle.std.specs.Prelude.{List};
+    ghost use Rattle.cred_desk.specs.declared.entry.Entry.{Entry};
+
+    ghost Value = { List Entry };
+
+    ghost view = { λ t. t.front };
+}
+
+impl<J: Naming> Told<J> {
+    pub(crate) fn new(front: Front<J>) -> Told<J>
+        ensures { result ≡ front }
+    {
+        Told { front }
+    }
+
+    pub(crate) fn front(&self) -> &Front<J>
+        ensures { result.now ≡ self.now }
+    {
+        &self.front
+    }
+}

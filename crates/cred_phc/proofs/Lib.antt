@@ -1,0 +1,13 @@
+pub mod CaseLaws
+pub mod BytesLaws
+pub mod PieceLaws
+pub mod NumberLaws
+pub mod Base64Laws
+pub mod FieldLaws
+pub mod StepLaws
+pub mod SchemeLaws
+pub mod TextLaws
+pub mod RecordLaws
+pub mod FaultLaws
+pub mod WritingLaws
+pub mod HashingLaws

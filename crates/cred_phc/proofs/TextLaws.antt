@@ -1,0 +1,113 @@
+-- The fields of a text: no `$` stands in one, they are short, and fields of bytes make a text of bytes.
+use Rattle.std.proofs.Common.{◌≡◌, ℕ, suc, ◌+◌, ◌^◌, ◌<◌, ◌≤◌, lit≤, Bool, true, List, [], ◌∷◌, ◌++◌, length, inl, inr, codes, arith, refl, length-append}
+use Rattle.std.proofs.lemmas.Fmt.{length-decimal-le}
+use Rattle.std.specs.List.{join_with_byte}
+use Rattle.base64.specs.GeneralPurpose.{IsBytes}
+use Rattle.base64.proofs.EngineFacts.{front_bytes}
+use Rattle.cred_phc.specs.declared.scheme.Scheme.{Scheme}
+use Rattle.cred_phc.specs.declared.scheme.Scheme.TheVariants.{Argon2, Scrypt}
+use Rattle.cred_phc.specs.declared.scheme.Version.{Version}
+use Rattle.cred_phc.specs.declared.scheme.Version.TheVariants.{V10, V13}
+use Rattle.cred_phc.specs.declared.scheme.Variant.{Variant}
+use Rattle.cred_phc.specs.declared.scheme.Variant.TheVariants.{D, I, Id}
+use Rattle.cred_phc.specs.Names.{variant_name, version_text}
+use Rattle.cred_phc.specs.Ranges.{scheme_fits}
+use Rattle.cred_phc.specs.Text.{label, numbers_text, scheme_fields, bare_fields}
+use Rattle.cred_phc.proofs.FieldLaws.{lacks-label}
+use Rattle.cred_phc.proofs.PieceLaws.{AllLack, lacks, lacks-append}
+use Rattle.cred_phc.proofs.SchemeLaws.{IsFront, argon_small, scrypt_small}
+
+-- the room that fields take, with a `$` behind each
+unfoldable pub room : List (List ℕ) → ℕ
+room [] = 0
+room (field ∷ fields) = length field + 1 + room fields
+
+pub length-join : (byte : ℕ) (fields : List (List ℕ)) → length (join_with_byte byte fields) ≤ room fields
+unfolding room
+length-join byte [] = omega arith
+length-join byte (field ∷ []) = omega arith
+length-join byte (field ∷ next ∷ more) = rw length-append (omega (arith, length-join byte (next ∷ more)))
+
+pub room-append : (front back : List (List ℕ)) → room (front ++ back) ≡ room front + room back
+unfolding room
+room-append [] back = omega arith
+room-append (field ∷ front) back = omega (arith, room-append front back)
+
+pub AllLack-append : (byte : ℕ) (front back : List (List ℕ)) → AllLack byte front → AllLack byte back → AllLack byte (front ++ back)
+AllLack-append byte [] back hf hb = hb
+AllLack-append byte (field ∷ front) back hf hb = (hf.0, AllLack-append byte front back hf.1 hb)
+
+label_length : (name : List ℕ) (n : ℕ) → length name ≤ 3 → n < 2 ^ 64 → length (label name n) ≤ 23
+label_length name n short fits = rw length-append (omega (arith, length-decimal-le 20 n (omega arith) (omega arith) fits))
+
+numbers_length : (x y z : List ℕ) (a b c : ℕ) → length x ≤ 3 → length y ≤ 3 → length z ≤ 3 → a < 2 ^ 64 → b < 2 ^ 64 → c < 2 ^ 64 → length (numbers_text x a y b z c) ≤ 71
+numbers_length x y z a b c sx sy sz fa fb fc =
+    rw (length-append (label x a) (44 ∷ (label y b ++ 44 ∷ label z c)), length-append (label y b) (44 ∷ label z c))
+    (omega (arith, label_length x a sx fa, label_length y b sy fb, label_length z c sz fc))
+
+lacks-numbers : (x y z : List ℕ) (a b c : ℕ) → lacks 36 x ≡ true → lacks 36 y ≡ true → lacks 36 z ≡ true → a < 2 ^ 64 → b < 2 ^ 64 → c < 2 ^ 64 → lacks 36 (numbers_text x a y b z c) ≡ true
+lacks-numbers x y z a b c lx ly lz fa fb fc =
+    lacks-append 36 (label x a) (44 ∷ (label y b ++ 44 ∷ label z c)) (lacks-label 36 x a refl lx fa)
+    (lacks-append 36 (label y b) (44 ∷ label z c) (lacks-label 36 y b refl ly fb) (lacks-label 36 z c refl lz fc))
+
+variant_fits : (variant : Variant) → (lacks 36 (variant_name variant) ≡ true) × (length (variant_name variant) ≤ 8)
+variant_fits D = (refl, lit≤ tt)
+variant_fits I = (refl, lit≤ tt)
+variant_fits Id = (refl, lit≤ tt)
+
+version_fits : (version : Version) → (lacks 36 (version_text version) ≡ true) × (length (version_text version) ≤ 4)
+version_fits V10 = (refl, lit≤ tt)
+version_fits V13 = (refl, lit≤ tt)
+
+pub scheme_fields_fit : (scheme : Scheme) → scheme_fits scheme ≡ true → AllLack 36 (scheme_fields scheme) × (room (scheme_fields scheme) ≤ 300)
+unfolding room
+scheme_fields_fit (Argon2 version variant m t p) fits =
+    let small = argon_small m t p fits in
+    let variant_short = variant_fits variant in
+    let version_short = version_fits version in
+    let numbers = numbers_length (codes "m=") (codes "t=") (codes "p=") m t p (lit≤ tt) (lit≤ tt) (lit≤ tt) small.0 small.1 small.2 in
+    ((refl, (variant_short.0, (version_short.0, (lacks-numbers (codes "m=") (codes "t=") (codes "p=") m t p refl refl refl small.0 small.1 small.2, tt)))), omega arith)
+scheme_fields_fit (Scrypt ln r p) fits =
+    let small = scrypt_small ln r p fits in
+    let numbers = numbers_length (codes "ln=") (codes "r=") (codes "p=") ln r p (lit≤ tt) (lit≤ tt) (lit≤ tt) small.0 small.1 small.2 in
+    ((refl, (refl, (lacks-numbers (codes "ln=") (codes "r=") (codes "p=") ln r p refl refl refl small.0 small.1 small.2, tt))), omega arith)
+
+bare_fields_fit : (scheme : Scheme) → scheme_fits scheme ≡ true → AllLack 36 (bare_fields scheme) × (room (bare_fields scheme) ≤ 300)
+unfolding room
+bare_fields_fit (Argon2 version variant m t p) fits =
+    let all = scheme_fields_fit (Argon2 version variant m t p) fits in
+    ((all.0.0, (all.0.1.0, (all.0.1.1.1.0, tt))), omega (arith, all.1))
+bare_fields_fit (Scrypt ln r p) fits = scheme_fields_fit (Scrypt ln r p) fits
+
+-- what stands before the salt has no `$`, and is short
+pub front_fits : (old : Bool) (scheme : Scheme) (front : List (List ℕ)) → scheme_fits scheme ≡ true → IsFront old scheme front → AllLack 36 front × (room front ≤ 300)
+unfolding IsFront
+front_fits old scheme front fits (inl h) = rw h.1 (scheme_fields_fit scheme fits)
+front_fits old scheme front fits (inr h) = rw h.1 (bare_fields_fit scheme fits)
+
+unfoldable pub AllBytes : List (List ℕ) → Type 0
+AllBytes [] = Unit {0}
+AllBytes (field ∷ fields) = IsBytes field × AllBytes fields
+
+back_bytes : (a b : List ℕ) → IsBytes (a ++ b) → IsBytes b
+back_bytes [] b h = h
+back_bytes (x ∷ a) b h = back_bytes a b (λ i. h (suc i))
+
+-- the fields of a text of bytes
+pub join_bytes : (byte : ℕ) (fields : List (List ℕ)) → IsBytes (join_with_byte byte fields) → AllBytes fields
+unfolding AllBytes
+join_bytes byte [] h = tt
+join_bytes byte (field ∷ []) h = (h, tt)
+join_bytes byte (field ∷ next ∷ more) h = (
+  front_bytes field (byte ∷ join_with_byte byte (next ∷ more)) h,
+  join_bytes byte (next ∷ more) (λ i. back_bytes field (byte ∷ join_with_byte byte (next ∷ more)) h (suc i)),
+)
+
+pub behind_bytes : (front back : List (List ℕ)) → AllBytes (front ++ back) → AllBytes back
+unfolding AllBytes
+behind_bytes [] back h = h
+behind_bytes (field ∷ front) back h = behind_bytes front back h.1
+
+pub first_bytes : (field : List ℕ) (fields : List (List ℕ)) → AllBytes (field ∷ fields) → IsBytes field
+unfolding AllBytes
+first_bytes field fields h = h.0

@@ -1,0 +1,83 @@
+-- The fault of a text: its fields are judged from left to right, and the first fault is the answer.
+use Rattle.std.specs.Prelude.{ℕ, List, [], ◌∷◌, ◌++◌, length, take, not, Option, Some, None, is_some, Bool, true, false, nat_lt, ◌==◌, if◌then◌else◌, codes}
+use Rattle.std.specs.Str.{bytes_eq}
+use Rattle.cred_phc.specs.declared.error.PhcError.{PhcError}
+use Rattle.cred_phc.specs.declared.error.PhcError.TheVariants.{Shape, Version as WrongVersion, Params, Range, Salt, Tag, TooLong, Scheme as NoScheme}
+use Rattle.cred_phc.specs.declared.scheme.Name.{Name}
+use Rattle.cred_phc.specs.declared.scheme.Name.TheVariants.{Argon2, Scrypt}
+use Rattle.cred_phc.specs.Ranges.{argon_fits, scrypt_fits}
+use Rattle.cred_phc.specs.Pieces.{pieces}
+use Rattle.cred_phc.specs.Base64.{bytes_of}
+use Rattle.cred_phc.specs.Fields.{name_of, numbers_of}
+
+-- what is wrong with a field, if anything is
+abbrev pub Judge : Type 0
+Judge = List ℕ → Option PhcError
+
+abbrev pub unless : Bool → PhcError → Option PhcError
+unless fine e = if fine then None else Some e
+
+-- the form of the numbers comes before their ranges
+abbrev pub numbers_fault : (ℕ → ℕ → ℕ → Bool) → Option (ℕ × ℕ × ℕ) → Option PhcError
+numbers_fault fits None = Some Params
+numbers_fault fits (Some n) = unless (fits n.0 n.1 n.2) Range
+
+abbrev pub bytes_fault : ℕ → ℕ → PhcError → Judge
+bytes_fault low high e field = unless (is_some (bytes_of low high field)) e
+
+-- the numbers and the salt
+abbrev pub judges_of : Name → List Judge
+judges_of (Argon2 variant) =
+    (λ field. numbers_fault argon_fits (numbers_of (codes "m=") (codes "t=") (codes "p=") field))
+    ∷ bytes_fault 8 48 Salt ∷ []
+judges_of Scrypt =
+    (λ field. numbers_fault scrypt_fits (numbers_of (codes "ln=") (codes "r=") (codes "p=") field))
+    ∷ bytes_fault 1 48 Salt ∷ []
+
+-- the fault that comes first
+abbrev pub first : Option PhcError → Option PhcError → Option PhcError
+first (Some e) later = Some e
+first None later = later
+
+-- each field by its judge; one that is missing, or one too many, is a fault of the shape
+abbrev pub judged : List Judge → List (List ℕ) → Option PhcError
+judged [] [] = None
+judged [] (field ∷ fields) = Some Shape
+judged (judge ∷ judges) [] = Some Shape
+judged (judge ∷ judges) (field ∷ fields) = first (judge field) (judged judges fields)
+
+-- the version; a record may be old, and then its version may be left out
+abbrev pub version_fault : Bool → List Judge → List (List ℕ) → Option PhcError
+version_fault old judges [] = Some Shape
+version_fault old judges (field ∷ fields) =
+    if bytes_eq field (codes "v=19") then judged judges fields
+    else if not old then Some WrongVersion
+    else if bytes_eq field (codes "v=16") then judged judges fields
+    else if bytes_eq (take 2 field) (codes "v=") then Some WrongVersion
+    else judged judges (field ∷ fields)
+
+-- the fields that the name asks for, and those at the end
+abbrev pub named_fault : Bool → List Judge → Option Name → List (List ℕ) → Option PhcError
+named_fault old last None fields = Some NoScheme
+named_fault old last (Some (Argon2 variant)) fields = version_fault old (judges_of (Argon2 variant) ++ last) fields
+named_fault old last (Some Scrypt) fields = judged (judges_of Scrypt ++ last) fields
+
+-- nothing stands before the first `$`, and the name behind it
+abbrev pub fields_fault : Bool → List Judge → List (List ℕ) → Option PhcError
+fields_fault old last [] = Some Shape
+fields_fault old last (front ∷ []) = Some Shape
+fields_fault old last (front ∷ name ∷ fields) =
+    first (unless (length front == 0) Shape) (named_fault old last (name_of name) fields)
+
+-- a text over 512 bytes is not looked at; any other is cut at each `$` (byte 36)
+abbrev pub text_fault : Bool → List Judge → List ℕ → Option PhcError
+text_fault old last text =
+    if nat_lt 512 (length text) then Some TooLong else fields_fault old last (pieces 36 text)
+
+-- the first fault of a setting's text, if it has any
+unfoldable pub setting_fault : List ℕ → Option PhcError
+setting_fault text = text_fault false [] text
+
+-- the first fault of a record's text, if it has any
+unfoldable pub record_fault : List ℕ → Option PhcError
+record_fault text = text_fault true (bytes_fault 4 64 Tag ∷ []) text

@@ -1,0 +1,35 @@
+-- What one field of a text stands for.
+use Rattle.std.specs.Prelude.{ℕ, List, [], ◌∷◌, length, drop, take, Option, Some, None, if◌then◌else◌, codes}
+use Rattle.std.specs.Str.{bytes_eq}
+use Rattle.cred_phc.specs.declared.scheme.Variant.TheVariants.{D, I, Id}
+use Rattle.cred_phc.specs.declared.scheme.Name.{Name}
+use Rattle.cred_phc.specs.declared.scheme.Name.TheVariants.{Argon2, Scrypt}
+use Rattle.cred_phc.specs.Pieces.{pieces}
+use Rattle.cred_phc.specs.Number.{number_of}
+
+abbrev pub name_of : List ℕ → Option Name
+name_of field =
+    if bytes_eq field (codes "argon2d") then Some (Argon2 D)
+    else if bytes_eq field (codes "argon2i") then Some (Argon2 I)
+    else if bytes_eq field (codes "argon2id") then Some (Argon2 Id)
+    else if bytes_eq field (codes "scrypt") then Some Scrypt
+    else None
+
+-- the number behind a label
+abbrev pub labelled : List ℕ → List ℕ → Option ℕ
+labelled label piece =
+    if bytes_eq (take (length label) piece) label then number_of (drop (length label) piece) else None
+
+abbrev pub triple : Option ℕ → Option ℕ → Option ℕ → Option (ℕ × ℕ × ℕ)
+triple (Some a) (Some b) (Some c) = Some (a, b, c)
+triple None _ _ = None
+triple (Some a) None _ = None
+triple (Some a) (Some b) None = None
+
+abbrev pub labelled_pieces : List ℕ → List ℕ → List ℕ → List (List ℕ) → Option (ℕ × ℕ × ℕ)
+labelled_pieces x y z (a ∷ b ∷ c ∷ []) = triple (labelled x a) (labelled y b) (labelled z c)
+labelled_pieces x y z _ = None
+
+-- three numbers, each behind its label, with commas (byte 44) between
+unfoldable pub numbers_of : List ℕ → List ℕ → List ℕ → List ℕ → Option (ℕ × ℕ × ℕ)
+numbers_of x y z field = labelled_pieces x y z (pieces 44 field)

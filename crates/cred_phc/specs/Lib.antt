@@ -1,0 +1,14 @@
+pub mod Padded
+pub mod Ranges
+pub mod Values
+pub mod Fault
+pub mod Base64
+pub mod Number
+pub mod Pieces
+pub mod Names
+pub mod Text
+pub mod Fields
+pub mod Reading
+pub mod Faults
+pub mod Vectors
+pub mod Tags

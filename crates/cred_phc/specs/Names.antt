@@ -1,0 +1,15 @@
+-- How variants and versions are named in texts: 0x13, the version of RFC 9106, is 19, and 0x10 is 16.
+use Rattle.std.specs.Prelude.{ℕ, List, codes}
+use Rattle.cred_phc.specs.declared.scheme.Version.{Version}
+use Rattle.cred_phc.specs.declared.scheme.Version.TheVariants.{V10, V13}
+use Rattle.cred_phc.specs.declared.scheme.Variant.{Variant}
+use Rattle.cred_phc.specs.declared.scheme.Variant.TheVariants.{D, I, Id}
+
+abbrev pub variant_name : Variant → List ℕ
+variant_name D = codes "argon2d"
+variant_name I = codes "argon2i"
+variant_name Id = codes "argon2id"
+
+abbrev pub version_text : Version → List ℕ
+version_text V10 = codes "v=16"
+version_text V13 = codes "v=19"

@@ -1,0 +1,38 @@
+//! Password strings in the PHC string format: settings and records of Argon2 (RFC 9106) and scrypt
+//! (RFC 7914), read from text and written as text, and the tags that settings give passwords.
+#![tactic(auto)]
+
+mod error;
+mod hashing;
+mod laws;
+mod number;
+mod parse;
+mod password;
+mod pieces;
+mod record;
+mod salt;
+mod scheme;
+mod setting;
+mod short_bytes;
+mod tag;
+mod write;
+
+pub use error::PhcError;
+pub use hashing::{TagError, tag_of};
+pub use laws::{
+    equal_records, equal_schemes, known_texts, old_not_read, one_value_each, read_as_written,
+};
+pub use number::decimal;
+pub use parse::{parse_record, parse_setting};
+pub use password::Password;
+pub use pieces::Pieces;
+pub use record::Record;
+pub use salt::draw_salt;
+pub use scheme::{Scheme, Variant, Version};
+pub use setting::Setting;
+pub use short_bytes::ShortBytes;
+pub use tag::Tag;
+pub use write::{write_record, write_setting};
+
+#[cfg(test)]
+mod tests;

@@ -1,0 +1,76 @@
+//! Decimal numbers, and three of them behind their labels.
+
+ghost use Rattle.std.specs.Prelude.{◌≡◌};
+ghost use Rattle.std.specs.Char.{is_ascii_digit};
+ghost use Rattle.std.specs.List.{list_all};
+ghost use Rattle.std.specs.Option.{option_map};
+ghost use Rattle.cred_phc.specs.Fields.{labelled, numbers_of};
+ghost use Rattle.cred_phc.specs.Number.{capped, capped_each, is_numeral, number_of};
+
+use crate::pieces::Pieces;
+
+/// Digits, with no zero in front of others.
+fn is_numeral(digits: &[u8]) -> bool
+    ensures { result ≡ is_numeral digits.now }
+{
+    match digits {
+        [] => false,
+        [b'0', _, ..] => false,
+        _ => all_digits(digits),
+    }
+}
+
+fn all_digits(text: &[u8]) -> bool
+    ensures { result ≡ list_all is_ascii_digit text.now }
+{
+    text.iter().all(|byte| byte.is_ascii_digit())
+}
+
+/// The number that decimal digits write, with no zero in front of others, or the greatest `u64`
+/// where that is less.
+#[tactic(auto, using(crate::proofs::NumberLaws::push_digit), unfolding(crate::specs::Number::number_of))]
+pub fn decimal(digits: &[u8]) -> Option<u64>
+    ensures { result ≡ option_map capped (number_of digits.now) }
+{
+    if !is_numeral(digits) {
+        return None;
+    }
+    let mut number: u64 = 0;
+    for digit in digits {
+        number = number
+            .saturating_mul(10)
+            .saturating_add(u64::from(digit.saturating_sub(b'0')));
+    }
+    Some(number)
+}
+
+fn labelled(piece: &[u8], label: &[u8]) -> Option<u64>
+    ensures { result ≡ option_map capped (labelled label.now piece.now) }
+{
+    decimal(piece.strip_prefix(label)?)
+}
+
+/// The three numbers of a field, each behind its label and with commas between.
+#[tactic(auto, unfolding(crate::specs::Fields::numbers_of))]
+pub(crate) fn numbers(
+    field: &[u8],
+    first: &[u8],
+    second: &[u8],
+    third: &[u8],
+) -> Option<(u64, u64, u64)>
+    ensures { result
+        ≡ option_map capped_each (numbers_of first.now second.now third.now field.now) }
+{
+    let mut pieces = Pieces::new(field, b',');
+    let a = pieces.next()?;
+    let b = pieces.next()?;
+    let c = pieces.next()?;
+    if pieces.next().is_some() {
+        return None;
+    }
+    Some((
+        labelled(a, first)?,
+        labelled(b, second)?,
+        labelled(c, third)?,
+    ))
+}

@@ -1,0 +1,194 @@
+//! From text to settings and records.
+
+ghost use Rattle.std.specs.Prelude.{◌≡◌, IfOk, IfErr, OnOk, IsTrue};
+ghost use Rattle.cred_phc.specs.Faults.{record_fault, setting_fault};
+ghost use Rattle.cred_phc.specs.Fields.{name_of};
+ghost use Rattle.cred_phc.specs.Ranges.{scheme_fits};
+ghost use Rattle.cred_phc.specs.Reading.{Gives, argon_at, end, fields_of, next, read_record, read_setting, scheme_at, scrypt_at, setting_at, tag_at, version_at};
+ghost use Rattle.cred_phc.specs.Text.{IsRecordText, IsSettingText};
+ghost use Rattle.cred_phc.specs.Values.{IsRecord, IsSetting, RecordValue, SettingValue};
+
+use crate::error::PhcError;
+use crate::number::numbers;
+use crate::pieces::Pieces;
+use crate::record::Record;
+use crate::scheme::{Name, SCRYPT, Scheme, Variant, Version};
+use crate::setting::Setting;
+use crate::tag::Tag;
+
+/// Longer texts are not looked at. No text that stands for a value has even half as many bytes.
+const MAX_TEXT: usize = 512;
+
+/// The setting that a text stands for, as `$argon2id$v=19$m=256,t=2,p=1$c29tZXNhbHQ`. One of version
+/// 0x10 is not read: new records are of version 0x13.
+///
+/// Any other text is refused: with `TooLong` for over 512 bytes, else with the fault of the first
+/// field from the left that is wrong or missing, which is never `Tag` or `Memory`.
+pub fn parse_setting(text: &[u8]) -> Result<Setting, PhcError>
+    ensures found { IfOk result (λ v. IsSetting v × IsSettingText text.now v) }
+    ensures only { (v : SettingValue) → IsSetting v → IsSettingText text.now v → result ≡ Ok v }
+    ensures fault { IfErr result (λ fault. setting_fault text.now ≡ Some fault) }
+    ensures none { OnOk result (setting_fault text.now ≡ None) }
+    ensures exact { result ≡ read_setting text.now }
+{
+    whole_setting(text)
+}
+
+/// The record that a text stands for: a setting's text, then `$` and the tag in base64. A record of
+/// version 0x10 has `$v=16` or no version.
+///
+/// Any other text is refused: with `TooLong` for over 512 bytes, else with the fault of the first
+/// field from the left that is wrong or missing, which is never `Memory`.
+pub fn parse_record(text: &[u8]) -> Result<Record, PhcError>
+    ensures found { IfOk result (λ v. IsRecord v × IsRecordText text.now v) }
+    ensures only { (v : RecordValue) → IsRecord v → IsRecordText text.now v → result ≡ Ok v }
+    ensures fault { IfErr result (λ fault. record_fault text.now ≡ Some fault) }
+    ensures none { OnOk result (record_fault text.now ≡ None) }
+    ensures exact { result ≡ read_record text.now }
+{
+    whole_record(text)
+}
+
+/// The one reader of settings, of which `parse_setting` says more.
+#[tactic(auto, unfolding(crate::specs::Reading::read_setting))]
+fn whole_setting(text: &[u8]) -> Result<Setting, PhcError>
+    ensures exact { result ≡ read_setting text.now }
+    ensures ranges { IfOk result IsSetting }
+{
+    let mut fields = fields(text)?;
+    let setting = setting(&mut fields, false)?;
+    last_field(&mut fields)?;
+    Ok(setting)
+}
+
+/// The one reader of records, of which `parse_record` says more.
+#[tactic(auto, unfolding(crate::specs::Reading::read_record))]
+fn whole_record(text: &[u8]) -> Result<Record, PhcError>
+    ensures exact { result ≡ read_record text.now }
+    ensures ranges { IfOk result IsRecord }
+{
+    let mut fields = fields(text)?;
+    let setting = setting(&mut fields, true)?;
+    let tag = tag(&mut fields)?;
+    last_field(&mut fields)?;
+    Ok(Record::with_tag(setting, tag))
+}
+
+/// The fields of a text, with `$` between them.
+#[tactic(auto, unfolding(crate::specs::Reading::fields_of))]
+fn fields(text: &[u8]) -> Result<Pieces<'_>, PhcError>
+    ensures { Gives (λ v. v) result (fields_of text.now) }
+{
+    if text.len() > MAX_TEXT {
+        return Err(PhcError::TooLong);
+    }
+    Ok(Pieces::new(text, b'$'))
+}
+
+fn next_field<'a>(fields: &mut Pieces<'a>) -> Result<&'a [u8], PhcError>
+    ensures { Gives (λ field. (field.now, fields.new)) result (next fields.old) }
+{
+    fields.next().ok_or(PhcError::Shape)
+}
+
+fn last_field(fields: &mut Pieces<'_>) -> Result<(), PhcError>
+    ensures { Gives (λ v. v) result (end fields.old) }
+{
+    match fields.next() {
+        Some(_) => Err(PhcError::Shape),
+        None => Ok(()),
+    }
+}
+
+fn name(field: &[u8]) -> Option<Name>
+    ensures { result ≡ name_of field.now }
+{
+    if field == Variant::D.name().as_bytes() {
+        Some(Name::Argon2(Variant::D))
+    } else if field == Variant::I.name().as_bytes() {
+        Some(Name::Argon2(Variant::I))
+    } else if field == Variant::Id.name().as_bytes() {
+        Some(Name::Argon2(Variant::Id))
+    } else if field == SCRYPT.as_bytes() {
+        Some(Name::Scrypt)
+    } else {
+        None
+    }
+}
+
+/// The version of Argon2. A record may be `old`, and then its version may be left out.
+#[tactic(auto, unfolding(crate::specs::Reading::version_at))]
+fn version(fields: &mut Pieces<'_>, old: bool) -> Result<Version, PhcError>
+    ensures { Gives (λ version. (version, fields.new)) result (version_at old fields.old) }
+{
+    let field = fields.peek().ok_or(PhcError::Shape)?;
+    if field == Version::V13.text().as_bytes() {
+        let _ = fields.next();
+        return Ok(Version::V13);
+    }
+    if !old {
+        return Err(PhcError::Version);
+    }
+    if field == Version::V10.text().as_bytes() {
+        let _ = fields.next();
+        return Ok(Version::V10);
+    }
+    if field.starts_with(b"v=") {
+        return Err(PhcError::Version);
+    }
+    Ok(Version::V10)
+}
+
+#[tactic(auto, unfolding(crate::specs::Reading::argon_at, crate::specs::Reading::numbers_at))]
+fn argon(fields: &mut Pieces<'_>, old: bool, variant: Variant) -> Result<Scheme, PhcError>
+    ensures read { Gives (λ scheme. (scheme, fields.new)) result (argon_at old variant fields.old) }
+    ensures ranges { IfOk result (λ scheme. IsTrue (scheme_fits scheme)) }
+{
+    let version = version(fields, old)?;
+    let field = next_field(fields)?;
+    let (m, t, p) = numbers(field, b"m=", b"t=", b"p=").ok_or(PhcError::Params)?;
+    Scheme::argon(version, variant, m, t, p).ok_or(PhcError::Range)
+}
+
+#[tactic(auto, unfolding(crate::specs::Reading::scrypt_at, crate::specs::Reading::numbers_at))]
+fn scrypt(fields: &mut Pieces<'_>) -> Result<Scheme, PhcError>
+    ensures read { Gives (λ scheme. (scheme, fields.new)) result (scrypt_at fields.old) }
+    ensures ranges { IfOk result (λ scheme. IsTrue (scheme_fits scheme)) }
+{
+    let field = next_field(fields)?;
+    let (ln, r, p) = numbers(field, b"ln=", b"r=", b"p=").ok_or(PhcError::Params)?;
+    Scheme::scrypt(ln, r, p).ok_or(PhcError::Range)
+}
+
+#[tactic(auto, unfolding(crate::specs::Reading::scheme_at))]
+fn scheme(fields: &mut Pieces<'_>, old: bool) -> Result<Scheme, PhcError>
+    ensures read { Gives (λ scheme. (scheme, fields.new)) result (scheme_at old fields.old) }
+    ensures ranges { IfOk result (λ scheme. IsTrue (scheme_fits scheme)) }
+{
+    let front = next_field(fields)?;
+    if !front.is_empty() {
+        return Err(PhcError::Shape);
+    }
+    let field = next_field(fields)?;
+    match name(field).ok_or(PhcError::Scheme)? {
+        Name::Argon2(variant) => argon(fields, old, variant),
+        Name::Scrypt => scrypt(fields),
+    }
+}
+
+#[tactic(auto, unfolding(crate::specs::Reading::setting_at))]
+fn setting(fields: &mut Pieces<'_>, old: bool) -> Result<Setting, PhcError>
+    ensures { Gives (λ setting. (setting, fields.new)) result (setting_at old fields.old) }
+{
+    let scheme = scheme(fields, old)?;
+    let field = next_field(fields)?;
+    Setting::from_base64(scheme, field).ok_or(PhcError::Salt)
+}
+
+#[tactic(auto, unfolding(crate::specs::Reading::tag_at))]
+fn tag(fields: &mut Pieces<'_>) -> Result<Tag, PhcError>
+    ensures { Gives (λ tag. (tag, fields.new)) result (tag_at fields.old) }
+{
+    let field = next_field(fields)?;
+    Tag::from_base64(field).ok_or(PhcError::Tag)
+}

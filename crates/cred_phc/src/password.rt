@@ -1,0 +1,57 @@
+//! The password that is hashed.
+
+ghost use Rattle.std.specs.Prelude.{◌≡◌};
+ghost use Rattle.cred_phc.specs.Base64.{bytes_of};
+ghost use Rattle.cred_phc.specs.Values.{IsPassword, made_password};
+
+use crate::short_bytes::ShortBytes;
+use std::marker::Model;
+
+/// How many bytes a password has at most, so that it has a fixed size.
+const MAX_PASSWORD: usize = 256;
+
+/// At most 256 bytes of any value.
+#[derive(Clone, Copy, Debug, PartialEq, Eq)]
+pub struct Password {
+    bytes: ShortBytes<MAX_PASSWORD>,
+}
+
+impl Model for Password {
+    ghost use Rattle.std.specs.Prelude.{List, ℕ};
+    ghost use Rattle.cred_phc.specs.Values.{IsPassword};
+
+    ghost Value = { List ℕ };
+
+    ghost view = { λ p. p.bytes };
+
+    ghost invariant = { λ p. IsPassword p.bytes };
+
+    ghost inverse = { λ v. record { bytes = v } };
+}
+
+impl Password {
+    /// These bytes, if there are at most 256 of them.
+    pub fn new(bytes: &[u8]) -> Option<Password>
+        ensures { result ≡ made_password bytes.now }
+    {
+        let bytes = ShortBytes::new(bytes, 0)?;
+        Some(Password { bytes })
+    }
+
+    /// The 1 to 256 bytes that these letters stand for, in base64 with no padding (RFC 4648
+    /// section 4).
+    pub fn from_base64(letters: &[u8]) -> Option<Password>
+        ensures { result ≡ bytes_of 1 256 letters.now }
+    {
+        let bytes = ShortBytes::from_base64(letters, 1)?;
+        Some(Password { bytes })
+    }
+
+    /// The bytes, at most 256.
+    pub fn bytes(&self) -> &[u8]
+        ensures value { result.now ≡ self.now }
+        ensures ranges { IsPassword self.now }
+    {
+        self.bytes.as_slice()
+    }
+}

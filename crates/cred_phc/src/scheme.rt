@@ -1,0 +1,186 @@
+//! Which function makes a record's tag, and with which numbers.
+
+ghost use Rattle.std.specs.Prelude.{◌≡◌, ◌≤◌, ◌*◌, ◌^◌, nat_le, IfSome, IsTrue};
+ghost use Rattle.cred_phc.specs.Names.{variant_name, version_text};
+ghost use Rattle.cred_phc.specs.Reading.{argon_of, scrypt_of};
+ghost use Rattle.cred_phc.specs.Ranges.{argon_fits, is_current, salt_low, scheme_fits, scrypt_fits};
+
+/// The versions of Argon2: 0x10 of old records, and 0x13, that of RFC 9106.
+#[derive(Clone, Copy, Debug, PartialEq, Eq)]
+pub enum Version {
+    V10,
+    V13,
+}
+
+/// The variants of Argon2 (RFC 9106 section 1).
+#[derive(Clone, Copy, Debug, PartialEq, Eq)]
+pub enum Variant {
+    D,
+    I,
+    Id,
+}
+
+/// 2 GiB in KiB.
+const MAX_MEMORY: u32 = 2097152;
+
+/// 2 GiB in blocks of 128 bytes, of which scrypt takes `r` times the cost.
+const MAX_BLOCKS: u32 = 16777216;
+
+/// A function of passwords with its cost.
+///
+/// - Argon2 (RFC 9106 section 3.1): memory `m` in KiB, from 8 for each lane to 2097152; `t` passes and
+///   `p` lanes, at least 1 of each.
+/// - scrypt (RFC 7914 section 2): `ln`, the logarithm to the base 2 of the cost, from 1 to 24 and below
+///   16 `r`; the block size `r` and the parallelization `p`, each at least 1. `r` times the cost is at
+///   most 2^24, so that memory is at most 2 GiB.
+///
+/// A `Scheme` may be outside these ranges; that of a `Setting` isn't.
+#[derive(Clone, Copy, Debug, PartialEq, Eq)]
+pub enum Scheme {
+    Argon2 {
+        version: Version,
+        variant: Variant,
+        m: u32,
+        t: u32,
+        p: u8,
+    },
+    Scrypt {
+        ln: u8,
+        r: u8,
+        p: u8,
+    },
+}
+
+/// The names that a text may begin with.
+#[derive(Clone, Copy)]
+pub(crate) enum Name {
+    Argon2(Variant),
+    Scrypt,
+}
+
+/// The name of scrypt in a text.
+pub(crate) const SCRYPT: &str = "scrypt";
+
+impl Version {
+    /// The field that names the version.
+    pub(crate) fn text(self) -> &'static str
+        ensures { result.now ≡ version_text self }
+    {
+        match self {
+            Version::V10 => "v=16",
+            Version::V13 => "v=19",
+        }
+    }
+}
+
+impl Variant {
+    /// The name of Argon2 with this variant in a text.
+    pub(crate) fn name(self) -> &'static str
+        ensures { result.now ≡ variant_name self }
+    {
+        match self {
+            Variant::D => "argon2d",
+            Variant::I => "argon2i",
+            Variant::Id => "argon2id",
+        }
+    }
+}
+
+impl Scheme {
+    /// Argon2 with these numbers, if they are in their ranges.
+    pub(crate) fn argon(
+        version: Version,
+        variant: Variant,
+        m: u64,
+        t: u64,
+        p: u64,
+    ) -> Option<Scheme>
+        ensures value { result ≡ argon_of version variant (m, t, p) }
+        ensures ranges { IfSome result (λ scheme. IsTrue (scheme_fits scheme)) }
+    {
+        let (m, t, p) = (
+            u32::try_from(m).ok()?,
+            u32::try_from(t).ok()?,
+            u8::try_from(p).ok()?,
+        );
+        if !argon_fits(m, t, p) {
+            return None;
+        }
+        Some(Scheme::Argon2 {
+            version,
+            variant,
+            m,
+            t,
+            p,
+        })
+    }
+
+    /// scrypt with these numbers, if they are in their ranges.
+    pub(crate) fn scrypt(ln: u64, r: u64, p: u64) -> Option<Scheme>
+        ensures value { result ≡ scrypt_of (ln, r, p) }
+        ensures ranges { IfSome result (λ scheme. IsTrue (scheme_fits scheme)) }
+    {
+        let (ln, r, p) = (
+            u8::try_from(ln).ok()?,
+            u8::try_from(r).ok()?,
+            u8::try_from(p).ok()?,
+        );
+        if !scrypt_fits(ln, r, p) {
+            return None;
+        }
+        Some(Scheme::Scrypt { ln, r, p })
+    }
+
+    /// Whether the numbers are in their ranges.
+    pub(crate) fn fits(&self) -> bool
+        ensures { result ≡ scheme_fits self.now }
+    {
+        match *self {
+            Scheme::Argon2 { m, t, p, .. } => argon_fits(m, t, p),
+            Scheme::Scrypt { ln, r, p } => scrypt_fits(ln, r, p),
+        }
+    }
+
+    /// The least number of bytes of a salt.
+    pub(crate) fn least_salt(&self) -> usize
+        ensures { result ≡ salt_low self.now }
+    {
+        match self {
+            Scheme::Argon2 { .. } => 8,
+            Scheme::Scrypt { .. } => 1,
+        }
+    }
+
+    /// Whether new records are made by it: it isn't of version 0x10.
+    pub(crate) fn is_current(&self) -> bool
+        ensures { result ≡ is_current self.now }
+    {
+        match self {
+            Scheme::Argon2 { version, .. } => *version == Version::V13,
+            Scheme::Scrypt { .. } => true,
+        }
+    }
+}
+
+fn argon_fits(m: u32, t: u32, p: u8) -> bool
+    ensures { result ≡ argon_fits m t p }
+{
+    p >= 1 && t >= 1 && 8 * u32::from(p) <= m && m <= MAX_MEMORY
+}
+
+fn scrypt_fits(ln: u8, r: u8, p: u8) -> bool
+    ensures { result ≡ scrypt_fits ln r p }
+{
+    if ln < 1 || ln > 24 {
+        return false;
+    }
+    r >= 1 && p >= 1 && u32::from(ln) < 16 * u32::from(r) && memory_fits(ln, r)
+}
+
+/// Whether `r` times the cost is at most 2^24.
+fn memory_fits(ln: u8, r: u8) -> bool
+    requires { ln ≤ 24 }
+    ensures { result ≡ nat_le (r * 2 ^ ln) 16777216 }
+{
+    u32::from(r) <= MAX_BLOCKS >> ln
+}

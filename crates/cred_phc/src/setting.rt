@@ -1,0 +1,85 @@
+//! How a password is to be hashed.
+
+ghost use Rattle.std.specs.Prelude.{◌≡◌, IfOk, IsTrue};
+ghost use Rattle.std.specs.Option.{option_map};
+ghost use Rattle.cred_phc.specs.Base64.{bytes_of};
+ghost use Rattle.cred_phc.specs.Ranges.{is_current, salt_low, scheme_fits};
+ghost use Rattle.cred_phc.specs.Values.{IsSetting, made_setting, setting_of};
+
+use crate::error::PhcError;
+use crate::scheme::Scheme;
+use crate::short_bytes::ShortBytes;
+use std::marker::Model;
+
+/// How many bytes a salt has at most, so that a setting has a fixed size.
+const MAX_SALT: usize = 48;
+
+/// A scheme with its numbers, all in their ranges, and a salt: 8 to 48 bytes for Argon2, 1 to 48 for
+/// scrypt.
+#[derive(Clone, Copy, Debug, PartialEq, Eq)]
+pub struct Setting {
+    scheme: Scheme,
+    salt: ShortBytes<MAX_SALT>,
+}
+
+impl Model for Setting {
+    ghost use Rattle.cred_phc.specs.Values.{SettingValue, IsSetting};
+
+    ghost Value = { SettingValue };
+
+    ghost view = { λ s. record { scheme = s.scheme; salt = s.salt } };
+
+    ghost invariant = { λ s. IsSetting (record { scheme = s.scheme; salt = s.salt }) };
+
+    ghost inverse = { λ v. record { scheme = v.scheme; salt = v.salt } };
+}
+
+impl Setting {
+    /// This scheme with this salt. Refused with `Range` where one of the scheme's numbers is outside its
+    /// range, else with `Salt` where the salt's length is.
+    pub fn new(scheme: Scheme, salt: &[u8]) -> Result<Setting, PhcError>
+        ensures made { result ≡ made_setting scheme salt.now }
+        ensures ranges { IfOk result IsSetting }
+    {
+        if !scheme.fits() {
+            return Err(PhcError::Range);
+        }
+        let Some(salt) = ShortBytes::new(salt, scheme.least_salt()) else {
+            return Err(PhcError::Salt);
+        };
+        Ok(Setting { scheme, salt })
+    }
+
+    /// This scheme, whose numbers are in their ranges, with the salt that these letters stand for.
+    pub(crate) fn from_base64(scheme: Scheme, letters: &[u8]) -> Option<Setting>
+        requires { IsTrue (scheme_fits scheme) }
+        ensures { result
+            ≡ option_map (setting_of scheme) (bytes_of (salt_low scheme) 48 letters.now) }
+    {
+        let salt = ShortBytes::from_base64(letters, scheme.least_salt())?;
+        Some(Setting { scheme, salt })
+    }
+
+    /// The scheme with its numbers.
+    pub fn scheme(&self) -> Scheme
+        ensures value { result ≡ self.now.scheme }
+        ensures ranges { IsSetting self.now }
+    {
+        self.scheme
+    }
+
+    /// The bytes of the salt, at most 48.
+    pub fn salt(&self) -> &[u8]
+        ensures value { result.now ≡ self.now.salt }
+        ensures ranges { IsSetting self.now }
+    {
+        self.salt.as_slice()
+    }
+
+    /// Whether new records may be made under it: it isn't of version 0x10.
+    pub fn is_current(&self) -> bool
+        ensures { result ≡ is_current self.now.scheme }
+    {
+        self.scheme.is_current()
+    }
+}

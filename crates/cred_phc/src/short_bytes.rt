@@ -1,0 +1,111 @@
+//! Bytes that lie in the value itself, so that it is copied without memory.
+
+ghost use Rattle.std.specs.Prelude.{◌≡◌, ◌≤◌, length, if◌then◌else◌};
+ghost use Rattle.base64.specs.GeneralPurpose.{IsBytes};
+ghost use Rattle.cred_phc.specs.Base64.{bytes_of};
+ghost use Rattle.cred_phc.specs.Ranges.{between};
+
+use base64::engine::general_purpose::STANDARD_NO_PAD;
+use std::marker::Model;
+
+/// At most `CAP` bytes. The room behind them is zero, so that equal bytes are equal values.
+#[derive(Clone, Copy, Debug)]
+pub struct ShortBytes<const CAP: usize> {
+    cells: [u8; CAP],
+    len: usize,
+}
+
+impl<const CAP: usize> Model for ShortBytes<CAP> {
+    ghost use Rattle.std.specs.Prelude.{◌≡◌, ◌-◌, ◌≤◌, ◌++◌, List, ℕ, length, take, drop, replicate};
+    ghost use Rattle.cred_phc.specs.Padded.{IsPadded, cells_back, len_back};
+
+    ghost Value = { List ℕ };
+
+    ghost view = { λ s. take s.len s.cells };
+
+    ghost invariant = { λ s. IsPadded CAP s.len s.cells };
+
+    ghost inverse = { λ v. record { cells = v ++ replicate (CAP - length v) 0; len = length v } };
+
+    ghost inverse_ok = { λ s h i. record {
+      cells = cells_back CAP s.len s.cells h i;
+      len = len_back CAP s.len s.cells h i;
+    } };
+}
+
+impl<const CAP: usize> ShortBytes<CAP> {
+    /// These bytes, if there are at least `low` of them and at most `CAP`.
+    pub fn new(bytes: &[u8], low: usize) -> Option<ShortBytes<CAP>>
+        ensures { result ≡ (if between low CAP (length bytes.now) then Some bytes.now else None) }
+    {
+        if bytes.len() < low {
+            return None;
+        }
+        if bytes.len() > CAP {
+            return None;
+        }
+        let mut cells = [0; CAP];
+        cells[..bytes.len()].copy_from_slice(bytes);
+        Some(ShortBytes {
+            cells,
+            len: bytes.len(),
+        })
+    }
+
+    /// The bytes that these letters stand for, in base64 with no padding (RFC 4648 section 4), if there
+    /// are at least `low` of them and at most `CAP`.
+    #[tactic(auto, unfolding(crate::specs::Base64::unbase64))]
+    pub fn from_base64(letters: &[u8], low: usize) -> Option<ShortBytes<CAP>>
+        requires { CAP ≤ 256 }
+        ensures { result ≡ bytes_of low CAP letters.now }
+    {
+        // 256 bytes have 342 letters, and the decoder asks for three bytes of room for each four letters.
+        if letters.len() > 342 {
+            return None;
+        }
+        let mut buffer = [0; 258];
+        match STANDARD_NO_PAD.decode_slice_unchecked(letters, &mut buffer) {
+            Ok(len) => ShortBytes::new(&buffer[..len], low),
+            Err(_) => None,
+        }
+    }
+
+    /// The bytes, without the room behind them.
+    pub fn as_slice(&self) -> &[u8]
+        ensures value { result.now ≡ self.now }
+        ensures fits { length self.now ≤ CAP }
+        ensures bytes { IsBytes self.now }
+    {
+        &self.cells[..self.len]
+    }
+}
+
+impl<const CAP: usize> PartialEq for ShortBytes<CAP> {
+    ghost use Rattle.std.specs.Str.{bytes_eq};
+    ghost use Rattle.std.specs.Cmp.{partial_equiv_from_equiv};
+    ghost use Rattle.std.specs.Cmp.Lexicographic.{nat_list_eq_equiv};
+
+    ghost eq = { bytes_eq };
+
+    ghost laws = { partial_equiv_from_equiv nat_list_eq_equiv };
+
+    /// Every byte is read also where an early one differs, so that its time doesn't tell how far two
+    /// tags agree.
+    fn eq(&self, other: &Self) -> bool {
+        let (these, those) = (self.as_slice(), other.as_slice());
+        if these.len() != those.len() {
+            return false;
+        }
+        let mut same = true;
+        for i in 0..these.len() {
+            same &= these[i] == those[i];
+        }
+        same
+    }
+}
+
+impl<const CAP: usize> Eq for ShortBytes<CAP> {
+    ghost use Rattle.std.specs.Cmp.Lexicographic.{nat_list_eq_equiv};
+
+    ghost laws = { nat_list_eq_equiv };
+}

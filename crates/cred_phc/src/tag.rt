@@ -1,0 +1,59 @@
+//! The tag of a record.
+
+ghost use Rattle.std.specs.Prelude.{◌≡◌, if◌then◌else◌};
+ghost use Rattle.cred_phc.specs.Base64.{bytes_of};
+ghost use Rattle.cred_phc.specs.Values.{IsTag, tag_fits};
+
+use crate::short_bytes::ShortBytes;
+use std::marker::Model;
+
+/// The least tag of Argon2 (RFC 9106 section 3.1), which is the least of scrypt here too.
+const MIN_TAG: usize = 4;
+
+/// How many bytes a tag has at most, so that a record has a fixed size.
+const MAX_TAG: usize = 64;
+
+/// What a password hashing function answers: 4 to 64 bytes.
+#[derive(Clone, Copy, Debug, PartialEq, Eq)]
+pub struct Tag {
+    bytes: ShortBytes<MAX_TAG>,
+}
+
+impl Model for Tag {
+    ghost use Rattle.std.specs.Prelude.{List, ℕ};
+    ghost use Rattle.cred_phc.specs.Values.{IsTag};
+
+    ghost Value = { List ℕ };
+
+    ghost view = { λ t. t.bytes };
+
+    ghost invariant = { λ t. IsTag t.bytes };
+
+    ghost inverse = { λ v. record { bytes = v } };
+}
+
+impl Tag {
+    /// These bytes, if there are 4 to 64 of them.
+    pub fn new(bytes: &[u8]) -> Option<Tag>
+        ensures { result ≡ (if tag_fits bytes.now then Some bytes.now else None) }
+    {
+        let bytes = ShortBytes::new(bytes, MIN_TAG)?;
+        Some(Tag { bytes })
+    }
+
+    /// The 4 to 64 bytes that these letters stand for.
+    pub(crate) fn from_base64(letters: &[u8]) -> Option<Tag>
+        ensures { result ≡ bytes_of 4 64 letters.now }
+    {
+        let bytes = ShortBytes::from_base64(letters, MIN_TAG)?;
+        Some(Tag { bytes })
+    }
+
+    /// The 4 to 64 bytes.
+    pub fn bytes(&self) -> &[u8]
+        ensures value { result.now ≡ self.now }
+        ensures ranges { IsTag self.now }
+    {
+        self.bytes.as_slice()
+    }
+}

@@ -1,0 +1,11 @@
+pub mod Zips
+pub mod Salsa
+pub mod Mixing
+pub mod Table
+pub mod Hmac
+pub mod Keyed
+pub mod Pbkdf2
+pub mod Params
+pub mod Fault
+pub mod Scrypt
+pub mod Pieces

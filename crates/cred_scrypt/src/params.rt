@@ -1,0 +1,75 @@
+//! The numbers that scrypt is run with, each in its range.
+ghost use Rattle.std.specs.Prelude.{◌≡◌, ◌<◌, ◌≤◌, ◌*◌, ◌^◌, ◌↔◌, IsTrue, IfOk};
+ghost use Rattle.cred_scrypt.specs.Params.{IsBadLen, IsCostly};
+
+use crate::error::ScryptError;
+
+/// The most that r * N may be: a table has 128 bytes for each unit of it, and 2 GiB at most.
+const MAX_ROWS: u64 = 16_777_216;
+
+/// The greatest ln, at which a table has 2 GiB with the least block size.
+const MAX_LN: u8 = 24;
+
+/// The shortest and the longest key in bytes, which are those that a stored record can hold.
+const MIN_LEN: u32 = 4;
+
+const MAX_LEN: u32 = 64;
+
+/// scrypt's numbers (RFC 7914, section 2), of which the table fits into 2 GiB.
+#[derive(Clone, Copy, Debug, PartialEq, Eq)]
+pub struct ScryptParams {
+    /// The cost as a power of two: N is 2 to the power of `ln`.
+    pub ln: u8,
+    /// The block size: BlockMix works on 2r blocks of 64 bytes.
+    pub r: u8,
+    /// The parallelization: how many pieces of 128r bytes are mixed, each by itself.
+    pub p: u8,
+    /// The length of the key in bytes.
+    pub len: u32,
+    ghost some_rows: { 1 ≤ ln },
+    ghost few_rows: { ln ≤ 24 },
+    ghost some_blocks: { 1 ≤ r },
+    ghost some_pieces: { 1 ≤ p },
+    ghost below_block_size: { ln < 16 * r },
+    ghost room: { r * 2 ^ ln ≤ 16777216 },
+    ghost long_enough: { 4 ≤ len },
+    ghost short_enough: { len ≤ 64 },
+}
+
+impl ScryptParams {
+    /// The numbers with N = 2^`ln`, block size `r`, parallelization `p` and a key of `len` bytes (RFC 7914,
+    /// section 2). Refused are, judged in this order: `r` 0 (BlockSize); `p` 0 (Blocks); an `ln` outside 1 to 24, one
+    /// not below 16r, and a table over 2 GiB (Cost); a key not of 4 to 64 bytes (Len).
+    pub fn new(ln: u8, r: u8, p: u8, len: u32) -> Result<ScryptParams, ScryptError>
+        ensures block_size { (result ≡ Err ScryptError.BlockSize) ↔ (r ≡ 0) }
+        ensures blocks { (result ≡ Err ScryptError.Blocks) ↔ ((1 ≤ r) × (p ≡ 0)) }
+        ensures cost { (result ≡ Err ScryptError.Cost) ↔ ((1 ≤ r) × (1 ≤ p) × IsCostly ln r) }
+        ensures len { (result ≡ Err ScryptError.Len)
+            ↔ ((1 ≤ r) × (1 ≤ p) × (IsCostly ln r → ⊥) × IsBadLen len) }
+        ensures memory { result ≡ Err ScryptError.Memory → ⊥ }
+        ensures ok { IfOk result (λ made. (made.ln ≡ ln) × (made.r ≡ r) × (made.p ≡ p) × (made.len ≡ len)) }
+    {
+        if r == 0 {
+            return Err(ScryptError::BlockSize);
+        }
+        if p == 0 {
+            return Err(ScryptError::Blocks);
+        }
+        if is_costly(ln, r) {
+            return Err(ScryptError::Cost);
+        }
+        if len < MIN_LEN || len > MAX_LEN {
+            return Err(ScryptError::Len);
+        }
+        Ok(ScryptParams { ln, r, p, len })
+    }
+}
+
+fn is_costly(ln: u8, r: u8) -> bool
+    ensures { IsTrue result ↔ IsCostly ln r }
+{
+    if ln == 0 || ln > MAX_LN {
+        return true;
+    }
+    u32::from(ln) >= 16 * u32::from(r) || u64::from(r) << ln > MAX_ROWS
+}

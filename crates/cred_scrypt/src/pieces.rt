@@ -1,0 +1,129 @@
+//! The pieces that scrypt mixes, each by itself, as the parts of a run of workers.
+ghost use Rattle.std.specs.Prelude.{◌≡◌, ℕ, ◌*◌, ◌^◌, ◌<◌, List, IfOk, false, length};
+ghost use Rattle.cred_scrypt.specs.Mixing.{ro_mix};
+ghost use Rattle.cred_scrypt.specs.Scrypt.{mixed_pieces};
+
+use crate::error::ScryptError;
+use crate::params::ScryptParams;
+use crate::rows::ro_mix;
+use crate::words::{put_words, words_of};
+use cred_pool::{Gate, Part, run_parts};
+use std::alloc::Global;
+use std::marker::Sync;
+use std::thread::Threads;
+
+/// How many bytes a piece has for each unit of the block size: two blocks.
+const PAIR: usize = 128;
+
+/// What the pieces share.
+#[derive(Drop)]
+struct Mixing {
+    alloc: Global,
+    params: ScryptParams,
+}
+
+/// One piece.
+#[derive(Drop)]
+pub(crate) struct Piece {
+    words: Vec<u32>,
+    /// There was no memory for its table, and its words are as they were.
+    refused: bool,
+}
+
+impl Part<Mixing> for Piece {
+    ghost can_work = { λ shared old. length old.words.items ≡ 32 * shared.params.r };
+
+    ghost works = { λ shared old new. new.refused ≡ false
+        → new.words.items ≡ ro_mix shared.params.r (2 ^ shared.params.ln) old.words.items };
+
+    /// Mixes the piece by ROMix, over a table that stands while the piece is worked and no longer.
+    fn work(&mut self, shared: &Mixing) {
+        let mixed = ro_mix(
+            shared.alloc,
+            shared.params.r,
+            shared.params.ln,
+            self.words.as_mut_slice(),
+        );
+        self.refused = mixed.is_err();
+    }
+}
+
+/// The `p` pieces of `bytes`, each mixed by itself in at most `workers` threads, and then one after another again.
+pub(crate) fn mixed<R: Threads + Sync, G: Gate + Sync>(
+    rt: &R,
+    alloc: Global,
+    workers: u8,
+    gate: &G,
+    params: &ScryptParams,
+    bytes: &[u8],
+) -> Result<Vec<u8>, ScryptError>
+    requires { length bytes.now ≡ 128 * params.now.r * params.now.p }
+    ensures memory { (e : _) → result ≡ Err e → e ≡ ScryptError.Memory }
+    ensures ok { IfOk result (λ mixed. mixed.items
+        ≡ mixed_pieces params.now.ln params.now.r bytes.now params.now.p) }
+{
+    let mut pieces = Piece::cut(alloc, usize::from(params.r), usize::from(params.p), bytes)?;
+    Piece::mix_all(rt, alloc, workers, gate, params, pieces.as_mut_slice());
+    Piece::joined(alloc, bytes.len(), &pieces)
+}
+
+impl Piece {
+    ghost use Rattle.cred_scrypt.specs.Pieces.{AreCut, AreMixed, AreWhole};
+
+    /// The `p` pieces of `bytes`.
+    fn cut(alloc: Global, r: usize, p: usize, bytes: &[u8]) -> Result<Vec<Piece>, ScryptError>
+        requires small { 128 * r * p < 2 ^ 32 }
+        requires size { length bytes.now ≡ 128 * r * p }
+        ensures memory { (e : _) → result ≡ Err e → e ≡ ScryptError.Memory }
+        ensures count { IfOk result (λ pieces. length pieces.items ≡ p) }
+        ensures cut { IfOk result (λ pieces. AreCut r bytes.now pieces.items) }
+        ensures whole { IfOk result (λ pieces. AreWhole r pieces.items) }
+    {
+        let mut pieces = Vec::with_capacity(alloc, p)?;
+        'cuts: for k in 0..p {
+            let at = PAIR * r * k;
+            let words = words_of(alloc, &bytes[at..at + PAIR * r])?;
+            pieces.push(Piece {
+                words,
+                refused: false,
+            })?;
+        }
+        Ok(pieces)
+    }
+
+    /// Mixes each piece, in at most `workers` threads.
+    fn mix_all<R: Threads + Sync, G: Gate + Sync>(
+        rt: &R,
+        alloc: Global,
+        workers: u8,
+        gate: &G,
+        params: &ScryptParams,
+        pieces: &mut [Piece],
+    )
+        requires { AreWhole params.now.r pieces.old }
+        ensures { (b : List ℕ) → AreCut params.now.r b pieces.old
+            → AreMixed params.now.ln params.now.r b pieces.new }
+    {
+        let shared = Mixing {
+            alloc,
+            params: *params,
+        };
+        run_parts(rt, workers, gate, &shared, pieces);
+    }
+
+    /// The bytes of all the pieces in turn. The answer is Memory where one of them was refused its table.
+    fn joined(alloc: Global, size: usize, pieces: &[Piece]) -> Result<Vec<u8>, ScryptError>
+        ensures memory { (e : _) → result ≡ Err e → e ≡ ScryptError.Memory }
+        ensures ok { (ln r : ℕ) (b : List ℕ) → AreMixed ln r b pieces.now
+            → IfOk result (λ bytes. bytes.items ≡ mixed_pieces ln r b (length pieces.now)) }
+    {
+        let mut bytes = Vec::with_capacity(alloc, size)?;
+        'joins: for piece in pieces {
+            if piece.refused {
+                return Err(ScryptError::Memory);
+            }
+            put_words(&mut bytes, &piece.words)?;
+        }
+        Ok(bytes)
+    }
+}
