@@ -18,7 +18,9 @@ fn main(rt: HostRuntime) -> Result<()> {
         numbers.push(number.context("reading an argument")?)?;
     }
     let [memory, passes, lanes, workers] = numbers.as_slice() else {
-        println!(rt; "the arguments are the memory in KiB, the passes, the lanes and the number of workers")?;
+        println!(rt;
+            "the arguments are the memory in KiB, the passes, the lanes and the number of workers"
+        )?;
         return Ok(());
     };
     let workers = u8::try_from(*workers).context("at most 255 workers")?;
