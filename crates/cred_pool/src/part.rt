@@ -1,5 +1,6 @@
 //! A part of a work, and the run that works each part once.
-ghost use Rattle.std.specs.Prelude.{ℕ, ◌<◌, length, slice_index_or};
+ghost use Rattle.std.specs.Prelude.{ℕ, ◌<◌, ◌+◌, ◌^◌, ◌≡◌, length, slice_index_or};
+ghost use denote.Param.Send.{IsSync, IsSend};
 
 use crate::gate::Gate;
 use std::marker::{Send, Sync};
@@ -37,14 +38,99 @@ pub fn run_parts<R: Threads + Sync, G: Gate + Sync, C: Sync, P: Part<C> + Send>(
         → P.works shared.now (slice_index_or parts.old i d) (slice_index_or parts.new i d) }
 {
     let threads = usize::from(workers.max(1));
+    let size = parts.len().div_ceil(threads).max(1);
+    run_from(rt, gate, shared, 0, size, parts);
+}
+
+/// Works the parts of which the first has the index `base`, in runs of `size`.
+#[cycle(runs)]
+fn run_from<R: Threads + Sync, G: Gate + Sync, C: Sync, P: Part<C> + Send>(
+    rt: &R,
+    gate: &G,
+    shared: &C,
+    base: usize,
+    size: usize,
+    parts: &mut [P],
+)
+    requires some { 0 < size }
+    requires room { base + length parts.old < 2 ^ 64 }
+    requires can { (i : ℕ) (d : P) → i < length parts.old
+        → P.can_work shared.now (slice_index_or parts.old i d) }
+    ensures { (i : ℕ) (d : P) → i < length parts.old
+        → P.works shared.now (slice_index_or parts.old i d) (slice_index_or parts.new i d) }
+{
+    if parts.len() <= size {
+        work_run(rt, gate, shared, base, parts);
+        return;
+    }
+    let (run, rest) = parts.split_at_mut(size);
+    run_both(rt, gate, shared, base, size, run, rest);
+}
+
+/// Works a run in a new thread and the rest from here, so that one thread starts all the others: where two start some
+/// at once, both new ones are often given one processor, and the other one waits for milliseconds.
+#[cycle(runs)]
+fn run_both<R: Threads + Sync, G: Gate + Sync, C: Sync, P: Part<C> + Send>(
+    rt: &R,
+    gate: &G,
+    shared: &C,
+    base: usize,
+    size: usize,
+    run: &mut [P],
+    rest: &mut [P],
+)
+    requires some { 0 < size }
+    requires len { length run.old ≡ size }
+    requires room { base + size + length rest.old < 2 ^ 64 }
+    requires run { (i : ℕ) (d : P) → i < length run.old
+        → P.can_work shared.now (slice_index_or run.old i d) }
+    requires rest { (i : ℕ) (d : P) → i < length rest.old
+        → P.can_work shared.now (slice_index_or rest.old i d) }
+    ensures run { (i : ℕ) (d : P) → i < length run.old
+        → P.works shared.now (slice_index_or run.old i d) (slice_index_or run.new i d) }
+    ensures rest { (i : ℕ) (d : P) → i < length rest.old
+        → P.works shared.now (slice_index_or rest.old i d) (slice_index_or rest.new i d) }
+{
+    let next = base + size;
+    let mut first = ||
+        requires { IsSync R.row × IsSync G.row × IsSync C.row × IsSend P.row
+            × (base + length run.now < 2 ^ 64)
+            × ((i : ℕ) (d : P) → i < length run.now → P.can_work shared.now (slice_index_or run.now i d)) }
+        ensures { (i : ℕ) (d : P) → i < length run.entry.now
+            → P.works shared.entry.now (slice_index_or run.entry.now i d) (slice_index_or run.exit.now i d) }
+    { work_run(rt, gate, shared, base, run) };
+    let mut others = ||
+        requires { IsSync R.row × IsSync G.row × IsSync C.row × IsSend P.row
+            × (0 < size) × (next + length rest.now < 2 ^ 64)
+            × ((i : ℕ) (d : P) → i < length rest.now → P.can_work shared.now (slice_index_or rest.now i d)) }
+        ensures { (i : ℕ) (d : P) → i < length rest.entry.now
+            → P.works shared.entry.now (slice_index_or rest.entry.now i d) (slice_index_or rest.exit.now i d) }
+    { run_from(rt, gate, shared, next, size, rest) };
+    thread::join_mut(rt, &mut first, &mut others);
+}
+
+/// Works the parts of a run in turn, on the caller's thread.
+fn work_run<R: Threads + Sync, G: Gate + Sync, C: Sync, P: Part<C> + Send>(
+    rt: &R,
+    gate: &G,
+    shared: &C,
+    base: usize,
+    run: &mut [P],
+)
+    requires room { base + length run.old < 2 ^ 64 }
+    requires can { (i : ℕ) (d : P) → i < length run.old
+        → P.can_work shared.now (slice_index_or run.old i d) }
+    ensures { (i : ℕ) (d : P) → i < length run.old
+        → P.works shared.now (slice_index_or run.old i d) (slice_index_or run.new i d) }
+{
     thread::for_each_mut(
         rt,
-        parts,
-        threads,
+        run,
+        1,
         &|i, part: &mut P|
-            requires { P.can_work shared.now part.now }
+            requires { (base + i < 2 ^ 64) × P.can_work shared.now part.now }
             ensures { P.works shared.entry.now part.entry.now part.exit.now }
-        { work_behind(gate, shared, i, part) },
+        { work_behind(gate, shared, base + i, part) },
     );
 }
 
