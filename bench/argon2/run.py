@@ -4,22 +4,24 @@
     python3 bench/argon2/run.py [--times N] [--quick]
 
 It proves and builds the crate argon2_tag with `rt`, in its own folder, and checks that both programs give the same tags.
-Then it runs the two in turn, N times each, and prints the best wall time of each, the ratio of the best and that of the
-medians, the same of the processor times, and how far the greatest resident memory lies over that of the parameters, the
-program's own (a run at 8 KiB) not counted. The reference program always has as many threads as lanes.
+Then it runs the two in turn, N times each, and prints the best wall time of each and their ratio, the ratio of the least
+processor times, the part of our processor time that the system took (for fresh memory), and how far the greatest resident
+memory lies over that of the parameters, the program's own (a run at 8 KiB) not counted. The reference program always has as
+many threads as lanes. A second table is of what whoever runs the program may choose: huge pages, by a setting of the C
+library, and a build for newer processors.
 """
 import argparse
 import os
 import shutil
-import statistics
 import subprocess
 import sys
+import tempfile
 import time
 
 TOP = os.path.dirname(os.path.dirname(os.path.dirname(os.path.abspath(__file__))))
 CRATE = os.path.join(TOP, "crates", "argon2_tag")
 
-# Memory in KiB, passes, lanes, workers.
+# Memory in KiB, passes, lanes, workers. The last lies in the processor's own cache, so no memory is waited for.
 SETTINGS = [
     (65536, 2, 1, 1),
     (65536, 3, 1, 1),
@@ -28,17 +30,23 @@ SETTINGS = [
     (65536, 3, 4, 2),
     (65536, 3, 4, 4),
     (1048576, 1, 4, 4),
+    (512, 200, 1, 1),
 ]
 
+# For the second table.
+CHOSEN = [(65536, 3, 1, 1), (65536, 3, 4, 4)]
+HUGE_PAGES = {**os.environ, "GLIBC_TUNABLES": "glibc.malloc.hugetlb=1"}
+NEWER = "--cpu=x86-64-v3"
 
-def build():
-    """Proves and builds the program, and gives its path."""
-    done = subprocess.run(["rt", "run", "--", "8", "1", "1", "1"], cwd=CRATE, stdout=subprocess.PIPE, stderr=subprocess.STDOUT)
+
+def build(room, *flags):
+    """Proves and builds the program, and gives the path of a copy."""
+    done = subprocess.run(["rt", "run", *flags, "--", "8", "1", "1", "1"], cwd=CRATE, stdout=subprocess.PIPE, stderr=subprocess.STDOUT)
     program = os.path.join(CRATE, "out", "argon2_tag")
     if done.returncode != 0 or not os.path.exists(program):
         sys.stdout.buffer.write(done.stdout)
         sys.exit("the program was not built")
-    return program
+    return shutil.copy(program, os.path.join(room, "argon2_tag" + "".join(flags)))
 
 
 def reference_program():
@@ -48,10 +56,10 @@ def reference_program():
     return shutil.which("argon2")
 
 
-def timed(command, given):
-    """Wall and processor time in milliseconds, and what was written."""
+def timed(command, given, env=None):
+    """Wall, processor and system time in milliseconds, and what was written."""
     start = time.perf_counter()
-    process = subprocess.Popen(command, stdin=subprocess.PIPE, stdout=subprocess.PIPE)
+    process = subprocess.Popen(command, stdin=subprocess.PIPE, stdout=subprocess.PIPE, env=env)
     process.stdin.write(given)
     process.stdin.close()
     written = process.stdout.read()
@@ -61,35 +69,44 @@ def timed(command, given):
     process.returncode = status
     if status != 0:
         sys.exit(f"{command[0]} ended with status {status}")
-    return 1000 * wall, 1000 * (usage.ru_utime + usage.ru_stime), written.strip()
+    return 1000 * wall, 1000 * (usage.ru_utime + usage.ru_stime), 1000 * usage.ru_stime, written.strip()
+
+
+def words_of(program, setting):
+    return [program] + [str(n) for n in setting]
 
 
 def resident(program, setting):
     """The greatest resident memory in KiB."""
-    command = ["/usr/bin/time", "-f", "%M", program] + [str(n) for n in setting]
+    command = ["/usr/bin/time", "-f", "%M"] + words_of(program, setting)
     done = subprocess.run(command, stdout=subprocess.DEVNULL, stderr=subprocess.PIPE, check=True)
     return int(done.stderr)
 
 
-def ratios(ours, theirs):
-    return min(ours), min(theirs), min(ours) / min(theirs), statistics.median(ours) / statistics.median(theirs)
-
-
 def compare(ours, reference, setting, times, own):
     memory, passes, lanes, workers = setting
-    our_command = [ours] + [str(n) for n in setting]
     their_command = [reference, "somesalt", "-id", "-t", str(passes), "-k", str(memory), "-p", str(lanes), "-l", "32", "-r"]
     our_runs, their_runs = [], []
     for _ in range(times):
-        our_runs.append(timed(our_command, b""))
+        our_runs.append(timed(words_of(ours, setting), b""))
         their_runs.append(timed(their_command, b"password"))
-    if our_runs[0][2] != their_runs[0][2]:
+    if our_runs[0][3] != their_runs[0][3]:
         sys.exit(f"the tags differ at {setting}")
-    wall = ratios([r[0] for r in our_runs], [r[0] for r in their_runs])
-    cpu = ratios([r[1] for r in our_runs], [r[1] for r in their_runs])
-    over = 100 * ((resident(ours, setting) - own) / memory - 1)
-    print(f"{memory:8} {passes:3} {lanes:3} {workers:4}   {wall[0]:8.1f} {wall[1]:8.1f} {wall[2]:6.2f} {wall[3]:7.2f}"
-          f"   {cpu[0]:8.1f} {cpu[1]:8.1f} {cpu[2]:6.2f} {cpu[3]:7.2f}   {over:5.1f} %", flush=True)
+    wall, cpu, _, _ = (min(column) for column in zip(*our_runs))
+    their_wall, their_cpu, _, _ = (min(column) for column in zip(*their_runs))
+    system = min(run[2] / run[1] for run in our_runs)
+    # of a small memory, the allocator's own is most
+    over = f"{100 * ((resident(ours, setting) - own) / memory - 1):.1f} %" if memory >= 65536 else ""
+    print(f"| {memory}, {passes}, {lanes} | {workers} | {wall:.1f} | {their_wall:.1f} | {wall / their_wall:.2f} "
+          f"| {cpu / their_cpu:.2f} | {100 * system:.0f} % | {over} |", flush=True)
+
+
+def choose(programs, setting, times):
+    """The best wall times of the builds, with and without huge pages."""
+    ways = [(program, env) for program in programs for env in (None, HUGE_PAGES)]
+    best = [min(timed(words_of(program, setting), b"", env)[0] for _ in range(times)) for program, env in ways]
+    memory, passes, lanes, workers = setting
+    print(f"| {memory}, {passes}, {lanes} | {workers} |" + "".join(f" {wall:.1f} |" for wall in best), flush=True)
 
 
 def main():
@@ -98,14 +115,20 @@ def main():
     words.add_argument("--quick", action="store_true", help="leave out the setting of 1 GiB")
     given = words.parse_args()
     reference = reference_program()
-    ours = build()
-    own = resident(ours, (8, 1, 1, 1))
-    print("                        wall, ms: the best, ratios        processor, ms: the same            memory")
-    print("  m, KiB   t   p work       ours   theirs  ratio  median       ours   theirs  ratio  median   over m")
-    for setting in SETTINGS:
-        large = setting[0] > 500_000
-        if not (large and given.quick):
-            compare(ours, reference, setting, max(3, given.times // 3) if large else given.times, own)
+    with tempfile.TemporaryDirectory(prefix="argon2-") as room:
+        newer = build(room, NEWER)
+        ours = build(room)
+        own = resident(ours, (8, 1, 1, 1))
+        print("| m (KiB), t, p | Workers | Ours, ms | Reference, ms | Ratio | of processor time | System's part | Memory over m |")
+        print("|---|---|---|---|---|---|---|---|")
+        for setting in SETTINGS:
+            large = setting[0] > 500_000
+            if not (large and given.quick):
+                compare(ours, reference, setting, max(3, given.times // 3) if large else given.times, own)
+        print("\n| m (KiB), t, p | Workers | As built, ms | with huge pages | For x86-64-v3 | with huge pages |")
+        print("|---|---|---|---|---|---|")
+        for setting in CHOSEN:
+            choose([ours, newer], setting, given.times)
 
 
 if __name__ == "__main__":

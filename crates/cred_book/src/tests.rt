@@ -29,6 +29,26 @@ const A: &str =
 const B: &str =
     "$argon2id$v=19$m=256,t=2,p=2$c29tZXNhbHQ$bQk8UB/VmZZF4Oo79iDXuL5/0ttZwg2f/5U52iv1cDc";
 
+/// What most tests are about. Made before a book is, so that few places may end early while a book is there.
+#[derive(Clone, Copy)]
+struct Samples {
+    a: Name,
+    b: Name,
+    one_lane: Record,
+    two_lanes: Record,
+}
+
+impl Samples {
+    fn new() -> Result<Samples, Fail> {
+        Ok(Samples {
+            a: name("a")?,
+            b: name("b")?,
+            one_lane: stored(A)?,
+            two_lanes: stored(B)?,
+        })
+    }
+}
+
 fn name(text: &str) -> Result<Name, BookError> {
     Name::new(text.as_bytes())
 }
@@ -61,10 +81,11 @@ fn verify(pw: &str) -> Result<Request, Fail> {
 }
 
 /// A book with the account a, and this record there.
-fn book_with(alloc: Global, a: Option<Record>) -> Result<Book, Fail> {
+fn book_with(alloc: Global, there: Option<Record>) -> Result<Book, Fail> {
+    let a = name("a")?;
     let mut book = Book::new(alloc)?;
-    book.admit(name("a")?)?;
-    book.set(&name("a")?, a)?;
+    book.admit(a)?;
+    book.set(&a, there)?;
     Ok(book)
 }
 

@@ -23,10 +23,12 @@ pub(crate) struct Load {
     settings: [Setting; 2],
     pub(crate) verifies: u32,
     pub(crate) upgrades: u32,
+    /// Whether the upgrades are settled, or hashed alone.
+    pub(crate) settles: bool,
 }
 
 impl Load {
-    pub(crate) fn new(alloc: Global, verifies: u32, upgrades: u32) -> Option<Load> {
+    pub(crate) fn new(alloc: Global, verifies: u32, upgrades: u32, settles: bool) -> Option<Load> {
         let mut names = Vec::with_capacity(alloc, ACCOUNTS).ok()?;
         for i in 0..ACCOUNTS {
             let name = format!(in alloc; "account{i}").ok()?;
@@ -42,6 +44,7 @@ impl Load {
             ],
             verifies,
             upgrades,
+            settles,
         })
     }
 

@@ -34,7 +34,8 @@ pub(crate) fn run<R: Threads + Wait + Clock + Sync>(
             };
         },
     );
-    Ran::of(&figures, u64::from(load.upgrades))
+    let changes = if load.settles { load.upgrades } else { 0 };
+    Ran::of(&figures, u64::from(changes))
 }
 
 fn verify<R: Threads + Wait + Clock + Sync>(
@@ -80,6 +81,9 @@ fn upgrade<R: Threads + Wait + Clock + Sync>(
         }
         let ticket = book.lock(rt).begin(request).ok()?;
         let worked = ticket.work(rt, alloc, 1, &NoGate).ok()?;
+        if !load.settles {
+            continue;
+        }
         match book.lock(rt).commit(worked) {
             Reply::Upgraded => {}
             _ => return None,

@@ -1,6 +1,6 @@
 //! Threads that verify while one upgrades, over a book of 4096 accounts: by sessions of a desk, or with a lock round the book.
-//! The arguments are `desk` or `lock`, how many threads verify, how often each does, how many upgrades are made, and `figures`
-//! where times are to be printed too.
+//! The arguments are `desk` or `lock`, how many threads verify, how often each does, how many upgrades are made, `hashed`
+//! where these aren't settled, and `figures` where times are to be printed too.
 #![tactic(auto)]
 
 use anyhow::{Context, Result};
@@ -25,7 +25,8 @@ fn main(rt: HostRuntime) -> Result<()> {
     }
     let [readers, verifies, upgrades] = numbers;
     let readers = u8::try_from(readers).context("at most 31 threads verify")?;
-    let load = Load::new(alloc, verifies, upgrades).context("making the load")?;
+    let settles = !has(&words, "hashed");
+    let load = Load::new(alloc, verifies, upgrades, settles).context("making the load")?;
     let book = load.book(&rt, alloc).context("making the book")?;
     let ran = match words.first() {
         Some(word) if word.as_str() == "lock" => locked::run(&rt, alloc, book, readers, &load),
@@ -36,11 +37,15 @@ fn main(rt: HostRuntime) -> Result<()> {
         "{} verifies, {} upgrades, {} changes",
         ran.verifies, ran.upgrades, ran.changes
     )?;
-    if words.iter().any(|word| word.as_str() == "figures") {
+    if has(&words, "figures") {
         println!(rt;
             "{} verifies a second, worst begin {} us, {} upgrades a second",
             ran.rate, ran.worst, ran.upgrade_rate
         )?;
     }
     Ok(())
+}
+
+fn has(words: &[String], wanted: &str) -> bool {
+    words.iter().any(|word| word.as_str() == wanted)
 }

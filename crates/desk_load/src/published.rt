@@ -116,6 +116,9 @@ fn upgrade<J: Naming, R: Threads + Wait + Clock + Sync>(
         }
         let ticket = session.begin(request).ok()?;
         let worked = ticket.work(rt, alloc, 1, &NoGate).ok()?;
+        if !load.settles {
+            continue;
+        }
         match desk.settle(rt, session, worked).ok()?.0 {
             Reply::Upgraded => {}
             _ => return None,

@@ -1,5 +1,5 @@
 //! A book's calls, by themselves and by the one who keeps it.
-use super::{A, B, name, stored};
+use super::{A, B, Samples, name, stored};
 use crate::{Book, BookError, Keeper};
 use std::process::Abort;
 use std::sync::Wait;
@@ -7,19 +7,24 @@ use std::test::Fail;
 
 #[test]
 fn an_account_is_admitted_loaded_and_shown(rt: HostRuntime) -> Result<(), Fail> {
-    let (a, zed) = (name("a")?, name("zed")?);
+    let Samples {
+        a,
+        b,
+        one_lane,
+        two_lanes,
+    } = Samples::new()?;
     let mut book = Book::new(rt.alloc())?;
     assert_eq!(rt; book.show(&a), Err(BookError::NoAccount));
-    assert_eq!(rt; book.load(&a, stored(A)?), Err(BookError::NoAccount));
+    assert_eq!(rt; book.load(&a, one_lane), Err(BookError::NoAccount));
     assert_eq!(rt; book.admit(a), Ok(()));
     assert_eq!(rt; book.show(&a), Ok(None));
-    assert_eq!(rt; book.load(&a, stored(A)?), Ok(()));
-    assert_eq!(rt; book.show(&a), Ok(Some(stored(A)?)));
-    assert_eq!(rt; book.load(&a, stored(B)?), Ok(()));
+    assert_eq!(rt; book.load(&a, one_lane), Ok(()));
+    assert_eq!(rt; book.show(&a), Ok(Some(one_lane)));
+    assert_eq!(rt; book.load(&a, two_lanes), Ok(()));
     assert_eq!(rt; book.admit(a), Err(BookError::Exists));
-    assert_eq!(rt; book.show(&a), Ok(Some(stored(B)?)));
-    assert_eq!(rt; book.show(&zed), Err(BookError::NoAccount));
-    assert_eq!(rt; book.load(&zed, stored(A)?), Err(BookError::NoAccount));
+    assert_eq!(rt; book.show(&a), Ok(Some(two_lanes)));
+    assert_eq!(rt; book.show(&b), Err(BookError::NoAccount));
+    assert_eq!(rt; book.load(&b, one_lane), Err(BookError::NoAccount));
     Ok(())
 }
 
@@ -58,22 +63,22 @@ fn the_order_of_admission_is_forgotten(rt: HostRuntime) -> Result<(), Fail> {
 }
 
 /// Every call of a keeper whose book has no name yet.
-fn keep<R: Wait + Abort, K: Keeper>(rt: &R, keeper: &mut K) -> Result<(), Fail> {
-    let a = name("a")?;
+fn keep<R: Wait + Abort, K: Keeper>(rt: &R, keeper: &mut K, samples: &Samples) {
+    let Samples { a, one_lane, .. } = *samples;
     assert_eq!(rt; keeper.show(&a), Err(BookError::NoAccount));
-    assert_eq!(rt; keeper.load(rt, &a, stored(A)?), Err(BookError::NoAccount));
+    assert_eq!(rt; keeper.load(rt, &a, one_lane), Err(BookError::NoAccount));
     assert_eq!(rt; keeper.admit(rt, a), Ok(()));
     assert_eq!(rt; keeper.admit(rt, a), Err(BookError::Exists));
     assert_eq!(rt; keeper.show(&a), Ok(None));
-    assert_eq!(rt; keeper.load(rt, &a, stored(A)?), Ok(()));
-    assert_eq!(rt; keeper.show(&a), Ok(Some(stored(A)?)));
-    Ok(())
+    assert_eq!(rt; keeper.load(rt, &a, one_lane), Ok(()));
+    assert_eq!(rt; keeper.show(&a), Ok(Some(one_lane)));
 }
 
 #[test]
 fn a_book_keeps_itself(rt: HostRuntime) -> Result<(), Fail> {
+    let samples = Samples::new()?;
     let mut book = Book::new(rt.alloc())?;
-    keep(&rt, &mut book)?;
-    assert_eq!(rt; book.show(&name("a")?), Ok(Some(stored(A)?)));
+    keep(&rt, &mut book, &samples);
+    assert_eq!(rt; book.show(&samples.a), Ok(Some(samples.one_lane)));
     Ok(())
 }

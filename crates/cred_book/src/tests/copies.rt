@@ -1,29 +1,35 @@
 //! Copies of a book, entries that are put there, and work that is handed back or comes from another book.
-use super::{A, A_SETTING, B, book_with, enrol, name, stored, verify, worked};
+use super::{A_SETTING, Samples, book_with, enrol, verify, worked};
 use crate::{Book, BookError, Keeper, Reply};
 use std::test::Fail;
 
 #[test]
 fn a_copy_shows_the_record(rt: HostRuntime) -> Result<(), Fail> {
-    let mut book = book_with(rt.alloc(), Some(stored(A)?))?;
+    let Samples { a, b, one_lane, .. } = Samples::new()?;
+    let mut book = book_with(rt.alloc(), Some(one_lane))?;
     let copy = book.copy()?;
-    book.set(&name("a")?, None)?;
-    assert_eq!(rt; copy.show(&name("a")?), Ok(Some(stored(A)?)));
-    assert_eq!(rt; copy.show(&name("b")?), Err(BookError::NoAccount));
+    assert_eq!(rt; book.set(&a, None), Ok(()));
+    assert_eq!(rt; copy.show(&a), Ok(Some(one_lane)));
+    assert_eq!(rt; copy.show(&b), Err(BookError::NoAccount));
     Ok(())
 }
 
 #[test]
 fn set_wants_the_name_and_put_adds_it(rt: HostRuntime) -> Result<(), Fail> {
-    let b = name("b")?;
-    let mut book = book_with(rt.alloc(), Some(stored(A)?))?;
-    assert_eq!(rt; book.set(&b, Some(stored(B)?)), Err(BookError::NoAccount));
+    let Samples {
+        a,
+        b,
+        one_lane,
+        two_lanes,
+    } = Samples::new()?;
+    let mut book = book_with(rt.alloc(), Some(one_lane))?;
+    assert_eq!(rt; book.set(&b, Some(two_lanes)), Err(BookError::NoAccount));
     assert_eq!(rt; book.show(&b), Err(BookError::NoAccount));
-    book.put(&b, Some(stored(B)?));
-    assert_eq!(rt; book.show(&b), Ok(Some(stored(B)?)));
+    book.put(&b, Some(two_lanes));
+    assert_eq!(rt; book.show(&b), Ok(Some(two_lanes)));
     book.put(&b, None);
     assert_eq!(rt; book.show(&b), Ok(None));
-    assert_eq!(rt; book.show(&name("a")?), Ok(Some(stored(A)?)));
+    assert_eq!(rt; book.show(&a), Ok(Some(one_lane)));
     Ok(())
 }
 
@@ -42,8 +48,8 @@ fn a_beginning_without_account(rt: HostRuntime) -> Result<(), Fail> {
 
 #[test]
 fn an_enrol_is_no_verify(rt: HostRuntime) -> Result<(), Fail> {
-    let mut book = book_with(rt.alloc(), None)?;
     let request = enrol("password", A_SETTING)?;
+    let mut book = book_with(rt.alloc(), None)?;
     match worked(&rt, rt.alloc(), &book, request)?.into_verify() {
         Ok(_) => assert!(rt; false, "a verify"),
         Err(back) => {
@@ -51,7 +57,15 @@ fn an_enrol_is_no_verify(rt: HostRuntime) -> Result<(), Fail> {
             assert_eq!(rt; book.commit(back), Reply::Enrolled);
         }
     }
-    match worked(&rt, rt.alloc(), &book, verify("password")?)?.into_verify() {
+    Ok(())
+}
+
+#[test]
+fn a_verify_is_one(rt: HostRuntime) -> Result<(), Fail> {
+    let samples = Samples::new()?;
+    let request = verify("password")?;
+    let book = book_with(rt.alloc(), Some(samples.one_lane))?;
+    match worked(&rt, rt.alloc(), &book, request)?.into_verify() {
         Ok(work) => assert_eq!(rt; book.judge(work.worked()).0, Reply::Yes),
         Err(_) => assert!(rt; false, "no verify"),
     }
@@ -60,11 +74,13 @@ fn an_enrol_is_no_verify(rt: HostRuntime) -> Result<(), Fail> {
 
 #[test]
 fn work_of_another_book(rt: HostRuntime) -> Result<(), Fail> {
+    let samples = Samples::new()?;
+    let request = enrol("password", A_SETTING)?;
     let book = book_with(rt.alloc(), None)?;
+    let work = worked(&rt, rt.alloc(), &book, request)?;
     let mut other = Book::new(rt.alloc())?;
-    let work = worked(&rt, rt.alloc(), &book, enrol("password", A_SETTING)?)?;
     assert_eq!(rt; other.judge(&work), (Reply::NoAccount, None, false));
     assert_eq!(rt; other.commit(work), Reply::NoAccount);
-    assert_eq!(rt; other.show(&name("a")?), Err(BookError::NoAccount));
+    assert_eq!(rt; other.show(&samples.a), Err(BookError::NoAccount));
     Ok(())
 }

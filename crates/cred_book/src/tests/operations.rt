@@ -1,8 +1,9 @@
 //! Whole operations, each begun, worked and committed: what is answered, and which record stands then.
 use super::{
-    A, A_SETTING, B, B_SETTING, book_with, enrol, name, password, setting, stored, verify, worked,
+    A, A_SETTING, B, B_SETTING, Samples, book_with, enrol, name, password, setting, stored, verify,
+    worked,
 };
-use crate::{Reply, Request};
+use crate::{Book, Reply, Request, Worked};
 use cred_phc::Record;
 use std::alloc::Global;
 use std::process::Abort;
@@ -75,14 +76,29 @@ type Row = (Option<&'static str>, Request, Reply, Option<&'static str>);
 fn hold<R: Threads + Sync + Abort>(rt: &R, alloc: Global, table: &[Row]) -> Result<(), Fail> {
     for (i, (before, request, reply, after)) in table.iter().enumerate() {
         let (before, after) = (stored_if(*before)?, stored_if(*after)?);
-        let mut book = book_with(alloc, before)?;
+        let book = book_with(alloc, before)?;
         let work = worked(rt, alloc, &book, *request)?;
         assert_eq!(rt; work.request(), *request, "{i}");
         assert_eq!(rt; work.copy(), before, "{i}");
-        assert_eq!(rt; book.judge(&work), (*reply, after, before != after), "{i}");
-        assert_eq!(rt; book.commit(work), *reply, "{i}");
-        assert_eq!(rt; book.show(&name("a")?), Ok(after), "{i}");
+        is_committed(rt, i, book, work, *reply, after)?;
     }
+    Ok(())
+}
+
+/// Commits the work, and looks at what is answered and which record is there after it.
+fn is_committed<R: Abort>(
+    rt: &R,
+    row: usize,
+    mut book: Book,
+    work: Worked,
+    reply: Reply,
+    after: Option<Record>,
+) -> Result<(), Fail> {
+    let a = name("a")?;
+    let before = book.show(&a)?;
+    assert_eq!(rt; book.judge(&work), (reply, after, before != after), "{row}");
+    assert_eq!(rt; book.commit(work), reply, "{row}");
+    assert_eq!(rt; book.show(&a), Ok(after), "{row}");
     Ok(())
 }
 
@@ -163,26 +179,22 @@ fn removals(rt: HostRuntime) -> Result<(), Fail> {
 
 #[test]
 fn a_commit_meets_another_record(rt: HostRuntime) -> Result<(), Fail> {
-    let (a, b) = (Some(stored(A)?), Some(stored(B)?));
+    let samples = Samples::new()?;
+    let (a, b) = (Some(samples.one_lane), Some(samples.two_lanes));
+    let short = Some(stored(SHORT)?);
+    let request = verify("password")?;
     let table = [
         (a, Reply::Yes),
         (b, Reply::Changed { now: b }),
-        (
-            Some(stored(SHORT)?),
-            Reply::Changed {
-                now: Some(stored(SHORT)?),
-            },
-        ),
+        (short, Reply::Changed { now: short }),
         (None, Reply::Changed { now: None }),
     ];
     for (i, (meanwhile, reply)) in table.iter().enumerate() {
         let mut book = book_with(rt.alloc(), a)?;
-        let work = worked(&rt, rt.alloc(), &book, verify("password")?)?;
-        book.set(&name("a")?, None)?;
-        book.set(&name("a")?, *meanwhile)?;
-        assert_eq!(rt; book.judge(&work), (*reply, *meanwhile, false), "{i}");
-        assert_eq!(rt; book.commit(work), *reply, "{i}");
-        assert_eq!(rt; book.show(&name("a")?), Ok(*meanwhile), "{i}");
+        let work = worked(&rt, rt.alloc(), &book, request)?;
+        book.put(&samples.a, None);
+        book.put(&samples.a, *meanwhile);
+        is_committed(&rt, i, book, work, *reply, *meanwhile)?;
     }
     Ok(())
 }

@@ -1,7 +1,7 @@
 //! That a ticket's work reaches the workers and the gate, and what want of memory leaves of it. `refused_work` holds
 //! whichever request is refused: `rt try --test --fail-alloc N -- refused` refuses the Nth, and is run for N from 1 on
 //! until a run meets none.
-use super::{A, A_SETTING, begun, book_with, enrol, name, stored};
+use super::{A_SETTING, Samples, begun, book_with, enrol};
 use crate::{Book, Reply};
 use cred_pool::{Gate, NoGate};
 use std::sync::atomic::{AtomicU64, Ordering};
@@ -43,8 +43,8 @@ fn hands_workers_on(rt: HostRuntime) -> Result<(), Fail> {
         second: AtomicU64::new(0),
         met: AtomicU64::new(0),
     };
-    let mut book = book_with(rt.alloc(), None)?;
     let request = enrol("password", "$argon2id$v=19$m=16,t=1,p=2$c29tZXNhbHQ")?;
+    let mut book = book_with(rt.alloc(), None)?;
     match begun(&book, request)?.work(&rt, rt.alloc(), 2, &gate) {
         Ok(work) => assert_eq!(rt; book.commit(work), Reply::Enrolled),
         Err(_) => assert!(rt; false, "no memory"),
@@ -55,11 +55,12 @@ fn hands_workers_on(rt: HostRuntime) -> Result<(), Fail> {
 
 #[test]
 fn refused_work(rt: HostRuntime) -> Result<(), Fail> {
+    let Samples { a, one_lane, .. } = Samples::new()?;
+    let request = enrol("password", A_SETTING)?;
     let Ok(mut book) = Book::new(rt.alloc()) else {
         return Ok(());
     };
-    book.admit(name("a")?)?;
-    let request = enrol("password", A_SETTING)?;
+    assert_eq!(rt; book.admit(a), Ok(()));
     let work = match begun(&book, request)?.work(&rt, rt.alloc(), 2, &NoGate) {
         Ok(work) => Some(work),
         Err(back) => {
@@ -68,6 +69,6 @@ fn refused_work(rt: HostRuntime) -> Result<(), Fail> {
         }
     };
     assert_eq!(rt; book.commit(work.ok_or("refused twice")?), Reply::Enrolled);
-    assert_eq!(rt; book.show(&name("a")?), Ok(Some(stored(A)?)));
+    assert_eq!(rt; book.show(&a), Ok(Some(one_lane)));
     Ok(())
 }
