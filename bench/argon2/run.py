@@ -4,10 +4,10 @@
     python3 bench/argon2/run.py [--times N] [--quick]
 
 It proves and builds the crate argon2_tag with `rt`, in its own folder, and checks that both programs give the same tags.
-Then it runs the two in turn, N times each, and prints the best wall time of each and their ratio, the ratio of the least
-processor times, the part of our processor time that the system took (for fresh memory), and how far the greatest resident
-memory lies over that of the parameters, the program's own (a run at 8 KiB) not counted. The reference program always has as
-many threads as lanes. A second table is of what whoever runs the program may choose: huge pages, by a setting of the C
+Then it runs the two in turn on all settings, N times over, and prints the best wall time of each and their ratio, the ratio
+of the least processor times, the part of our processor time that the system took (for fresh memory), and how far the greatest
+resident memory lies over that of the parameters, the program's own (a run at 8 KiB) not counted. The reference program always
+has as many threads as lanes. A second table is of what whoever runs the program may choose: huge pages, by a setting of the C
 library, and a build for newer processors.
 """
 import argparse
@@ -83,30 +83,53 @@ def resident(program, setting):
     return int(done.stderr)
 
 
-def compare(ours, reference, setting, times, own):
-    memory, passes, lanes, workers = setting
-    their_command = [reference, "somesalt", "-id", "-t", str(passes), "-k", str(memory), "-p", str(lanes), "-l", "32", "-r"]
-    our_runs, their_runs = [], []
-    for _ in range(times):
-        our_runs.append(timed(words_of(ours, setting), b""))
-        their_runs.append(timed(their_command, b"password"))
-    if our_runs[0][3] != their_runs[0][3]:
-        sys.exit(f"the tags differ at {setting}")
-    wall, cpu, _, _ = (min(column) for column in zip(*our_runs))
-    their_wall, their_cpu, _, _ = (min(column) for column in zip(*their_runs))
-    system = min(run[2] / run[1] for run in our_runs)
-    # of a small memory, the allocator's own is most
-    over = f"{100 * ((resident(ours, setting) - own) / memory - 1):.1f} %" if memory >= 65536 else ""
-    print(f"| {memory}, {passes}, {lanes} | {workers} | {wall:.1f} | {their_wall:.1f} | {wall / their_wall:.2f} "
-          f"| {cpu / their_cpu:.2f} | {100 * system:.0f} % | {over} |", flush=True)
+def their_words(reference, setting):
+    memory, passes, lanes, _ = setting
+    return [reference, "somesalt", "-id", "-t", str(passes), "-k", str(memory), "-p", str(lanes), "-l", "32", "-r"]
 
 
-def choose(programs, setting, times):
-    """The best wall times of the builds, with and without huge pages."""
+def best_of(runs):
+    """The least wall time, the least processor time, and the least part of it that the system took."""
+    return min(run[0] for run in runs), min(run[1] for run in runs), min(run[2] / max(run[1], 1) for run in runs)
+
+
+def compare(ours, reference, settings, times):
+    """The rows of the first table. The settings take turns, so that the machine's other work meets all of them."""
+    runs = {setting: ([], []) for setting in settings}
+    for turn in range(times):
+        for setting, (our_runs, their_runs) in runs.items():
+            if setting[0] > 500_000 and turn % 3:
+                continue
+            our_runs.append(timed(words_of(ours, setting), b""))
+            their_runs.append(timed(their_words(reference, setting), b"password"))
+            if our_runs[-1][3] != their_runs[-1][3]:
+                sys.exit(f"the tags differ at {setting}")
+    own = resident(ours, (8, 1, 1, 1))
+    print("| m (KiB), t, p | Workers | Ours, ms | Reference, ms | Ratio | of processor time | System's part | Memory over m |")
+    print("|---|---|---|---|---|---|---|---|")
+    for setting, (our_runs, their_runs) in runs.items():
+        memory, passes, lanes, workers = setting
+        (wall, cpu, system), (their_wall, their_cpu, _) = best_of(our_runs), best_of(their_runs)
+        # of a small memory, the allocator's own is most
+        over = f"{100 * ((resident(ours, setting) - own) / memory - 1):.1f} %" if memory >= 65536 else ""
+        print(f"| {memory}, {passes}, {lanes} | {workers} | {wall:.1f} | {their_wall:.1f} | {wall / their_wall:.2f} "
+              f"| {cpu / their_cpu:.2f} | {100 * system:.0f} % | {over} |")
+
+
+def choose(programs, times):
+    """The second table: the best wall times of the builds, with and without huge pages, in turns too."""
     ways = [(program, env) for program in programs for env in (None, HUGE_PAGES)]
-    best = [min(timed(words_of(program, setting), b"", env)[0] for _ in range(times)) for program, env in ways]
-    memory, passes, lanes, workers = setting
-    print(f"| {memory}, {passes}, {lanes} | {workers} |" + "".join(f" {wall:.1f} |" for wall in best), flush=True)
+    runs = {(setting, way): [] for setting in CHOSEN for way in range(len(ways))}
+    for _ in range(times):
+        for (setting, way), walls in runs.items():
+            program, env = ways[way]
+            walls.append(timed(words_of(program, setting), b"", env)[0])
+    print("| m (KiB), t, p | Workers | As built, ms | with huge pages | For x86-64-v3 | with huge pages |")
+    print("|---|---|---|---|---|---|")
+    for setting in CHOSEN:
+        memory, passes, lanes, workers = setting
+        best = [min(runs[setting, way]) for way in range(len(ways))]
+        print(f"| {memory}, {passes}, {lanes} | {workers} |" + "".join(f" {wall:.1f} |" for wall in best))
 
 
 def main():
@@ -115,20 +138,13 @@ def main():
     words.add_argument("--quick", action="store_true", help="leave out the setting of 1 GiB")
     given = words.parse_args()
     reference = reference_program()
+    settings = [it for it in SETTINGS if not (given.quick and it[0] > 500_000)]
     with tempfile.TemporaryDirectory(prefix="argon2-") as room:
         newer = build(room, NEWER)
         ours = build(room)
-        own = resident(ours, (8, 1, 1, 1))
-        print("| m (KiB), t, p | Workers | Ours, ms | Reference, ms | Ratio | of processor time | System's part | Memory over m |")
-        print("|---|---|---|---|---|---|---|---|")
-        for setting in SETTINGS:
-            large = setting[0] > 500_000
-            if not (large and given.quick):
-                compare(ours, reference, setting, max(3, given.times // 3) if large else given.times, own)
-        print("\n| m (KiB), t, p | Workers | As built, ms | with huge pages | For x86-64-v3 | with huge pages |")
-        print("|---|---|---|---|---|---|")
-        for setting in CHOSEN:
-            choose([ours, newer], setting, given.times)
+        compare(ours, reference, settings, given.times)
+        print()
+        choose([ours, newer], given.times)
 
 
 if __name__ == "__main__":
