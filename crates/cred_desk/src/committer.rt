@@ -42,12 +42,13 @@ where
 {
     ghost use Rattle.std.specs.Prelude.{◌≡◌, List, true};
     ghost use Rattle.cred_desk.specs.declared.entry.Entry.{Entry};
+    ghost use Rattle.cred_desk.specs.Histories.{IsLawful};
 
     ghost Value = { List Entry };
 
     ghost view = { λ c. c.publisher };
 
-    ghost invariant = { λ c. J.loads ≡ true };
+    ghost invariant = { λ c. (J.loads ≡ true) × IsLawful J.opening c.publisher };
 }
 
 impl<J: Naming> Committer<J> {
@@ -91,7 +92,7 @@ impl<J: Naming> Committer<J> {
         ensures reply { IfOk result (λ r. r.0 ≡ reply_of (after J.opening self.old) work) }
         ensures list { IfOk result (λ r. self.new ≡ list_after self.old (entry_of (after J.opening self.old) work)) }
         ensures told { IfOk result (λ r. r.1 ≡ self.new) }
-        ensures lawful { IfOk result (λ _. IsLawful J.opening self.new) }
+        ensures lawful { IsLawful J.opening self.new }
         ensures refused { IfErr result (λ e. (e.0 ≡ work) × (e.1 ≡ error.Memory) × (self.new ≡ self.old)) }
         ensures plain { entry_of (after J.opening self.old) work ≡ None → IsOk result }
     {
@@ -116,6 +117,7 @@ impl<J: Naming> Keeper for Committer<J> {
     fn admit<R: Wait>(&mut self, rt: &R, name: Name) -> Result<(), BookError>
         ensures book { Admits (after J.opening self.old) (after J.opening self.new) name result }
         ensures list { MatchResult result (λ _. self.new ≡ self.old ++ entry name None ∷ []) (λ _. self.new ≡ self.old) }
+        ensures lawful { IsLawful J.opening self.new }
     {
         if self.show(&name).is_ok() {
             return Err(BookError::Exists);
@@ -133,6 +135,7 @@ impl<J: Naming> Keeper for Committer<J> {
     fn load<R: Wait>(&mut self, rt: &R, name: &Name, stored: Record) -> Result<(), BookError>
         ensures book { Loads (after J.opening self.old) (after J.opening self.new) name.now stored result }
         ensures list { MatchResult result (λ _. self.new ≡ self.old ++ entry name.entry.now (Some stored) ∷ []) (λ _. self.new ≡ self.old) }
+        ensures lawful { IsLawful J.opening self.new }
     {
         self.show(name)?;
         let now = Some(stored);
@@ -154,6 +157,7 @@ impl<J: Naming> Keeper for Committer<J> {
     fn commit<R: Wait>(&mut self, rt: &R, worked: Worked) -> Result<Reply, (Worked, BookError)>
         ensures book { Commits (after J.opening self.old) (after J.opening self.new) worked result }
         ensures list { MatchResult result (λ _. self.new ≡ list_after self.old (entry_of (after J.opening self.old) worked)) (λ _. self.new ≡ self.old) }
+        ensures lawful { IsLawful J.opening self.new }
     {
         match self.publisher.commit(rt, worked) {
             Ok(reply) => Ok(reply),

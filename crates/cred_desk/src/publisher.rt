@@ -40,13 +40,13 @@ where
 {
     ghost use Rattle.std.specs.Prelude.{◌≡◌, List, [], drop};
     ghost use Rattle.cred_desk.specs.declared.entry.Entry.{Entry};
-    ghost use Rattle.cred_desk.specs.Histories.{after};
+    ghost use Rattle.cred_desk.specs.Histories.{IsListed, after};
 
     ghost Value = { List Entry };
 
     ghost view = { λ p. p.front };
 
-    ghost invariant = { λ p. (p.journal.items ≡ p.front) × (drop p.writer.behind p.writer.log.items ≡ []) × (p.writer.desk.shown.value.front ≡ p.front) × (p.writer.desk.shown.value.book ≡ after J.opening p.front) };
+    ghost invariant = { λ p. (p.journal.items ≡ p.front) × (drop p.writer.behind p.writer.log.items ≡ []) × (p.writer.desk.shown.value.front ≡ p.front) × (p.writer.desk.shown.value.book ≡ after J.opening p.front) × IsListed J.loads J.opening p.front };
 }
 
 /// Shows readers this list, and the book with the entry. Where there is no memory they see what they saw.
@@ -85,6 +85,7 @@ impl<J: Naming> Publisher<J> {
     /// The present book.
     pub(crate) fn book(&self) -> &Book
         ensures book { result.now ≡ after J.opening self.now }
+        ensures listed { IsListed J.loads J.opening self.now }
     {
         &self.writer.published().book
     }
@@ -109,6 +110,7 @@ impl<J: Naming> Publisher<J> {
         requires { Allowed J.loads (after J.opening self.old) entry }
         ensures done { IfOk result (λ _. self.new ≡ self.old ++ entry ∷ []) }
         ensures refused { IfErr result (λ e. (e ≡ error.Memory) × (self.new ≡ self.old)) }
+        ensures listed { IsListed J.loads J.opening self.new }
     {
         if self.journal.reserve(1).is_err() {
             return Err(DeskError::Memory);
@@ -134,6 +136,7 @@ impl<J: Naming> Publisher<J> {
         ensures list { IfOk result (λ _. self.new ≡ list_after self.old (entry_of (after J.opening self.old) work)) }
         ensures refused { IfErr result (λ e. (e.0 ≡ work) × (e.1 ≡ error.Memory) × (self.new ≡ self.old)) }
         ensures plain { entry_of (after J.opening self.old) work ≡ None → IsOk result }
+        ensures listed { IsListed J.loads J.opening self.new }
     {
         let (reply, entry) = judge(self.book(), &work);
         if let Some(entry) = entry {

@@ -1,125 +1,186 @@
 //! A committer: the calls of a keeper, what a session reads of them, and its end.
 ghost use Rattle.std.specs.Prelude.{◌≡◌, true};
 
-use super::{
-    A, B, B_SETTING, Trouble, begun, book_of, closed_verify, copied, enrol, name, stored, upgrade,
-    verify, worked,
-};
-use crate::{Committer, DeskError, Naming, Opened, Session, Told};
-use cred_book::{Book, BookError, Keeper, Reply, Worked};
+use super::scene::{Answer, begin, close, read, worked};
+use super::{A, Accounts, B, B_SETTING, book_of, enrol, name, stored, upgrade, verify};
+use crate::{Committer, DeskError, Naming, Opened, Session};
+use cred_book::{Book, BookError, Keeper, Name, Reply, Ticket};
+use cred_phc::Record;
 use std::alloc::Global;
 use std::marker::Brand;
 use std::process::Abort;
 use std::sync::Wait;
-use std::test::Fail;
 use std::thread::Threads;
 
-// The keeper's own calls, at any keeper whose book has a with `A`, and no b.
-fn keep<R: Threads + Wait + Abort + Sync, K: Keeper>(
+/// The book of the committer, and another one.
+const A_ALONE: Accounts<'static> = &[("a", Some(A))];
+
+const OTHER: Accounts<'static> = &[("zed", None)];
+
+type Shows = [Result<Option<Record>, BookError>; 4];
+
+type Changes = [Result<(), BookError>; 4];
+
+// The calls of any keeper: what it shows at a, and at b before and after them and in between, and what they answer.
+fn keep<R: Wait, K: Keeper>(
+    rt: &R,
+    keeper: &mut K,
+    a: Name,
+    b: Name,
+    record: Record,
+) -> (Shows, Changes) {
+    let (first, before) = (keeper.show(&a), keeper.show(&b));
+    let early = keeper.load(rt, &b, record);
+    let admitted = keeper.admit(rt, b);
+    let again = keeper.admit(rt, b);
+    let empty = keeper.show(&b);
+    let loaded = keeper.load(rt, &b, record);
+    let after = keeper.show(&b);
+    (
+        [first, before, empty, after],
+        [early, admitted, again, loaded],
+    )
+}
+
+// A verify of b, begun and committed by the keeper.
+fn keep_verify<R: Threads + Wait + Abort + Sync, K: Keeper>(
     rt: &R,
     alloc: Global,
     keeper: &mut K,
-) -> Result<(), Trouble> {
-    let (a, b) = (name("a")?, name("b")?);
-    assert_eq!(rt; keeper.show(&a), Ok(Some(stored(A)?)));
-    assert_eq!(rt; keeper.show(&b), Err(BookError::NoAccount));
-    assert_eq!(rt; keeper.load(rt, &b, stored(B)?), Err(BookError::NoAccount));
-    assert_eq!(rt; keeper.admit(rt, b), Ok(()));
-    assert_eq!(rt; keeper.admit(rt, b), Err(BookError::Exists));
-    assert_eq!(rt; keeper.show(&b), Ok(None));
-    assert_eq!(rt; keeper.load(rt, &b, stored(B)?), Ok(()));
-    assert_eq!(rt; keeper.show(&b), Ok(Some(stored(B)?)));
-    let request = verify("b")?;
-    if request.is_for_current() {
-        let ticket = keeper.begin(request).map_err(|(_, error)| error)?;
-        let work = worked(rt, alloc, ticket)?;
-        assert_eq!(rt;
-            keeper.commit(rt, work).map_err(|(_, error)| error)?,
-            Reply::Yes
-        );
-    }
-    Ok(())
-}
-
-// Work on a name that the committer doesn't have.
-fn foreign<R: Threads + Sync>(rt: &R, alloc: Global) -> Result<Worked, Trouble> {
-    let other = book_of(alloc, &[("zed", None)])?;
-    let request = enrol("zed", B_SETTING)?;
+) -> Option<Reply> {
+    let request = verify(rt, "b");
     if !request.is_for_current() {
-        return Err(Trouble::Missing);
+        return None;
     }
-    match other.begin(request) {
-        Ok(ticket) => worked(rt, alloc, ticket),
-        Err((_, error)) => Err(Trouble::from(error)),
-    }
+    let mut open = keeper.begin(request).ok();
+    keeper.commit(rt, worked(rt, alloc, &mut open)?).ok()
 }
 
-fn commit_told<J: Naming, R: Wait>(
+// A ticket on a name that the committer doesn't have.
+fn foreign<R: Abort>(rt: &R, alloc: Global) -> Option<Ticket> {
+    let other = book_of(rt, alloc, OTHER)?;
+    let request = enrol(rt, "zed", B_SETTING);
+    if !request.is_for_current() {
+        return None;
+    }
+    other.begin(request).ok()
+}
+
+// Works the ticket and commits it, and has the session learn what was told.
+fn commit<J: Naming, R: Threads + Wait + Sync>(
     rt: &R,
+    alloc: Global,
     committer: &mut Committer<J>,
-    work: Worked,
-) -> Result<(Reply, Told<J>), Trouble> {
+    session: &mut Session<J>,
+    open: &mut Option<Ticket>,
+) -> Answer {
+    let Some(work) = worked(rt, alloc, open) else {
+        return Answer::Failed;
+    };
     match committer.commit_told(rt, work) {
-        Ok(committed) => Ok(committed),
-        Err((_, error)) => Err(Trouble::from(error)),
+        Ok((reply, told)) => {
+            session.learn(&told);
+            Answer::Replied(reply)
+        }
+        Err((_, error)) => Answer::Refused(error),
     }
 }
 
-// What is kept is read by the session, and what is told too.
+// What a session reads after the committer's changes, and what is answered to work from before them.
 fn commit_and_read<J: Naming, R: Threads + Wait + Abort + Sync>(
     rt: &R,
     alloc: Global,
     committer: &mut Committer<J>,
     session: &mut Session<J>,
-) -> Result<(), Trouble> {
-    let early = begun(session, verify("a")?)?;
-    keep(rt, alloc, committer)?;
-    assert_eq!(rt; copied(session, "b")?, Some(stored(B)?));
-    let (reply, told) = commit_told(rt, committer, foreign(rt, alloc)?)?;
-    assert_eq!(rt; reply, Reply::NoAccount);
-    session.learn(&told);
-    let work = worked(rt, alloc, begun(session, upgrade("a", B_SETTING)?)?)?;
-    let (reply, told) = commit_told(rt, committer, work)?;
-    assert_eq!(rt; reply, Reply::Upgraded);
-    session.learn(&told);
-    let now = Some(stored(B)?);
-    let reply = closed_verify(session, worked(rt, alloc, early)?)?;
-    assert_eq!(rt; reply, Reply::Changed { now });
-    Ok(())
+    early: &mut Option<Ticket>,
+) -> [Answer; 4] {
+    let mut open = None;
+    begin(session, &mut open, verify(rt, "b"));
+    let copied = read(&open);
+    let unknown = commit(rt, alloc, committer, session, &mut foreign(rt, alloc));
+    begin(session, &mut open, upgrade(rt, "a", B_SETTING));
+    let upgraded = commit(rt, alloc, committer, session, &mut open);
+    let closed = match worked(rt, alloc, early) {
+        Some(work) => close(session, work),
+        None => Answer::Failed,
+    };
+    [copied, unknown, upgraded, closed]
 }
 
-// Commits and reads, ends the committer, and begins once more.
+/// What the calls of a committer and of its session answered.
+#[derive(Clone, Copy)]
+struct Outcome {
+    shown: Shows,
+    kept: Changes,
+    verified: Option<Reply>,
+    read: [Answer; 4],
+}
+
+// All calls on a committer, between a session's first beginning and its last.
+fn keep_and_commit<J: Naming, R: Threads + Wait + Abort + Sync>(
+    rt: &R,
+    alloc: Global,
+    committer: &mut Committer<J>,
+    session: &mut Session<J>,
+) -> Outcome {
+    let mut early = None;
+    begin(session, &mut early, verify(rt, "a"));
+    let (shown, kept) = keep(rt, committer, name(rt, "a"), name(rt, "b"), stored(rt, B));
+    Outcome {
+        shown,
+        kept,
+        verified: keep_verify(rt, alloc, committer),
+        read: commit_and_read(rt, alloc, committer, session, &mut early),
+    }
+}
+
+// Commits and reads, ends the committer, and begins once more: what that answers, and what it reads then.
 fn committed<J: Naming, R: Threads + Wait + Abort + Sync>(
     rt: &R,
     alloc: Global,
     opened: Opened,
     book: &Book,
-) -> Result<(), Trouble>
+) -> Result<(Outcome, [Answer; 2]), DeskError>
     requires name { (opened.seen.book ≡ J.book) × (opened.blank.name ≡ J.name) × (opened.blank.parts ≡ J.parts) }
     requires opening { (book.now ≡ J.opening) × (J.parts ≡ 1) × (J.loads ≡ true) }
 {
-    let (mut committer, mut sessions) = Committer::<J>::new(rt, alloc, opened, book, 1)?;
-    let outcome = match sessions.first_mut() {
-        Some(session) => commit_and_read(rt, alloc, &mut committer, session),
-        None => Err(Trouble::Missing),
-    };
+    let (mut committer, sessions) = Committer::<J>::new(rt, alloc, opened, book, 1)?;
+    let mut session = sessions.into_iter().next().expect(rt, "a session");
+    let outcome = keep_and_commit(rt, alloc, &mut committer, &mut session);
     committer.end(rt);
-    outcome?;
-    let session = sessions.first_mut().ok_or(Trouble::Missing)?;
-    let request = verify("a")?;
-    if request.is_for_current() {
-        match session.begin(request) {
-            Ok(ticket) => assert_eq!(rt; ticket.copy(), Some(stored(B)?)),
-            Err(refusal) => assert_eq!(rt; refusal, (request, DeskError::Reader)),
-        }
-    }
-    Ok(())
+    let mut open = None;
+    let late = begin(&mut session, &mut open, verify(rt, "a"));
+    Ok((outcome, [late, read(&open)]))
 }
 
 #[test]
-fn committer_is_read_and_ended(rt: HostRuntime) -> Result<(), Fail> {
-    let book = book_of(rt.alloc(), &[("a", Some(A))])?;
-    Ok(committed::<Brand, _>(&rt, rt.alloc(), Opened::new(1), &book)?)
+fn committer_is_read_and_ended(rt: HostRuntime) {
+    let book = book_of(&rt, rt.alloc(), A_ALONE).expect(&rt, "a book");
+    let (outcome, late) = committed::<Brand, _>(&rt, rt.alloc(), Opened::new(1), &book).expect(
+        &rt,
+        "a committer",
+    );
+    let now = Some(stored(&rt, B));
+    let first = Ok(Some(stored(&rt, A)));
+    assert_eq!(rt;
+        outcome.shown,
+        [first, Err(BookError::NoAccount), Ok(None), Ok(now)]
+    );
+    let absent = Err(BookError::NoAccount);
+    assert_eq!(rt;
+        outcome.kept,
+        [absent, Ok(()), Err(BookError::Exists), Ok(())]
+    );
+    assert_eq!(rt; outcome.verified, Some(Reply::Yes));
+    let replies = [
+        Answer::Copied(now),
+        Answer::Replied(Reply::NoAccount),
+        Answer::Replied(Reply::Upgraded),
+        Answer::Replied(Reply::Changed { now }),
+    ];
+    assert_eq!(rt; outcome.read, replies);
+    let ended = [Answer::Refused(DeskError::Reader), Answer::Failed];
+    assert!(rt; late == ended || late == [Answer::Done, Answer::Copied(now)]);
 }
 
 // Makes a committer with this number of sessions, and ends it.
@@ -143,12 +204,11 @@ fn make_and_end<J: Naming, R: Wait>(
 }
 
 #[test]
-fn sessions_of_a_committer_refused(rt: HostRuntime) -> Result<(), Fail> {
-    let book = book_of(rt.alloc(), &[("a", Some(A))])?;
+fn numbers_of_sessions(rt: HostRuntime) {
+    let book = book_of(&rt, rt.alloc(), A_ALONE).expect(&rt, "a book");
     for (sessions, want) in [(0, None), (32, None), (33, Some(DeskError::Sessions))] {
         let opened = Opened::new(sessions);
         let found = make_and_end::<Brand, _>(&rt, rt.alloc(), opened, &book, sessions);
         assert_eq!(rt; found, want, "{sessions}");
     }
-    Ok(())
 }

@@ -23,7 +23,7 @@ invariant_of-result g c =
     let told = c.compare_exchange-found.ensures in
     let seen : c.again-seen.result.log ≡ c.self.inside.seen.log = ap (λ s. s.log) c.again-seen.ensures in
     let book : c.again-seen.result.book ≡ g.J.Naming.book = ap (λ s. s.book) c.again-seen.ensures ∙ c.self.invariant.1 in
-    let grown : c.compare_exchange-found.new.seen.log ≡ c.self.inside.seen.log ++ c.args.new.now ∷ [] = is_added _ _ _ _ told.7 c.if-found-entries.false ∙ cc (seen, c.plain-offer.ensures.1) in
+    let grown : c.compare_exchange-found.new.seen.log ≡ c.self.inside.seen.log ++ c.args.new.now ∷ [] = cc (is_added _ _ _ _ told.7 c.if-found-entries.false, seen, c.plain-offer.ensures.1) in
     let allowed : Allowed g.J.Naming.loads (after g.J.Naming.opening c.self.inside.seen.log) c.args.new.now = rw c.self.view_is c.requires.allowed in
     let listed : IsListed g.J.Naming.loads g.J.Naming.opening (c.self.inside.seen.log ++ c.args.new.now ∷ []) = listed_snoc _ _ _ _ c.self.invariant.2 allowed in (
       omega (arith, ap length grown, length-append c.self.inside.seen.log (c.args.new.now ∷ []), c.self.invariant.0),

@@ -1,5 +1,5 @@
 use Rattle.std.proofs.Common.{true}
-use Rattle.cred_desk.proofs.tests.committing.sessions_of_a_committer_refused.Given as goal
+use Rattle.cred_desk.proofs.tests.committing.numbers_of_sessions.Given as goal
 
 -- the list that was just opened, from this book
 abbrev pub ghosts-make_and_end-J-Naming : goal.ghosts-make_and_end-J-Naming

@@ -1,0 +1,9 @@
+use Rattle.std.proofs.Common.{true}
+use Rattle.cred_desk.proofs.tests.refused.refused_committer.Given as goal
+
+-- the list that was just opened, from this book
+abbrev pub ghosts-committed-J-Naming : goal.ghosts-committed-J-Naming
+ghosts-committed-J-Naming g a = record { book = a.opened.seen.book; opening = a.book.now; loads = true }
+
+abbrev pub ghosts-committed-J-Ledger : goal.ghosts-committed-J-Ledger
+ghosts-committed-J-Ledger g a = record { name = a.opened.blank.name; parts = a.opened.blank.parts }
