@@ -126,10 +126,11 @@ fn settle<J: Naming, R: Wait>(
     work: Worked,
 ) -> Answer {
     match desk.settle(rt, session, work) {
-        Ok((reply, told)) => match news.0.send(rt, told) {
-            Ok(()) => Answer::Replied(reply),
-            Err(_) => Answer::Failed,
-        },
+        Ok((reply, told)) => {
+            // Refused where the other half has ended, and nobody is left to learn it.
+            let _handed = news.0.send(rt, told);
+            Answer::Replied(reply)
+        }
         Err((_, error)) => Answer::Refused(error),
     }
 }
