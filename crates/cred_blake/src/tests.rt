@@ -181,3 +181,12 @@ fn hash_prime_block(rt: HostRuntime) -> Result<(), Fail> {
     assert_eq!(rt; value.as_slice(), block.as_slice());
     Ok(())
 }
+
+// Holds whichever request is refused; tools/refuse_memory.py refuses each in turn.
+#[test]
+fn refused_memory(rt: HostRuntime) {
+    match hprime(rt.alloc(), 97, b"abc") {
+        Ok(value) => assert_eq!(rt; value.len(), 97),
+        Err(error) => assert_eq!(rt; error, BlakeError::Memory),
+    }
+}
