@@ -20,8 +20,8 @@ pub trait Part<C> {
         ensures { works shared.now self.old self.new };
 }
 
-/// Works each part once, in at most `workers` threads, the caller's among them, and calls `enter` and `leave` of the
-/// gate with the part's index before and after its work. The parts are dealt in runs of neighbours of one length.
+/// Works each part once, in at most `workers` new threads, which the caller waits for, and calls `enter` and `leave`
+/// of the gate with the part's index before and after its work. The parts are dealt in runs of neighbours of one length.
 ///
 /// Where `workers` is 0 or 1, or there are fewer than two parts, no thread is started. Where a thread can't be started
 /// its parts are worked by the threads that are there, so nothing is refused.
@@ -37,8 +37,11 @@ pub fn run_parts<R: Threads + Sync, G: Gate + Sync, C: Sync, P: Part<C> + Send>(
     ensures { (i : ℕ) (d : P) → i < length parts.old
         → P.works shared.now (slice_index_or parts.old i d) (slice_index_or parts.new i d) }
 {
-    let threads = usize::from(workers.max(1));
-    let size = parts.len().div_ceil(threads).max(1);
+    if workers <= 1 || parts.len() <= 1 {
+        work_run(rt, gate, shared, 0, parts);
+        return;
+    }
+    let size = parts.len().div_ceil(usize::from(workers));
     run_from(rt, gate, shared, 0, size, parts);
 }
 
@@ -59,16 +62,16 @@ fn run_from<R: Threads + Sync, G: Gate + Sync, C: Sync, P: Part<C> + Send>(
     ensures { (i : ℕ) (d : P) → i < length parts.old
         → P.works shared.now (slice_index_or parts.old i d) (slice_index_or parts.new i d) }
 {
-    if parts.len() <= size {
-        work_run(rt, gate, shared, base, parts);
+    if parts.is_empty() {
         return;
     }
-    let (run, rest) = parts.split_at_mut(size);
+    let (run, rest) = parts.split_at_mut(size.min(parts.len()));
     run_both(rt, gate, shared, base, size, run, rest);
 }
 
-/// Works a run in a new thread and the rest from here, so that one thread starts all the others: where two start some
-/// at once, both new ones are often given one processor, and the other one waits for milliseconds.
+/// Works a run in a new thread and the rest from here, so that one thread starts all the others and works nothing
+/// itself: a new thread is often given the processor of the one that started it, and then one of the two waits for
+/// milliseconds.
 #[cycle(runs)]
 fn run_both<R: Threads + Sync, G: Gate + Sync, C: Sync, P: Part<C> + Send>(
     rt: &R,
@@ -80,8 +83,8 @@ fn run_both<R: Threads + Sync, G: Gate + Sync, C: Sync, P: Part<C> + Send>(
     rest: &mut [P],
 )
     requires some { 0 < size }
-    requires len { length run.old ≡ size }
-    requires room { base + size + length rest.old < 2 ^ 64 }
+    requires part { 0 < length run.old }
+    requires room { base + length run.old + length rest.old < 2 ^ 64 }
     requires run { (i : ℕ) (d : P) → i < length run.old
         → P.can_work shared.now (slice_index_or run.old i d) }
     requires rest { (i : ℕ) (d : P) → i < length rest.old
@@ -91,7 +94,7 @@ fn run_both<R: Threads + Sync, G: Gate + Sync, C: Sync, P: Part<C> + Send>(
     ensures rest { (i : ℕ) (d : P) → i < length rest.old
         → P.works shared.now (slice_index_or rest.old i d) (slice_index_or rest.new i d) }
 {
-    let next = base + size;
+    let next = base + run.len();
     let mut first = ||
         requires { IsSync R.row × IsSync G.row × IsSync C.row × IsSend P.row
             × (base + length run.now < 2 ^ 64)

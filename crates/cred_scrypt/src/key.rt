@@ -12,9 +12,9 @@ use std::marker::Sync;
 use std::thread::Threads;
 
 /// scrypt (RFC 7914, section 6): the key of a password and a salt, of any lengths. The pieces are mixed in at most
-/// `workers` threads, the caller's among them, between the gate's `enter` and `leave` with the piece's index. Each
-/// piece has a table of 128 * r * N bytes while it is worked. The answer is Memory where there is none for one of them,
-/// or for the 128 * r * p bytes of the pieces.
+/// `workers` new threads, between the gate's `enter` and `leave` with the piece's index. Each piece has a table of
+/// 128 * r * N bytes while it is worked. The answer is Memory where there is none for one of them, or for the
+/// 128 * r * p bytes of the pieces.
 pub fn scrypt<R: Threads + Sync, G: Gate + Sync>(
     rt: &R,
     alloc: Global,
