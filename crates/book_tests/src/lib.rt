@@ -1,0 +1,1 @@
+//! Tests of the book of accounts: what no clause of `cred_book` says.

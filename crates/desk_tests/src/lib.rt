@@ -1,0 +1,1 @@
+//! Tests of the sessions: what no clause of `cred_desk` says.

@@ -1,0 +1,1 @@
+//! Tests of scripts and of the program: what no clause of `cred_cli` says.

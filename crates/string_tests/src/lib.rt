@@ -1,0 +1,1 @@
+//! Tests of the strings: what no clause of `cred_phc` says.
