@@ -26,6 +26,3 @@ pub use error::DeskError;
 pub use naming::{Naming, Opened};
 pub use session::Session;
 pub use told::Told;
-
-#[cfg(test)]
-mod tests;

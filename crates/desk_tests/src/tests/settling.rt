@@ -1,7 +1,7 @@
 //! Two sessions of one desk whose account a has `A`, in one thread: what one settles, the other meets.
 use super::scene::{Act, Answer, Closing, Line, Setup, Slip, show};
 use super::{B, B_SETTING, ONE_STANDS, entry, stored, upgrade, verify};
-use crate::DeskError;
+use cred_desk::DeskError;
 use cred_book::Reply;
 use std::alloc::Global;
 use std::process::Abort;

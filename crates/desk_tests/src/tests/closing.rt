@@ -6,7 +6,7 @@ use super::{
     A, A_SETTING, B, B_SETTING, NONE_STANDS, book_of, enrol, entry, name, remove, stored, upgrade,
     verify,
 };
-use crate::{Desk, DeskError, Naming, Opened};
+use cred_desk::{Desk, DeskError, Naming, Opened};
 use cred_book::{Book, Reply};
 use std::alloc::Global;
 use std::marker::Brand;

@@ -1,5 +1,5 @@
 use Rattle.std.proofs.Common.{false}
-use Rattle.cred_desk.proofs.tests.scene.show.Given as goal
+use Rattle.desk_tests.proofs.tests.scene.show.Given as goal
 
 -- the list that was just opened, from this book
 abbrev pub ghosts-played-J-Naming : goal.ghosts-played-J-Naming

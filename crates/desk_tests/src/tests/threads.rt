@@ -4,7 +4,7 @@ use super::{
     Accounts, B, B_SETTING, BOTH_STAND, NONE_STANDS, ONE_STANDS, enrol, entry, name, setting,
     stored, upgrade, verify,
 };
-use crate::Closed;
+use cred_desk::Closed;
 use cred_book::Reply;
 use std::alloc::{AllocError, Global};
 use std::process::Abort;

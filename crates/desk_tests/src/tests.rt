@@ -8,7 +8,7 @@ mod scene;
 mod settling;
 mod threads;
 
-use crate::Entry;
+use cred_desk::Entry;
 use cred_book::{Book, Name, Request};
 use cred_phc::{Password, Record, Setting, parse_record, parse_setting};
 use std::alloc::Global;

@@ -1,5 +1,5 @@
 use Rattle.std.proofs.Common.{false}
-use Rattle.cred_desk.proofs.tests.refused.refused_desk.Given as goal
+use Rattle.desk_tests.proofs.tests.refused.refused_desk.Given as goal
 
 -- the list that was just opened, from this book
 abbrev pub ghosts-settled-J-Naming : goal.ghosts-settled-J-Naming
