@@ -9,10 +9,11 @@ use std::thread::Threads;
 /// How many accounts the book has.
 const ACCOUNTS: usize = 4096;
 
-/// The settings of all records, between which upgrades go to and fro.
+/// The settings of all records, between which upgrades go to and fro. They cost the same, since Argon2 takes a multiple of
+/// 4 KiB a lane; so a verify takes no longer once an account was upgraded.
 const SETTINGS: [&str; 2] = [
     "$argon2id$v=19$m=8,t=1,p=1$c29tZXNhbHQ",
-    "$argon2id$v=19$m=8,t=2,p=1$c29tZXNhbHQ",
+    "$argon2id$v=19$m=9,t=1,p=1$c29tZXNhbHQ",
 ];
 
 /// How often each thread does what it does, and what it takes for that.
@@ -34,13 +35,13 @@ impl Load {
             let name = format!(in alloc; "account{i}").ok()?;
             names.push(Name::new(name.as_bytes()).ok()?).ok()?;
         }
-        let [once, twice] = SETTINGS;
+        let [first, second] = SETTINGS;
         Some(Load {
             names,
             pw: Password::new(b"password")?,
             settings: [
-                parse_setting(once.as_bytes()).ok()?,
-                parse_setting(twice.as_bytes()).ok()?,
+                parse_setting(first.as_bytes()).ok()?,
+                parse_setting(second.as_bytes()).ok()?,
             ],
             verifies,
             upgrades,
