@@ -2,7 +2,7 @@
 
 use crate::figures::{Figures, Ran};
 use crate::load::Load;
-use cred_book::{Book, Reply};
+use cred_book::{Book, Reply, Request};
 use cred_pool::NoGate;
 use std::alloc::Global;
 use std::sync::{Mutex, Wait};
@@ -47,24 +47,31 @@ fn verify<R: Threads + Wait + Clock + Sync>(
     let start = Instant::now(rt).ok()?;
     let mut worst = 0;
     for number in 0..load.verifies {
-        let request = load.verify(number)?;
-        if !request.is_for_current() {
-            return None;
-        }
-        let before = Instant::now(rt).ok()?;
-        let ticket = book.lock(rt).begin(request).ok()?;
-        worst = before.elapsed(rt).ok()?.as_nanos().max(worst);
-        let worked = ticket.work(rt, alloc, 1, &NoGate).ok()?;
-        match book.lock(rt).commit(worked) {
-            Reply::Yes | Reply::Changed { .. } => {}
-            _ => return None,
-        }
+        worst = verify_once(rt, alloc, book, load.verify(number)?)?.max(worst);
     }
     Some(Figures {
         done: load.verifies,
         elapsed: start.elapsed(rt).ok()?.as_nanos(),
         worst,
     })
+}
+
+/// How long the begin took, in nanoseconds.
+fn verify_once<R: Threads + Wait + Clock + Sync>(
+    rt: &R,
+    alloc: Global,
+    book: &Mutex<Book>,
+    request: Request,
+) -> Option<u128> {
+    if !request.is_for_current() {
+        return None;
+    }
+    let before = Instant::now(rt).ok()?;
+    let ticket = book.lock(rt).begin(request).ok()?;
+    let took = before.elapsed(rt).ok()?.as_nanos();
+    let worked = ticket.work(rt, alloc, 1, &NoGate).ok()?;
+    let reply = book.lock(rt).commit(worked);
+    matches!(reply, Reply::Yes | Reply::Changed { .. }).then_some(took)
 }
 
 fn upgrade<R: Threads + Wait + Clock + Sync>(
@@ -75,23 +82,30 @@ fn upgrade<R: Threads + Wait + Clock + Sync>(
 ) -> Option<Figures> {
     let start = Instant::now(rt).ok()?;
     for number in 0..load.upgrades {
-        let request = load.upgrade(number)?;
-        if !request.is_for_current() {
-            return None;
-        }
-        let ticket = book.lock(rt).begin(request).ok()?;
-        let worked = ticket.work(rt, alloc, 1, &NoGate).ok()?;
-        if !load.settles {
-            continue;
-        }
-        match book.lock(rt).commit(worked) {
-            Reply::Upgraded => {}
-            _ => return None,
-        }
+        upgrade_once(rt, alloc, book, load.upgrade(number)?, load.settles)?;
     }
     Some(Figures {
         done: load.upgrades,
         elapsed: start.elapsed(rt).ok()?.as_nanos(),
         worst: 0,
     })
+}
+
+fn upgrade_once<R: Threads + Wait + Sync>(
+    rt: &R,
+    alloc: Global,
+    book: &Mutex<Book>,
+    request: Request,
+    settles: bool,
+) -> Option<()> {
+    if !request.is_for_current() {
+        return None;
+    }
+    let ticket = book.lock(rt).begin(request).ok()?;
+    let worked = ticket.work(rt, alloc, 1, &NoGate).ok()?;
+    if !settles {
+        return Some(());
+    }
+    let reply = book.lock(rt).commit(worked);
+    matches!(reply, Reply::Upgraded).then_some(())
 }

@@ -4,48 +4,79 @@
 #![tactic(auto)]
 
 use anyhow::{Context, Result};
-use figures::Figures;
+use figures::Ran;
 use load::Load;
+use std::alloc::Global;
 use std::env;
+use std::sync::Wait;
+use std::thread::Threads;
+use std::time::Clock;
 
 mod figures;
 mod load;
 mod locked;
 mod published;
 
+/// What the arguments ask for.
+#[derive(Clone, Copy)]
+struct Asked {
+    has_lock: bool,
+    readers: u8,
+    verifies: u32,
+    upgrades: u32,
+    settles: bool,
+    has_figures: bool,
+}
+
+impl Asked {
+    fn of(words: &[String]) -> Result<Asked> {
+        let mut numbers = [0; 3];
+        for (number, word) in numbers.iter_mut().zip(words.iter().skip(1)) {
+            *number = word.as_str().parse::<u32>().context("reading a number")?;
+        }
+        let [readers, verifies, upgrades] = numbers;
+        Ok(Asked {
+            has_lock: has(words, "lock"),
+            readers: u8::try_from(readers).context("at most 31 threads verify")?,
+            verifies,
+            upgrades,
+            settles: !has(words, "hashed"),
+            has_figures: has(words, "figures"),
+        })
+    }
+
+    fn run<R: Threads + Wait + Clock + Sync>(&self, rt: &R, alloc: Global) -> Result<Ran> {
+        let load = Load::new(alloc, self.verifies, self.upgrades, self.settles).context(
+            "making the load",
+        )?;
+        let book = load.book(rt, alloc).context("making the book")?;
+        let ran = if self.has_lock {
+            locked::run(rt, alloc, book, self.readers, &load)
+        } else {
+            published::run(rt, alloc, &book, self.readers, &load)
+        };
+        ran.context("running the load")
+    }
+}
+
+fn has(words: &[String], wanted: &str) -> bool {
+    words.iter().any(|word| word.as_str() == wanted)
+}
+
 fn main(rt: HostRuntime) -> Result<()> {
     let alloc = rt.alloc();
-    let mut words = Vec::new(alloc);
-    for word in env::args(&rt)?.skip(1) {
-        words.push(word)?;
-    }
-    let mut numbers = [0; 3];
-    for (number, word) in numbers.iter_mut().zip(words.iter().skip(1)) {
-        *number = word.as_str().parse::<u32>().context("reading a number")?;
-    }
-    let [readers, verifies, upgrades] = numbers;
-    let readers = u8::try_from(readers).context("at most 31 threads verify")?;
-    let settles = !has(&words, "hashed");
-    let load = Load::new(alloc, verifies, upgrades, settles).context("making the load")?;
-    let book = load.book(&rt, alloc).context("making the book")?;
-    let ran = match words.first() {
-        Some(word) if word.as_str() == "lock" => locked::run(&rt, alloc, book, readers, &load),
-        _ => published::run(&rt, alloc, &book, readers, &load),
-    };
-    let ran = ran.context("running the load")?;
+    let words: Vec<String> = env::args(&rt)?.skip(1).collect(alloc)?;
+    let asked = Asked::of(&words)?;
+    let ran = asked.run(&rt, alloc)?;
     println!(rt;
         "{} verifies, {} upgrades, {} changes",
         ran.verifies, ran.upgrades, ran.changes
     )?;
-    if has(&words, "figures") {
+    if asked.has_figures {
         println!(rt;
             "{} verifies a second, worst begin {} us, {} upgrades a second",
             ran.rate, ran.worst, ran.upgrade_rate
         )?;
     }
     Ok(())
-}
-
-fn has(words: &[String], wanted: &str) -> bool {
-    words.iter().any(|word| word.as_str() == wanted)
 }

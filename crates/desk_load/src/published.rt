@@ -4,7 +4,7 @@ ghost use Rattle.std.specs.Prelude.{◌≡◌, ◌+◌, false};
 
 use crate::figures::{Figures, Ran};
 use crate::load::Load;
-use cred_book::{Book, Reply};
+use cred_book::{Book, Reply, Request};
 use cred_desk::{Desk, Naming, Opened, Session};
 use cred_pool::NoGate;
 use std::alloc::Global;
@@ -80,25 +80,31 @@ fn verify<J: Naming, R: Threads + Clock + Sync>(
     let start = Instant::now(rt).ok()?;
     let mut worst = 0;
     for number in 0..load.verifies {
-        let request = load.verify(number)?;
-        if !request.is_for_current() {
-            return None;
-        }
-        let before = Instant::now(rt).ok()?;
-        let ticket = session.begin(request).ok()?;
-        worst = before.elapsed(rt).ok()?.as_nanos().max(worst);
-        let worked = ticket.work(rt, alloc, 1, &NoGate).ok()?;
-        let verify = worked.into_verify().ok()?;
-        match session.close_verify(verify).ok()? {
-            Reply::Yes | Reply::Changed { .. } => {}
-            _ => return None,
-        }
+        worst = verify_once(rt, alloc, session, load.verify(number)?)?.max(worst);
     }
     Some(Figures {
         done: load.verifies,
         elapsed: start.elapsed(rt).ok()?.as_nanos(),
         worst,
     })
+}
+
+/// How long the begin took, in nanoseconds.
+fn verify_once<J: Naming, R: Threads + Clock + Sync>(
+    rt: &R,
+    alloc: Global,
+    session: &mut Session<J>,
+    request: Request,
+) -> Option<u128> {
+    if !request.is_for_current() {
+        return None;
+    }
+    let before = Instant::now(rt).ok()?;
+    let ticket = session.begin(request).ok()?;
+    let took = before.elapsed(rt).ok()?.as_nanos();
+    let worked = ticket.work(rt, alloc, 1, &NoGate).ok()?;
+    let reply = session.close_verify(worked.into_verify().ok()?).ok()?;
+    matches!(reply, Reply::Yes | Reply::Changed { .. }).then_some(took)
 }
 
 fn upgrade<J: Naming, R: Threads + Wait + Clock + Sync>(
@@ -111,22 +117,31 @@ fn upgrade<J: Naming, R: Threads + Wait + Clock + Sync>(
     let start = Instant::now(rt).ok()?;
     for number in 0..load.upgrades {
         let request = load.upgrade(number)?;
-        if !request.is_for_current() {
-            return None;
-        }
-        let ticket = session.begin(request).ok()?;
-        let worked = ticket.work(rt, alloc, 1, &NoGate).ok()?;
-        if !load.settles {
-            continue;
-        }
-        match desk.settle(rt, session, worked).ok()?.0 {
-            Reply::Upgraded => {}
-            _ => return None,
-        }
+        upgrade_once(rt, alloc, desk, session, request, load.settles)?;
     }
     Some(Figures {
         done: load.upgrades,
         elapsed: start.elapsed(rt).ok()?.as_nanos(),
         worst: 0,
     })
+}
+
+fn upgrade_once<J: Naming, R: Threads + Wait + Sync>(
+    rt: &R,
+    alloc: Global,
+    desk: &Desk<J>,
+    session: &mut Session<J>,
+    request: Request,
+    settles: bool,
+) -> Option<()> {
+    if !request.is_for_current() {
+        return None;
+    }
+    let ticket = session.begin(request).ok()?;
+    let worked = ticket.work(rt, alloc, 1, &NoGate).ok()?;
+    if !settles {
+        return Some(());
+    }
+    let (reply, _told) = desk.settle(rt, session, worked).ok()?;
+    matches!(reply, Reply::Upgraded).then_some(())
 }
