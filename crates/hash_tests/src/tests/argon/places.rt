@@ -2,7 +2,7 @@
 ghost use Rattle.cred_argon.specs.Parameters.{segment_len};
 ghost use Rattle.cred_argon.specs.Places.{IsComputed, place};
 
-use crate::{ArgonError, Kind, Params, Place, reference};
+use cred_argon::{ArgonError, Kind, Params, Place, reference};
 
 /// The column that is referred to on lane 0, where there is one lane.
 fn column_of(params: &Params, pass: u32, column: u32, j1: u32) -> u32

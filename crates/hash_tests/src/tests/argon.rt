@@ -1,34 +1,27 @@
-//! What no clause says: tags and blocks from outside, that the lanes are worked side by side, and
-//! which refusals come.
+//! Of `cred_argon`: tags and blocks from outside, that the lanes are worked side by side, and which refusals come.
 mod gates;
 mod places;
 mod tags;
 mod vectors;
 
-use crate::{ArgonError, Block, Kind, Params, Version, compress};
+use cred_argon::{ArgonError, Block, Kind, Params, Version, argon2, compress};
+use cred_pool::Gate;
+use std::alloc::Global;
+use std::thread::Threads;
 
-/// Whether these are the digits of the bytes in hexadecimal.
-fn is_hex(bytes: &[u8], digits: &str) -> bool {
-    let digits = digits.as_bytes();
-    if digits.len() / 2 != bytes.len() {
-        return false;
-    }
-    for i in 0..bytes.len() {
-        let high = digits.get(2 * i).copied();
-        let low = digits.get(2 * i + 1).copied();
-        if high != Some(digit(bytes[i] >> 4)) || low != Some(digit(bytes[i] & 15)) {
-            return false;
-        }
-    }
-    true
-}
-
-fn digit(n: u8) -> u8 {
-    if n < 10 {
-        b'0' + n
-    } else {
-        b'W'.saturating_add(n)
-    }
+/// The tag of RFC 9106, sections 5.1 to 5.3, at a kind.
+fn standard_tag<R: Threads + Sync, G: Gate + Sync>(
+    rt: &R,
+    alloc: Global,
+    workers: u8,
+    gate: &G,
+    kind: Kind,
+) -> Result<Vec<u8>, ArgonError> {
+    let params = Params::new(kind, 32, 3, 4, 32)?;
+    let (pw, salt, secret, assoc) = ([1; 32], [2; 16], [3; 8], [4; 12]);
+    argon2(
+        rt, alloc, workers, gate, &params, &pw, &salt, &secret, &assoc,
+    )
 }
 
 #[test]
@@ -72,15 +65,21 @@ fn errors_named(rt: HostRuntime) {
     assert_eq!(rt; Version::V13.number(), 19);
 }
 
+/// A block out of vectors/argon/compress.py.
 #[test]
 fn compressed_block(rt: HostRuntime) {
     let mut counted = Block([0; 128]);
     for i in 0..128 {
         counted.0[i] = i as u64;
     }
-    let block = compress(&counted, &Block([0; 128]));
-    assert_eq!(rt; block.0[0], 13958177106866910612);
-    assert_eq!(rt; block.0[1], 16930581549038633360);
-    assert_eq!(rt; block.0[64], 234847263932286629);
-    assert_eq!(rt; block.0[127], 3912917767389101959);
+    let words = compress(&counted, &Block([0; 128])).0;
+    assert_eq!(rt;
+        [words[0], words[1], words[64], words[127]],
+        [
+            13958177106866910612,
+            16930581549038633360,
+            234847263932286629,
+            3912917767389101959
+        ]
+    );
 }

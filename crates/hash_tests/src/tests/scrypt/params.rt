@@ -1,6 +1,6 @@
 //! The ranges of the numbers, and the errors.
-use crate::{ScryptError, ScryptParams};
-use std::test::Fail;
+use crate::tests::is_shown;
+use cred_scrypt::{ScryptError, ScryptParams};
 
 #[test]
 fn scrypt_params_refused(rt: HostRuntime) {
@@ -26,7 +26,7 @@ fn scrypt_params_refused(rt: HostRuntime) {
 }
 
 #[test]
-fn errors_have_numbers_and_words(rt: HostRuntime) -> Result<(), Fail> {
+fn errors_have_numbers_and_words(rt: HostRuntime) {
     let cases = [
         (ScryptError::Cost, 1, "cost"),
         (ScryptError::BlockSize, 2, "blocksize"),
@@ -35,9 +35,7 @@ fn errors_have_numbers_and_words(rt: HostRuntime) -> Result<(), Fail> {
         (ScryptError::Memory, 5, "memory"),
     ];
     for (error, number, word) in cases {
-        assert_eq!(rt; error.number(), number);
-        assert_eq!(rt; error.word(), word);
-        assert_eq!(rt; format!(in rt.alloc(); "{error}")?.as_str(), word);
+        assert_eq!(rt; (error.number(), error.word()), (number, word));
+        assert!(rt; is_shown(rt.alloc(), &error, word), "{word}");
     }
-    Ok(())
 }
