@@ -24,45 +24,62 @@ fn standard_tag<R: Threads + Sync, G: Gate + Sync>(
     )
 }
 
+/// Memory, passes, lanes and the tag's length, and how they are refused.
+const REFUSED: [([u32; 4], Option<ArgonError>); 9] = [
+    ([0, 0, 0, 0], Some(ArgonError::Lanes)),
+    ([7, 1, 1, 32], Some(ArgonError::Cost)),
+    ([2_097_153, 1, 1, 32], Some(ArgonError::Cost)),
+    ([2039, 1, 255, 32], Some(ArgonError::Cost)),
+    ([8, 0, 1, 3], Some(ArgonError::Passes)),
+    ([8, 1, 1, 3], Some(ArgonError::TagLen)),
+    ([8, 1, 1, 65], Some(ArgonError::TagLen)),
+    ([2040, 1, 255, 4], None),
+    ([2_097_152, 4_294_967_295, 1, 64], None),
+];
+
+/// The first numbers that are answered otherwise, with the answer.
+fn other_refusal(
+    table: &[([u32; 4], Option<ArgonError>)],
+) -> Option<([u32; 4], Option<ArgonError>)> {
+    for (numbers, want) in table {
+        let [memory, passes, lanes, tag_len] = *numbers;
+        let answer = Params::new(Kind::Id, memory, passes, lanes, tag_len).err();
+        if answer != *want {
+            return Some((*numbers, answer));
+        }
+    }
+    None
+}
+
 #[test]
 fn params_refused(rt: HostRuntime) {
-    let table = [
-        (0, 0, 0, 0, Some(ArgonError::Lanes)),
-        (7, 1, 1, 32, Some(ArgonError::Cost)),
-        (2_097_153, 1, 1, 32, Some(ArgonError::Cost)),
-        (2039, 1, 255, 32, Some(ArgonError::Cost)),
-        (8, 0, 1, 3, Some(ArgonError::Passes)),
-        (8, 1, 1, 3, Some(ArgonError::TagLen)),
-        (8, 1, 1, 65, Some(ArgonError::TagLen)),
-        (2040, 1, 255, 4, None),
-        (2_097_152, 4_294_967_295, 1, 64, None),
-    ];
-    for (memory, passes, lanes, tag_len, want) in table {
-        let answer = Params::new(Kind::Id, memory, passes, lanes, tag_len);
-        assert_eq!(rt;
-            answer.err(),
-            want,
-            "m={memory}, t={passes}, p={lanes}, {tag_len} bytes"
-        );
-    }
+    assert_eq!(rt; other_refusal(&REFUSED), None);
+}
+
+fn named(error: ArgonError) -> (u8, &'static str) {
+    (error.number(), error.word())
 }
 
 #[test]
 fn errors_named(rt: HostRuntime) {
-    let table = [
-        (ArgonError::Lanes, 1, "lanes"),
-        (ArgonError::Cost, 2, "cost"),
-        (ArgonError::Passes, 3, "passes"),
-        (ArgonError::TagLen, 4, "taglen"),
-        (ArgonError::InputLen, 5, "inputlen"),
-        (ArgonError::Memory, 6, "memory"),
+    let names = [
+        named(ArgonError::Lanes),
+        named(ArgonError::Cost),
+        named(ArgonError::Passes),
+        named(ArgonError::TagLen),
+        named(ArgonError::InputLen),
+        named(ArgonError::Memory),
     ];
-    for (error, number, word) in table {
-        assert_eq!(rt; error.number(), number);
-        assert!(rt; error.word() == word, "{number}");
-    }
-    assert_eq!(rt; Kind::Id.number(), 2);
-    assert_eq!(rt; Version::V13.number(), 19);
+    let wanted = [
+        (1, "lanes"),
+        (2, "cost"),
+        (3, "passes"),
+        (4, "taglen"),
+        (5, "inputlen"),
+        (6, "memory"),
+    ];
+    assert_eq!(rt; names, wanted);
+    assert_eq!(rt; (Kind::Id.number(), Version::V13.number()), (2, 19));
 }
 
 /// A block out of vectors/argon/compress.py.

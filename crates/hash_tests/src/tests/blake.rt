@@ -95,8 +95,7 @@ fn abc(rt: HostRuntime) {
 
 #[test]
 fn empty(rt: HostRuntime) {
-    assert!(rt; is_hash(&[], &[], EMPTY));
-    assert!(rt; is_hash(&[], &[b""], EMPTY));
+    assert!(rt; is_hash(&[], &[], EMPTY) && is_hash(&[], &[b""], EMPTY));
 }
 
 #[test]
@@ -105,8 +104,8 @@ fn whole_and_byte_by_byte(rt: HostRuntime) {
     count_up(&mut message);
     for (len, want) in [(128, ONE_BLOCK), (129, TWO_BLOCKS)] {
         let whole = &message[..len];
-        assert!(rt; is_hash(&[], &[whole], want), "{len} bytes whole");
-        assert!(rt; is_hash_by_bytes(whole, want), "{len} bytes one by one");
+        let seen = (is_hash(&[], &[whole], want), is_hash_by_bytes(whole, want));
+        assert_eq!(rt; seen, (true, true), "{len} bytes");
     }
 }
 
@@ -129,16 +128,25 @@ fn refusal(out_len: usize, key: &[u8]) -> Option<(u8, &'static str)> {
 
 #[test]
 fn refused(rt: HostRuntime) {
-    assert_eq!(rt; refusal(0, &[]), Some((1, "outlen")));
-    assert_eq!(rt; refusal(65, &[]), Some((1, "outlen")));
-    assert_eq!(rt; refusal(64, &LONG_KEY), Some((2, "keylen")));
-    assert_eq!(rt; refusal(0, &LONG_KEY), Some((1, "outlen")));
+    let refusals = [
+        refusal(0, &[]),
+        refusal(65, &[]),
+        refusal(64, &LONG_KEY),
+        refusal(0, &LONG_KEY),
+    ];
+    let wanted = [
+        Some((1, "outlen")),
+        Some((1, "outlen")),
+        Some((2, "keylen")),
+        Some((1, "outlen")),
+    ];
+    assert_eq!(rt; refusals, wanted);
+    let of_prime = hprime(rt.alloc(), 0, b"abc").err();
+    let of_memory = (BlakeError::Memory.number(), BlakeError::Memory.word());
     assert_eq!(rt;
-        hprime(rt.alloc(), 0, b"abc").err(),
-        Some(BlakeError::OutLen)
+        (of_prime, of_memory),
+        (Some(BlakeError::OutLen), (3, "memory"))
     );
-    assert_eq!(rt; BlakeError::Memory.number(), 3);
-    assert_eq!(rt; BlakeError::Memory.word(), "memory");
 }
 
 #[test]
@@ -182,8 +190,11 @@ fn is_prime_1024(alloc: Global, block: &[u8; 1024]) -> bool {
 #[test]
 fn hash_prime_block(rt: HostRuntime) {
     let block = hprime_block(b"abc");
-    assert!(rt; is_hash(&[], &[&block], PRIME_1024_HASHED));
-    assert!(rt; is_prime_1024(rt.alloc(), &block));
+    let seen = (
+        is_hash(&[], &[&block], PRIME_1024_HASHED),
+        is_prime_1024(rt.alloc(), &block),
+    );
+    assert_eq!(rt; seen, (true, true));
 }
 
 // The length of H' to 97 bytes.

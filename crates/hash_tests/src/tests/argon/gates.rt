@@ -1,5 +1,6 @@
 //! That the lanes of a slice are worked side by side, and what a want of memory gives.
 use super::standard_tag;
+use super::vectors::I_TAG;
 use crate::tests::is_hex;
 use crate::tests::meetings::Meetings;
 use cred_argon::{ArgonError, Kind, Params, argon2};
@@ -35,8 +36,7 @@ fn lanes_meet_in_argon2(rt: HostRuntime) {
 
 fn is_standard<R: Threads + Sync>(rt: &R, alloc: Global) -> Result<bool, ArgonError> {
     let tag = standard_tag(rt, alloc, 2, &NoGate, Kind::I)?;
-    let want = "c814d9d1dc7f37aa13f0d77f2494bda1c8de6b016dd388d29952a4c4672b6ce8";
-    Ok(is_hex(&tag, want))
+    Ok(is_hex(&tag, I_TAG))
 }
 
 /// With ample memory this is one more vector. Run by `rt try --test --fail-alloc N`, it shows

@@ -21,24 +21,35 @@ fn column_of(params: &Params, pass: u32, column: u32, j1: u32) -> u32
     .1
 }
 
-#[test]
-fn reference_places(rt: HostRuntime) -> Result<(), ArgonError> {
-    let one_lane = Params::new(Kind::D, 8, 2, 1, 32)?;
-    assert_eq!(rt; column_of(&one_lane, 0, 5, 0), 3);
-    assert_eq!(rt; column_of(&one_lane, 0, 5, 2_147_483_648), 2);
-    assert_eq!(rt; column_of(&one_lane, 0, 5, 4_294_967_295), 0);
-    for j1 in [0, 1, 2_147_483_648, 4_294_967_295] {
-        assert_eq!(rt; column_of(&one_lane, 0, 2, j1), 0);
-    }
-    assert_eq!(rt; column_of(&one_lane, 1, 0, 0), 6);
-    assert_eq!(rt; column_of(&one_lane, 1, 7, 0), 5);
+/// The columns that are referred to in one lane of eight.
+fn one_lane() -> Result<[u32; 9], ArgonError> {
+    let params = Params::new(Kind::D, 8, 2, 1, 32)?;
+    Ok([
+        column_of(&params, 0, 5, 0),
+        column_of(&params, 0, 5, 2_147_483_648),
+        column_of(&params, 0, 5, 4_294_967_295),
+        column_of(&params, 0, 2, 0),
+        column_of(&params, 0, 2, 1),
+        column_of(&params, 0, 2, 2_147_483_648),
+        column_of(&params, 0, 2, 4_294_967_295),
+        column_of(&params, 1, 0, 0),
+        column_of(&params, 1, 7, 0),
+    ])
+}
 
-    let two_lanes = Params::new(Kind::D, 16, 2, 2, 32)?;
-    let second = Place {
+/// The lane and the column that are referred to from the third column of the first of two lanes.
+fn two_lanes() -> Result<(u32, u32), ArgonError> {
+    let params = Params::new(Kind::D, 16, 2, 2, 32)?;
+    let third = Place {
         pass: 0,
         lane: 0,
         column: 2,
     };
-    assert_eq!(rt; reference(&two_lanes, &second, 0, 3), (1, 0));
-    Ok(())
+    Ok(reference(&params, &third, 0, 3))
+}
+
+#[test]
+fn reference_places(rt: HostRuntime) {
+    let seen = (one_lane(), two_lanes());
+    assert_eq!(rt; seen, (Ok([3, 2, 0, 0, 0, 0, 0, 6, 5]), Ok((1, 0))));
 }

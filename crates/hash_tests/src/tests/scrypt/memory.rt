@@ -1,5 +1,5 @@
-//! What want of memory leaves. These tests hold whichever request is refused: `rt try --test --fail-alloc N -- scrypt::memory`
-//! refuses the Nth, and is run for N from 1 on until a run meets none.
+//! What want of memory leaves. These tests hold whichever request is refused: `rt try --test --fail-alloc N --
+//! scrypt::memory` refuses the Nth, and is run for N from 1 on until a run meets none.
 use super::standard::{BLOCKS, BLOCKS_WALKED};
 use super::workers::{KEY, key_at};
 use cred_pool::NoGate;
@@ -15,13 +15,10 @@ fn refused_memory(rt: HostRuntime) {
 #[test]
 fn refused_table_leaves_its_block(rt: HostRuntime) {
     let mut block = BLOCKS;
-    match ro_mix(rt.alloc(), 1, 4, &mut block) {
-        Ok(()) => assert_eq!(rt; block, BLOCKS_WALKED),
-        Err(error) => {
-            assert_eq!(rt; error, ScryptError::Memory);
-            assert_eq!(rt; block, BLOCKS);
-        }
-    }
+    let answer = ro_mix(rt.alloc(), 1, 4, &mut block);
+    let is_walked = answer == Ok(()) && block == BLOCKS_WALKED;
+    let is_left = answer == Err(ScryptError::Memory) && block == BLOCKS;
+    assert!(rt; is_walked || is_left);
 }
 
 /// Whether PBKDF2's two bytes are those that they are to be.

@@ -1,4 +1,6 @@
 //! The vectors of the standards: RFC 7914, sections 8 to 12, and RFC 4231.
+ghost use Rattle.std.specs.Prelude.{◌≡◌, length};
+
 use crate::tests::{is_hex, is_made};
 use cred_pool::NoGate;
 use cred_scrypt::{
@@ -62,10 +64,12 @@ fn core(rt: HostRuntime) {
 fn mixes(rt: HostRuntime) {
     let mut mixed = [0; 32];
     block_mix(&BLOCKS, &mut mixed);
-    assert_eq!(rt; mixed, BLOCKS_MIXED);
     let mut block = BLOCKS;
-    assert_eq!(rt; ro_mix(rt.alloc(), 1, 4, &mut block), Ok(()));
-    assert_eq!(rt; block, BLOCKS_WALKED);
+    let answer = ro_mix(rt.alloc(), 1, 4, &mut block);
+    assert_eq!(rt;
+        (mixed, block, answer),
+        (BLOCKS_MIXED, BLOCKS_WALKED, Ok(()))
+    );
 }
 
 /// RFC 4231, test cases 1, 2 and 6: key, message and digest.
@@ -94,14 +98,21 @@ fn hmac_vectors(rt: HostRuntime) {
     }
 }
 
+/// RFC 7914, section 11.
+const DERIVED_ONCE: &str =
+    "55ac046e56e3089fec1691c22544b605f94185216dde0465e68b9d57c20dacbc49ca9cccf179b645991664b39d77ef317c71b845b1e30bd509112041d3a19783";
+
+const DERIVED_OFTEN: &str =
+    "4ddcd8f60b98be21830cee5ef22701f9641a4418d04c0414aeff08876b34ab56a1d425a1225833549adb841b51c9b3176a272bdebba1d078478f62b397f33c8d";
+
 #[test]
 fn pbkdf2_vectors(rt: HostRuntime) {
-    let once =
-        "55ac046e56e3089fec1691c22544b605f94185216dde0465e68b9d57c20dacbc49ca9cccf179b645991664b39d77ef317c71b845b1e30bd509112041d3a19783";
-    assert!(rt; is_made(pbkdf2(rt.alloc(), b"passwd", b"salt", 1, 64), once));
-    let often =
-        "4ddcd8f60b98be21830cee5ef22701f9641a4418d04c0414aeff08876b34ab56a1d425a1225833549adb841b51c9b3176a272bdebba1d078478f62b397f33c8d";
-    assert!(rt; is_made(pbkdf2(rt.alloc(), b"Password", b"NaCl", 80_000, 64), often));
+    let once = is_made(pbkdf2(rt.alloc(), b"passwd", b"salt", 1, 64), DERIVED_ONCE);
+    let often = is_made(
+        pbkdf2(rt.alloc(), b"Password", b"NaCl", 80_000, 64),
+        DERIVED_OFTEN,
+    );
+    assert_eq!(rt; (once, often), (true, true));
 }
 
 /// Ln, r and p, the workers, password and salt, and the key.
@@ -139,21 +150,31 @@ fn scrypt_vectors(rt: HostRuntime) {
 }
 
 /// The words of the one piece of the first vector.
-fn first_piece(alloc: Global) -> Result<[u32; 32], ScryptError> {
-    let start = pbkdf2(alloc, b"", b"", 1, 128)?;
+fn words_of(bytes: &[u8]) -> [u32; 32]
+    requires { length bytes.now ≡ 128 }
+{
     let mut words = [0; 32];
-    for (word, bytes) in words.iter_mut().zip(start.chunks_exact(4)) {
-        *word = u32::from_le_bytes([bytes[0], bytes[1], bytes[2], bytes[3]]);
+    for i in 0..32 {
+        words[i] = u32::from_le_bytes([
+            bytes[4 * i],
+            bytes[4 * i + 1],
+            bytes[4 * i + 2],
+            bytes[4 * i + 3],
+        ]);
     }
-    Ok(words)
+    words
 }
 
 fn bytes_of(words: &[u32; 32]) -> [u8; 128] {
-    let mut all = [0; 128];
-    for (bytes, word) in all.chunks_exact_mut(4).zip(words) {
-        bytes.copy_from_slice(&word.to_le_bytes());
+    let mut bytes = [0; 128];
+    for i in 0..32 {
+        bytes[4 * i..4 * i + 4].copy_from_slice(&words[i].to_le_bytes());
     }
-    all
+    bytes
+}
+
+fn first_piece(alloc: Global) -> Result<[u32; 32], ScryptError> {
+    Ok(words_of(&pbkdf2(alloc, b"", b"", 1, 128)?))
 }
 
 fn first_key(alloc: Global) -> Result<Vec<u8>, ScryptError> {

@@ -29,23 +29,40 @@ fn scrypt_key<R: Threads + Sync>(
     )
 }
 
+/// The seed of the first row with another key, or none.
+fn other_scrypt_key<R: Threads + Sync>(
+    rt: &R,
+    alloc: Global,
+    table: &[((u8, u8, u8), (u32, usize, usize, u8), &str)],
+) -> Option<u8> {
+    for (numbers, inputs, wanted) in table {
+        if !is_made(scrypt_key(rt, alloc, *numbers, *inputs), wanted) {
+            return Some(inputs.3);
+        }
+    }
+    None
+}
+
 #[test]
 fn scrypt_keys(rt: HostRuntime) {
-    for (numbers, inputs, wanted) in SCRYPT {
-        let key = scrypt_key(&rt, rt.alloc(), numbers, inputs);
-        assert!(rt; is_made(key, wanted), "seed {}", inputs.3);
+    assert_eq!(rt; other_scrypt_key(&rt, rt.alloc(), &SCRYPT), None);
+}
+
+/// The seed of the first row with another digest, or none.
+fn other_digest(table: &[((usize, usize, u8), &str)]) -> Option<u8> {
+    for ((key_len, msg_len, seed), wanted) in table {
+        let (key, msg) = (counted(*seed), counted(seed.wrapping_add(APART)));
+        let digest = hmac_sha256(first(&key, *key_len), first(&msg, *msg_len));
+        if !is_hex(&digest, wanted) {
+            return Some(*seed);
+        }
     }
+    None
 }
 
 #[test]
 fn hmac_digests(rt: HostRuntime) {
-    for ((key, msg, seed), wanted) in HMAC {
-        let digest = hmac_sha256(
-            first(&counted(seed), key),
-            first(&counted(seed.wrapping_add(APART)), msg),
-        );
-        assert!(rt; is_hex(&digest, wanted), "seed {seed}");
-    }
+    assert_eq!(rt; other_digest(&HMAC), None);
 }
 
 /// Whether the key of a row of the table is this one.
@@ -71,13 +88,17 @@ fn is_pbkdf2_key(
     )
 }
 
+/// The seed of the first row with another key, or none.
+fn other_pbkdf2_key(alloc: Global, table: &[(u32, (u32, usize, usize, u8), &str)]) -> Option<u8> {
+    for (turns, inputs, wanted) in table {
+        if !is_pbkdf2_key(alloc, *turns, *inputs, wanted) {
+            return Some(inputs.3);
+        }
+    }
+    None
+}
+
 #[test]
 fn pbkdf2_keys(rt: HostRuntime) {
-    for (turns, inputs, wanted) in PBKDF2 {
-        assert!(rt;
-            is_pbkdf2_key(rt.alloc(), turns, inputs, wanted),
-            "seed {}",
-            inputs.3
-        );
-    }
+    assert_eq!(rt; other_pbkdf2_key(rt.alloc(), &PBKDF2), None);
 }
