@@ -38,7 +38,7 @@ pub fn argon2<R: Threads + Sync, G: Gate + Sync>(
         ⊎ (2 ^ 32 ≤ length secret.now) ⊎ (2 ^ 32 ≤ length assoc.now)) }
     ensures err { IfErr result (λ e. (e ≡ ArgonError.InputLen) ⊎ (e ≡ ArgonError.Memory)) }
 {
-    if is_too_long(pw) || is_too_long(salt) || is_too_long(secret) || is_too_long(assoc) {
+    if is_any_too_long(pw, salt, secret, assoc) {
         return Err(ArgonError::InputLen);
     }
     let hash = first_hash(params, pw, salt, secret, assoc);
@@ -49,6 +49,14 @@ pub fn argon2<R: Threads + Sync, G: Gate + Sync>(
         Ok(tag) => Ok(tag),
         Err(_) => Err(ArgonError::Memory),
     }
+}
+
+/// Whether one of the inputs is too long.
+fn is_any_too_long(pw: &[u8], salt: &[u8], secret: &[u8], assoc: &[u8]) -> bool
+    ensures { IsTrue result ↔ ((2 ^ 32 ≤ length pw.now) ⊎ (2 ^ 32 ≤ length salt.now)
+        ⊎ (2 ^ 32 ≤ length secret.now) ⊎ (2 ^ 32 ≤ length assoc.now)) }
+{
+    is_too_long(pw) || is_too_long(salt) || is_too_long(secret) || is_too_long(assoc)
 }
 
 /// Whether an input's length doesn't fit the 32 bits that it is written in.

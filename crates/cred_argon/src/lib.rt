@@ -21,8 +21,6 @@ mod permute;
 mod place;
 mod segment;
 mod start;
-#[cfg(test)]
-mod tests;
 mod window;
 
 pub use argon::argon2;

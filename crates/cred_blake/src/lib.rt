@@ -22,6 +22,4 @@ mod digest;
 mod error;
 mod hasher;
 mod state;
-#[cfg(test)]
-mod tests;
 mod variable_length;

@@ -6,8 +6,6 @@
 
 mod gate;
 mod part;
-#[cfg(test)]
-mod tests;
 
 pub use gate::{Gate, NoGate};
 pub use part::{Part, run_parts};

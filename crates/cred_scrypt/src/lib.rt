@@ -14,8 +14,6 @@ mod params;
 mod pieces;
 mod rows;
 mod salsa;
-#[cfg(test)]
-mod tests;
 mod words;
 mod zips;
 

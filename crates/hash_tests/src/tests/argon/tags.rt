@@ -1,7 +1,7 @@
-//! Tags of the reference library. This file is made by vectors/make.py, which says how.
-use crate::Kind::{D, I, Id};
-use crate::Version::{V10, V13};
-use crate::{Kind, Version};
+//! Tags of the reference library. This file is made by vectors/argon/make.py, which says how.
+use cred_argon::Kind::{D, I, Id};
+use cred_argon::Version::{V10, V13};
+use cred_argon::{Kind, Version};
 
 /// Kind, version, memory, passes, lanes, tag length, the lengths of the four inputs, and their
 /// seed.

@@ -1,9 +1,9 @@
 #!/usr/bin/env python3
 """Argon2 in plain Python, from the text of RFC 9106. It makes the standard's three tags, and then prints the vectors of
-the compression function that proofs/Vectors.antt and the tests hold: four words mixed, the permutation of sixteen words,
-and G of two blocks.
+the compression function that proofs/Vectors.antt of cred_argon and the tests hold: four words mixed, the permutation of
+sixteen words, and G of two blocks.
 
-    python3 vectors/compress.py
+    python3 vectors/argon/compress.py
 """
 import hashlib
 import struct

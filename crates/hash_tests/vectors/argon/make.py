@@ -1,7 +1,7 @@
 #!/usr/bin/env python3
 """Makes tags.txt with the reference library (Debian: libargon2-1), and the Rust table of the tests out of it.
 
-    python3 vectors/make.py            writes vectors/tags.txt and src/tests/tags.rt, which `rt fmt` then lays out
+    python3 vectors/argon/make.py      writes tags.txt beside it, and src/tests/argon/tags.rt, which `rt fmt` lays out
 
 Each line of tags.txt has the kind, the version, memory, passes, lanes and tag length, the lengths of password, salt,
 secret and associated data, a seed, and the tag. Byte i of an input is (7 * i + seed) mod 256, where the seed of the salt
@@ -78,10 +78,10 @@ def main():
         rows.append(f'    (Case({call}), "{tag}"),')
     with open(os.path.join(HERE, "tags.txt"), "w") as out:
         out.write("\n".join(lines) + "\n")
-    with open(os.path.join(HERE, "..", "src", "tests", "tags.rt"), "w") as out:
+    with open(os.path.join(HERE, "..", "..", "src", "tests", "argon", "tags.rt"), "w") as out:
         out.write(
-            "//! Tags of the reference library. This file is made by vectors/make.py, which says how.\n"
-            "use crate::Kind::{D, I, Id};\nuse crate::Version::{V10, V13};\nuse crate::{Kind, Version};\n\n"
+            "//! Tags of the reference library. This file is made by vectors/argon/make.py, which says how.\n"
+            "use cred_argon::Kind::{D, I, Id};\nuse cred_argon::Version::{V10, V13};\nuse cred_argon::{Kind, Version};\n\n"
             "/// Kind, version, memory, passes, lanes, tag length, the lengths of the four inputs, and their seed.\n"
             "pub(super) struct Case(\n"
             "    pub(super) Kind,\n    pub(super) Version,\n    pub(super) u32,\n    pub(super) u32,\n"

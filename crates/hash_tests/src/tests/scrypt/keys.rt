@@ -1,4 +1,4 @@
-//! Keys that OpenSSL made, by vectors/make.py, which writes this file. Byte i of an input with seed s is
+//! Keys that OpenSSL made, by vectors/scrypt/make.py, which writes this file. Byte i of an input with seed s is
 //! (7 * i + s) mod 256, and a salt and a message have the seed plus 128.
 
 /// Ln, r and p; lengths of the key, of the password and of the salt, and the seed; the key in hexadecimal.

@@ -1,6 +1,6 @@
 #!/usr/bin/env python3
 """Makes keys.txt, a table of keys by Python's hashlib and hmac (OpenSSL's scrypt, PBKDF2 and SHA-256), and from it
-src/tests/keys.rt, the same table as the tests read it, since a test can't read a file.
+src/tests/scrypt/keys.rt, the same table as the tests read it, since a test can't read a file.
 
 Byte i of an input with seed s is (7 * i + s) mod 256. A salt and a message have the seed of their row plus 128.
 """
@@ -78,7 +78,7 @@ def numbers(row, cut):
 
 def main():
     text, source = [], [
-        "//! Keys that OpenSSL made, by vectors/make.py, which writes this file. Byte i of an input with seed s is",
+        "//! Keys that OpenSSL made, by vectors/scrypt/make.py, which writes this file. Byte i of an input with seed s is",
         "//! (7 * i + s) mod 256, and a salt and a message have the seed plus 128.",
         "",
     ]
@@ -91,7 +91,7 @@ def main():
         source += [f'    ({numbers(row, cut)}, "{key.hex()}"),' for row, key in made]
         source += ["];", ""]
     (HERE / "keys.txt").write_text("\n".join(text) + "\n")
-    (HERE.parent / "src/tests/keys.rt").write_text("\n".join(source[:-1]) + "\n")
+    (HERE.parent.parent / "src/tests/scrypt/keys.rt").write_text("\n".join(source[:-1]) + "\n")
 
 
 main()

@@ -1,0 +1,9 @@
+//! Of `cred_scrypt`: outside vectors, keys that OpenSSL made, that two pieces are worked side by side, and what want of
+//! memory leaves.
+
+mod keys;
+mod memory;
+mod params;
+mod standard;
+mod table;
+mod workers;
