@@ -1,1 +1,5 @@
 //! Tests of the book of accounts: what no clause of `cred_book` says.
+#![tactic(auto)]
+
+#[cfg(test)]
+mod tests;

@@ -1,7 +1,7 @@
 //! The tags that other programs gave, made again.
 
 use super::{A, OLD, SCRYPT};
-use crate::{Password, Record, TagError, parse_record, tag_of};
+use cred_phc::{Password, Record, TagError, parse_record, tag_of};
 use cred_pool::NoGate;
 use std::test::Fail;
 

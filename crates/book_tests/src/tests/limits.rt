@@ -1,7 +1,7 @@
 //! The most accounts that a book has, and the memory that it takes. `refused_book` holds whether or not the request is
 //! refused: `rt try --test --fail-alloc 1` refuses it.
 use super::{A, name, stored};
-use crate::{Book, BookError, Name};
+use cred_book::{Book, BookError, Name};
 use std::alloc::Global;
 use std::test::Fail;
 

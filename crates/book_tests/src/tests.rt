@@ -9,7 +9,7 @@ mod operations;
 mod refusals;
 mod workers;
 
-use crate::{Book, BookError, Name, Request, Ticket, Worked};
+use cred_book::{Book, BookError, Name, Request, Ticket, Worked};
 use cred_phc::{Password, PhcError, Record, Setting, parse_record, parse_setting};
 use cred_pool::NoGate;
 use std::alloc::Global;

@@ -3,7 +3,7 @@
 ghost use Rattle.std.specs.Prelude.{ℕ, ◌+◌, ◌%◌, ◌^◌};
 ghost use Rattle.rand_core.specs.Steps.{stream_of, steps_u32};
 
-use crate::{Scheme, Setting, Variant, Version, draw_salt, write_setting};
+use cred_phc::{Scheme, Setting, Variant, Version, draw_salt, write_setting};
 use rand_core::utils::NextWord;
 use rand_core::{Rng, utils};
 use std::marker::Model;

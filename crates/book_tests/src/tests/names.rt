@@ -1,6 +1,6 @@
 //! Which bytes are a name, and in which order names are.
 use super::name;
-use crate::{BookError, Name};
+use cred_book::{BookError, Name};
 use std::cmp::Ordering;
 use std::process::Abort;
 use std::test::Fail;

@@ -3,7 +3,7 @@ use super::{
     A, A_SETTING, B, B_SETTING, Samples, book_with, enrol, name, password, setting, stored, verify,
     worked,
 };
-use crate::{Book, Reply, Request, Worked};
+use cred_book::{Book, Reply, Request, Worked};
 use cred_phc::Record;
 use std::alloc::Global;
 use std::process::Abort;

@@ -3,7 +3,7 @@
 mod salts;
 mod tags;
 
-use crate::{
+use cred_phc::{
     Password, PhcError, Record, Scheme, Setting, Tag, Variant, Version, parse_record,
     parse_setting, write_record, write_setting,
 };

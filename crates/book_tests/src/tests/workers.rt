@@ -2,7 +2,7 @@
 //! whichever request is refused: `rt try --test --fail-alloc N -- refused` refuses the Nth, and is run for N from 1 on
 //! until a run meets none.
 use super::{A_SETTING, Samples, begun, book_with, enrol};
-use crate::{Book, Reply};
+use cred_book::{Book, Reply};
 use cred_pool::{Gate, NoGate};
 use std::sync::atomic::{AtomicU64, Ordering};
 use std::test::Fail;

@@ -1,6 +1,6 @@
 //! A book's calls, by themselves and by the one who keeps it.
 use super::{A, B, Samples, name, stored};
-use crate::{Book, BookError, Keeper};
+use cred_book::{Book, BookError, Keeper};
 use std::process::Abort;
 use std::sync::Wait;
 use std::test::Fail;

@@ -1,6 +1,6 @@
 //! Copies of a book, entries that are put there, and work that is handed back or comes from another book.
 use super::{A_SETTING, Samples, book_with, enrol, verify, worked};
-use crate::{Book, BookError, Keeper, Reply};
+use cred_book::{Book, BookError, Keeper, Reply};
 use std::test::Fail;
 
 #[test]
