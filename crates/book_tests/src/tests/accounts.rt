@@ -1,84 +1,105 @@
 //! A book's calls, by themselves and by the one who keeps it.
-use super::{A, B, Samples, name, stored};
-use cred_book::{Book, BookError, Keeper};
-use std::process::Abort;
+use super::calls::{Answer, Call, Entry, Line, Slip, book_with, keep, play, play_on_new};
+use super::{A, B, name, stored};
+use cred_book::{Book, BookError};
+use std::alloc::Global;
 use std::sync::Wait;
-use std::test::Fail;
 
 #[test]
-fn an_account_is_admitted_loaded_and_shown(rt: HostRuntime) -> Result<(), Fail> {
-    let Samples {
-        a,
-        b,
-        one_lane,
-        two_lanes,
-    } = Samples::new()?;
-    let mut book = Book::new(rt.alloc())?;
-    assert_eq!(rt; book.show(&a), Err(BookError::NoAccount));
-    assert_eq!(rt; book.load(&a, one_lane), Err(BookError::NoAccount));
-    assert_eq!(rt; book.admit(a), Ok(()));
-    assert_eq!(rt; book.show(&a), Ok(None));
-    assert_eq!(rt; book.load(&a, one_lane), Ok(()));
-    assert_eq!(rt; book.show(&a), Ok(Some(one_lane)));
-    assert_eq!(rt; book.load(&a, two_lanes), Ok(()));
-    assert_eq!(rt; book.admit(a), Err(BookError::Exists));
-    assert_eq!(rt; book.show(&a), Ok(Some(two_lanes)));
-    assert_eq!(rt; book.show(&b), Err(BookError::NoAccount));
-    assert_eq!(rt; book.load(&b, one_lane), Err(BookError::NoAccount));
-    Ok(())
+fn an_account_is_admitted_loaded_and_shown(rt: HostRuntime) {
+    let (a, b) = (name(&rt, "a"), name(&rt, "b"));
+    let (one_lane, two_lanes) = (stored(&rt, A), stored(&rt, B));
+    let lines = [
+        (Call::Show(a), Answer::Refused(BookError::NoAccount)),
+        (
+            Call::Load(a, one_lane),
+            Answer::Refused(BookError::NoAccount),
+        ),
+        (Call::Admit(a), Answer::Done),
+        (Call::Show(a), Answer::Shown(None)),
+        (Call::Load(a, one_lane), Answer::Done),
+        (Call::Show(a), Answer::Shown(Some(one_lane))),
+        (Call::Load(a, two_lanes), Answer::Done),
+        (Call::Admit(a), Answer::Refused(BookError::Exists)),
+        (Call::Show(a), Answer::Shown(Some(two_lanes))),
+        (Call::Show(b), Answer::Refused(BookError::NoAccount)),
+        (
+            Call::Load(b, one_lane),
+            Answer::Refused(BookError::NoAccount),
+        ),
+    ];
+    assert_eq!(rt; play_on_new(rt.alloc(), &lines), Ok(None));
+}
+
+/// Plays the lines on a book that was given the accounts in their order.
+fn play_after(alloc: Global, entries: &[Entry], lines: &[Line]) -> Result<Option<Slip>, BookError> {
+    let mut book = book_with(alloc, entries)?;
+    Ok(play(&mut book, lines))
 }
 
 #[test]
-fn the_order_of_admission_is_forgotten(rt: HostRuntime) -> Result<(), Fail> {
+fn the_order_of_admission_is_forgotten(rt: HostRuntime) {
+    let (one_lane, two_lanes) = (Some(stored(&rt, A)), Some(stored(&rt, B)));
+    let a = (name(&rt, "a"), one_lane);
+    let minus = (name(&rt, "a-"), None);
+    let aa = (name(&rt, "aa"), two_lanes);
+    let b = (name(&rt, "b"), None);
+    let zed = (name(&rt, "zed"), None);
+    let lines = [
+        (Call::Show(a.0), Answer::Shown(one_lane)),
+        (Call::Show(minus.0), Answer::Shown(None)),
+        (Call::Show(aa.0), Answer::Shown(two_lanes)),
+        (
+            Call::Show(name(&rt, "ab")),
+            Answer::Refused(BookError::NoAccount),
+        ),
+        (Call::Show(b.0), Answer::Shown(None)),
+        (Call::Show(zed.0), Answer::Shown(None)),
+    ];
     let orders = [
-        ["a", "a-", "aa", "b", "zed"],
-        ["zed", "b", "aa", "a-", "a"],
-        ["aa", "zed", "a", "b", "a-"],
-        ["b", "a", "zed", "a-", "aa"],
+        [a, minus, aa, b, zed],
+        [zed, b, aa, minus, a],
+        [aa, zed, a, b, minus],
+        [b, a, zed, minus, aa],
     ];
     for (i, order) in orders.iter().enumerate() {
-        let mut book = Book::new(rt.alloc())?;
-        for text in order {
-            book.admit(name(text)?)?;
-            if *text == "a" {
-                book.load(&name("a")?, stored(A)?)?;
-            }
-            if *text == "aa" {
-                book.load(&name("aa")?, stored(B)?)?;
-            }
-        }
-        let shown = [
-            ("a", Ok(Some(stored(A)?))),
-            ("a-", Ok(None)),
-            ("aa", Ok(Some(stored(B)?))),
-            ("ab", Err(BookError::NoAccount)),
-            ("b", Ok(None)),
-            ("zed", Ok(None)),
-        ];
-        for (text, want) in shown {
-            assert_eq!(rt; book.show(&name(text)?), want, "{text} in the order {i}");
-        }
+        assert_eq!(rt;
+            play_after(rt.alloc(), order, &lines),
+            Ok(None),
+            "the order {i}"
+        );
     }
-    Ok(())
 }
 
-/// Every call of a keeper whose book has no name yet.
-fn keep<R: Wait + Abort, K: Keeper>(rt: &R, keeper: &mut K, samples: &Samples) {
-    let Samples { a, one_lane, .. } = *samples;
-    assert_eq!(rt; keeper.show(&a), Err(BookError::NoAccount));
-    assert_eq!(rt; keeper.load(rt, &a, one_lane), Err(BookError::NoAccount));
-    assert_eq!(rt; keeper.admit(rt, a), Ok(()));
-    assert_eq!(rt; keeper.admit(rt, a), Err(BookError::Exists));
-    assert_eq!(rt; keeper.show(&a), Ok(None));
-    assert_eq!(rt; keeper.load(rt, &a, one_lane), Ok(()));
-    assert_eq!(rt; keeper.show(&a), Ok(Some(one_lane)));
+/// Plays the lines by a keeper, and then the others on the book itself.
+fn keep_and_play<R: Wait>(
+    rt: &R,
+    alloc: Global,
+    kept: &[Line],
+    after: &[Line],
+) -> Result<[Option<Slip>; 2], BookError> {
+    let mut book = Book::new(alloc)?;
+    Ok([keep(rt, &mut book, kept), play(&mut book, after)])
 }
 
 #[test]
-fn a_book_keeps_itself(rt: HostRuntime) -> Result<(), Fail> {
-    let samples = Samples::new()?;
-    let mut book = Book::new(rt.alloc())?;
-    keep(&rt, &mut book, &samples);
-    assert_eq!(rt; book.show(&samples.a), Ok(Some(samples.one_lane)));
-    Ok(())
+fn a_book_keeps_itself(rt: HostRuntime) {
+    let (a, one_lane) = (name(&rt, "a"), stored(&rt, A));
+    let kept = [
+        (Call::Show(a), Answer::Refused(BookError::NoAccount)),
+        (
+            Call::Load(a, one_lane),
+            Answer::Refused(BookError::NoAccount),
+        ),
+        (Call::Admit(a), Answer::Done),
+        (Call::Admit(a), Answer::Refused(BookError::Exists)),
+        (Call::Show(a), Answer::Shown(None)),
+        (Call::Load(a, one_lane), Answer::Done),
+        (Call::Show(a), Answer::Shown(Some(one_lane))),
+    ];
+    let after = [(Call::Show(a), Answer::Shown(Some(one_lane)))];
+    assert_eq!(rt;
+        keep_and_play(&rt, rt.alloc(), &kept, &after),
+        Ok([None, None])
+    );
 }

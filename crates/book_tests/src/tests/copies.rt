@@ -1,86 +1,139 @@
 //! Copies of a book, entries that are put there, and work that is handed back or comes from another book.
-use super::{A_SETTING, Samples, book_with, enrol, verify, worked};
-use cred_book::{Book, BookError, Keeper, Reply};
-use std::test::Fail;
+use super::calls::{Answer, Call, Entry, Line, Slip, book_with, play};
+use super::work::{Seen, committed, worked_at};
+use super::{A, A_SETTING, B, enrol, name, stored, verify};
+use cred_book::{Book, BookError, Reply, Request};
+use std::alloc::Global;
+use std::thread::Threads;
 
-#[test]
-fn a_copy_shows_the_record(rt: HostRuntime) -> Result<(), Fail> {
-    let Samples { a, b, one_lane, .. } = Samples::new()?;
-    let mut book = book_with(rt.alloc(), Some(one_lane))?;
-    let copy = book.copy()?;
-    assert_eq!(rt; book.set(&a, None), Ok(()));
-    assert_eq!(rt; copy.show(&a), Ok(Some(one_lane)));
-    assert_eq!(rt; copy.show(&b), Err(BookError::NoAccount));
-    Ok(())
+/// Plays the lines on a book with one account, and then those of the copy on one that was copied before.
+fn play_on_both(
+    alloc: Global,
+    account: Entry,
+    lines: &[Line],
+    of_copy: &[Line],
+) -> Result<[Option<Slip>; 2], BookError> {
+    let mut book = book_with(alloc, &[account])?;
+    let mut copy = book.copy()?;
+    Ok([play(&mut book, lines), play(&mut copy, of_copy)])
 }
 
 #[test]
-fn set_wants_the_name_and_put_adds_it(rt: HostRuntime) -> Result<(), Fail> {
-    let Samples {
-        a,
-        b,
-        one_lane,
-        two_lanes,
-    } = Samples::new()?;
-    let mut book = book_with(rt.alloc(), Some(one_lane))?;
-    assert_eq!(rt; book.set(&b, Some(two_lanes)), Err(BookError::NoAccount));
-    assert_eq!(rt; book.show(&b), Err(BookError::NoAccount));
-    book.put(&b, Some(two_lanes));
-    assert_eq!(rt; book.show(&b), Ok(Some(two_lanes)));
-    book.put(&b, None);
-    assert_eq!(rt; book.show(&b), Ok(None));
-    assert_eq!(rt; book.show(&a), Ok(Some(one_lane)));
-    Ok(())
+fn a_copy_shows_the_record(rt: HostRuntime) {
+    let (a, b, one_lane) = (name(&rt, "a"), name(&rt, "b"), Some(stored(&rt, A)));
+    let lines = [(Call::Set(a, None), Answer::Done)];
+    let of_copy = [
+        (Call::Show(a), Answer::Shown(one_lane)),
+        (Call::Show(b), Answer::Refused(BookError::NoAccount)),
+    ];
+    let slips = play_on_both(rt.alloc(), (a, one_lane), &lines, &of_copy);
+    assert_eq!(rt; slips, Ok([None, None]));
 }
 
 #[test]
-fn a_beginning_without_account(rt: HostRuntime) -> Result<(), Fail> {
-    let book = Book::new(rt.alloc())?;
-    let request = verify("password")?;
-    if request.is_for_current() {
-        match book.begin(request) {
-            Ok(_) => assert!(rt; false, "a ticket"),
-            Err(refusal) => assert_eq!(rt; refusal, (request, BookError::NoAccount)),
-        }
+fn set_wants_the_name_and_put_adds_it(rt: HostRuntime) {
+    let (a, b) = (name(&rt, "a"), name(&rt, "b"));
+    let (one_lane, two_lanes) = (Some(stored(&rt, A)), Some(stored(&rt, B)));
+    let lines = [
+        (
+            Call::Set(b, two_lanes),
+            Answer::Refused(BookError::NoAccount),
+        ),
+        (Call::Show(b), Answer::Refused(BookError::NoAccount)),
+        (Call::Put(b, two_lanes), Answer::Done),
+        (Call::Show(b), Answer::Shown(two_lanes)),
+        (Call::Put(b, None), Answer::Done),
+        (Call::Show(b), Answer::Shown(None)),
+        (Call::Show(a), Answer::Shown(one_lane)),
+    ];
+    let slips = play_on_both(rt.alloc(), (a, one_lane), &lines, &[]);
+    assert_eq!(rt; slips, Ok([None, None]));
+}
+
+/// What comes back where the request is begun at a book with no name; none where a ticket is made.
+fn begun_without_account(alloc: Global, request: Request) -> Option<(Request, BookError)> {
+    let book = Book::new(alloc).ok()?;
+    if !request.is_for_current() {
+        return None;
     }
-    Ok(())
+    book.begin(request).err()
 }
 
 #[test]
-fn an_enrol_is_no_verify(rt: HostRuntime) -> Result<(), Fail> {
-    let request = enrol("password", A_SETTING)?;
-    let mut book = book_with(rt.alloc(), None)?;
-    match worked(&rt, rt.alloc(), &book, request)?.into_verify() {
-        Ok(_) => assert!(rt; false, "a verify"),
-        Err(back) => {
-            assert_eq!(rt; (back.request(), back.copy()), (request, None));
-            assert_eq!(rt; book.commit(back), Reply::Enrolled);
-        }
-    }
-    Ok(())
+fn a_beginning_without_account(rt: HostRuntime) {
+    let request = verify(&rt, "password");
+    let refusal = begun_without_account(rt.alloc(), request);
+    assert_eq!(rt; refusal, Some((request, BookError::NoAccount)));
+}
+
+/// Commits the work that comes back where it isn't a verify's.
+fn commit_handed_back<R: Threads + Sync>(
+    rt: &R,
+    alloc: Global,
+    account: Entry,
+    request: Request,
+) -> Option<Seen> {
+    let (mut book, work) = worked_at(rt, alloc, account, request)?;
+    let back = work.into_verify().err()?;
+    Some(committed(&mut book, back))
 }
 
 #[test]
-fn a_verify_is_one(rt: HostRuntime) -> Result<(), Fail> {
-    let samples = Samples::new()?;
-    let request = verify("password")?;
-    let book = book_with(rt.alloc(), Some(samples.one_lane))?;
-    match worked(&rt, rt.alloc(), &book, request)?.into_verify() {
-        Ok(work) => assert_eq!(rt; book.judge(work.worked()).0, Reply::Yes),
-        Err(_) => assert!(rt; false, "no verify"),
-    }
-    Ok(())
+fn an_enrol_is_no_verify(rt: HostRuntime) {
+    let request = enrol(&rt, "password", A_SETTING);
+    let one_lane = Some(stored(&rt, A));
+    let seen = commit_handed_back(&rt, rt.alloc(), (name(&rt, "a"), None), request);
+    let wanted = Seen {
+        request,
+        copy: None,
+        judged: (Reply::Enrolled, one_lane, true),
+        reply: Reply::Enrolled,
+        shown: Ok(one_lane),
+    };
+    assert_eq!(rt; seen, Some(wanted));
+}
+
+/// What is to be answered to the work as that of a verify.
+fn judged_as_verify<R: Threads + Sync>(
+    rt: &R,
+    alloc: Global,
+    account: Entry,
+    request: Request,
+) -> Option<Reply> {
+    let (book, work) = worked_at(rt, alloc, account, request)?;
+    let verify = work.into_verify().ok()?;
+    Some(book.judge(verify.worked()).0)
 }
 
 #[test]
-fn work_of_another_book(rt: HostRuntime) -> Result<(), Fail> {
-    let samples = Samples::new()?;
-    let request = enrol("password", A_SETTING)?;
-    let book = book_with(rt.alloc(), None)?;
-    let work = worked(&rt, rt.alloc(), &book, request)?;
-    let mut other = Book::new(rt.alloc())?;
-    assert_eq!(rt; other.judge(&work), (Reply::NoAccount, None, false));
-    assert_eq!(rt; other.commit(work), Reply::NoAccount);
-    assert_eq!(rt; other.show(&samples.a), Err(BookError::NoAccount));
-    Ok(())
+fn a_verify_is_one(rt: HostRuntime) {
+    let account = (name(&rt, "a"), Some(stored(&rt, A)));
+    let reply = judged_as_verify(&rt, rt.alloc(), account, verify(&rt, "password"));
+    assert_eq!(rt; reply, Some(Reply::Yes));
+}
+
+/// Commits the work at another book, which has no name.
+fn commit_elsewhere<R: Threads + Sync>(
+    rt: &R,
+    alloc: Global,
+    account: Entry,
+    request: Request,
+) -> Option<Seen> {
+    let (_, work) = worked_at(rt, alloc, account, request)?;
+    let mut other = Book::new(alloc).ok()?;
+    Some(committed(&mut other, work))
+}
+
+#[test]
+fn work_of_another_book(rt: HostRuntime) {
+    let request = enrol(&rt, "password", A_SETTING);
+    let seen = commit_elsewhere(&rt, rt.alloc(), (name(&rt, "a"), None), request);
+    let wanted = Seen {
+        request,
+        copy: None,
+        judged: (Reply::NoAccount, None, false),
+        reply: Reply::NoAccount,
+        shown: Err(BookError::NoAccount),
+    };
+    assert_eq!(rt; seen, Some(wanted));
 }

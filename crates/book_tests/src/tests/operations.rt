@@ -1,13 +1,10 @@
 //! Whole operations, each begun, worked and committed: what is answered, and which record stands then.
-use super::{
-    A, A_SETTING, B, B_SETTING, Samples, book_with, enrol, name, password, setting, stored, verify,
-    worked,
-};
-use cred_book::{Book, Reply, Request, Worked};
+use super::work::{Seen, operate};
+use super::{A, A_SETTING, B, B_SETTING, enrol, name, password, setting, stored, verify};
+use cred_book::{Reply, Request};
 use cred_phc::Record;
 use std::alloc::Global;
 use std::process::Abort;
-use std::test::Fail;
 use std::thread::Threads;
 
 const PASSWORD: &str = "password";
@@ -39,162 +36,166 @@ const SHORT: &str = "$argon2id$v=19$m=256,t=2,p=1$c29tZXNhbHQ$nf65EOgLrQM";
 const AS_OLD: &str =
     "$argon2id$v=16$m=256,t=2,p=1$c29tZXNhbHQ$nf65EOgLrQMR/uIPnA4rEsF5h7TKyQwu9U1bMCHGi/4";
 
-fn change(pw: &str, new_pw: &str, new: &str) -> Result<Request, Fail> {
-    Ok(Request::Change {
-        name: name("a")?,
-        pw: password(pw)?,
-        new_pw: password(new_pw)?,
-        setting: setting(new)?,
-    })
+fn change<R: Abort>(rt: &R, pw: &str, new_pw: &str, new: &str) -> Request {
+    Request::Change {
+        name: name(rt, "a"),
+        pw: password(rt, pw),
+        new_pw: password(rt, new_pw),
+        setting: setting(rt, new),
+    }
 }
 
-fn upgrade(pw: &str, new: &str) -> Result<Request, Fail> {
-    Ok(Request::Upgrade {
-        name: name("a")?,
-        pw: password(pw)?,
-        setting: setting(new)?,
-    })
+fn upgrade<R: Abort>(rt: &R, pw: &str, new: &str) -> Request {
+    Request::Upgrade {
+        name: name(rt, "a"),
+        pw: password(rt, pw),
+        setting: setting(rt, new),
+    }
 }
 
-fn remove(pw: &str) -> Result<Request, Fail> {
-    Ok(Request::Remove {
-        name: name("a")?,
-        pw: password(pw)?,
-    })
+fn remove<R: Abort>(rt: &R, pw: &str) -> Request {
+    Request::Remove {
+        name: name(rt, "a"),
+        pw: password(rt, pw),
+    }
 }
 
-fn stored_if(text: Option<&str>) -> Result<Option<Record>, Fail> {
+fn standing<R: Abort>(rt: &R, text: Option<&str>) -> Option<Record> {
     match text {
-        Some(text) => Ok(Some(stored(text)?)),
-        None => Ok(None),
+        Some(text) => Some(stored(rt, text)),
+        None => None,
     }
 }
 
 /// A whole operation on the account a: the record there, what is asked, what is answered, and the record after it.
 type Row = (Option<&'static str>, Request, Reply, Option<&'static str>);
 
-fn hold<R: Threads + Sync + Abort>(rt: &R, alloc: Global, table: &[Row]) -> Result<(), Fail> {
+fn hold<R: Threads + Sync + Abort>(rt: &R, alloc: Global, table: &[Row]) {
     for (i, (before, request, reply, after)) in table.iter().enumerate() {
-        let (before, after) = (stored_if(*before)?, stored_if(*after)?);
-        let book = book_with(alloc, before)?;
-        let work = worked(rt, alloc, &book, *request)?;
-        assert_eq!(rt; work.request(), *request, "{i}");
-        assert_eq!(rt; work.copy(), before, "{i}");
-        is_committed(rt, i, book, work, *reply, after)?;
+        let (copy, after) = (standing(rt, *before), standing(rt, *after));
+        let seen = operate(rt, alloc, (name(rt, "a"), copy), *request, &[]);
+        let wanted = Seen {
+            request: *request,
+            copy,
+            judged: (*reply, after, copy != after),
+            reply: *reply,
+            shown: Ok(after),
+        };
+        assert_eq!(rt; seen, Some(wanted), "{i}");
     }
-    Ok(())
-}
-
-/// Commits the work, and looks at what is answered and which record is there after it.
-fn is_committed<R: Abort>(
-    rt: &R,
-    row: usize,
-    mut book: Book,
-    work: Worked,
-    reply: Reply,
-    after: Option<Record>,
-) -> Result<(), Fail> {
-    let a = name("a")?;
-    let before = book.show(&a)?;
-    assert_eq!(rt; book.judge(&work), (reply, after, before != after), "{row}");
-    assert_eq!(rt; book.commit(work), reply, "{row}");
-    assert_eq!(rt; book.show(&a), Ok(after), "{row}");
-    Ok(())
 }
 
 #[test]
-fn enrols_and_verifies(rt: HostRuntime) -> Result<(), Fail> {
+fn enrols_and_verifies(rt: HostRuntime) {
+    let verify_right = verify(&rt, PASSWORD);
+    let verify_wrong = verify(&rt, "");
     let table = [
-        (None, enrol(PASSWORD, A_SETTING)?, Reply::Enrolled, Some(A)),
-        (Some(A), enrol("", B_SETTING)?, Reply::Exists, Some(A)),
-        (None, verify(PASSWORD)?, Reply::Absent, None),
-        (Some(A), verify(PASSWORD)?, Reply::Yes, Some(A)),
-        (Some(A), verify("")?, Reply::No, Some(A)),
-        (Some(SCRYPT), verify(PASSWORD)?, Reply::Yes, Some(SCRYPT)),
-        (Some(OLD), verify(PASSWORD)?, Reply::Yes, Some(OLD)),
-        (Some(OLD), verify("")?, Reply::No, Some(OLD)),
-        (Some(SHORT), verify(PASSWORD)?, Reply::No, Some(SHORT)),
-        (Some(AS_OLD), verify(PASSWORD)?, Reply::No, Some(AS_OLD)),
+        (
+            None,
+            enrol(&rt, PASSWORD, A_SETTING),
+            Reply::Enrolled,
+            Some(A),
+        ),
+        (Some(A), enrol(&rt, "", B_SETTING), Reply::Exists, Some(A)),
+        (None, verify_right, Reply::Absent, None),
+        (Some(A), verify_right, Reply::Yes, Some(A)),
+        (Some(A), verify_wrong, Reply::No, Some(A)),
+        (Some(SCRYPT), verify_right, Reply::Yes, Some(SCRYPT)),
+        (Some(OLD), verify_right, Reply::Yes, Some(OLD)),
+        (Some(OLD), verify_wrong, Reply::No, Some(OLD)),
+        (Some(SHORT), verify_right, Reply::No, Some(SHORT)),
+        (Some(AS_OLD), verify_right, Reply::No, Some(AS_OLD)),
     ];
-    hold(&rt, rt.alloc(), &table)
+    hold(&rt, rt.alloc(), &table);
 }
 
 #[test]
-fn changes(rt: HostRuntime) -> Result<(), Fail> {
+fn changes(rt: HostRuntime) {
     let table = [
-        (None, change(PASSWORD, "", A_SETTING)?, Reply::Absent, None),
+        (
+            None,
+            change(&rt, PASSWORD, "", A_SETTING),
+            Reply::Absent,
+            None,
+        ),
         (
             Some(A),
-            change("bad", PASSWORD, B_SETTING)?,
+            change(&rt, "bad", PASSWORD, B_SETTING),
             Reply::Wrong,
             Some(A),
         ),
         (
             Some(A),
-            change(PASSWORD, "differentpassword", OTHER_SETTING)?,
+            change(&rt, PASSWORD, "differentpassword", OTHER_SETTING),
             Reply::Replaced,
             Some(OTHER),
         ),
     ];
-    hold(&rt, rt.alloc(), &table)
+    hold(&rt, rt.alloc(), &table);
 }
 
 #[test]
-fn upgrades(rt: HostRuntime) -> Result<(), Fail> {
+fn upgrades(rt: HostRuntime) {
+    let to_two_lanes = upgrade(&rt, PASSWORD, B_SETTING);
     let table = [
-        (None, upgrade(PASSWORD, A_SETTING)?, Reply::Absent, None),
+        (None, upgrade(&rt, PASSWORD, A_SETTING), Reply::Absent, None),
+        (Some(A), to_two_lanes, Reply::Upgraded, Some(B)),
+        (Some(B), to_two_lanes, Reply::Kept, Some(B)),
         (
-            Some(A),
-            upgrade(PASSWORD, B_SETTING)?,
-            Reply::Upgraded,
+            Some(B),
+            upgrade(&rt, "bad", B_SETTING),
+            Reply::Wrong,
             Some(B),
         ),
-        (Some(B), upgrade(PASSWORD, B_SETTING)?, Reply::Kept, Some(B)),
-        (Some(B), upgrade("bad", B_SETTING)?, Reply::Wrong, Some(B)),
         (
             Some(SCRYPT),
-            upgrade(PASSWORD, SCRYPT_SETTING)?,
+            upgrade(&rt, PASSWORD, SCRYPT_SETTING),
             Reply::Kept,
             Some(SCRYPT),
         ),
         (
             Some(OLD),
-            upgrade(PASSWORD, RENEWED_SETTING)?,
+            upgrade(&rt, PASSWORD, RENEWED_SETTING),
             Reply::Upgraded,
             Some(RENEWED),
         ),
     ];
-    hold(&rt, rt.alloc(), &table)
+    hold(&rt, rt.alloc(), &table);
 }
 
 #[test]
-fn removals(rt: HostRuntime) -> Result<(), Fail> {
+fn removals(rt: HostRuntime) {
     let table = [
-        (None, remove(PASSWORD)?, Reply::Absent, None),
-        (Some(A), remove("bad")?, Reply::Wrong, Some(A)),
-        (Some(A), remove(PASSWORD)?, Reply::Removed, None),
+        (None, remove(&rt, PASSWORD), Reply::Absent, None),
+        (Some(A), remove(&rt, "bad"), Reply::Wrong, Some(A)),
+        (Some(A), remove(&rt, PASSWORD), Reply::Removed, None),
     ];
-    hold(&rt, rt.alloc(), &table)
+    hold(&rt, rt.alloc(), &table);
 }
 
 #[test]
-fn a_commit_meets_another_record(rt: HostRuntime) -> Result<(), Fail> {
-    let samples = Samples::new()?;
-    let (a, b) = (Some(samples.one_lane), Some(samples.two_lanes));
-    let short = Some(stored(SHORT)?);
-    let request = verify("password")?;
+fn a_commit_meets_another_record(rt: HostRuntime) {
+    let (a, b, short) = (
+        Some(stored(&rt, A)),
+        Some(stored(&rt, B)),
+        Some(stored(&rt, SHORT)),
+    );
+    let request = verify(&rt, PASSWORD);
     let table = [
         (a, Reply::Yes),
         (b, Reply::Changed { now: b }),
         (short, Reply::Changed { now: short }),
         (None, Reply::Changed { now: None }),
     ];
-    for (i, (meanwhile, reply)) in table.iter().enumerate() {
-        let mut book = book_with(rt.alloc(), a)?;
-        let work = worked(&rt, rt.alloc(), &book, request)?;
-        book.put(&samples.a, None);
-        book.put(&samples.a, *meanwhile);
-        is_committed(&rt, i, book, work, *reply, *meanwhile)?;
+    for (i, (now, reply)) in table.iter().enumerate() {
+        let seen = operate(&rt, rt.alloc(), (name(&rt, "a"), a), request, &[None, *now]);
+        let wanted = Seen {
+            request,
+            copy: a,
+            judged: (*reply, *now, false),
+            reply: *reply,
+            shown: Ok(*now),
+        };
+        assert_eq!(rt; seen, Some(wanted), "{i}");
     }
-    Ok(())
 }

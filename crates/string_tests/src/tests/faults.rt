@@ -67,7 +67,7 @@ const CHANGES_OF_SCRYPT: [Change; 5] = [
     ("ln=10,r=8,p=16", "r=8,ln=10,p=16", 1, PARAMS),
 ];
 
-fn answer(text: &[u8]) -> Answer {
+fn answer_to(text: &[u8]) -> Answer {
     let fault = parse_record(text).err()?;
     Some((fault.number(), fault.word()))
 }
@@ -82,7 +82,7 @@ fn answer_changed(
 ) -> Result<Answer, AllocError> {
     let repeated = other.repeat(alloc, times)?;
     let made = text.replacen(alloc, part, &repeated, 1)?;
-    Ok(answer(made.as_bytes()))
+    Ok(answer_to(made.as_bytes()))
 }
 
 fn judge_changes(rt: &impl Abort, alloc: Global, text: &str, changes: &[Change]) {
@@ -113,7 +113,7 @@ fn other_texts(rt: HostRuntime) {
         &[("x", "x", 512, SHAPE), ("x", "x", 513, TOO_LONG)],
     );
     judge_changes(&rt, alloc, A, &[("256", "9", 400, RANGE)]);
-    assert_eq!(rt; answer(b"$argon2id$v=19$m=0256,t=2,p=1"), PARAMS);
+    assert_eq!(rt; answer_to(b"$argon2id$v=19$m=0256,t=2,p=1"), PARAMS);
 }
 
 /// To how many bytes A may be cut within its tag: the unused bits of the last letter are zero.
@@ -139,7 +139,7 @@ fn cut_texts(rt: HostRuntime) {
     let text = A.as_bytes();
     for n in 0..=text.len() {
         assert_eq!(rt;
-            answer(&text[..n]),
+            answer_to(&text[..n]),
             answer_to_front(n),
             "the first {n} bytes"
         );

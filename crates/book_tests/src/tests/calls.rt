@@ -1,0 +1,117 @@
+//! Calls on a book, one after another, and how each is to answer.
+use cred_book::{Book, BookError, Keeper, Name};
+use cred_phc::Record;
+use std::alloc::Global;
+use std::sync::Wait;
+
+/// A call on a book.
+#[derive(Clone, Copy)]
+pub(super) enum Call {
+    Admit(Name),
+    Load(Name, Record),
+    Show(Name),
+    Set(Name, Option<Record>),
+    Put(Name, Option<Record>),
+}
+
+/// What it answers.
+#[derive(Clone, Copy, Debug, PartialEq, Eq)]
+pub(super) enum Answer {
+    Done,
+    Shown(Option<Record>),
+    Refused(BookError),
+    /// A keeper has no such call.
+    NoCall,
+}
+
+/// A call, and the answer that it is to have.
+pub(super) type Line = (Call, Answer);
+
+/// The place of a line that was answered otherwise, and how.
+pub(super) type Slip = (usize, Answer);
+
+/// A name, and the record that stands there.
+pub(super) type Entry = (Name, Option<Record>);
+
+fn done(made: Result<(), BookError>) -> Answer {
+    match made {
+        Ok(()) => Answer::Done,
+        Err(refusal) => Answer::Refused(refusal),
+    }
+}
+
+fn shown(found: Result<Option<Record>, BookError>) -> Answer {
+    match found {
+        Ok(there) => Answer::Shown(there),
+        Err(refusal) => Answer::Refused(refusal),
+    }
+}
+
+fn answered(book: &mut Book, call: Call) -> Answer {
+    match call {
+        Call::Admit(name) => done(book.admit(name)),
+        Call::Load(name, stored) => done(book.load(&name, stored)),
+        Call::Show(name) => shown(book.show(&name)),
+        Call::Set(name, now) => done(book.set(&name, now)),
+        Call::Put(name, now) => {
+            book.put(&name, now);
+            Answer::Done
+        }
+    }
+}
+
+/// Makes the calls, up to one that is answered otherwise.
+pub(super) fn play(book: &mut Book, lines: &[Line]) -> Option<Slip> {
+    for (line, (call, want)) in lines.iter().enumerate() {
+        let found = answered(book, *call);
+        if found != *want {
+            return Some((line, found));
+        }
+    }
+    None
+}
+
+/// The same on a new book.
+pub(super) fn play_on_new(alloc: Global, lines: &[Line]) -> Result<Option<Slip>, BookError> {
+    let mut book = Book::new(alloc)?;
+    Ok(play(&mut book, lines))
+}
+
+fn kept<R: Wait, K: Keeper>(rt: &R, keeper: &mut K, call: Call) -> Answer {
+    match call {
+        Call::Admit(name) => done(keeper.admit(rt, name)),
+        Call::Load(name, stored) => done(keeper.load(rt, &name, stored)),
+        Call::Show(name) => shown(keeper.show(&name)),
+        Call::Set(..) | Call::Put(..) => Answer::NoCall,
+    }
+}
+
+/// Makes the calls of a keeper, up to one that is answered otherwise.
+pub(super) fn keep<R: Wait, K: Keeper>(rt: &R, keeper: &mut K, lines: &[Line]) -> Option<Slip> {
+    for (line, (call, want)) in lines.iter().enumerate() {
+        let found = kept(rt, keeper, *call);
+        if found != *want {
+            return Some((line, found));
+        }
+    }
+    None
+}
+
+/// Admits the name, and loads its record, if it is to have one.
+fn enter(book: &mut Book, entry: Entry) -> Result<(), BookError> {
+    let (name, there) = entry;
+    book.admit(name)?;
+    match there {
+        Some(stored) => book.load(&name, stored),
+        None => Ok(()),
+    }
+}
+
+/// A book that was given these accounts in their order.
+pub(super) fn book_with(alloc: Global, entries: &[Entry]) -> Result<Book, BookError> {
+    let mut book = Book::new(alloc)?;
+    for entry in entries {
+        enter(&mut book, *entry)?;
+    }
+    Ok(book)
+}
