@@ -39,28 +39,46 @@ fn play_after(alloc: Global, entries: &[Entry], lines: &[Line]) -> Result<Option
 
 #[test]
 fn the_order_of_admission_is_forgotten(rt: HostRuntime) {
-    let (one_lane, two_lanes) = (Some(stored(&rt, A)), Some(stored(&rt, B)));
-    let a = (name(&rt, "a"), one_lane);
-    let minus = (name(&rt, "a-"), None);
-    let aa = (name(&rt, "aa"), two_lanes);
-    let b = (name(&rt, "b"), None);
-    let zed = (name(&rt, "zed"), None);
+    let (one_lane, two_lanes) = (stored(&rt, A), stored(&rt, B));
+    let (a, minus, aa) = (name(&rt, "a"), name(&rt, "a-"), name(&rt, "aa"));
+    let (ab, b, zed) = (name(&rt, "ab"), name(&rt, "b"), name(&rt, "zed"));
     let lines = [
-        (Call::Show(a.0), Answer::Shown(one_lane)),
-        (Call::Show(minus.0), Answer::Shown(None)),
-        (Call::Show(aa.0), Answer::Shown(two_lanes)),
-        (
-            Call::Show(name(&rt, "ab")),
-            Answer::Refused(BookError::NoAccount),
-        ),
-        (Call::Show(b.0), Answer::Shown(None)),
-        (Call::Show(zed.0), Answer::Shown(None)),
+        (Call::Show(a), Answer::Shown(Some(one_lane))),
+        (Call::Show(minus), Answer::Shown(None)),
+        (Call::Show(aa), Answer::Shown(Some(two_lanes))),
+        (Call::Show(ab), Answer::Refused(BookError::NoAccount)),
+        (Call::Show(b), Answer::Shown(None)),
+        (Call::Show(zed), Answer::Shown(None)),
     ];
     let orders = [
-        [a, minus, aa, b, zed],
-        [zed, b, aa, minus, a],
-        [aa, zed, a, b, minus],
-        [b, a, zed, minus, aa],
+        [
+            (a, Some(one_lane)),
+            (minus, None),
+            (aa, Some(two_lanes)),
+            (b, None),
+            (zed, None),
+        ],
+        [
+            (zed, None),
+            (b, None),
+            (aa, Some(two_lanes)),
+            (minus, None),
+            (a, Some(one_lane)),
+        ],
+        [
+            (aa, Some(two_lanes)),
+            (zed, None),
+            (a, Some(one_lane)),
+            (b, None),
+            (minus, None),
+        ],
+        [
+            (b, None),
+            (a, Some(one_lane)),
+            (zed, None),
+            (minus, None),
+            (aa, Some(two_lanes)),
+        ],
     ];
     for (i, order) in orders.iter().enumerate() {
         assert_eq!(rt;

@@ -20,33 +20,33 @@ fn play_on_both(
 
 #[test]
 fn a_copy_shows_the_record(rt: HostRuntime) {
-    let (a, b, one_lane) = (name(&rt, "a"), name(&rt, "b"), Some(stored(&rt, A)));
+    let (a, b, one_lane) = (name(&rt, "a"), name(&rt, "b"), stored(&rt, A));
     let lines = [(Call::Set(a, None), Answer::Done)];
     let of_copy = [
-        (Call::Show(a), Answer::Shown(one_lane)),
+        (Call::Show(a), Answer::Shown(Some(one_lane))),
         (Call::Show(b), Answer::Refused(BookError::NoAccount)),
     ];
-    let slips = play_on_both(rt.alloc(), (a, one_lane), &lines, &of_copy);
+    let slips = play_on_both(rt.alloc(), (a, Some(one_lane)), &lines, &of_copy);
     assert_eq!(rt; slips, Ok([None, None]));
 }
 
 #[test]
 fn set_wants_the_name_and_put_adds_it(rt: HostRuntime) {
     let (a, b) = (name(&rt, "a"), name(&rt, "b"));
-    let (one_lane, two_lanes) = (Some(stored(&rt, A)), Some(stored(&rt, B)));
+    let (one_lane, two_lanes) = (stored(&rt, A), stored(&rt, B));
     let lines = [
         (
-            Call::Set(b, two_lanes),
+            Call::Set(b, Some(two_lanes)),
             Answer::Refused(BookError::NoAccount),
         ),
         (Call::Show(b), Answer::Refused(BookError::NoAccount)),
-        (Call::Put(b, two_lanes), Answer::Done),
-        (Call::Show(b), Answer::Shown(two_lanes)),
+        (Call::Put(b, Some(two_lanes)), Answer::Done),
+        (Call::Show(b), Answer::Shown(Some(two_lanes))),
         (Call::Put(b, None), Answer::Done),
         (Call::Show(b), Answer::Shown(None)),
-        (Call::Show(a), Answer::Shown(one_lane)),
+        (Call::Show(a), Answer::Shown(Some(one_lane))),
     ];
-    let slips = play_on_both(rt.alloc(), (a, one_lane), &lines, &[]);
+    let slips = play_on_both(rt.alloc(), (a, Some(one_lane)), &lines, &[]);
     assert_eq!(rt; slips, Ok([None, None]));
 }
 
@@ -61,9 +61,9 @@ fn begun_without_account(alloc: Global, request: Request) -> Option<(Request, Bo
 
 #[test]
 fn a_beginning_without_account(rt: HostRuntime) {
-    let request = verify(&rt, "password");
-    let refusal = begun_without_account(rt.alloc(), request);
-    assert_eq!(rt; refusal, Some((request, BookError::NoAccount)));
+    let refusal = begun_without_account(rt.alloc(), verify(&rt, "password"));
+    let wanted = (verify(&rt, "password"), BookError::NoAccount);
+    assert_eq!(rt; refusal, Some(wanted));
 }
 
 /// Commits the work that comes back where it isn't a verify's.
@@ -80,16 +80,9 @@ fn commit_handed_back<R: Threads + Sync>(
 
 #[test]
 fn an_enrol_is_no_verify(rt: HostRuntime) {
-    let request = enrol(&rt, "password", A_SETTING);
-    let one_lane = Some(stored(&rt, A));
-    let seen = commit_handed_back(&rt, rt.alloc(), (name(&rt, "a"), None), request);
-    let wanted = Seen {
-        request,
-        copy: None,
-        judged: (Reply::Enrolled, one_lane, true),
-        reply: Reply::Enrolled,
-        shown: Ok(one_lane),
-    };
+    let wanted = Seen::enrolled(enrol(&rt, "password", A_SETTING), stored(&rt, A));
+    let account = (name(&rt, "a"), None);
+    let seen = commit_handed_back(&rt, rt.alloc(), account, wanted.request);
     assert_eq!(rt; seen, Some(wanted));
 }
 
@@ -126,14 +119,14 @@ fn commit_elsewhere<R: Threads + Sync>(
 
 #[test]
 fn work_of_another_book(rt: HostRuntime) {
-    let request = enrol(&rt, "password", A_SETTING);
-    let seen = commit_elsewhere(&rt, rt.alloc(), (name(&rt, "a"), None), request);
     let wanted = Seen {
-        request,
+        request: enrol(&rt, "password", A_SETTING),
         copy: None,
         judged: (Reply::NoAccount, None, false),
         reply: Reply::NoAccount,
         shown: Err(BookError::NoAccount),
     };
+    let account = (name(&rt, "a"), None);
+    let seen = commit_elsewhere(&rt, rt.alloc(), account, wanted.request);
     assert_eq!(rt; seen, Some(wanted));
 }

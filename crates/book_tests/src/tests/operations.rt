@@ -87,8 +87,6 @@ fn hold<R: Threads + Sync + Abort>(rt: &R, alloc: Global, table: &[Row]) {
 
 #[test]
 fn enrols_and_verifies(rt: HostRuntime) {
-    let verify_right = verify(&rt, PASSWORD);
-    let verify_wrong = verify(&rt, "");
     let table = [
         (
             None,
@@ -97,14 +95,19 @@ fn enrols_and_verifies(rt: HostRuntime) {
             Some(A),
         ),
         (Some(A), enrol(&rt, "", B_SETTING), Reply::Exists, Some(A)),
-        (None, verify_right, Reply::Absent, None),
-        (Some(A), verify_right, Reply::Yes, Some(A)),
-        (Some(A), verify_wrong, Reply::No, Some(A)),
-        (Some(SCRYPT), verify_right, Reply::Yes, Some(SCRYPT)),
-        (Some(OLD), verify_right, Reply::Yes, Some(OLD)),
-        (Some(OLD), verify_wrong, Reply::No, Some(OLD)),
-        (Some(SHORT), verify_right, Reply::No, Some(SHORT)),
-        (Some(AS_OLD), verify_right, Reply::No, Some(AS_OLD)),
+        (None, verify(&rt, PASSWORD), Reply::Absent, None),
+        (Some(A), verify(&rt, PASSWORD), Reply::Yes, Some(A)),
+        (Some(A), verify(&rt, ""), Reply::No, Some(A)),
+        (
+            Some(SCRYPT),
+            verify(&rt, PASSWORD),
+            Reply::Yes,
+            Some(SCRYPT),
+        ),
+        (Some(OLD), verify(&rt, PASSWORD), Reply::Yes, Some(OLD)),
+        (Some(OLD), verify(&rt, ""), Reply::No, Some(OLD)),
+        (Some(SHORT), verify(&rt, PASSWORD), Reply::No, Some(SHORT)),
+        (Some(AS_OLD), verify(&rt, PASSWORD), Reply::No, Some(AS_OLD)),
     ];
     hold(&rt, rt.alloc(), &table);
 }
@@ -136,11 +139,20 @@ fn changes(rt: HostRuntime) {
 
 #[test]
 fn upgrades(rt: HostRuntime) {
-    let to_two_lanes = upgrade(&rt, PASSWORD, B_SETTING);
     let table = [
         (None, upgrade(&rt, PASSWORD, A_SETTING), Reply::Absent, None),
-        (Some(A), to_two_lanes, Reply::Upgraded, Some(B)),
-        (Some(B), to_two_lanes, Reply::Kept, Some(B)),
+        (
+            Some(A),
+            upgrade(&rt, PASSWORD, B_SETTING),
+            Reply::Upgraded,
+            Some(B),
+        ),
+        (
+            Some(B),
+            upgrade(&rt, PASSWORD, B_SETTING),
+            Reply::Kept,
+            Some(B),
+        ),
         (
             Some(B),
             upgrade(&rt, "bad", B_SETTING),
@@ -175,27 +187,23 @@ fn removals(rt: HostRuntime) {
 
 #[test]
 fn a_commit_meets_another_record(rt: HostRuntime) {
-    let (a, b, short) = (
-        Some(stored(&rt, A)),
-        Some(stored(&rt, B)),
-        Some(stored(&rt, SHORT)),
-    );
-    let request = verify(&rt, PASSWORD);
+    let (a, b, short) = (stored(&rt, A), stored(&rt, B), stored(&rt, SHORT));
     let table = [
-        (a, Reply::Yes),
-        (b, Reply::Changed { now: b }),
-        (short, Reply::Changed { now: short }),
+        (Some(a), Reply::Yes),
+        (Some(b), Reply::Changed { now: Some(b) }),
+        (Some(short), Reply::Changed { now: Some(short) }),
         (None, Reply::Changed { now: None }),
     ];
     for (i, (now, reply)) in table.iter().enumerate() {
-        let seen = operate(&rt, rt.alloc(), (name(&rt, "a"), a), request, &[None, *now]);
         let wanted = Seen {
-            request,
-            copy: a,
+            request: verify(&rt, PASSWORD),
+            copy: Some(a),
             judged: (*reply, *now, false),
             reply: *reply,
             shown: Ok(*now),
         };
+        let account = (name(&rt, "a"), Some(a));
+        let seen = operate(&rt, rt.alloc(), account, wanted.request, &[None, *now]);
         assert_eq!(rt; seen, Some(wanted), "{i}");
     }
 }

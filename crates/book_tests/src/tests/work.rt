@@ -18,6 +18,19 @@ pub(super) struct Seen {
     pub(super) shown: Result<Option<Record>, BookError>,
 }
 
+impl Seen {
+    /// An enrol at an account with no record, which makes this one.
+    pub(super) fn enrolled(request: Request, made: Record) -> Seen {
+        Seen {
+            request,
+            copy: None,
+            judged: (Reply::Enrolled, Some(made), true),
+            reply: Reply::Enrolled,
+            shown: Ok(Some(made)),
+        }
+    }
+}
+
 /// A ticket of the request; none where it is refused.
 pub(super) fn begun(book: &Book, request: Request) -> Option<Ticket> {
     if !request.is_for_current() {

@@ -112,14 +112,7 @@ fn operate_again<R: Threads + Sync>(
 #[test]
 fn refused_work(rt: HostRuntime) {
     let request = enrol(&rt, "password", A_SETTING);
-    let one_lane = Some(stored(&rt, A));
-    let wanted = Seen {
-        request,
-        copy: None,
-        judged: (Reply::Enrolled, one_lane, true),
-        reply: Reply::Enrolled,
-        shown: Ok(one_lane),
-    };
+    let wanted = Seen::enrolled(request, stored(&rt, A));
     let seen = operate_again(&rt, rt.alloc(), name(&rt, "a"), request);
     assert!(rt; seen == Ok(Some(wanted)) || seen == Err(BookError::Memory));
 }
