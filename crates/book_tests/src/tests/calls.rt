@@ -15,7 +15,7 @@ pub(super) enum Call {
 }
 
 /// What it answers.
-#[derive(Clone, Copy, Debug, PartialEq, Eq)]
+#[derive(Clone, Copy, PartialEq, Eq)]
 pub(super) enum Answer {
     Done,
     Shown(Option<Record>),
@@ -27,8 +27,8 @@ pub(super) enum Answer {
 /// A call, and the answer that it is to have.
 pub(super) type Line = (Call, Answer);
 
-/// The place of a line that was answered otherwise, and how.
-pub(super) type Slip = (usize, Answer);
+/// The place of a line that was answered otherwise.
+pub(super) type Slip = usize;
 
 /// A name, and the record that stands there.
 pub(super) type Entry = (Name, Option<Record>);
@@ -63,9 +63,8 @@ fn answered(book: &mut Book, call: Call) -> Answer {
 /// Makes the calls, up to one that is answered otherwise.
 pub(super) fn play(book: &mut Book, lines: &[Line]) -> Option<Slip> {
     for (line, (call, want)) in lines.iter().enumerate() {
-        let found = answered(book, *call);
-        if found != *want {
-            return Some((line, found));
+        if answered(book, *call) != *want {
+            return Some(line);
         }
     }
     None
@@ -89,9 +88,8 @@ fn kept<R: Wait, K: Keeper>(rt: &R, keeper: &mut K, call: Call) -> Answer {
 /// Makes the calls of a keeper, up to one that is answered otherwise.
 pub(super) fn keep<R: Wait, K: Keeper>(rt: &R, keeper: &mut K, lines: &[Line]) -> Option<Slip> {
     for (line, (call, want)) in lines.iter().enumerate() {
-        let found = kept(rt, keeper, *call);
-        if found != *want {
-            return Some((line, found));
+        if kept(rt, keeper, *call) != *want {
+            return Some(line);
         }
     }
     None
@@ -107,11 +105,18 @@ fn enter(book: &mut Book, entry: Entry) -> Result<(), BookError> {
     }
 }
 
+fn enter_all(book: &mut Book, entries: &[Entry]) -> Result<(), BookError> {
+    for entry in entries {
+        enter(book, *entry)?;
+    }
+    Ok(())
+}
+
 /// A book that was given these accounts in their order.
 pub(super) fn book_with(alloc: Global, entries: &[Entry]) -> Result<Book, BookError> {
     let mut book = Book::new(alloc)?;
-    for entry in entries {
-        enter(&mut book, *entry)?;
+    match enter_all(&mut book, entries) {
+        Ok(()) => Ok(book),
+        Err(refusal) => Err(refusal),
     }
-    Ok(book)
 }
