@@ -14,15 +14,11 @@ pub(super) enum Call {
     Put(Name, Option<Record>),
 }
 
-/// What it answers.
-#[derive(Clone, Copy, PartialEq, Eq)]
-pub(super) enum Answer {
-    Done,
-    Shown(Option<Record>),
-    Refused(BookError),
-    /// A keeper has no such call.
-    NoCall,
-}
+/// What it answers: the record that is shown, if one is.
+pub(super) type Answer = Result<Option<Record>, BookError>;
+
+/// The answer of a call that is done and shows nothing.
+pub(super) const DONE: Answer = Ok(None);
 
 /// A call, and the answer that it is to have.
 pub(super) type Line = (Call, Answer);
@@ -35,15 +31,8 @@ pub(super) type Entry = (Name, Option<Record>);
 
 fn done(made: Result<(), BookError>) -> Answer {
     match made {
-        Ok(()) => Answer::Done,
-        Err(refusal) => Answer::Refused(refusal),
-    }
-}
-
-fn shown(found: Result<Option<Record>, BookError>) -> Answer {
-    match found {
-        Ok(there) => Answer::Shown(there),
-        Err(refusal) => Answer::Refused(refusal),
+        Ok(()) => DONE,
+        Err(refusal) => Err(refusal),
     }
 }
 
@@ -51,11 +40,11 @@ fn answered(book: &mut Book, call: Call) -> Answer {
     match call {
         Call::Admit(name) => done(book.admit(name)),
         Call::Load(name, stored) => done(book.load(&name, stored)),
-        Call::Show(name) => shown(book.show(&name)),
+        Call::Show(name) => book.show(&name),
         Call::Set(name, now) => done(book.set(&name, now)),
         Call::Put(name, now) => {
             book.put(&name, now);
-            Answer::Done
+            DONE
         }
     }
 }
@@ -76,19 +65,20 @@ pub(super) fn play_on_new(alloc: Global, lines: &[Line]) -> Result<Option<Slip>,
     Ok(play(&mut book, lines))
 }
 
-fn kept<R: Wait, K: Keeper>(rt: &R, keeper: &mut K, call: Call) -> Answer {
+/// What a keeper answers to the call; none where keepers have no such call.
+fn kept<R: Wait, K: Keeper>(rt: &R, keeper: &mut K, call: Call) -> Option<Answer> {
     match call {
-        Call::Admit(name) => done(keeper.admit(rt, name)),
-        Call::Load(name, stored) => done(keeper.load(rt, &name, stored)),
-        Call::Show(name) => shown(keeper.show(&name)),
-        Call::Set(..) | Call::Put(..) => Answer::NoCall,
+        Call::Admit(name) => Some(done(keeper.admit(rt, name))),
+        Call::Load(name, stored) => Some(done(keeper.load(rt, &name, stored))),
+        Call::Show(name) => Some(keeper.show(&name)),
+        Call::Set(..) | Call::Put(..) => None,
     }
 }
 
 /// Makes the calls of a keeper, up to one that is answered otherwise.
 pub(super) fn keep<R: Wait, K: Keeper>(rt: &R, keeper: &mut K, lines: &[Line]) -> Option<Slip> {
     for (line, (call, want)) in lines.iter().enumerate() {
-        if kept(rt, keeper, *call) != *want {
+        if kept(rt, keeper, *call) != Some(*want) {
             return Some(line);
         }
     }
@@ -96,7 +86,7 @@ pub(super) fn keep<R: Wait, K: Keeper>(rt: &R, keeper: &mut K, lines: &[Line]) -
 }
 
 /// Admits the name, and loads its record, if it is to have one.
-fn enter(book: &mut Book, entry: Entry) -> Result<(), BookError> {
+pub(super) fn enter(book: &mut Book, entry: Entry) -> Result<(), BookError> {
     let (name, there) = entry;
     book.admit(name)?;
     match there {

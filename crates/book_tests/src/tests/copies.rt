@@ -1,5 +1,5 @@
 //! Copies of a book, entries that are put there, and work that is handed back or comes from another book.
-use super::calls::{Answer, Call, Entry, Line, Slip, book_with, play};
+use super::calls::{Call, DONE, Entry, Line, Slip, book_with, play};
 use super::work::{Seen, committed, worked_at};
 use super::{A, A_SETTING, B, enrol, name, stored, verify};
 use cred_book::{Book, BookError, Reply, Request};
@@ -21,10 +21,10 @@ fn play_on_both(
 #[test]
 fn a_copy_shows_the_record(rt: HostRuntime) {
     let (a, b, one_lane) = (name(&rt, "a"), name(&rt, "b"), stored(&rt, A));
-    let lines = [(Call::Set(a, None), Answer::Done)];
+    let lines = [(Call::Set(a, None), DONE)];
     let of_copy = [
-        (Call::Show(a), Answer::Shown(Some(one_lane))),
-        (Call::Show(b), Answer::Refused(BookError::NoAccount)),
+        (Call::Show(a), Ok(Some(one_lane))),
+        (Call::Show(b), Err(BookError::NoAccount)),
     ];
     let slips = play_on_both(rt.alloc(), (a, Some(one_lane)), &lines, &of_copy);
     assert_eq!(rt; slips, Ok([None, None]));
@@ -35,16 +35,13 @@ fn set_wants_the_name_and_put_adds_it(rt: HostRuntime) {
     let (a, b) = (name(&rt, "a"), name(&rt, "b"));
     let (one_lane, two_lanes) = (stored(&rt, A), stored(&rt, B));
     let lines = [
-        (
-            Call::Set(b, Some(two_lanes)),
-            Answer::Refused(BookError::NoAccount),
-        ),
-        (Call::Show(b), Answer::Refused(BookError::NoAccount)),
-        (Call::Put(b, Some(two_lanes)), Answer::Done),
-        (Call::Show(b), Answer::Shown(Some(two_lanes))),
-        (Call::Put(b, None), Answer::Done),
-        (Call::Show(b), Answer::Shown(None)),
-        (Call::Show(a), Answer::Shown(Some(one_lane))),
+        (Call::Set(b, Some(two_lanes)), Err(BookError::NoAccount)),
+        (Call::Show(b), Err(BookError::NoAccount)),
+        (Call::Put(b, Some(two_lanes)), DONE),
+        (Call::Show(b), Ok(Some(two_lanes))),
+        (Call::Put(b, None), DONE),
+        (Call::Show(b), Ok(None)),
+        (Call::Show(a), Ok(Some(one_lane))),
     ];
     let slips = play_on_both(rt.alloc(), (a, Some(one_lane)), &lines, &[]);
     assert_eq!(rt; slips, Ok([None, None]));

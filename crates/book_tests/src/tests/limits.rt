@@ -1,6 +1,6 @@
 //! The most accounts that a book has, and the memory that it takes. `refused_book` holds whether or not the request is
 //! refused: `rt try --test --fail-alloc 1` refuses it.
-use super::calls::{Answer, Call, Line, Slip, play, play_on_new};
+use super::calls::{Call, DONE, Line, Slip, play, play_on_new};
 use super::{A, name, stored};
 use cred_book::{Book, BookError, Name};
 use cred_phc::Record;
@@ -68,26 +68,20 @@ fn full(rt: HostRuntime) {
     let (first, there, new) = (name(&rt, "n0000"), name(&rt, "n4095"), name(&rt, "n4096"));
     let one_lane = stored(&rt, A);
     let lines = [
-        (Call::Admit(new), Answer::Refused(BookError::Full)),
-        (Call::Admit(there), Answer::Refused(BookError::Exists)),
-        (Call::Show(new), Answer::Refused(BookError::NoAccount)),
-        (
-            Call::Load(new, one_lane),
-            Answer::Refused(BookError::NoAccount),
-        ),
-        (Call::Load(there, one_lane), Answer::Done),
-        (Call::Show(there), Answer::Shown(Some(one_lane))),
-        (Call::Show(first), Answer::Shown(None)),
+        (Call::Admit(new), Err(BookError::Full)),
+        (Call::Admit(there), Err(BookError::Exists)),
+        (Call::Show(new), Err(BookError::NoAccount)),
+        (Call::Load(new, one_lane), Err(BookError::NoAccount)),
+        (Call::Load(there, one_lane), DONE),
+        (Call::Show(there), Ok(Some(one_lane))),
+        (Call::Show(first), Ok(None)),
     ];
     assert_eq!(rt; play_on_full(rt.alloc(), &lines), Ok((None, None, None)));
 }
 
 #[test]
 fn refused_book(rt: HostRuntime) {
-    let lines = [(
-        Call::Show(name(&rt, "a")),
-        Answer::Refused(BookError::NoAccount),
-    )];
+    let lines = [(Call::Show(name(&rt, "a")), Err(BookError::NoAccount))];
     let found = play_on_new(rt.alloc(), &lines);
     assert!(rt; found == Ok(None) || found == Err(BookError::Memory));
 }

@@ -7,7 +7,7 @@ use std::alloc::Global;
 use std::thread::Threads;
 
 /// What is seen of work that is committed.
-#[derive(Clone, Copy, PartialEq, Eq)]
+#[derive(Clone, Copy, PartialEq)]
 pub(super) struct Seen {
     pub(super) request: Request,
     pub(super) copy: Option<Record>,
