@@ -1,1 +1,5 @@
-//! Tests of the book of accounts: what no clause of `cred_book` says.
+//! Tests of the book of accounts, over what is public in `cred_book`: what none of its clauses says.
+#![tactic(auto)]
+
+#[cfg(test)]
+mod tests;

@@ -20,6 +20,3 @@ pub use reply::Reply;
 pub use request::Request;
 pub use same::same_is_equality;
 pub use ticket::{Ticket, VerifyWorked, Worked};
-
-#[cfg(test)]
-mod tests;

@@ -33,6 +33,3 @@ pub use setting::Setting;
 pub use short_bytes::ShortBytes;
 pub use tag::Tag;
 pub use write::{write_record, write_setting};
-
-#[cfg(test)]
-mod tests;

@@ -1,1 +1,5 @@
-//! Tests of the strings: what no clause of `cred_phc` says.
+//! Tests of the strings, over what is public in `cred_phc`: what none of its clauses says.
+#![tactic(auto)]
+
+#[cfg(test)]
+mod tests;

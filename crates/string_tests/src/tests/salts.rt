@@ -3,11 +3,11 @@
 ghost use Rattle.std.specs.Prelude.{ℕ, ◌+◌, ◌%◌, ◌^◌};
 ghost use Rattle.rand_core.specs.Steps.{stream_of, steps_u32};
 
-use crate::{Scheme, Setting, Variant, Version, draw_salt, write_setting};
+use super::{A_SCHEME, is_setting_text};
+use cred_phc::{Setting, draw_salt};
 use rand_core::utils::NextWord;
 use rand_core::{Rng, utils};
 use std::marker::Model;
-use std::test::Fail;
 
 /// A source of words, each of whose bytes is 4 above that of the word before.
 #[derive(Drop)]
@@ -45,23 +45,18 @@ impl Rng for Counter {
     }
 }
 
-#[test]
-fn drawn_salt(rt: HostRuntime) -> Result<(), Fail> {
+/// The salt that is drawn from a source, and the word that the source gives next.
+fn drawn() -> ([u8; 16], u32) {
     let mut source = Counter(0x0302_0100);
     let salt = draw_salt(&mut source);
-    let scheme = Scheme::Argon2 {
-        version: Version::V13,
-        variant: Variant::Id,
-        m: 256,
-        t: 2,
-        p: 1,
-    };
-    let setting = Setting::new(scheme, &salt)?;
-    let text = write_setting(rt.alloc(), &setting)?;
-    assert_eq!(rt;
-        text.as_slice(),
-        b"$argon2id$v=19$m=256,t=2,p=1$AAECAwQFBgcICQoLDA0ODw".as_slice()
-    );
-    assert_eq!(rt; source.next_u32(), 0x1312_1110);
-    Ok(())
+    (salt, source.next_u32())
+}
+
+#[test]
+fn drawn_salt(rt: HostRuntime) {
+    let (salt, next) = drawn();
+    let setting = Setting::new(A_SCHEME, &salt).expect(&rt, "a setting");
+    let text = b"$argon2id$v=19$m=256,t=2,p=1$AAECAwQFBgcICQoLDA0ODw";
+    assert_eq!(rt; is_setting_text(rt.alloc(), &setting, text), Ok(true));
+    assert_eq!(rt; next, 0x1312_1110);
 }

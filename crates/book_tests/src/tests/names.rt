@@ -1,12 +1,14 @@
 //! Which bytes are a name, and in which order names are.
-use super::name;
-use crate::{BookError, Name};
+use cred_book::{BookError, Name};
 use std::cmp::Ordering;
-use std::process::Abort;
-use std::test::Fail;
 
 /// The bytes that may stand in a name.
 const NAME_BYTES: &str = "abcdefghijklmnopqrstuvwxyz0123456789._-";
+
+/// Whether the name that is made of the text has its bytes.
+fn has_its_bytes(text: &str) -> Result<bool, BookError> {
+    Ok(Name::new(text.as_bytes())?.bytes() == text.as_bytes())
+}
 
 #[test]
 fn a_name_has_1_to_32_of_its_bytes(rt: HostRuntime) {
@@ -28,16 +30,12 @@ fn a_name_has_1_to_32_of_its_bytes(rt: HostRuntime) {
         ("é", false),
     ];
     for (text, is_name) in table {
-        match name(text) {
-            Ok(made) => {
-                assert!(rt; is_name, "{text}");
-                assert_eq!(rt; made.bytes(), text.as_bytes());
-            }
-            Err(refusal) => {
-                assert!(rt; !is_name, "{text}");
-                assert_eq!(rt; refusal, BookError::Name);
-            }
-        }
+        let wanted = if is_name {
+            Ok(true)
+        } else {
+            Err(BookError::Name)
+        };
+        assert_eq!(rt; has_its_bytes(text), wanted, "{text}");
     }
 }
 
@@ -54,23 +52,21 @@ fn each_byte_alone_and_last(rt: HostRuntime) {
     }
 }
 
-fn names_compare<R: Abort>(rt: &R, low: &str, high: &str, wanted: Ordering) -> Result<(), Fail> {
-    let (low, high) = (name(low)?, name(high)?);
-    assert_eq!(rt; low.cmp(&high), wanted);
-    assert_eq!(rt; low < high, wanted == Ordering::Less);
-    assert_eq!(rt; low == high, wanted == Ordering::Equal);
-    Ok(())
+/// How the names of the texts are ordered, whether the first is lower, and whether they are equal.
+fn compared(low: &str, high: &str) -> Result<(Ordering, bool, bool), BookError> {
+    let (low, high) = (Name::new(low.as_bytes())?, Name::new(high.as_bytes())?);
+    Ok((low.cmp(&high), low < high, low == high))
 }
 
 #[test]
-fn names_are_in_the_order_of_their_bytes(rt: HostRuntime) -> Result<(), Fail> {
+fn names_are_in_the_order_of_their_bytes(rt: HostRuntime) {
     let sorted = [
         "-", "-a", ".", "0", "10", "9", "_", "a", "a-", "aa", "aaa", "ab", "b", "zz",
     ];
     for (i, low) in sorted.iter().enumerate() {
         for (k, high) in sorted.iter().enumerate() {
-            names_compare(&rt, low, high, i.cmp(&k))?;
+            let wanted = (i.cmp(&k), i < k, i == k);
+            assert_eq!(rt; compared(low, high), Ok(wanted), "{low} and {high}");
         }
     }
-    Ok(())
 }

@@ -1,5 +1,5 @@
 //! The numbers and the words of the refusals.
-use crate::BookError;
+use cred_book::BookError;
 
 #[test]
 fn refusals_have_numbers_and_words(rt: HostRuntime) {

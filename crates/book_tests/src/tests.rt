@@ -1,0 +1,63 @@
+//! That the calls succeed, that the rules of names and the limit are those that were meant, that whole operations
+//! answer as records from outside want it, and what want of memory leaves.
+//!
+//! `calls` plays calls on a book and `work` whole operations; the other files have the tests. What a test asserts it is
+//! handed as a plain value, since its proof is far longer where a book is alive beside an assertion.
+
+mod accounts;
+mod calls;
+mod copies;
+mod limits;
+mod names;
+mod operations;
+mod refusals;
+mod work;
+mod workers;
+
+use cred_book::{Name, Request};
+use cred_phc::{Password, Record, Setting, parse_record, parse_setting};
+use std::process::Abort;
+
+/// The settings of `A` and `B`.
+const A_SETTING: &str = "$argon2id$v=19$m=256,t=2,p=1$c29tZXNhbHQ";
+
+const B_SETTING: &str = "$argon2id$v=19$m=256,t=2,p=2$c29tZXNhbHQ";
+
+/// The record of `password` and `somesalt` by the reference program of Argon2, with one lane.
+const A: &str =
+    "$argon2id$v=19$m=256,t=2,p=1$c29tZXNhbHQ$nf65EOgLrQMR/uIPnA4rEsF5h7TKyQwu9U1bMCHGi/4";
+
+/// The same with two lanes.
+const B: &str =
+    "$argon2id$v=19$m=256,t=2,p=2$c29tZXNhbHQ$bQk8UB/VmZZF4Oo79iDXuL5/0ttZwg2f/5U52iv1cDc";
+
+fn name<R: Abort>(rt: &R, text: &str) -> Name {
+    Name::new(text.as_bytes()).expect(rt, "a name")
+}
+
+fn stored<R: Abort>(rt: &R, text: &str) -> Record {
+    parse_record(text.as_bytes()).expect(rt, "a record")
+}
+
+fn setting<R: Abort>(rt: &R, text: &str) -> Setting {
+    parse_setting(text.as_bytes()).expect(rt, "a setting")
+}
+
+fn password<R: Abort>(rt: &R, text: &str) -> Password {
+    Password::new(text.as_bytes()).expect(rt, "a password")
+}
+
+fn enrol<R: Abort>(rt: &R, pw: &str, new: &str) -> Request {
+    Request::Enrol {
+        name: name(rt, "a"),
+        pw: password(rt, pw),
+        setting: setting(rt, new),
+    }
+}
+
+fn verify<R: Abort>(rt: &R, pw: &str) -> Request {
+    Request::Verify {
+        name: name(rt, "a"),
+        pw: password(rt, pw),
+    }
+}

@@ -1,0 +1,209 @@
+//! Whole operations, each begun, worked and committed: what is answered, and which record stands then.
+use super::work::{Seen, operate};
+use super::{A, A_SETTING, B, B_SETTING, enrol, name, password, setting, stored, verify};
+use cred_book::{Reply, Request};
+use cred_phc::Record;
+use std::alloc::Global;
+use std::process::Abort;
+use std::thread::Threads;
+
+const PASSWORD: &str = "password";
+
+/// The vector of RFC 7914 section 12 for `password` and `NaCl`.
+const SCRYPT: &str =
+    "$scrypt$ln=10,r=8,p=16$TmFDbA$/bq+HJ00cgB4VucZDQHp/nxq18vII3gw53N2Y0s3MWIurzDZLiKjiG/xCSedmDDaxyevuUqD7m2DYMvfoswGQA";
+
+/// Its scheme and numbers with another salt.
+const SCRYPT_SETTING: &str = "$scrypt$ln=10,r=8,p=16$c29tZXNhbHQ";
+
+/// The record of `password` by the reference program of Argon2, of version 0x10, and what it becomes in an upgrade.
+const OLD: &str = "$argon2i$m=256,t=2,p=1$c29tZXNhbHQ$/U3YPXYsSb3q9XxHvc0MLxur+GP960kN9j7emXX8zwY";
+
+const RENEWED_SETTING: &str = "$argon2i$v=19$m=256,t=2,p=1$c29tZXNhbHQ";
+
+const RENEWED: &str =
+    "$argon2i$v=19$m=256,t=2,p=1$c29tZXNhbHQ$iekCn0Y3spW+sCcFanM2xBT63UP2sghkUoHLIUpWRS8";
+
+/// The record of `differentpassword` by the same program.
+const OTHER_SETTING: &str = "$argon2id$v=19$m=65536,t=2,p=1$c29tZXNhbHQ";
+
+const OTHER: &str =
+    "$argon2id$v=19$m=65536,t=2,p=1$c29tZXNhbHQ$C4TWUs9rDEvq7w3+J4umqA32aWKB1+DSiRuBfYxFj94";
+
+/// `A` with the first 8 bytes of its tag alone, and with the other version.
+const SHORT: &str = "$argon2id$v=19$m=256,t=2,p=1$c29tZXNhbHQ$nf65EOgLrQM";
+
+const AS_OLD: &str =
+    "$argon2id$v=16$m=256,t=2,p=1$c29tZXNhbHQ$nf65EOgLrQMR/uIPnA4rEsF5h7TKyQwu9U1bMCHGi/4";
+
+fn change<R: Abort>(rt: &R, pw: &str, new_pw: &str, new: &str) -> Request {
+    Request::Change {
+        name: name(rt, "a"),
+        pw: password(rt, pw),
+        new_pw: password(rt, new_pw),
+        setting: setting(rt, new),
+    }
+}
+
+fn upgrade<R: Abort>(rt: &R, pw: &str, new: &str) -> Request {
+    Request::Upgrade {
+        name: name(rt, "a"),
+        pw: password(rt, pw),
+        setting: setting(rt, new),
+    }
+}
+
+fn remove<R: Abort>(rt: &R, pw: &str) -> Request {
+    Request::Remove {
+        name: name(rt, "a"),
+        pw: password(rt, pw),
+    }
+}
+
+fn standing<R: Abort>(rt: &R, text: Option<&str>) -> Option<Record> {
+    match text {
+        Some(text) => Some(stored(rt, text)),
+        None => None,
+    }
+}
+
+/// A whole operation on the account a: the record there, what is asked, what is answered, and the record after it.
+type Row = (Option<&'static str>, Request, Reply, Option<&'static str>);
+
+fn hold<R: Threads + Sync + Abort>(rt: &R, alloc: Global, table: &[Row]) {
+    for (i, (before, request, reply, after)) in table.iter().enumerate() {
+        let (copy, after) = (standing(rt, *before), standing(rt, *after));
+        let seen = operate(rt, alloc, (name(rt, "a"), copy), *request, &[]);
+        let wanted = Seen {
+            request: *request,
+            copy,
+            judged: (*reply, after, copy != after),
+            reply: *reply,
+            shown: Ok(after),
+        };
+        assert!(rt; seen == Some(wanted), "{i}");
+    }
+}
+
+#[test]
+fn enrols_and_verifies(rt: HostRuntime) {
+    let table = [
+        (
+            None,
+            enrol(&rt, PASSWORD, A_SETTING),
+            Reply::Enrolled,
+            Some(A),
+        ),
+        (Some(A), enrol(&rt, "", B_SETTING), Reply::Exists, Some(A)),
+        (None, verify(&rt, PASSWORD), Reply::Absent, None),
+        (Some(A), verify(&rt, PASSWORD), Reply::Yes, Some(A)),
+        (Some(A), verify(&rt, ""), Reply::No, Some(A)),
+        (
+            Some(SCRYPT),
+            verify(&rt, PASSWORD),
+            Reply::Yes,
+            Some(SCRYPT),
+        ),
+        (Some(OLD), verify(&rt, PASSWORD), Reply::Yes, Some(OLD)),
+        (Some(OLD), verify(&rt, ""), Reply::No, Some(OLD)),
+        (Some(SHORT), verify(&rt, PASSWORD), Reply::No, Some(SHORT)),
+        (Some(AS_OLD), verify(&rt, PASSWORD), Reply::No, Some(AS_OLD)),
+    ];
+    hold(&rt, rt.alloc(), &table);
+}
+
+#[test]
+fn changes(rt: HostRuntime) {
+    let table = [
+        (
+            None,
+            change(&rt, PASSWORD, "", A_SETTING),
+            Reply::Absent,
+            None,
+        ),
+        (
+            Some(A),
+            change(&rt, "bad", PASSWORD, B_SETTING),
+            Reply::Wrong,
+            Some(A),
+        ),
+        (
+            Some(A),
+            change(&rt, PASSWORD, "differentpassword", OTHER_SETTING),
+            Reply::Replaced,
+            Some(OTHER),
+        ),
+    ];
+    hold(&rt, rt.alloc(), &table);
+}
+
+#[test]
+fn upgrades(rt: HostRuntime) {
+    let table = [
+        (None, upgrade(&rt, PASSWORD, A_SETTING), Reply::Absent, None),
+        (
+            Some(A),
+            upgrade(&rt, PASSWORD, B_SETTING),
+            Reply::Upgraded,
+            Some(B),
+        ),
+        (
+            Some(B),
+            upgrade(&rt, PASSWORD, B_SETTING),
+            Reply::Kept,
+            Some(B),
+        ),
+        (
+            Some(B),
+            upgrade(&rt, "bad", B_SETTING),
+            Reply::Wrong,
+            Some(B),
+        ),
+        (
+            Some(SCRYPT),
+            upgrade(&rt, PASSWORD, SCRYPT_SETTING),
+            Reply::Kept,
+            Some(SCRYPT),
+        ),
+        (
+            Some(OLD),
+            upgrade(&rt, PASSWORD, RENEWED_SETTING),
+            Reply::Upgraded,
+            Some(RENEWED),
+        ),
+    ];
+    hold(&rt, rt.alloc(), &table);
+}
+
+#[test]
+fn removals(rt: HostRuntime) {
+    let table = [
+        (None, remove(&rt, PASSWORD), Reply::Absent, None),
+        (Some(A), remove(&rt, "bad"), Reply::Wrong, Some(A)),
+        (Some(A), remove(&rt, PASSWORD), Reply::Removed, None),
+    ];
+    hold(&rt, rt.alloc(), &table);
+}
+
+#[test]
+fn a_commit_meets_another_record(rt: HostRuntime) {
+    let (a, b, short) = (stored(&rt, A), stored(&rt, B), stored(&rt, SHORT));
+    let table = [
+        (Some(a), Reply::Yes),
+        (Some(b), Reply::Changed { now: Some(b) }),
+        (Some(short), Reply::Changed { now: Some(short) }),
+        (None, Reply::Changed { now: None }),
+    ];
+    for (i, (now, reply)) in table.iter().enumerate() {
+        let wanted = Seen {
+            request: verify(&rt, PASSWORD),
+            copy: Some(a),
+            judged: (*reply, *now, false),
+            reply: *reply,
+            shown: Ok(*now),
+        };
+        let account = (name(&rt, "a"), Some(a));
+        let seen = operate(&rt, rt.alloc(), account, wanted.request, &[None, *now]);
+        assert!(rt; seen == Some(wanted), "{i}");
+    }
+}

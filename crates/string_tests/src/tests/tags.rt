@@ -1,0 +1,57 @@
+//! The tags that other programs gave, made again.
+
+use super::{A, OLD, SCRYPT, stored};
+use cred_phc::{Password, Record, TagError, tag_of};
+use cred_pool::NoGate;
+use std::alloc::Global;
+use std::process::Abort;
+use std::thread::Threads;
+
+/// By the reference program of Argon2, as A is, with two lanes.
+const TWO_LANES: &str =
+    "$argon2id$v=19$m=256,t=2,p=2$c29tZXNhbHQ$bQk8UB/VmZZF4Oo79iDXuL5/0ttZwg2f/5U52iv1cDc";
+
+/// By the same, for `argon2i`.
+const INDEPENDENT: &str =
+    "$argon2i$v=19$m=256,t=2,p=1$c29tZXNhbHQ$iekCn0Y3spW+sCcFanM2xBT63UP2sghkUoHLIUpWRS8";
+
+fn password(rt: &impl Abort) -> Password {
+    Password::new(b"password").expect(rt, "a password")
+}
+
+/// The record of `password` under the setting of this one, with a tag of the same length.
+fn made_again<R: Threads + Sync + Abort>(
+    rt: &R,
+    alloc: Global,
+    workers: u8,
+    stored: &Record,
+) -> Result<Record, TagError> {
+    let (setting, tag) = (stored.setting(), stored.tag());
+    let length = tag.bytes().len() as u8;
+    let made = tag_of(rt, alloc, workers, &NoGate, &setting, length, &password(rt))?;
+    Ok(Record::with_tag(setting, made))
+}
+
+#[test]
+fn known_tags(rt: HostRuntime) {
+    for text in [A, TWO_LANES, INDEPENDENT, OLD, SCRYPT] {
+        let stored = stored(&rt, text);
+        for workers in [1, 4] {
+            let made = made_again(&rt, rt.alloc(), workers, &stored);
+            assert_eq!(rt; made, Ok(stored), "{text}");
+        }
+    }
+}
+
+/// Also right where memory is refused: the tag, or `Memory`.
+#[test]
+fn refused_memory(rt: HostRuntime) {
+    for text in [TWO_LANES, OLD, SCRYPT] {
+        let stored = stored(&rt, text);
+        let made = made_again(&rt, rt.alloc(), 2, &stored);
+        assert!(rt;
+            made == Ok(stored) || made == Err(TagError::Memory),
+            "{text}"
+        );
+    }
+}
