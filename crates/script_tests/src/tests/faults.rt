@@ -1,0 +1,34 @@
+//! The numbers, the words and the texts of the faults that end a script.
+use super::hold_bytes;
+use cred_cli::ScriptFault;
+use std::alloc::Global;
+use std::process::Abort;
+
+fn hold_text<R: Abort>(rt: &R, alloc: Global, fault: ScriptFault, text: &str) {
+    let shown = format!(in alloc; "{fault}").expect(rt, "memory");
+    hold_bytes(rt, 0, shown.as_bytes(), text);
+}
+
+#[test]
+fn faults_have_numbers_words_and_texts(rt: HostRuntime) {
+    let table = [
+        (ScriptFault::Read, 1, "read", "the reader failed"),
+        (
+            ScriptFault::Write,
+            2,
+            "write",
+            "the writer failed, or took no byte",
+        ),
+        (ScriptFault::Memory, 3, "memory", "out of memory"),
+        (
+            ScriptFault::TooLong,
+            4,
+            "toolong",
+            "the script has over 1048576 bytes",
+        ),
+    ];
+    for (fault, number, word, text) in table {
+        assert_eq!(rt; (fault.number(), fault.word()), (number, word));
+        hold_text(&rt, rt.alloc(), fault, text);
+    }
+}
