@@ -46,7 +46,7 @@ fn with_one<'a>(
     word: &'a str,
     what: &'a str,
 ) -> Result<Command<'a>, AllocError>
-    requires local { (out-Command command.entry).has_globals ≡ false }
+    requires local { (out-Command command).has_globals ≡ false }
     ensures app { IfOk result (λ c. app_of c ≡ with_subcommand (app_of command.entry) (one_app word.entry.now what.entry.now).top) }
     ensures local { IfOk result (λ c. (out-Command c).has_globals ≡ false) }
 {
@@ -86,7 +86,7 @@ fn of_one<'a>(alloc: Global, word: &'a str, what: &'a str) -> Result<Command<'a>
 
 // The same with an argument of its own.
 fn with_arg<'a>(command: Command<'a>, arg: Arg<'a>) -> Result<Command<'a>, AllocError>
-    requires local { ((out-Command command.entry).has_globals ≡ false) × (arg.entry.global ≡ false) }
+    requires local { ((out-Command command).has_globals ≡ false) × (arg.global ≡ false) }
     ensures app { IfOk result (λ c. app_of c ≡ with_rule (app_of command.entry) (rule_of arg.entry)) }
     ensures local { IfOk result (λ c. (out-Command c).has_globals ≡ false) }
 {

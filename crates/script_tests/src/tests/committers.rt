@@ -1,5 +1,6 @@
 //! The same scripts on a committer, which publishes its book.
 ghost use Rattle.std.specs.Prelude.{◌≡◌, true};
+ghost use Rattle.cred_cli.specs.Watched.{IsNew};
 
 use cred_cli::{End, ScriptFault, Watched, run_script};
 use cred_book::Book;
@@ -17,17 +18,17 @@ fn run_published<J: Naming, R: Threads + Wait + Sync>(
     opened: Opened,
     book: &Book,
     script: &[u8],
-    room: Vec<u8>,
-) -> Result<(Result<End, ScriptFault>, Vec<u8>), DeskError>
+    writer: &mut Watched<Vec<u8>>,
+) -> Result<Result<End, ScriptFault>, DeskError>
+    requires new_writer { IsNew writer.old }
     requires name { (opened.seen.book ≡ J.book) × (opened.blank.name ≡ J.name) × (opened.blank.parts ≡ J.parts) }
     requires opening { (book.now ≡ J.opening) × (J.parts ≡ 0) × (J.loads ≡ true) }
 {
     let (mut committer, _sessions) = Committer::<J>::new(rt, alloc, opened, book, 0)?;
     let mut reader = Watched::new(script);
-    let mut writer = Watched::new(room);
-    let end = run_script(rt, alloc, workers, &mut committer, &mut reader, &mut writer);
+    let end = run_script(rt, alloc, workers, &mut committer, &mut reader, writer);
     committer.end(rt);
-    Ok((end, writer.into_inner()))
+    Ok(end)
 }
 
 /// What it came to on a committer of an empty book.
@@ -40,5 +41,11 @@ pub(super) fn run_on_committer<R: Threads + Wait + Sync>(
     let (Ok(book), Ok(room)) = (Book::new(alloc), Vec::with_capacity(alloc, 4096)) else {
         return Err(DeskError::Memory);
     };
-    run_published::<Brand, R>(rt, alloc, workers, Opened::new(0), &book, script, room)
+    let mut writer = Watched::new(room);
+    let opened = Opened::new(0);
+    let end = run_published::<Brand, R>(rt, alloc, workers, opened, &book, script, &mut writer);
+    match end {
+        Ok(end) => Ok((end, writer.into_inner())),
+        Err(error) => Err(error),
+    }
 }

@@ -23,6 +23,20 @@ pub(super) struct Case {
     pub(super) lines: &'static [Line<'static>],
 }
 
+/// The end of a script that is answered whole: each line has one answer.
+fn whole_end(answers: &str) -> Result<End, ScriptFault> {
+    Ok(End {
+        lines: answers.lines().count() as u64,
+    })
+}
+
+/// How a script ended, and what was answered.
+type Ran<'a> = (Result<End, ScriptFault>, &'a [u8]);
+
+fn hold_ran<R: Abort>(rt: &R, name: &str, workers: u8, seen: Ran, want: Ran) {
+    assert_eq!(rt; seen, want, "{name}, {workers} workers");
+}
+
 /// Adds these pieces as one line.
 fn add_line<R: Abort>(rt: &R, text: &mut String, pieces: &[&str]) {
     for piece in pieces {
@@ -54,7 +68,7 @@ impl Dialogue {
         add_line(rt, &mut self.answers, &[answer]);
     }
 
-    fn lines<R: Abort>(&mut self, rt: &R, lines: &[Line]) {
+    pub(super) fn lines<R: Abort>(&mut self, rt: &R, lines: &[Line]) {
         for (line, answer) in lines {
             self.line(rt, &[line], answer);
         }
@@ -93,7 +107,7 @@ impl Dialogue {
         }
     }
 
-    /// Holds it against what a run came to; each line has one answer.
+    /// Holds it against what a run came to.
     fn hold_run<R: Abort>(
         &self,
         rt: &R,
@@ -101,10 +115,8 @@ impl Dialogue {
         end: Result<End, ScriptFault>,
         written: &[u8],
     ) {
-        let (name, answers) = (self.name, self.answers.as_str());
-        assert_eq!(rt; written, answers.as_bytes(), "{name}, {workers} workers");
-        let lines = answers.lines().count() as u64;
-        assert_eq!(rt; end, Ok(End { lines }), "{name}, {workers} workers");
+        let want = (whole_end(&self.answers), self.answers.as_bytes());
+        hold_ran(rt, self.name, workers, (end, written), want);
     }
 
     /// Holds it against a run on an empty keeper.

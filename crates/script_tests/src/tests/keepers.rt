@@ -166,7 +166,7 @@ fn judge_stop<R: Threads + Wait + Sync + Abort>(
 }
 
 /// What a script is answered in which three records are loaded, in lines: all of it, or what comes before one load.
-const LOADS: [Line<'static>; 7] = [
+static LOADS: [Line<'static>; 7] = [
     ("account a", "ok"),
     ("load a {A}", "ok"),
     ("account b", "ok"),
@@ -176,7 +176,7 @@ const LOADS: [Line<'static>; 7] = [
     ("show b", "{SCRYPT}"),
 ];
 
-const LOAD_STOPS: [Stop; 4] = [
+static LOAD_STOPS: [Stop; 4] = [
     Stop {
         loads: 0,
         commits: 0,
@@ -219,7 +219,7 @@ fn a_refused_load_ends_the_script(rt: HostRuntime) {
 }
 
 /// What a shelf refuses as a book does.
-const REFUSALS: [Line<'static>; 5] = [
+static REFUSALS: [Line<'static>; 5] = [
     ("account a", "ok"),
     ("account a", "bad 1 exists"),
     ("show zed", "bad 5 noaccount"),
@@ -242,7 +242,7 @@ fn a_shelf_refuses_as_a_book_does(rt: HostRuntime) {
 }
 
 /// What a script is answered in which four numbers are committed, in lines: all of it, or what comes before one commit.
-const COMMITS: [Line<'static>; 11] = [
+static COMMITS: [Line<'static>; 11] = [
     ("account a", "ok"),
     ("account b", "ok"),
     ("begin 1 enrol a {PA} {SA}", "begun"),
@@ -256,7 +256,7 @@ const COMMITS: [Line<'static>; 11] = [
     ("commit 1", "removed"),
 ];
 
-const COMMIT_STOPS: [Stop; 5] = [
+static COMMIT_STOPS: [Stop; 5] = [
     Stop {
         loads: 0,
         commits: 0,

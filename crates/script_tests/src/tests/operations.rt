@@ -2,7 +2,7 @@
 use super::dialogue::{Case, judge_cases};
 
 /// Each behind `account a`, with settings that are cheap.
-const OPERATIONS: [Case; 22] = [
+static OPERATIONS: [Case; 22] = [
     Case {
         name: "enrol",
         lines: &[
@@ -254,7 +254,7 @@ const OPERATIONS: [Case; 22] = [
 ];
 
 /// The same, with the setting of scrypt's vector, and with 64 MiB.
-const COSTLY: [Case; 4] = [
+static COSTLY: [Case; 4] = [
     Case {
         name: "verify_scrypt",
         lines: &[

@@ -121,7 +121,7 @@ fn a_script_too_long_is_named(rt: HostRuntime) {
 const SALTED: &str = "$scrypt$ln=10,r=8,p=16$TmFDbA";
 
 /// What `hash` and `check` print, name as the fault, and answer as the status.
-const SINGLES: [(&[&str], &str, &str, u8); 18] = [
+static SINGLES: [(&[&str], &str, &str, u8); 18] = [
     (&["hash", SA, PA], "{A}\n", "", 0),
     (&["hash", SA, PA, "--workers", "4"], "{A}\n", "", 0),
     (
@@ -170,12 +170,12 @@ fn judge_single<R: Threads + Wait + Sync + Abort>(
 
 #[test]
 fn single_values(rt: HostRuntime) {
-    for (words, written, faults, status) in SINGLES {
-        judge_single(&rt, rt.alloc(), words, (status, written, faults));
+    for (words, written, faults, status) in &SINGLES {
+        judge_single(&rt, rt.alloc(), words, (*status, written, faults));
     }
 }
 
-const TAKEN: [&[&str]; 6] = [
+static TAKEN: [&[&str]; 6] = [
     &["run", "--workers", "1"],
     &["run", "--workers", "64"],
     &["run", "--workers", "04"],
@@ -184,7 +184,7 @@ const TAKEN: [&[&str]; 6] = [
     &["run"],
 ];
 
-const REFUSED: [&[&str]; 8] = [
+static REFUSED: [&[&str]; 8] = [
     &["run", "--workers", "0"],
     &["run", "--workers", "65"],
     &["run", "--workers", "x"],
@@ -205,11 +205,11 @@ fn judge_refused<R: Threads + Wait + Sync + Abort>(rt: &R, alloc: Global, words:
 
 #[test]
 fn numbers_of_workers(rt: HostRuntime) {
-    for words in TAKEN {
+    for words in &TAKEN {
         let input = b"account a\n".as_slice();
         judge_words(&rt, rt.alloc(), words, input, (0, "ok\n", ""));
     }
-    for words in REFUSED {
+    for words in &REFUSED {
         judge_refused(&rt, rt.alloc(), words);
     }
 }
@@ -229,7 +229,7 @@ fn judge_stops<R: Threads + Wait + Sync + Abort>(
     }
 }
 
-const PRINTED: [(&[&str], &str); 3] = [
+static PRINTED: [(&[&str], &str); 3] = [
     (&["hash", SA, PA], "{A}\n"),
     (&["check", A, PA], "yes\n"),
     (&["check", A], "no\n"),
@@ -237,14 +237,14 @@ const PRINTED: [(&[&str], &str); 3] = [
 
 #[test]
 fn single_writes_fail(rt: HostRuntime) {
-    for (words, line) in PRINTED {
+    for (words, line) in &PRINTED {
         let line = filled_in(&rt, rt.alloc(), line);
         judge_stops(&rt, rt.alloc(), words, &line);
     }
 }
 
 /// Words that don't parse, and `clap`'s text for them.
-const UNREAD: [(&[&str], &str); 6] = [
+static UNREAD: [(&[&str], &str); 6] = [
     (
         &[],
         "error: 'credbook' requires a subcommand but one was not provided\n  [subcommands: run, hash, check, help]\n\nUsage: credbook <COMMAND>\n\nFor more information, try '--help'.\n",
@@ -273,7 +273,7 @@ const UNREAD: [(&[&str], &str); 6] = [
 
 #[test]
 fn words_that_do_not_parse(rt: HostRuntime) {
-    for (words, text) in UNREAD {
+    for (words, text) in &UNREAD {
         let input = b"account a\n".as_slice();
         judge_words(&rt, rt.alloc(), words, input, (1, "", text));
     }

@@ -4,7 +4,7 @@ use std::alloc::Global;
 use std::process::Abort;
 
 /// Each behind `account a`.
-const REFUSALS: [Case; 4] = [
+static REFUSALS: [Case; 4] = [
     Case {
         name: "operations_and_counts_come_before_fields",
         lines: &[
@@ -82,7 +82,7 @@ fn refusals(rt: HostRuntime) {
     judge_cases(&rt, rt.alloc(), &REFUSALS);
 }
 
-const NO_KEYS: [&str; 13] = [
+static NO_KEYS: [&str; 13] = [
     "",
     "0",
     "65",
@@ -118,7 +118,7 @@ fn commit_key_twice<R: Abort>(rt: &R, alloc: Global, dialogue: &mut Dialogue, ke
 fn keys_are_1_to_64(rt: HostRuntime) {
     let alloc = rt.alloc();
     let mut dialogue = Dialogue::with_account(&rt, alloc, "keys_are_1_to_64");
-    for key in NO_KEYS {
+    for key in &NO_KEYS {
         begin_and_commit_no_key(&rt, &mut dialogue, key);
     }
     for key in 1..65 {
@@ -130,14 +130,14 @@ fn keys_are_1_to_64(rt: HostRuntime) {
     dialogue.judge(&rt, alloc);
 }
 
-const NO_PASSWORDS: [&str; 6] = ["", "!", "--", "cGFzc3dvcmQ=", "cGFzc3dvcmR", "A"];
+static NO_PASSWORDS: [&str; 6] = ["", "!", "--", "cGFzc3dvcmQ=", "cGFzc3dvcmR", "A"];
 
 #[test]
 fn passwords_have_a_form(rt: HostRuntime) {
     let alloc = rt.alloc();
     let longest = "A".repeat(alloc, 342).expect(&rt, "memory");
     let mut dialogue = Dialogue::with_account(&rt, alloc, "passwords_have_a_form");
-    for pw in NO_PASSWORDS {
+    for pw in &NO_PASSWORDS {
         dialogue.line(&rt, &["begin 1 verify a ", pw], "bad 13 password");
     }
     dialogue.line(&rt, &["begin 1 verify a ", &longest, "A"], "bad 13 password");

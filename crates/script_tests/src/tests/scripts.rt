@@ -1,13 +1,13 @@
 //! Scripts and their answers.
 use super::dialogue::{Case, Dialogue, judge_cases};
-use super::{A, empty_book, hold, hold_bytes, hold_end, hold_shown, run_on_book};
+use super::{A, Line, empty_book, hold, hold_bytes, hold_end, hold_shown, run_on_book};
 use cred_book::BookError;
 use cred_cli::End;
 use std::alloc::Global;
 use std::process::Abort;
 
 /// Each behind `account a`.
-const LINES: [Case; 2] = [
+static LINES: [Case; 2] = [
     Case {
         name: "no_record",
         lines: &[
@@ -56,22 +56,24 @@ fn empty(rt: HostRuntime) {
     hold(&rt, 0, !outcome.reader_failed);
 }
 
+static KEYS: [Line<'static>; 4] = [
+    ("commit 7", "bad 15 idle"),
+    ("begin 1 verify a -", "begun"),
+    ("begin 1 verify a -", "bad 14 busy"),
+    ("commit 0", "bad 12 key"),
+];
+
 #[test]
 fn keys_and_lines(rt: HostRuntime) {
     let alloc = rt.alloc();
     let longer = "x".repeat(alloc, 5000).expect(&rt, "memory");
     let long = longer.get(..1024).expect(&rt, "fewer letters");
     let mut dialogue = Dialogue::with_account(&rt, alloc, "keys_and_lines");
-    dialogue.line(&rt, &["commit 7"], "bad 15 idle");
-    dialogue.line(&rt, &["begin 1 verify a -"], "begun");
-    dialogue.line(&rt, &["begin 1 verify a -"], "bad 14 busy");
-    dialogue.line(&rt, &["commit 0"], "bad 12 key");
+    dialogue.lines(&rt, &KEYS);
     dialogue.line(&rt, &[long, "x"], "bad 16 long");
-    dialogue.line(&rt, &[long], "bad 11 line");
-    dialogue.line(&rt, &[""], "bad 11 line");
+    dialogue.lines(&rt, &[(long, "bad 11 line"), ("", "bad 11 line")]);
     dialogue.line(&rt, &[&longer], "bad 16 long");
-    dialogue.line(&rt, &["show a"], "none");
-    dialogue.line(&rt, &["commit 1"], "absent");
+    dialogue.lines(&rt, &[("show a", "none"), ("commit 1", "absent")]);
     dialogue.judge(&rt, alloc);
 }
 
@@ -110,6 +112,14 @@ fn add_account<R: Abort>(rt: &R, alloc: Global, dialogue: &mut Dialogue, i: u32)
     dialogue.line(rt, &["account n", &number], "ok");
 }
 
+/// What a full book answers.
+static FULL: [Line<'static>; 4] = [
+    ("account zed", "bad 2 full"),
+    ("account a", "bad 1 exists"),
+    ("account n1237", "bad 1 exists"),
+    ("show zed", "bad 5 noaccount"),
+];
+
 #[test]
 fn full(rt: HostRuntime) {
     let alloc = rt.alloc();
@@ -117,10 +127,7 @@ fn full(rt: HostRuntime) {
     for i in 1..4096 {
         add_account(&rt, alloc, &mut dialogue, i);
     }
-    dialogue.line(&rt, &["account zed"], "bad 2 full");
-    dialogue.line(&rt, &["account a"], "bad 1 exists");
-    dialogue.line(&rt, &["account n1237"], "bad 1 exists");
-    dialogue.line(&rt, &["show zed"], "bad 5 noaccount");
+    dialogue.lines(&rt, &FULL);
     dialogue.judge_on(&rt, alloc, 1, empty_book(&rt, alloc));
     dialogue.judge_published(&rt, alloc, 1);
 }

@@ -32,7 +32,7 @@ fn round_trip(rt: HostRuntime) {
 
 const TAG: &str = "nf65EOgLrQMR/uIPnA4rEsF5h7TKyQwu9U1bMCHGi/4";
 
-const ARGON2_CHANGES: [Change<'static>; 16] = [
+static ARGON2_CHANGES: [Change<'static>; 16] = [
     ("m=256", "m=0256", "bad 4 params"),
     ("Gi/4", "Gi/5", "bad 7 tag"),
     ("p=1", "p=0", "bad 5 range"),
@@ -56,10 +56,10 @@ const ARGON2_CHANGES: [Change<'static>; 16] = [
 ];
 
 /// Other versions of A, which its tag doesn't answer and its form does.
-const ARGON2_VERSIONS: [Change<'static>; 2] = [("v=19", "v=16", "ok"), ("$v=19", "", "ok")];
+static ARGON2_VERSIONS: [Change<'static>; 2] = [("v=19", "v=16", "ok"), ("$v=19", "", "ok")];
 
 /// A part of A, how many letters stand in its place, and the answer to a load of that.
-const LETTERS: [(&str, usize, &str); 4] = [
+static LETTERS: [(&str, usize, &str); 4] = [
     ("c29tZXNhbHQ", 66, "bad 6 salt"),
     ("c29tZXNhbHQ", 64, "ok"),
     (TAG, 87, "bad 7 tag"),
@@ -74,8 +74,8 @@ fn damaged_argon2(rt: HostRuntime) {
     for change in &ARGON2_CHANGES {
         load_changed(&rt, &mut dialogue, A, change);
     }
-    for (part, length, answer) in LETTERS {
-        let letters = most.get(..length).expect(&rt, "there are fewer letters");
+    for (part, length, answer) in &LETTERS {
+        let letters = most.get(..*length).expect(&rt, "there are fewer letters");
         load_changed(&rt, &mut dialogue, A, &(part, letters, answer));
     }
     for change in &ARGON2_VERSIONS {
@@ -84,7 +84,7 @@ fn damaged_argon2(rt: HostRuntime) {
     dialogue.judge(&rt, alloc);
 }
 
-const SCRYPT_CHANGES: [Change<'static>; 5] = [
+static SCRYPT_CHANGES: [Change<'static>; 5] = [
     ("ln=10", "ln=0", "bad 5 range"),
     ("p=16", "p=256", "bad 5 range"),
     ("ln=10", "ln=010", "bad 4 params"),
@@ -113,7 +113,7 @@ fn other_texts(rt: HostRuntime) {
 }
 
 /// To how many bytes A may be cut within its tag: the unused bits of the last letter are zero.
-const WHOLE: [usize; 18] = [
+static WHOLE: [usize; 18] = [
     48, 49, 51, 52, 53, 56, 57, 59, 60, 61, 65, 69, 71, 72, 73, 77, 81, 84,
 ];
 

@@ -42,7 +42,7 @@ impl Write for Stingy {
 }
 
 /// Each line of the script with its answer.
-const LINES: [Line<'static>; 6] = [
+static LINES: [Line<'static>; 6] = [
     ("account a", "ok"),
     ("begin 1 enrol a {PA} {SA}", "begun"),
     ("commit 1", "enrolled"),
