@@ -51,18 +51,21 @@ const OLD_WRITTEN: &str =
 const SCRYPT: &str =
     "$scrypt$ln=10,r=8,p=16$TmFDbA$/bq+HJ00cgB4VucZDQHp/nxq18vII3gw53N2Y0s3MWIurzDZLiKjiG/xCSedmDDaxyevuUqD7m2DYMvfoswGQA";
 
-/// The text with these passwords, settings and records in the place of their names.
+/// The names that stand for these in scripts and answers.
+static PLACES: [(&str, &str); 7] = [
+    ("{PA}", PA),
+    ("{SA}", SA),
+    ("{SB}", SB),
+    ("{A}", A),
+    ("{B}", B),
+    ("{OLD}", OLD),
+    ("{SCRYPT}", SCRYPT),
+];
+
+/// The text with passwords, settings and records in the place of their names.
 fn filled_in<R: Abort>(rt: &R, alloc: Global, text: &str) -> String {
     let mut text = text.to_string(alloc).expect(rt, "memory");
-    for (place, value) in [
-        ("{PA}", PA),
-        ("{SA}", SA),
-        ("{SB}", SB),
-        ("{A}", A),
-        ("{B}", B),
-        ("{OLD}", OLD),
-        ("{SCRYPT}", SCRYPT),
-    ] {
+    for (place, value) in &PLACES {
         text = text.replace(alloc, place, value).expect(rt, "memory");
     }
     text
@@ -100,10 +103,6 @@ fn hold_end<R: Abort>(
 
 fn hold<R: Abort>(rt: &R, at: usize, holds: bool) {
     assert!(rt; holds, "at {at}");
-}
-
-fn hold_number<R: Abort>(rt: &R, at: usize, seen: u64, want: u64) {
-    assert_eq!(rt; seen, want, "at {at}");
 }
 
 /// Holds the record that a keeper has at a name against the text that it is to be.

@@ -2,8 +2,8 @@
 ghost use Rattle.std.specs.Prelude.{◌≡◌, true};
 ghost use Rattle.cred_cli.specs.Watched.{IsNew};
 
-use cred_cli::{End, ScriptFault, Watched, run_script};
 use cred_book::Book;
+use cred_cli::{End, ScriptFault, Watched, run_script};
 use cred_desk::{Committer, DeskError, Naming, Opened};
 use std::alloc::Global;
 use std::marker::Brand;

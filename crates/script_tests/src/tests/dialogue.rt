@@ -155,11 +155,7 @@ impl Dialogue {
 }
 
 /// Holds each case against its runs.
-pub(super) fn judge_cases<R: Threads + Wait + Sync + Abort>(
-    rt: &R,
-    alloc: Global,
-    cases: &[Case],
-) {
+pub(super) fn judge_cases<R: Threads + Wait + Sync + Abort>(rt: &R, alloc: Global, cases: &[Case]) {
     for case in cases {
         Dialogue::behind_account(rt, alloc, case.name, case.lines).judge(rt, alloc);
     }

@@ -102,14 +102,7 @@ fn refused_script_on_a_committer(rt: HostRuntime) {
 }
 
 /// Holds what the program came to: its whole output and status, or 3 with nothing but whole answers written.
-fn hold_ended<R: Abort>(
-    rt: &R,
-    ended: u8,
-    written: &[u8],
-    faults: &[u8],
-    whole: &str,
-    status: u8,
-) {
+fn hold_ended<R: Abort>(rt: &R, ended: u8, written: &[u8], faults: &[u8], whole: &str, status: u8) {
     if ended == 3 {
         hold_front(rt, whole, written);
         // the text of the fault may itself be refused memory

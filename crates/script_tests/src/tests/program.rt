@@ -73,14 +73,16 @@ fn judge_stingy<R: Threads + Wait + Sync + Abort>(
     hold_told(rt, ran.status, &ran.output.taken, &ran.faults, want);
 }
 
+/// Scripts, and what is answered.
+static SCRIPTS: [(&str, &str); 3] = [
+    ("", ""),
+    ("account a\nshow a", "ok\nnone\n"),
+    ("\n", "bad 11 line\n"),
+];
+
 #[test]
 fn scripts_are_run(rt: HostRuntime) {
-    let table = [
-        ("", ""),
-        ("account a\nshow a", "ok\nnone\n"),
-        ("\n", "bad 11 line\n"),
-    ];
-    for (script, written) in table {
+    for (script, written) in &SCRIPTS {
         let want = (0, written, "");
         judge_words(&rt, rt.alloc(), &["run"], script.as_bytes(), want);
     }

@@ -140,7 +140,11 @@ fn passwords_have_a_form(rt: HostRuntime) {
     for pw in &NO_PASSWORDS {
         dialogue.line(&rt, &["begin 1 verify a ", pw], "bad 13 password");
     }
-    dialogue.line(&rt, &["begin 1 verify a ", &longest, "A"], "bad 13 password");
+    dialogue.line(
+        &rt,
+        &["begin 1 verify a ", &longest, "A"],
+        "bad 13 password",
+    );
     dialogue.line(&rt, &["begin 1 verify a ", &longest], "begun");
     dialogue.judge(&rt, alloc);
 }

@@ -86,15 +86,16 @@ fn the_last_line_needs_no_end(rt: HostRuntime) {
     hold_end(&rt, 0, outcome.end, Ok(End { lines: 5 }));
 }
 
+static LEFT: [Line<'static>; 4] = [
+    ("account b", "ok"),
+    ("account a", "ok"),
+    ("load b {A}", "ok"),
+    ("load c {A}", "bad 5 noaccount"),
+];
+
 #[test]
 fn a_script_leaves_its_book(rt: HostRuntime) {
-    let lines = [
-        ("account b", "ok"),
-        ("account a", "ok"),
-        ("load b {A}", "ok"),
-        ("load c {A}", "bad 5 noaccount"),
-    ];
-    let dialogue = Dialogue::of(&rt, rt.alloc(), "a_script_leaves_its_book", &lines);
+    let dialogue = Dialogue::of(&rt, rt.alloc(), "a_script_leaves_its_book", &LEFT);
     let outcome = run_on_book(&rt, rt.alloc(), dialogue.script.as_bytes());
     hold_bytes(&rt, 0, &outcome.written, &dialogue.answers);
     hold_shown(&rt, 0, &outcome.keeper, "a", Ok(None));

@@ -15,15 +15,18 @@ fn load_changed<R: Abort>(rt: &R, dialogue: &mut Dialogue, text: &str, change: &
     dialogue.line(rt, &["load a ", front, other, back], answer);
 }
 
+/// Texts that are loaded, and how they are shown.
+static LOADED: [(&str, &str); 4] = [
+    (A, A),
+    (OLD, OLD_WRITTEN),
+    (OLD_WRITTEN, OLD_WRITTEN),
+    (SCRYPT, SCRYPT),
+];
+
 #[test]
 fn round_trip(rt: HostRuntime) {
     let mut dialogue = Dialogue::with_account(&rt, rt.alloc(), "round_trip");
-    for (text, written) in [
-        (A, A),
-        (OLD, OLD_WRITTEN),
-        (OLD_WRITTEN, OLD_WRITTEN),
-        (SCRYPT, SCRYPT),
-    ] {
+    for (text, written) in &LOADED {
         dialogue.line(&rt, &["load a ", text], "ok");
         dialogue.line(&rt, &["show a"], written);
     }

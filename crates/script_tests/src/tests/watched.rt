@@ -1,7 +1,7 @@
 //! What a watched reader or writer counts and keeps in mind.
-use super::hold_bytes;
 use super::readers::CutOff;
 use super::writers::Stingy;
+use super::{hold, hold_bytes};
 use cred_cli::Watched;
 use std::io;
 use std::io::{Read, Write};
@@ -15,6 +15,13 @@ fn after_read<S: Read>(reader: &mut Watched<S>) -> Seen {
     (given, reader.calls(), reader.failed())
 }
 
+fn hold_seen<R: Abort>(rt: &R, seen: Seen, want: Seen) {
+    assert_eq!(rt; seen, want);
+}
+
+/// Two bytes are read, then one, and then a call fails.
+static READ: [Seen; 3] = [(Some(2), 1, false), (Some(1), 2, false), (None, 3, true)];
+
 #[test]
 fn reads_are_counted(rt: HostRuntime) {
     let mut reader = Watched::new(CutOff {
@@ -22,22 +29,21 @@ fn reads_are_counted(rt: HostRuntime) {
         most: 2,
         kind: io::ErrorKind::Interrupted,
     });
-    assert_eq!(rt; (reader.calls(), reader.failed()), (0, false));
-    let table = [
-        (Some(2), 1, false),
-        (Some(1), 2, false),
-        (None, 3, true),
-    ];
-    for want in table {
-        assert_eq!(rt; after_read(&mut reader), want);
+    hold_seen(
+        &rt,
+        (None, reader.calls(), reader.failed()),
+        (None, 0, false),
+    );
+    for want in &READ {
+        hold_seen(&rt, after_read(&mut reader), *want);
     }
-    assert!(rt; reader.into_inner().rest.is_empty());
+    hold(&rt, 0, reader.into_inner().rest.is_empty());
 }
 
 #[test]
 fn the_end_is_no_failure(rt: HostRuntime) {
     let mut reader = Watched::new(b"".as_slice());
-    assert_eq!(rt; after_read(&mut reader), (Some(0), 1, false));
+    hold_seen(&rt, after_read(&mut reader), (Some(0), 1, false));
 }
 
 fn after_write<W: Write>(writer: &mut Watched<W>, bytes: &[u8]) -> Seen {
@@ -48,10 +54,6 @@ fn after_write<W: Write>(writer: &mut Watched<W>, bytes: &[u8]) -> Seen {
 fn after_flush<W: Write>(writer: &mut Watched<W>) -> Seen {
     let flushed = writer.flush().ok().map(|()| 0);
     (flushed, writer.calls(), writer.failed())
-}
-
-fn hold_seen<R: Abort>(rt: &R, seen: Seen, want: Seen) {
-    assert_eq!(rt; seen, want);
 }
 
 #[test]
