@@ -83,7 +83,7 @@ static SCRIPTS: [(&str, &str); 3] = [
 #[test]
 fn scripts_are_run(rt: HostRuntime) {
     for (script, written) in &SCRIPTS {
-        let want = (0, written, "");
+        let want = (0, *written, "");
         judge_words(&rt, rt.alloc(), &["run"], script.as_bytes(), want);
     }
 }

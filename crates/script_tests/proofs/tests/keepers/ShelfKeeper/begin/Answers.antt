@@ -1,4 +1,4 @@
-use Rattle.std.proofs.Common.{ap, refl, sym, ◌∙◌}
+use Rattle.std.proofs.Common.{refl}
 use Rattle.script_tests.proofs.Shelves.{begins_whole, whole_lacks}
 use Rattle.script_tests.proofs.tests.keepers.ShelfKeeper.begin.Goals as goal
 

@@ -1,4 +1,4 @@
-use Rattle.std.proofs.Common.{ap, refl, sym, ◌∙◌}
+use Rattle.std.proofs.Common.{ap, ◌∙◌}
 use Rattle.cred_book.specs.Works.{name_of}
 use Rattle.script_tests.proofs.Shelves.{commits_in, commits_nowhere, len-commits}
 use Rattle.script_tests.proofs.tests.keepers.ShelfKeeper.commit.Goals as goal
