@@ -8,4 +8,3 @@ pub mod Readings
 pub mod Runs
 pub mod Simulation
 pub mod Writes
-pub mod Shelves

@@ -1,7 +1,7 @@
 //! The command line of `credbook`.
 
 ghost use Rattle.std.specs.Prelude.{◌≡◌, IfOk, false, map, option_map};
-ghost use Rattle.clap.specs.Words.{FailsBy, app_of, fault_of, first_of, found_of, rows_of, rule_of, subcommand_of, subcommand_rows_of};
+ghost use Rattle.clap.specs.Words.{FailsBy, app_of, fault_of, first_of, found_of, rows_of, rule_of, subcommand_of, subcommand_rows_of, with_rule, with_subcommand};
 ghost use Rattle.clap.specs.declared.builder.command.Command.TheViews.{out-Command};
 ghost use Rattle.cred_cli.specs.Arguments.{credbook, needed_rule, one_app, password_rule, run_app, running, workers_rule};
 
@@ -35,19 +35,36 @@ fn credbook<'a>(alloc: Global) -> Result<Command<'a>, AllocError>
     ensures app { IfOk result (λ c. app_of c ≡ credbook) }
     ensures local { IfOk result (λ c. (out-Command c).has_globals ≡ false) }
 {
-    running(alloc)?
-        .subcommand(of_one(alloc, "hash", "setting")?)?
-        .subcommand(of_one(alloc, "check", "record")?)
+    let command = with_one(alloc, running(alloc)?, "hash", "setting")?;
+    with_one(alloc, command, "check", "record")
+}
+
+// The same with a subcommand on one setting or record.
+fn with_one<'a>(
+    alloc: Global,
+    command: Command<'a>,
+    word: &'a str,
+    what: &'a str,
+) -> Result<Command<'a>, AllocError>
+    requires local { (out-Command command).has_globals ≡ false }
+    ensures app { IfOk result (λ c. app_of c ≡ with_subcommand (app_of command.entry) (one_app word.entry.now what.entry.now).top) }
+    ensures local { IfOk result (λ c. (out-Command c).has_globals ≡ false) }
+{
+    match of_one(alloc, word, what) {
+        Ok(one) => command.subcommand(one),
+        Err(refused) => Err(refused),
+    }
 }
 
 fn running<'a>(alloc: Global) -> Result<Command<'a>, AllocError>
     ensures app { IfOk result (λ c. app_of c ≡ running) }
     ensures local { IfOk result (λ c. (out-Command c).has_globals ≡ false) }
 {
+    let run = run(alloc)?;
     Command::new(alloc, "credbook")
         .no_binary_name(true)
         .subcommand_required(true)
-        .subcommand(run(alloc)?)
+        .subcommand(run)
 }
 
 fn run<'a>(alloc: Global) -> Result<Command<'a>, AllocError>
@@ -62,10 +79,18 @@ fn of_one<'a>(alloc: Global, word: &'a str, what: &'a str) -> Result<Command<'a>
     ensures app { IfOk result (λ c. app_of c ≡ one_app word.entry.now what.entry.now) }
     ensures local { IfOk result (λ c. (out-Command c).has_globals ≡ false) }
 {
-    Command::new(alloc, word)
-        .arg(needed(alloc, what))?
-        .arg(password(alloc))?
-        .arg(workers(alloc))
+    let command = with_arg(Command::new(alloc, word), needed(alloc, what))?;
+    let command = with_arg(command, password(alloc))?;
+    with_arg(command, workers(alloc))
+}
+
+// The same with an argument of its own.
+fn with_arg<'a>(command: Command<'a>, arg: Arg<'a>) -> Result<Command<'a>, AllocError>
+    requires local { ((out-Command command).has_globals ≡ false) × (arg.global ≡ false) }
+    ensures app { IfOk result (λ c. app_of c ≡ with_rule (app_of command.entry) (rule_of arg.entry)) }
+    ensures local { IfOk result (λ c. (out-Command c).has_globals ≡ false) }
+{
+    command.arg(arg)
 }
 
 fn needed<'a>(alloc: Global, what: &'a str) -> Arg<'a>

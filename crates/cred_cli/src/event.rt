@@ -1,7 +1,7 @@
 //! What a line of a script asks for.
 
-ghost use Rattle.std.specs.Prelude.{◌≡◌, IfOk};
-ghost use Rattle.cred_cli.specs.Events.{IsSound, asked, changing, event_of, five_pieces, plain, seven_pieces, six_pieces, three_pieces, two_pieces, with_setting};
+ghost use Rattle.std.specs.Prelude.{◌≡◌, IfOk, length, nat_lt};
+ghost use Rattle.cred_cli.specs.Events.{IsSound, asked, changing, event_of, five_pieces, longest_line, plain, seven_pieces, six_pieces, three_pieces, two_pieces, with_setting};
 
 use crate::fields;
 use crate::key::Key;
@@ -30,7 +30,7 @@ impl Event {
         ensures event { result ≡ event_of line.now }
         ensures sound { IsSound result }
     {
-        if line.len() > LONGEST_LINE {
+        if is_too_long(line) {
             return Event::Bad(Refusal::Long);
         }
         match Event::of_pieces(Pieces::new(line, b' ')) {
@@ -65,6 +65,12 @@ impl Event {
             _ => Err(Refusal::Line),
         }
     }
+}
+
+fn is_too_long(line: &[u8]) -> bool
+    ensures { result ≡ nat_lt longest_line (length line.now) }
+{
+    line.len() > LONGEST_LINE
 }
 
 fn two(word: &[u8], field: &[u8]) -> Result<Event, Refusal>

@@ -26,6 +26,3 @@ pub use law::{history_is_a_front, names_are_the_books};
 pub use program::command;
 pub use script::{End, run_script};
 pub use watched::Watched;
-
-#[cfg(test)]
-mod tests;

@@ -1,1 +1,5 @@
-//! Tests of scripts and of the program: what no clause of `cred_cli` says.
+//! Tests of the script engine and of the program, over what is public in `cred_cli`.
+#![tactic(auto)]
+
+#[cfg(test)]
+mod tests;

@@ -1,0 +1,167 @@
+//! What want of memory leaves. These tests hold whichever request is refused: tools/refuse_memory.py refuses each in turn,
+//! and `rt try --test --fail-alloc N` the Nth of each test.
+use super::committers::run_on_committer;
+use super::keepers::Shelf;
+use super::{A, B, Shown, hold, hold_bytes, hold_shown};
+use cred_book::{Book, BookError, Keeper};
+use cred_cli::{End, ScriptFault, Watched, command, run_script};
+use std::alloc::Global;
+use std::process::Abort;
+use std::sync::Wait;
+use std::thread::Threads;
+
+/// A script, and what it is answered.
+const SCRIPT: &str =
+    "account a\nload a $argon2id$v=19$m=256,t=2,p=1$c29tZXNhbHQ$nf65EOgLrQMR/uIPnA4rEsF5h7TKyQwu9U1bMCHGi/4\nshow a\naccount a\nbegin 0 look\nbegin 1 verify a cGFzc3dvcmQ\nbegin 2 upgrade a cGFzc3dvcmQ $argon2id$v=19$m=256,t=2,p=2$c29tZXNhbHQ\nbegin 2 verify a -\ncommit 2\nshow a\ncommit 1\ncommit 1\nbegin 3 remove a cGFzc3dvcmQ\ncommit 3\nshow a";
+
+const ANSWERS: &str =
+    "ok\nok\n$argon2id$v=19$m=256,t=2,p=1$c29tZXNhbHQ$nf65EOgLrQMR/uIPnA4rEsF5h7TKyQwu9U1bMCHGi/4\nbad 1 exists\nbad 11 line\nbegun\nbegun\nbad 14 busy\nupgraded\n$argon2id$v=19$m=256,t=2,p=2$c29tZXNhbHQ$bQk8UB/VmZZF4Oo79iDXuL5/0ttZwg2f/5U52iv1cDc\nchanged\nbad 15 idle\nbegun\nremoved\nnone\n";
+
+/// Holds whole answers from the front of those that the script has.
+fn hold_front<R: Abort>(rt: &R, whole: &str, written: &[u8]) {
+    assert!(rt; whole.as_bytes().starts_with(written));
+    assert!(rt; written.is_empty() || written.ends_with(b"\n"));
+}
+
+/// The record of a after so many lines: the first admits it, the second loads A, the ninth makes that B, and the fourteenth removes it.
+fn shown_after(written: &[u8]) -> Shown<'static> {
+    match written.iter().filter(|&&byte| byte == b'\n').count() {
+        0 => Err(BookError::NoAccount),
+        1 | 14 => Ok(None),
+        2..=8 => Ok(Some(A)),
+        _ => Ok(Some(B)),
+    }
+}
+
+/// Holds the whole answers, or those that want of memory leaves; whether it was want of memory.
+fn hold_answers<R: Abort>(rt: &R, end: Result<End, ScriptFault>, written: &[u8]) -> bool {
+    if end == Ok(End { lines: 15 }) {
+        hold_bytes(rt, 0, written, ANSWERS);
+        false
+    } else {
+        assert_eq!(rt; end, Err(ScriptFault::Memory));
+        hold_front(rt, ANSWERS, written);
+        true
+    }
+}
+
+/// Runs the script on the keeper, which has no account, and holds what comes of it.
+fn judge_into<K: Keeper, R: Threads + Wait + Sync + Abort>(
+    rt: &R,
+    alloc: Global,
+    workers: u8,
+    keeper: &mut K,
+    room: Vec<u8>,
+) {
+    let mut reader = Watched::new(SCRIPT.as_bytes());
+    let mut writer = Watched::new(room);
+    let end = run_script(rt, alloc, workers, keeper, &mut reader, &mut writer);
+    let written = writer.into_inner();
+    if hold_answers(rt, end, &written) {
+        hold_shown(rt, 0, keeper, "a", shown_after(&written));
+    }
+}
+
+/// The same, where there is room for the answers.
+fn judge_refused<K: Keeper, R: Threads + Wait + Sync + Abort>(
+    rt: &R,
+    alloc: Global,
+    workers: u8,
+    keeper: &mut K,
+) {
+    if let Ok(room) = Vec::with_capacity(alloc, 4096) {
+        judge_into(rt, alloc, workers, keeper, room);
+    }
+}
+
+#[test]
+fn refused_script(rt: HostRuntime) {
+    if let Ok(mut book) = Book::new(rt.alloc()) {
+        judge_refused(&rt, rt.alloc(), 1, &mut book);
+    }
+}
+
+#[test]
+fn refused_script_of_two_workers(rt: HostRuntime) {
+    if let Ok(mut book) = Book::new(rt.alloc()) {
+        judge_refused(&rt, rt.alloc(), 2, &mut book);
+    }
+}
+
+#[test]
+fn refused_script_on_a_shelf(rt: HostRuntime) {
+    let mut shelf = Shelf::new(rt.alloc(), 1, 9);
+    judge_refused(&rt, rt.alloc(), 2, &mut shelf);
+}
+
+#[test]
+fn refused_script_on_a_committer(rt: HostRuntime) {
+    if let Ok((end, written)) = run_on_committer(&rt, rt.alloc(), 2, SCRIPT.as_bytes()) {
+        let _refused = hold_answers(&rt, end, &written);
+    }
+}
+
+/// Holds what the program came to: its whole output and status, or 3 with nothing but whole answers written.
+fn hold_ended<R: Abort>(rt: &R, ended: u8, written: &[u8], faults: &[u8], whole: &str, status: u8) {
+    if ended == 3 {
+        hold_front(rt, whole, written);
+        // the text of the fault may itself be refused memory
+        hold(rt, 0, b"credbook: memory\n".starts_with(faults));
+    } else {
+        assert_eq!(rt; ended, status);
+        hold_bytes(rt, 0, written, whole);
+    }
+}
+
+fn judge_words_into<R: Threads + Wait + Sync + Abort>(
+    rt: &R,
+    alloc: Global,
+    words: &[&str],
+    room: Vec<u8>,
+    whole: &str,
+    status: u8,
+) {
+    let mut reader = Watched::new(SCRIPT.as_bytes());
+    let mut writer = Watched::new(room);
+    let mut faults = Vec::new(alloc);
+    let ended = command(rt, alloc, words, &mut reader, &mut writer, &mut faults);
+    let written = writer.into_inner();
+    hold_ended(rt, ended, &written, &faults, whole, status);
+}
+
+/// Runs the program on these words, where there is room for its output.
+fn judge_words<R: Threads + Wait + Sync + Abort>(
+    rt: &R,
+    alloc: Global,
+    words: &[&str],
+    whole: &str,
+    status: u8,
+) {
+    if let Ok(room) = Vec::with_capacity(alloc, 4096) {
+        judge_words_into(rt, alloc, words, room, whole, status);
+    }
+}
+
+#[test]
+fn refused_program(rt: HostRuntime) {
+    judge_words(&rt, rt.alloc(), &["run", "--workers", "2"], ANSWERS, 0);
+}
+
+#[test]
+fn refused_hash(rt: HostRuntime) {
+    let setting = "$argon2id$v=19$m=256,t=2,p=1$c29tZXNhbHQ";
+    let line =
+        "$argon2id$v=19$m=256,t=2,p=1$c29tZXNhbHQ$nf65EOgLrQMR/uIPnA4rEsF5h7TKyQwu9U1bMCHGi/4\n";
+    judge_words(&rt, rt.alloc(), &["hash", setting, "cGFzc3dvcmQ"], line, 0);
+}
+
+#[test]
+fn refused_check(rt: HostRuntime) {
+    judge_words(&rt, rt.alloc(), &["check", A, "cGFzc3dvcmQ"], "yes\n", 0);
+    judge_words(&rt, rt.alloc(), &["check", A], "no\n", 4);
+}
+
+#[test]
+fn refused_words(rt: HostRuntime) {
+    judge_words(&rt, rt.alloc(), &["walk"], "", 1);
+}

@@ -1,0 +1,282 @@
+//! The program: its exit status, and what comes on which stream.
+use super::readers::CutOff;
+use super::writers::Stingy;
+use super::{A, PA, SA, SCRYPT, filled_in, hold, hold_bytes};
+use cred_cli::{Watched, command};
+use std::alloc::Global;
+use std::io;
+use std::io::{Read, Write};
+use std::process::Abort;
+use std::sync::Wait;
+use std::thread::Threads;
+
+/// What the program came to, which wrote to `output`.
+#[derive(Drop)]
+struct Ran<W> {
+    status: u8,
+    output: W,
+    faults: Vec<u8>,
+}
+
+/// Runs the program on the words.
+fn run_words<I: Read + Drop, W: Write + Drop, R: Threads + Wait + Sync>(
+    rt: &R,
+    alloc: Global,
+    words: &[&str],
+    input: I,
+    output: W,
+) -> Ran<W> {
+    let mut reader = Watched::new(input);
+    let mut writer = Watched::new(output);
+    let mut faults = Vec::new(alloc);
+    let status = command(rt, alloc, words, &mut reader, &mut writer, &mut faults);
+    let output = writer.into_inner();
+    Ran {
+        status,
+        output,
+        faults,
+    }
+}
+
+/// The status, and what is written and named as the fault.
+type Told<'a> = (u8, &'a str, &'a str);
+
+fn hold_told<R: Abort>(rt: &R, status: u8, written: &[u8], faults: &[u8], want: Told) {
+    let want = (want.0, want.1.as_bytes(), want.2.as_bytes());
+    assert_eq!(rt; (status, written, faults), want);
+}
+
+/// Holds what the program is to come to on the words and this input.
+fn judge_words<I: Read + Drop, R: Threads + Wait + Sync + Abort>(
+    rt: &R,
+    alloc: Global,
+    words: &[&str],
+    input: I,
+    want: Told,
+) {
+    let ran = run_words(rt, alloc, words, input, Vec::new(alloc));
+    hold_told(rt, ran.status, &ran.output, &ran.faults, want);
+}
+
+/// The same, where what is written takes so many bytes.
+fn judge_stingy<R: Threads + Wait + Sync + Abort>(
+    rt: &R,
+    alloc: Global,
+    words: &[&str],
+    input: &[u8],
+    then: Option<io::ErrorKind>,
+    front: &str,
+) {
+    let (taken, left) = (Vec::new(alloc), front.len());
+    let ran = run_words(rt, alloc, words, input, Stingy { taken, left, then });
+    let want = (2, front, "credbook: write\n");
+    hold_told(rt, ran.status, &ran.output.taken, &ran.faults, want);
+}
+
+/// Scripts, and what is answered.
+static SCRIPTS: [(&str, &str); 3] = [
+    ("", ""),
+    ("account a\nshow a", "ok\nnone\n"),
+    ("\n", "bad 11 line\n"),
+];
+
+#[test]
+fn scripts_are_run(rt: HostRuntime) {
+    for (script, written) in &SCRIPTS {
+        let want = (0, *written, "");
+        judge_words(&rt, rt.alloc(), &["run"], script.as_bytes(), want);
+    }
+}
+
+#[test]
+fn read_faults_are_named(rt: HostRuntime) {
+    for kind in [io::ErrorKind::BrokenPipe, io::ErrorKind::Interrupted] {
+        let input = CutOff {
+            rest: b"account a\naccount b",
+            most: 5,
+            kind,
+        };
+        let want = (2, "ok\n", "credbook: read\n");
+        judge_words(&rt, rt.alloc(), &["run"], input, want);
+    }
+}
+
+#[test]
+fn write_faults_are_named(rt: HostRuntime) {
+    for then in [Some(io::ErrorKind::BrokenPipe), None] {
+        let script = b"account a\nshow a\n";
+        judge_stingy(&rt, rt.alloc(), &["run"], script, then, "ok\nno");
+    }
+}
+
+#[test]
+fn a_script_too_long_is_named(rt: HostRuntime) {
+    let script = "\n".repeat(rt.alloc(), 1_048_577).expect(&rt, "memory");
+    let output = Vec::new(rt.alloc());
+    let ran = run_words(&rt, rt.alloc(), &["run"], script.as_bytes(), output);
+    hold(&rt, 0, ran.status == 2);
+    hold(&rt, 0, ran.output.ends_with(b"bad 11 line\n"));
+    hold_bytes(&rt, 0, &ran.faults, "credbook: toolong\n");
+}
+
+/// The setting of the vector of RFC 7914.
+const SALTED: &str = "$scrypt$ln=10,r=8,p=16$TmFDbA";
+
+/// What `hash` and `check` print, name as the fault, and answer as the status.
+static SINGLES: [(&[&str], &str, &str, u8); 18] = [
+    (&["hash", SA, PA], "{A}\n", "", 0),
+    (&["hash", SA, PA, "--workers", "4"], "{A}\n", "", 0),
+    (
+        &["hash", SALTED, PA],
+        "$scrypt$ln=10,r=8,p=16$TmFDbA$/bq+HJ00cgB4VucZDQHp/nxq18vII3gw53N2Y0s3MWI\n",
+        "",
+        0,
+    ),
+    (&["hash", A, PA], "", "credbook: 1 shape\n", 1),
+    (
+        &["hash", "$argon2id$v=19$m=7,t=2,p=1$c29tZXNhbHQ", "!"],
+        "",
+        "credbook: 5 range\n",
+        1,
+    ),
+    (
+        &["hash", "$argon2i$m=256,t=2,p=1$c29tZXNhbHQ", PA],
+        "",
+        "credbook: 3 version\n",
+        1,
+    ),
+    (&["hash", SA, "!"], "", "credbook: 13 password\n", 1),
+    (&["hash", SA, "-"], "", "credbook: 13 password\n", 1),
+    (&["hash", SA, ""], "", "credbook: 13 password\n", 1),
+    (&["check", A, PA], "yes\n", "", 0),
+    (&["check", "--workers=4", A, PA], "yes\n", "", 0),
+    (&["check", SCRYPT, PA], "yes\n", "", 0),
+    (&["check", A], "no\n", "", 4),
+    (&["check", A, "YmFk"], "no\n", "", 4),
+    (&["check", A, "!"], "", "credbook: 13 password\n", 1),
+    (&["check", A, "-"], "", "credbook: 13 password\n", 1),
+    (&["check", A, ""], "", "credbook: 13 password\n", 1),
+    (&["check", SA, "!"], "", "credbook: 1 shape\n", 1),
+];
+
+fn judge_single<R: Threads + Wait + Sync + Abort>(
+    rt: &R,
+    alloc: Global,
+    words: &[&str],
+    want: Told,
+) {
+    let written = filled_in(rt, alloc, want.1);
+    let want = (want.0, written.as_str(), want.2);
+    judge_words(rt, alloc, words, b"account a\n".as_slice(), want);
+}
+
+#[test]
+fn single_values(rt: HostRuntime) {
+    for (words, written, faults, status) in &SINGLES {
+        judge_single(&rt, rt.alloc(), words, (*status, written, faults));
+    }
+}
+
+static TAKEN: [&[&str]; 6] = [
+    &["run", "--workers", "1"],
+    &["run", "--workers", "64"],
+    &["run", "--workers", "04"],
+    &["run", "--workers", "+4"],
+    &["run", "--workers=4"],
+    &["run"],
+];
+
+static REFUSED: [&[&str]; 8] = [
+    &["run", "--workers", "0"],
+    &["run", "--workers", "65"],
+    &["run", "--workers", "x"],
+    &["run", "--workers"],
+    &["run", "--workers", "4", "--workers", "4"],
+    &["--workers", "4", "run"],
+    &["hash"],
+    &["check", A, PA, "x"],
+];
+
+fn judge_refused<R: Threads + Wait + Sync + Abort>(rt: &R, alloc: Global, words: &[&str]) {
+    let input = b"account a\n".as_slice();
+    let ran = run_words(rt, alloc, words, input, Vec::new(alloc));
+    hold(rt, 0, !ran.faults.is_empty());
+    hold_bytes(rt, 0, &ran.output, "");
+    hold(rt, 0, ran.status == 1);
+}
+
+#[test]
+fn numbers_of_workers(rt: HostRuntime) {
+    for words in &TAKEN {
+        let input = b"account a\n".as_slice();
+        judge_words(&rt, rt.alloc(), words, input, (0, "ok\n", ""));
+    }
+    for words in &REFUSED {
+        judge_refused(&rt, rt.alloc(), words);
+    }
+}
+
+/// Stops the line, which the words print, after each of its bytes but the last.
+fn judge_stops<R: Threads + Wait + Sync + Abort>(
+    rt: &R,
+    alloc: Global,
+    words: &[&str],
+    line: &str,
+) {
+    for left in 0..line.len() {
+        let front = line.get(..left).expect(rt, "the line is longer");
+        for then in [Some(io::ErrorKind::BrokenPipe), None] {
+            judge_stingy(rt, alloc, words, b"", then, front);
+        }
+    }
+}
+
+static PRINTED: [(&[&str], &str); 3] = [
+    (&["hash", SA, PA], "{A}\n"),
+    (&["check", A, PA], "yes\n"),
+    (&["check", A], "no\n"),
+];
+
+#[test]
+fn single_writes_fail(rt: HostRuntime) {
+    for (words, line) in &PRINTED {
+        let line = filled_in(&rt, rt.alloc(), line);
+        judge_stops(&rt, rt.alloc(), words, &line);
+    }
+}
+
+/// Words that don't parse, and `clap`'s text for them.
+static UNREAD: [(&[&str], &str); 6] = [
+    (
+        &[],
+        "error: 'credbook' requires a subcommand but one was not provided\n  [subcommands: run, hash, check, help]\n\nUsage: credbook <COMMAND>\n\nFor more information, try '--help'.\n",
+    ),
+    (
+        &["--help"],
+        "Usage: credbook <COMMAND>\n\nCommands:\n  run    \n  hash   \n  check  \n  help   Print this message or the help of the given subcommand(s)\n\nOptions:\n  -h, --help  Print help\n",
+    ),
+    (
+        &["walk"],
+        "error: unrecognized subcommand 'walk'\n\nUsage: credbook <COMMAND>\n\nFor more information, try '--help'.\n",
+    ),
+    (
+        &["run", "x"],
+        "error: unexpected argument 'x' found\n\nUsage: run [OPTIONS]\n\nFor more information, try '--help'.\n",
+    ),
+    (
+        &["run", "--quiet"],
+        "error: unexpected argument '--quiet' found\n\nUsage: run [OPTIONS]\n\nFor more information, try '--help'.\n",
+    ),
+    (
+        &["run", "--help"],
+        "Usage: run [OPTIONS]\n\nOptions:\n      --workers <workers>  [default: 1]\n  -h, --help               Print help\n",
+    ),
+];
+
+#[test]
+fn words_that_do_not_parse(rt: HostRuntime) {
+    for (words, text) in &UNREAD {
+        let input = b"account a\n".as_slice();
+        judge_words(&rt, rt.alloc(), words, input, (1, "", text));
+    }
+}

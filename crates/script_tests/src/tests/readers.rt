@@ -1,0 +1,184 @@
+//! Readers that fail, that give too much or little at once, and one that waits for its answers.
+use super::{empty_book, hold, hold_bytes, hold_end, hold_shown, run_on_book};
+use cred_book::BookError;
+use cred_cli::{End, ScriptFault, Watched, run_script};
+use std::alloc::Global;
+use std::cell::Cell;
+use std::io;
+use std::io::{Read, Write};
+use std::process::Abort;
+use std::sync::Wait;
+use std::thread::Threads;
+
+/// Gives its bytes, so many a call, and then fails.
+#[derive(Drop)]
+pub(super) struct CutOff<'a> {
+    pub(super) rest: &'a [u8],
+    pub(super) most: usize,
+    pub(super) kind: io::ErrorKind,
+}
+
+impl<'a> Read for CutOff<'a> {
+    fn read(&mut self, buf: &mut [u8]) -> io::Result<usize> {
+        if self.rest.is_empty() {
+            return Err(io::Error::from(self.kind));
+        }
+        let n = self.rest.len().min(buf.len()).min(self.most);
+        buf[..n].copy_from_slice(&self.rest[..n]);
+        self.rest = &self.rest[n..];
+        Ok(n)
+    }
+}
+
+/// Gives line ends, one a call, and has no end.
+#[derive(Drop)]
+struct LineEnds;
+
+impl Read for LineEnds {
+    fn read(&mut self, buf: &mut [u8]) -> io::Result<usize> {
+        match buf.first_mut() {
+            Some(place) => {
+                *place = b'\n';
+                Ok(1)
+            }
+            None => Ok(0),
+        }
+    }
+}
+
+/// A script of two lines, whose second has no end, with a reader that then fails.
+fn judge_cut_off<R: Threads + Wait + Sync + Abort>(
+    rt: &R,
+    alloc: Global,
+    most: usize,
+    kind: io::ErrorKind,
+) {
+    let rest = b"account a\naccount b".as_slice();
+    let outcome = run_on_book(rt, alloc, CutOff { rest, most, kind });
+    hold_end(rt, most, outcome.end, Err(ScriptFault::Read));
+    hold(rt, most, outcome.reader_failed);
+    hold_bytes(rt, most, &outcome.written, "ok\n");
+    hold_shown(rt, most, &outcome.keeper, "a", Ok(None));
+    hold_shown(rt, most, &outcome.keeper, "b", Err(BookError::NoAccount));
+}
+
+#[test]
+fn failing_reads(rt: HostRuntime) {
+    for kind in [io::ErrorKind::BrokenPipe, io::ErrorKind::Interrupted] {
+        for most in [1, 7, 4096] {
+            judge_cut_off(&rt, rt.alloc(), most, kind);
+        }
+    }
+}
+
+/// Runs the script, and holds what it is answered and how it ends.
+fn judge_length<R: Threads + Wait + Sync + Abort>(
+    rt: &R,
+    alloc: Global,
+    script: &str,
+    written: &str,
+    end: Result<End, ScriptFault>,
+) {
+    let outcome = run_on_book(rt, alloc, script.as_bytes());
+    hold_bytes(rt, script.len(), &outcome.written, written);
+    hold_end(rt, script.len(), outcome.end, end);
+    hold(rt, script.len(), !outcome.reader_failed);
+}
+
+#[test]
+fn longest_scripts(rt: HostRuntime) {
+    let alloc = rt.alloc();
+    let letters = "x".repeat(alloc, 1_048_577).expect(&rt, "memory");
+    let longest = letters.get(..1_048_576).expect(&rt, "fewer letters");
+    let first = letters.get(..1_048_575).expect(&rt, "fewer letters");
+    let line_and_letter = format!(in alloc; "{first}\nx").expect(&rt, "memory");
+    let (whole, long) = (Ok(End { lines: 1 }), Err(ScriptFault::TooLong));
+    judge_length(&rt, alloc, longest, "bad 16 long\n", whole);
+    judge_length(&rt, alloc, &letters, "", long);
+    judge_length(&rt, alloc, &line_and_letter, "bad 16 long\n", long);
+}
+
+#[test]
+fn endless_reader(rt: HostRuntime) {
+    let outcome = run_on_book(&rt, rt.alloc(), LineEnds);
+    hold_end(&rt, 0, outcome.end, Err(ScriptFault::TooLong));
+    hold(&rt, 0, outcome.reader_calls <= 1_048_578);
+    let answers = "bad 11 line\n".repeat(rt.alloc(), 1_048_576);
+    let answers = answers.expect(&rt, "memory");
+    hold_bytes(&rt, 0, &outcome.written, &answers);
+}
+
+/// Gives its bytes, so many a call. A call fails where not every whole line that it gave before has its answer.
+#[derive(Drop)]
+struct Asking<'a> {
+    rest: &'a [u8],
+    most: usize,
+    asked: usize,
+    answered: &'a Cell<usize>,
+}
+
+fn line_ends(bytes: &[u8]) -> usize {
+    bytes.iter().filter(|&&byte| byte == b'\n').count()
+}
+
+impl<'a> Read for Asking<'a> {
+    fn read(&mut self, buf: &mut [u8]) -> io::Result<usize> {
+        if self.answered.get() != self.asked {
+            return Err(io::Error::from(io::ErrorKind::BrokenPipe));
+        }
+        let n = self.rest.len().min(buf.len()).min(self.most);
+        buf[..n].copy_from_slice(&self.rest[..n]);
+        self.asked = self.asked.saturating_add(line_ends(&self.rest[..n]));
+        self.rest = &self.rest[n..];
+        Ok(n)
+    }
+}
+
+/// Counts the line ends that are written to it.
+#[derive(Drop)]
+struct Counting<'a> {
+    answered: &'a Cell<usize>,
+}
+
+impl<'a> Write for Counting<'a> {
+    fn write(&mut self, buf: &[u8]) -> io::Result<usize> {
+        self.answered
+            .set(self.answered.get().saturating_add(line_ends(buf)));
+        Ok(buf.len())
+    }
+
+    fn flush(&mut self) -> io::Result<()> {
+        Ok(())
+    }
+}
+
+/// Runs a script of six lines, which is read so many bytes a call.
+fn judge_asking<R: Threads + Wait + Sync + Abort>(
+    rt: &R,
+    alloc: Global,
+    script: &[u8],
+    most: usize,
+) {
+    let answered = Cell::new(0);
+    let mut book = empty_book(rt, alloc);
+    let mut reader = Watched::new(Asking {
+        rest: script,
+        most,
+        asked: 0,
+        answered: &answered,
+    });
+    let mut writer = Watched::new(Counting {
+        answered: &answered,
+    });
+    let end = run_script(rt, alloc, 1, &mut book, &mut reader, &mut writer);
+    hold_end(rt, most, end, Ok(End { lines: 6 }));
+    hold(rt, most, answered.get() == 6);
+}
+
+#[test]
+fn answered_before_the_next_call(rt: HostRuntime) {
+    let script = b"account a\nshow a\n\nshow b\naccount b\nshow b\n";
+    for most in 1..=script.len() {
+        judge_asking(&rt, rt.alloc(), script, most);
+    }
+}

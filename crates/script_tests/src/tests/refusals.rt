@@ -1,0 +1,150 @@
+//! Lines of operations that are refused, and which of two causes is answered.
+use super::dialogue::{Case, Dialogue, judge_cases};
+use std::alloc::Global;
+use std::process::Abort;
+
+/// Each behind `account a`.
+static REFUSALS: [Case; 4] = [
+    Case {
+        name: "operations_and_counts_come_before_fields",
+        lines: &[
+            ("begin 0 look a -", "bad 11 line"),
+            ("begin 0 Verify a -", "bad 11 line"),
+            ("begin 0 enrol a -", "bad 11 line"),
+            ("begin 0 verify a - {SA}", "bad 11 line"),
+            ("begin 0 change a - {SA}", "bad 11 line"),
+            ("begin 0 enrol a - - {SA}", "bad 11 line"),
+            ("begin 0 change a - - {SA} x", "bad 11 line"),
+            ("Begin 1 verify a -", "bad 11 line"),
+            ("begin 1 verify a", "bad 11 line"),
+            ("begin 1  verify a -", "bad 11 line"),
+            ("commit", "bad 11 line"),
+            ("commit 1 ", "bad 11 line"),
+            ("commit 1", "bad 15 idle"),
+        ],
+    },
+    Case {
+        name: "fields_are_judged_in_turn",
+        lines: &[
+            ("begin 0 enrol A ! $", "bad 12 key"),
+            ("begin 1 enrol A ! $", "bad 3 name"),
+            ("begin 1 enrol a ! $", "bad 13 password"),
+            ("begin 1 enrol a - $", "bad 2 scheme"),
+            ("begin 1 enrol a - {A}", "bad 1 shape"),
+            ("begin 1 change a ! - $", "bad 13 password"),
+            ("begin 1 change a - ! $", "bad 13 password"),
+            ("begin 1 change a - - ", "bad 1 shape"),
+            ("begin 1 upgrade a - $argon2x", "bad 2 scheme"),
+            ("begin 1 remove A !", "bad 3 name"),
+            ("commit 1", "bad 15 idle"),
+        ],
+    },
+    Case {
+        name: "busy_comes_behind_the_fields_and_before_the_book",
+        lines: &[
+            ("begin 1 verify zed -", "bad 5 noaccount"),
+            ("commit 1", "bad 15 idle"),
+            ("begin 1 verify a -", "begun"),
+            ("begin 1 verify A -", "bad 3 name"),
+            ("begin 1 verify a !", "bad 13 password"),
+            ("begin 1 enrol a - $", "bad 2 scheme"),
+            ("begin 1 verify zed -", "bad 14 busy"),
+            ("begin 2 verify a -", "begun"),
+            ("commit 1", "absent"),
+            ("commit 2", "absent"),
+        ],
+    },
+    Case {
+        name: "no_setting_is_of_version_0x10",
+        lines: &[
+            (
+                "begin 1 enrol a {PA} $argon2i$m=256,t=2,p=1$c29tZXNhbHQ",
+                "bad 3 version",
+            ),
+            (
+                "begin 1 enrol a {PA} $argon2i$v=16$m=256,t=2,p=1$c29tZXNhbHQ",
+                "bad 3 version",
+            ),
+            (
+                "begin 1 change a {PA} - $argon2i$v=16$m=256,t=2,p=1$c29tZXNhbHQ",
+                "bad 3 version",
+            ),
+            (
+                "begin 1 upgrade a {PA} $argon2i$m=256,t=2,p=1$c29tZXNhbHQ",
+                "bad 3 version",
+            ),
+        ],
+    },
+];
+
+#[test]
+fn refusals(rt: HostRuntime) {
+    judge_cases(&rt, rt.alloc(), &REFUSALS);
+}
+
+static NO_KEYS: [&str; 13] = [
+    "",
+    "0",
+    "65",
+    "00",
+    "01",
+    "064",
+    "+1",
+    "-1",
+    "1x",
+    "x",
+    "256",
+    "257",
+    "100000000000000000001",
+];
+
+fn begin_and_commit_no_key<R: Abort>(rt: &R, dialogue: &mut Dialogue, key: &str) {
+    dialogue.line(rt, &["begin ", key, " verify a -"], "bad 12 key");
+    dialogue.line(rt, &["commit ", key], "bad 12 key");
+}
+
+fn begin_key<R: Abort>(rt: &R, alloc: Global, dialogue: &mut Dialogue, key: u8) {
+    let key = key.to_string(alloc).expect(rt, "memory");
+    dialogue.line(rt, &["begin ", key.as_str(), " verify a -"], "begun");
+}
+
+fn commit_key_twice<R: Abort>(rt: &R, alloc: Global, dialogue: &mut Dialogue, key: u8) {
+    let key = key.to_string(alloc).expect(rt, "memory");
+    dialogue.line(rt, &["commit ", key.as_str()], "absent");
+    dialogue.line(rt, &["commit ", key.as_str()], "bad 15 idle");
+}
+
+#[test]
+fn keys_are_1_to_64(rt: HostRuntime) {
+    let alloc = rt.alloc();
+    let mut dialogue = Dialogue::with_account(&rt, alloc, "keys_are_1_to_64");
+    for key in &NO_KEYS {
+        begin_and_commit_no_key(&rt, &mut dialogue, key);
+    }
+    for key in 1..65 {
+        begin_key(&rt, alloc, &mut dialogue, key);
+    }
+    for key in 1..65 {
+        commit_key_twice(&rt, alloc, &mut dialogue, key);
+    }
+    dialogue.judge(&rt, alloc);
+}
+
+static NO_PASSWORDS: [&str; 6] = ["", "!", "--", "cGFzc3dvcmQ=", "cGFzc3dvcmR", "A"];
+
+#[test]
+fn passwords_have_a_form(rt: HostRuntime) {
+    let alloc = rt.alloc();
+    let longest = "A".repeat(alloc, 342).expect(&rt, "memory");
+    let mut dialogue = Dialogue::with_account(&rt, alloc, "passwords_have_a_form");
+    for pw in &NO_PASSWORDS {
+        dialogue.line(&rt, &["begin 1 verify a ", pw], "bad 13 password");
+    }
+    dialogue.line(
+        &rt,
+        &["begin 1 verify a ", &longest, "A"],
+        "bad 13 password",
+    );
+    dialogue.line(&rt, &["begin 1 verify a ", &longest], "begun");
+    dialogue.judge(&rt, alloc);
+}
