@@ -8,8 +8,8 @@ mod scene;
 mod settling;
 mod threads;
 
-use cred_desk::Entry;
 use cred_book::{Book, Name, Request};
+use cred_desk::Entry;
 use cred_phc::{Password, Record, Setting, parse_record, parse_setting};
 use std::alloc::Global;
 use std::process::Abort;

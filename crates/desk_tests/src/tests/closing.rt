@@ -6,8 +6,8 @@ use super::{
     A, A_SETTING, B, B_SETTING, NONE_STANDS, book_of, enrol, entry, name, remove, stored, upgrade,
     verify,
 };
-use cred_desk::{Desk, DeskError, Naming, Opened};
 use cred_book::{Book, Reply};
+use cred_desk::{Desk, DeskError, Naming, Opened};
 use std::alloc::Global;
 use std::marker::Brand;
 use std::sync::Wait;

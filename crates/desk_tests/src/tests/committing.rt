@@ -3,8 +3,8 @@ ghost use Rattle.std.specs.Prelude.{◌≡◌, true};
 
 use super::scene::{Answer, begin, close, read, worked};
 use super::{A, Accounts, B, B_SETTING, book_of, enrol, name, stored, upgrade, verify};
-use cred_desk::{Committer, DeskError, Naming, Opened, Session};
 use cred_book::{Book, BookError, Keeper, Name, Reply, Ticket};
+use cred_desk::{Committer, DeskError, Naming, Opened, Session};
 use cred_phc::Record;
 use std::alloc::Global;
 use std::marker::Brand;

@@ -2,8 +2,8 @@
 ghost use Rattle.std.specs.Prelude.{◌≡◌, false};
 
 use super::{Accounts, book_of};
-use cred_desk::{Closed, Desk, DeskError, Naming, Opened, Session, Told};
 use cred_book::{Book, Reply, Request, Ticket, Worked};
+use cred_desk::{Closed, Desk, DeskError, Naming, Opened, Session, Told};
 use cred_phc::Record;
 use cred_pool::NoGate;
 use crossbeam_channel::{Receiver, Sender, unbounded};

@@ -4,8 +4,8 @@ use super::{
     Accounts, B, B_SETTING, BOTH_STAND, NONE_STANDS, ONE_STANDS, enrol, entry, name, setting,
     stored, upgrade, verify,
 };
-use cred_desk::Closed;
 use cred_book::Reply;
+use cred_desk::Closed;
 use std::alloc::{AllocError, Global};
 use std::process::Abort;
 use std::test::Fail;
