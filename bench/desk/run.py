@@ -4,7 +4,8 @@
 Each thread that verifies does so 20000 times on accounts all over a book of 4096, each time with a beginning, a cheap hash
 and a close. In a row with upgrades one more thread upgrades without pause, as often; in a row with hashes it does all but the
 settling, so that the two rows differ by what is published alone. A row is the turn with the best rate of verifies out of
-several; the rows take turns, so that the machine's other work meets all of them.
+several; the rows take turns, so that the machine's other work meets all of them. Below the table stands the middle, over all
+turns, of the rate beside upgrades over the rate beside hashes.
 
 The crate desk_load is proved and built with `rt`, in its own folder. The gate runs it on a small load, and compares the totals.
 
@@ -13,6 +14,7 @@ The crate desk_load is proved and built with `rt`, in its own folder. The gate r
 
 import pathlib
 import re
+import statistics
 import subprocess
 import sys
 
@@ -48,14 +50,24 @@ def figures(program, row):
 def main():
     turns = int(sys.argv[1]) if len(sys.argv) > 1 else 7
     program = build()
-    best = {row: (0, 0, 0) for row in ROWS}
+    ran = {row: [] for row in ROWS}
     for _ in range(turns):
         for row in ROWS:
-            best[row] = max(best[row], figures(program, row))
+            ran[row].append(figures(program, row))
     print("| Book | Threads that verify | One more thread | Verifies a second | Longest beginning, us | Its turns a second |")
     print("|------|--------------------:|-----------------|------------------:|----------------------:|-------------------:|")
-    for (book, readers, beside), (rate, worst, other) in best.items():
+    for row, its_turns in ran.items():
+        (book, readers, beside), (rate, worst, other) = row, max(its_turns)
         print(f"| {book} | {readers:19} | {beside:15} | {rate:17} | {worst:21} | {other:18} |")
+    print()
+    for book in ("desk", "lock"):
+        middles = [middle(ran[book, readers, "upgrades"], ran[book, readers, "hashes"]) for readers in (1, 2, 4)]
+        print(f"{book}: beside upgrades over beside hashes, with 1, 2 and 4 threads: " + ", ".join(f"{it:.2f}" for it in middles))
+
+
+def middle(these, those):
+    """The middle of the ratios of rates, turn by turn."""
+    return statistics.median(this[0] / that[0] for this, that in zip(these, those))
 
 
 main()
