@@ -1,7 +1,7 @@
 #!/usr/bin/env python3
 """Runs tests of a crate again and again, and refuses the first request for memory, then the second, and so on.
 
-    tools/refuse_memory.py crates/desk_tests refused
+    tools/refuse_memory.py crates/desk_tests ::refused
 
 The tests are those with the word in their names, in the program that `rt test` built last (out/NAME_tests). Each is run
 with its Nth request for memory refused, for N from 1 to the first N that refuses nothing. A line for each test has how many

@@ -1,5 +1,5 @@
 //! The most accounts that a book has, and the memory that it takes. `refused_book` holds whether or not the request is
-//! refused: `rt try --test --fail-alloc 1` refuses it.
+//! refused: tools/refuse_memory.py refuses it.
 use super::calls::{Call, DONE, Line, Slip, play, play_on_new};
 use super::{A, name, stored};
 use cred_book::{Book, BookError, Name};

@@ -1,6 +1,5 @@
 //! That a ticket's work reaches the workers and the gate, and what want of memory leaves of it. `refused_work` holds
-//! whichever request is refused: `rt try --test --fail-alloc N -- refused` refuses the Nth, and is run for N from 1 on
-//! until a run meets none.
+//! whichever request is refused: tools/refuse_memory.py refuses each in turn.
 use super::calls::book_with;
 use super::work::{Seen, begun, committed};
 use super::{A, A_SETTING, enrol, name, stored};

@@ -1,5 +1,4 @@
-//! What want of memory leaves. The tests hold whichever request is refused: `rt try --test --fail-alloc N -- refused`
-//! refuses the Nth, and is run for N from 1 on until a run meets none.
+//! What want of memory leaves. The tests hold whichever request is refused: tools/refuse_memory.py refuses each in turn.
 ghost use Rattle.std.specs.Prelude.{◌≡◌, false, true};
 
 use super::scene::{Answer, begin, close_desk, read};

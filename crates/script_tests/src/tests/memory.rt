@@ -1,5 +1,4 @@
-//! What want of memory leaves. These tests hold whichever request is refused: tools/refuse_memory.py refuses each in turn,
-//! and `rt try --test --fail-alloc N` the Nth of each test.
+//! What want of memory leaves. These tests hold whichever request is refused: tools/refuse_memory.py refuses each in turn.
 use super::committers::run_on_committer;
 use super::keepers::Shelf;
 use super::{A, B, Shown, hold, hold_bytes, hold_shown};

@@ -118,7 +118,7 @@ fn old_settings(rt: HostRuntime) {
     assert_eq!(rt; is_setting_text(rt.alloc(), &old, text), Ok(true));
 }
 
-/// Also right where memory is refused: the text, or `Memory`.
+/// Also right where memory is refused, by tools/refuse_memory.py: the text, or `Memory`.
 #[test]
 fn refused_memory(rt: HostRuntime) {
     let stored = stored(&rt, A);

@@ -39,8 +39,8 @@ fn is_standard<R: Threads + Sync>(rt: &R, alloc: Global) -> Result<bool, ArgonEr
     Ok(is_hex(&tag, I_TAG))
 }
 
-/// With ample memory this is one more vector. Run by `rt try --test --fail-alloc N`, it shows
-/// that each refused request ends in `Memory` or is not met.
+/// With ample memory this is one more vector. By tools/refuse_memory.py it shows that each refused
+/// request ends in `Memory` or is not met.
 #[test]
 fn refused_memory(rt: HostRuntime) {
     let answer = is_standard(&rt, rt.alloc());
