@@ -108,7 +108,9 @@ impl Book {
         }
     }
 
-    /// Copies the record of the request's account into a ticket. Refused with `NoAccount` where the name isn't there; the request comes back.
+    /// Copies the record of the request's account into a ticket. A setting in the request isn't of version 0x10, as `Request::is_for_current` tells.
+    ///
+    /// Refused with `NoAccount` where the name isn't there; the request comes back.
     pub fn begin(&self, request: Request) -> Result<Ticket, (Request, BookError)>
         requires { is_for_current request ≡ true }
         ensures { Begins self.now request result }

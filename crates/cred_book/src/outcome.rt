@@ -23,6 +23,7 @@ pub(crate) type Outcome = (Reply, Option<Record>);
 pub struct Hashing<'a, R, G> {
     pub rt: &'a R,
     pub alloc: Global,
+    /// How many threads work one hash, at most.
     pub workers: u8,
     pub gate: &'a G,
 }

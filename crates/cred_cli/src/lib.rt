@@ -1,4 +1,7 @@
 //! The script engine: lines that ask for operations on a book, and an answer line for each.
+//!
+//! [`run_script`] runs a script on any keeper of a book, and [`command`] is the program `credbook`: a script on an empty
+//! book, or one record made or judged.
 #![tactic(auto)]
 
 mod answer;

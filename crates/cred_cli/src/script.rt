@@ -31,9 +31,9 @@ pub struct End {
     pub lines: u64,
 }
 
-/// Reads a script of at most 1048576 bytes to its end, does what each line asks of the keeper's book, and writes an answer line for each, whole, before the reader is called again. At most `workers` threads hash.
+/// Reads a script of at most 1048576 bytes to its end, does what each line asks of the keeper's book, and writes an answer line for each, whole, before the reader is called again. At most `workers` threads hash. No call was made on the reader or the writer before.
 ///
-/// Ended by `Read` or `Write` where a call on the reader or the writer failed, by `Memory`, or by `TooLong`.
+/// Ended by `Read` or `Write` where a call on the reader or the writer failed, by `Memory`, or by `TooLong` where the script has more bytes.
 pub fn run_script<T: Threads + Wait + Sync, K: Keeper, R: Read, W: Write>(
     rt: &T,
     alloc: Global,

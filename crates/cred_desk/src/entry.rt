@@ -7,5 +7,6 @@ use cred_phc::Record;
 #[derive(Clone, Copy, Debug, PartialEq, Eq)]
 pub struct Entry {
     pub name: Name,
+    /// The record that stands from then on.
     pub now: Option<Record>,
 }

@@ -104,7 +104,7 @@ impl<J: Naming> Session<J> {
         share
     }
 
-    /// Copies the record of the request's account from the published book into a ticket, and knows that book's list from then on.
+    /// Copies the record of the request's account from the published book into a ticket, and knows that book's list from then on. A setting in the request isn't of version 0x10, as `Request::is_for_current` tells.
     ///
     /// `NoAccount` where the name isn't there. `Reader` where there is no book to read, as may be once its desk or committer was ended; nothing changes then. The request comes back.
     pub fn begin(&mut self, request: Request) -> Result<Ticket, (Request, DeskError)>

@@ -26,8 +26,8 @@ fn all_digits(text: &[u8]) -> bool
     text.iter().all(|byte| byte.is_ascii_digit())
 }
 
-/// The number that decimal digits write, with no zero in front of others, or the greatest `u64`
-/// where that is less.
+/// The number that decimal digits write, with no zero in front of others; the greatest `u64` in the
+/// place of a greater one. None where the bytes write no number so.
 #[tactic(auto, using(crate::proofs::NumberLaws::push_digit), unfolding(crate::specs::Number::number_of))]
 pub fn decimal(digits: &[u8]) -> Option<u64>
     ensures { result ≡ option_map capped (number_of digits.now) }

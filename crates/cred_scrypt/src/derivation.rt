@@ -12,8 +12,8 @@ use std::alloc::Global;
 /// The length of an HMAC in bytes.
 const MAC: usize = 32;
 
-/// PBKDF2 (RFC 8018, section 5.2) with HMAC-SHA-256: `len` bytes, by `c` turns for each 32 of them. Password and salt
-/// have any length. The answer is Memory where there is no memory for the key.
+/// PBKDF2 (RFC 8018, section 5.2) with HMAC-SHA-256: `len` bytes, by `c` turns, at least one, for each 32 of them.
+/// Password and salt have any length. The answer is Memory where there is no memory for the key.
 pub fn pbkdf2(
     alloc: Global,
     pw: &[u8],

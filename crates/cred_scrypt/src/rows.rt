@@ -11,7 +11,7 @@ use std::alloc::Global;
 use std::mem;
 
 /// ROMix (RFC 7914, section 5) with N = 2^`ln`, in place, on `block`: 2r blocks of sixteen words, of which each has 32
-/// bits. `r * N` is at most 16777216, so the table has 2 GiB at most. Where there is no memory for the table and two
+/// bits. r is at least 1, `ln` at most 24, and `r * N` at most 16777216, so the table has 2 GiB at most. Where there is no memory for the table and two
 /// blocks more, the answer is Memory and `block` is as it was.
 pub fn ro_mix(alloc: Global, r: u8, ln: u8, block: &mut [u32]) -> Result<(), ScryptError>
     requires block_size { 1 ≤ r }

@@ -52,6 +52,7 @@ fn digit(n: u8) -> u8 {
     if n < 10 {
         b'0' + n
     } else {
+        // ten below `a`
         b'W'.saturating_add(n)
     }
 }
