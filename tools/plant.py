@@ -139,10 +139,9 @@ def main():
     asked.add_argument("name")
     asked.add_argument("--only", default="")
     asked.add_argument("--jobs", type=int, default=1)
-    asked.add_argument("--lane", default="0")
     asked = asked.parse_args()
     bugs = [it for it in bugs_of(TOP / "plants" / f"{asked.name}.txt") if asked.only in f"{it.call} {it.function}"]
-    work = pathlib.Path(f"/tmp/plant-{asked.name}-{asked.lane}")
+    work = pathlib.Path(f"/tmp/plant-{asked.name}")
     shutil.rmtree(work, ignore_errors=True)
     shutil.copytree(TOP, work / "top", symlinks=True, ignore=lambda at, names:
                     [it for it in names if it == ".git" or it == "incremental" and not at.endswith(f"{asked.name}/out")])
@@ -172,22 +171,14 @@ def main():
         verdicts = verdicts_of(said)
         settled = 0
         if not any(kind == "proved" for kind in verdicts.values()):
-            # Not one function was judged: some bug doesn't compile. The compiler names its file and line, or each is tried alone.
-            if len(round_of) == 1:
-                round_of[0].verdict = "doesn't compile"
-                print(f"doesn't compile: {round_of[0]}\n" + "\n".join(
-                    line for line in said.splitlines() if "error" in line or "refused" in line)[:600], flush=True)
-            else:
-                half = len(round_of) // 2
-                waiting = [it for it in waiting if it not in round_of[half:]] + round_of[half:] if asked.lane == "" else waiting
-                blamed = [it for it in round_of if names(said, crate, it)]
-                for bug in blamed[:1] or round_of[:1]:
-                    if blamed:
-                        bug.verdict = "doesn't compile"
-                        print(f"doesn't compile: {bug}\n" + "\n".join(
-                            line for line in said.splitlines() if "error" in line or "refused" in line)[:600], flush=True)
-                    else:
-                        sys.exit(f"no verdict, and no line that names a bug:\n{said[-3000:]}")
+            # Not one function was judged: some bug doesn't compile, and the compiler names its file and line.
+            blamed = [it for it in round_of if len(round_of) == 1 or names(said, crate, it)]
+            if not blamed:
+                sys.exit(f"no verdict, and no line that names a bug:\n{said[-3000:]}")
+            for bug in blamed:
+                bug.verdict = "doesn't compile"
+                print(f"doesn't compile: {bug}", flush=True)
+            print("\n".join(line for line in said.splitlines() if ": error" in line)[:1000], flush=True)
             settled = 1
         else:
             for bug in round_of:
