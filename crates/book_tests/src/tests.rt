@@ -18,19 +18,6 @@ use cred_book::{Name, Request};
 use cred_phc::{Password, Record, Setting, parse_record, parse_setting};
 use std::process::Abort;
 
-/// The settings of `A` and `B`.
-const A_SETTING: &str = "$argon2id$v=19$m=256,t=2,p=1$c29tZXNhbHQ";
-
-const B_SETTING: &str = "$argon2id$v=19$m=256,t=2,p=2$c29tZXNhbHQ";
-
-/// The record of `password` and `somesalt` by the reference program of Argon2, with one lane.
-const A: &str =
-    "$argon2id$v=19$m=256,t=2,p=1$c29tZXNhbHQ$nf65EOgLrQMR/uIPnA4rEsF5h7TKyQwu9U1bMCHGi/4";
-
-/// The same with two lanes.
-const B: &str =
-    "$argon2id$v=19$m=256,t=2,p=2$c29tZXNhbHQ$bQk8UB/VmZZF4Oo79iDXuL5/0ttZwg2f/5U52iv1cDc";
-
 fn name<R: Abort>(rt: &R, text: &str) -> Name {
     Name::new(text.as_bytes()).expect(rt, "a name")
 }

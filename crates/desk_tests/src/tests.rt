@@ -11,21 +11,9 @@ mod threads;
 use cred_book::{Book, Name, Request};
 use cred_desk::Entry;
 use cred_phc::{Password, Record, Setting, parse_record, parse_setting};
+use samples::A;
 use std::alloc::Global;
 use std::process::Abort;
-
-/// The settings of `A` and `B`.
-const A_SETTING: &str = "$argon2id$v=19$m=256,t=2,p=1$c29tZXNhbHQ";
-
-const B_SETTING: &str = "$argon2id$v=19$m=256,t=2,p=2$c29tZXNhbHQ";
-
-/// The record of `password` and `somesalt` by the reference program of Argon2, with one lane.
-const A: &str =
-    "$argon2id$v=19$m=256,t=2,p=1$c29tZXNhbHQ$nf65EOgLrQMR/uIPnA4rEsF5h7TKyQwu9U1bMCHGi/4";
-
-/// The same with two lanes.
-const B: &str =
-    "$argon2id$v=19$m=256,t=2,p=2$c29tZXNhbHQ$bQk8UB/VmZZF4Oo79iDXuL5/0ttZwg2f/5U52iv1cDc";
 
 /// Names, and the records that stand at them.
 type Accounts<'a> = &'a [(&'a str, Option<&'a str>)];

@@ -6,7 +6,6 @@
 
 mod argon;
 mod blake;
-mod meetings;
 mod pool;
 mod scrypt;
 

@@ -19,6 +19,7 @@ mod writers;
 use cred_book::{Book, BookError, Keeper, Name};
 use cred_cli::{End, ScriptFault, Watched, run_script};
 use cred_phc::{Record, parse_record};
+use samples::{A, A_SETTING, B, B_SETTING, OLD, SCRYPT};
 use std::alloc::Global;
 use std::io::Read;
 use std::process::Abort;
@@ -28,34 +29,11 @@ use std::thread::Threads;
 /// The password `password`.
 const PA: &str = "cGFzc3dvcmQ";
 
-/// Two settings, of one lane and of two, with the salt `somesalt`.
-const SA: &str = "$argon2id$v=19$m=256,t=2,p=1$c29tZXNhbHQ";
-
-const SB: &str = "$argon2id$v=19$m=256,t=2,p=2$c29tZXNhbHQ";
-
-/// The record of `password` under SA, by the reference program of Argon2.
-const A: &str =
-    "$argon2id$v=19$m=256,t=2,p=1$c29tZXNhbHQ$nf65EOgLrQMR/uIPnA4rEsF5h7TKyQwu9U1bMCHGi/4";
-
-/// The same under SB.
-const B: &str =
-    "$argon2id$v=19$m=256,t=2,p=2$c29tZXNhbHQ$bQk8UB/VmZZF4Oo79iDXuL5/0ttZwg2f/5U52iv1cDc";
-
-/// As A, for `argon2i` and version 0x10, with the version left out and written.
-const OLD: &str = "$argon2i$m=256,t=2,p=1$c29tZXNhbHQ$/U3YPXYsSb3q9XxHvc0MLxur+GP960kN9j7emXX8zwY";
-
-const OLD_WRITTEN: &str =
-    "$argon2i$v=16$m=256,t=2,p=1$c29tZXNhbHQ$/U3YPXYsSb3q9XxHvc0MLxur+GP960kN9j7emXX8zwY";
-
-/// The vector of RFC 7914 section 12 for `password` and `NaCl`.
-const SCRYPT: &str =
-    "$scrypt$ln=10,r=8,p=16$TmFDbA$/bq+HJ00cgB4VucZDQHp/nxq18vII3gw53N2Y0s3MWIurzDZLiKjiG/xCSedmDDaxyevuUqD7m2DYMvfoswGQA";
-
 /// The names that stand for these in scripts and answers.
 static PLACES: [(&str, &str); 7] = [
     ("{PA}", PA),
-    ("{SA}", SA),
-    ("{SB}", SB),
+    ("{SA}", A_SETTING),
+    ("{SB}", B_SETTING),
     ("{A}", A),
     ("{B}", B),
     ("{OLD}", OLD),

@@ -1,6 +1,5 @@
 //! Texts and what is answered to them, from other programs or worked out by hand: the faults of damaged texts
-//! (`faults`), values read, made and written (`texts`), tags (`tags`) and drawn salts (`salts`). Here stand the texts
-//! that several of these are about.
+//! (`faults`), values read, made and written (`texts`), tags (`tags`) and drawn salts (`salts`). The texts are those of `samples`.
 
 mod faults;
 mod salts;
@@ -13,8 +12,6 @@ use cred_phc::{
 use std::alloc::Global;
 use std::process::Abort;
 
-const A_SETTING: &str = "$argon2id$v=19$m=256,t=2,p=1$c29tZXNhbHQ";
-
 /// The scheme of `A`, with its numbers.
 const A_SCHEME: Scheme = Scheme::Argon2 {
     version: Version::V13,
@@ -23,20 +20,6 @@ const A_SCHEME: Scheme = Scheme::Argon2 {
     t: 2,
     p: 1,
 };
-
-/// The record of `password` and `somesalt` by the reference program of Argon2.
-const A: &str =
-    "$argon2id$v=19$m=256,t=2,p=1$c29tZXNhbHQ$nf65EOgLrQMR/uIPnA4rEsF5h7TKyQwu9U1bMCHGi/4";
-
-/// The same for `argon2i` and version 0x10, with the version left out and written.
-const OLD: &str = "$argon2i$m=256,t=2,p=1$c29tZXNhbHQ$/U3YPXYsSb3q9XxHvc0MLxur+GP960kN9j7emXX8zwY";
-
-const OLD_WRITTEN: &str =
-    "$argon2i$v=16$m=256,t=2,p=1$c29tZXNhbHQ$/U3YPXYsSb3q9XxHvc0MLxur+GP960kN9j7emXX8zwY";
-
-/// The vector of RFC 7914 section 12 for `password` and `NaCl`.
-const SCRYPT: &str =
-    "$scrypt$ln=10,r=8,p=16$TmFDbA$/bq+HJ00cgB4VucZDQHp/nxq18vII3gw53N2Y0s3MWIurzDZLiKjiG/xCSedmDDaxyevuUqD7m2DYMvfoswGQA";
 
 fn stored(rt: &impl Abort, text: &str) -> Record {
     parse_record(text.as_bytes()).expect(rt, "a record")

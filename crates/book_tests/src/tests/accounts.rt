@@ -1,7 +1,8 @@
 //! A book's calls, by themselves and by the one who keeps it.
 use super::calls::{Call, DONE, Entry, Line, Slip, enter, keep, play, play_on_new};
-use super::{A, B, name, stored};
+use super::{name, stored};
 use cred_book::{Book, BookError};
+use samples::{A, B};
 use std::alloc::Global;
 use std::sync::Wait;
 

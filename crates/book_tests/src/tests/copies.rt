@@ -1,8 +1,9 @@
 //! Copies of a book, entries that are put there, and work that is handed back or comes from another book.
 use super::calls::{Call, DONE, Entry, Line, Slip, book_with, play};
 use super::work::{Seen, committed, worked_at};
-use super::{A, A_SETTING, B, enrol, name, stored, verify};
+use super::{enrol, name, stored, verify};
 use cred_book::{Book, BookError, Reply, Request};
+use samples::{A, A_SETTING, B};
 use std::alloc::Global;
 use std::thread::Threads;
 

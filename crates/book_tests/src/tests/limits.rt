@@ -1,9 +1,10 @@
 //! The most accounts that a book has, and the memory that it takes. `refused_book` holds whether or not the request is
 //! refused: tools/refuse_memory.py refuses it.
 use super::calls::{Call, DONE, Line, Slip, play, play_on_new};
-use super::{A, name, stored};
+use super::{name, stored};
 use cred_book::{Book, BookError, Name};
 use cred_phc::Record;
+use samples::A;
 use std::alloc::Global;
 
 /// The name `n` with the four digits of the number.

@@ -1,24 +1,19 @@
 //! Whole operations, each begun, worked and committed: what is answered, and which record stands then.
 use super::work::{Seen, operate};
-use super::{A, A_SETTING, B, B_SETTING, enrol, name, password, setting, stored, verify};
+use super::{enrol, name, password, setting, stored, verify};
 use cred_book::{Reply, Request};
 use cred_phc::Record;
+use samples::{A, A_SETTING, B, B_SETTING, OLD, SCRYPT};
 use std::alloc::Global;
 use std::process::Abort;
 use std::thread::Threads;
 
 const PASSWORD: &str = "password";
 
-/// The vector of RFC 7914 section 12 for `password` and `NaCl`.
-const SCRYPT: &str =
-    "$scrypt$ln=10,r=8,p=16$TmFDbA$/bq+HJ00cgB4VucZDQHp/nxq18vII3gw53N2Y0s3MWIurzDZLiKjiG/xCSedmDDaxyevuUqD7m2DYMvfoswGQA";
-
-/// Its scheme and numbers with another salt.
+/// The scheme and numbers of `SCRYPT` with another salt.
 const SCRYPT_SETTING: &str = "$scrypt$ln=10,r=8,p=16$c29tZXNhbHQ";
 
-/// The record of `password` by the reference program of Argon2, of version 0x10, and what it becomes in an upgrade.
-const OLD: &str = "$argon2i$m=256,t=2,p=1$c29tZXNhbHQ$/U3YPXYsSb3q9XxHvc0MLxur+GP960kN9j7emXX8zwY";
-
+/// What `OLD` becomes in an upgrade.
 const RENEWED_SETTING: &str = "$argon2i$v=19$m=256,t=2,p=1$c29tZXNhbHQ";
 
 const RENEWED: &str =

@@ -2,41 +2,12 @@
 //! whichever request is refused: tools/refuse_memory.py refuses each in turn.
 use super::calls::book_with;
 use super::work::{Seen, begun, committed};
-use super::{A, A_SETTING, enrol, name, stored};
+use super::{enrol, name, stored};
 use cred_book::{Book, BookError, Name, Reply, Request, Ticket, Worked};
 use cred_pool::{Gate, NoGate};
+use samples::{A, A_SETTING, Meetings};
 use std::alloc::Global;
-use std::sync::atomic::{AtomicU64, Ordering};
 use std::thread::Threads;
-
-/// How many turns a lane waits for another before the test gives up.
-const TURNS: u64 = 100_000_000;
-
-/// Holds the n-th entry of part 0 until part 1 has entered n times, and counts how often that was in time.
-#[derive(Drop)]
-struct Meetings {
-    first: AtomicU64,
-    second: AtomicU64,
-    met: AtomicU64,
-}
-
-impl Gate for Meetings {
-    fn enter(&self, part: usize) {
-        if part == 1 {
-            self.second.fetch_add(1, Ordering::SeqCst);
-            return;
-        }
-        let before = self.first.fetch_add(1, Ordering::SeqCst);
-        for _ in 0..TURNS {
-            if self.second.load(Ordering::SeqCst) > before {
-                self.met.fetch_add(1, Ordering::SeqCst);
-                return;
-            }
-        }
-    }
-
-    fn leave(&self, _part: usize) {}
-}
 
 /// What is answered to the request at an account with no record where the lanes of its work meet at a gate, and how
 /// often they met in time.
@@ -46,13 +17,9 @@ fn met<R: Threads + Sync>(
     name: Name,
     request: Request,
 ) -> (Option<Reply>, u64) {
-    let gate = Meetings {
-        first: AtomicU64::new(0),
-        second: AtomicU64::new(0),
-        met: AtomicU64::new(0),
-    };
+    let gate = Meetings::new();
     let reply = replied_behind(rt, alloc, &gate, name, request);
-    (reply, gate.met.load(Ordering::SeqCst))
+    (reply, gate.count())
 }
 
 fn replied_behind<R: Threads + Sync>(

@@ -2,12 +2,10 @@
 ghost use Rattle.std.specs.Prelude.{◌≡◌, false};
 
 use super::scene::{Act, Answer, Closing, Setup, show};
-use super::{
-    A, A_SETTING, B, B_SETTING, NONE_STANDS, book_of, enrol, entry, name, remove, stored, upgrade,
-    verify,
-};
+use super::{NONE_STANDS, book_of, enrol, entry, name, remove, stored, upgrade, verify};
 use cred_book::{Book, Reply};
 use cred_desk::{Desk, DeskError, Naming, Opened};
+use samples::{A, A_SETTING, B, B_SETTING};
 use std::alloc::Global;
 use std::marker::Brand;
 use std::sync::Wait;

@@ -2,10 +2,11 @@
 ghost use Rattle.std.specs.Prelude.{◌≡◌, true};
 
 use super::scene::{Answer, begin, close, read, worked};
-use super::{A, Accounts, B, B_SETTING, book_of, enrol, name, stored, upgrade, verify};
+use super::{Accounts, book_of, enrol, name, stored, upgrade, verify};
 use cred_book::{Book, BookError, Keeper, Name, Reply, Ticket};
 use cred_desk::{Committer, DeskError, Naming, Opened, Session};
 use cred_phc::Record;
+use samples::{A, B, B_SETTING};
 use std::alloc::Global;
 use std::marker::Brand;
 use std::process::Abort;

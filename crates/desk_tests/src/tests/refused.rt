@@ -2,11 +2,12 @@
 ghost use Rattle.std.specs.Prelude.{◌≡◌, false, true};
 
 use super::scene::{Answer, begin, close_desk, read};
-use super::{A, A_SETTING, B_SETTING, ONE_STANDS, book_of, name, stored, upgrade, verify};
+use super::{ONE_STANDS, book_of, name, stored, upgrade, verify};
 use cred_book::{Book, Keeper, Reply, Request, Ticket, Worked};
 use cred_desk::{Closed, Committer, Desk, DeskError, Naming, Opened, Session};
 use cred_phc::Record;
 use cred_pool::NoGate;
+use samples::{A, A_SETTING, B_SETTING};
 use std::alloc::Global;
 use std::marker::Brand;
 use std::process::Abort;

@@ -1,8 +1,9 @@
 //! Two sessions of one desk whose account a has `A`, in one thread: what one settles, the other meets.
 use super::scene::{Act, Answer, Closing, Line, Setup, Slip, show};
-use super::{B, B_SETTING, ONE_STANDS, entry, stored, upgrade, verify};
+use super::{ONE_STANDS, entry, stored, upgrade, verify};
 use cred_book::Reply;
 use cred_desk::DeskError;
+use samples::{B, B_SETTING};
 use std::alloc::Global;
 use std::process::Abort;
 use std::sync::Wait;

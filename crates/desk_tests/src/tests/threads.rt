@@ -1,11 +1,12 @@
 //! Sessions in threads of their own.
 use super::scene::{Act, Answer, Closing, Line, Setup, show};
 use super::{
-    Accounts, B, B_SETTING, BOTH_STAND, NONE_STANDS, ONE_STANDS, enrol, entry, name, setting,
-    stored, upgrade, verify,
+    Accounts, BOTH_STAND, NONE_STANDS, ONE_STANDS, enrol, entry, name, setting, stored, upgrade,
+    verify,
 };
 use cred_book::Reply;
 use cred_desk::Closed;
+use samples::{B, B_SETTING};
 use std::alloc::{AllocError, Global};
 use std::process::Abort;
 use std::test::Fail;

@@ -1,8 +1,8 @@
 //! Of `cred_pool`: how often each part is worked and seen by the gate, and that two workers work side by side.
 ghost use Rattle.std.specs.Prelude.{◌≤◌, ⊤};
 
-use super::meetings::Meetings;
 use cred_pool::{Gate, Part, run_parts};
+use samples::Meetings;
 use std::sync::atomic::{AtomicU64, Ordering};
 use std::thread::Threads;
 

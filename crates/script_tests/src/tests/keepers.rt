@@ -6,10 +6,11 @@ ghost use Rattle.std.specs.List.{flat_map};
 ghost use Rattle.cred_book.specs.Names.{name_cmp};
 
 use super::dialogue::Dialogue;
-use super::{A, B, Line, SCRYPT, Shown, hold_bytes, hold_end, hold_shown, run_on};
+use super::{Line, Shown, hold_bytes, hold_end, hold_shown, run_on};
 use cred_book::{Book, BookError, Keeper, Name, Reply, Request, Ticket, Worked};
 use cred_cli::{End, ScriptFault};
 use cred_phc::Record;
+use samples::{A, B, SCRYPT};
 use std::alloc::Global;
 use std::process::Abort;
 use std::sync::Wait;

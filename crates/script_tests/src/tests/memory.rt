@@ -1,9 +1,10 @@
 //! What want of memory leaves. These tests hold whichever request is refused: tools/refuse_memory.py refuses each in turn.
 use super::committers::run_on_committer;
 use super::keepers::Shelf;
-use super::{A, B, Shown, hold, hold_bytes, hold_shown};
+use super::{Shown, hold, hold_bytes, hold_shown};
 use cred_book::{Book, BookError, Keeper};
 use cred_cli::{End, ScriptFault, Watched, command, run_script};
+use samples::{A, B};
 use std::alloc::Global;
 use std::process::Abort;
 use std::sync::Wait;

@@ -1,8 +1,9 @@
 //! The program: its exit status, and what comes on which stream.
 use super::readers::CutOff;
 use super::writers::Stingy;
-use super::{A, PA, SA, SCRYPT, filled_in, hold, hold_bytes};
+use super::{PA, filled_in, hold, hold_bytes};
 use cred_cli::{Watched, command};
+use samples::{A, A_SETTING, SCRYPT};
 use std::alloc::Global;
 use std::io;
 use std::io::{Read, Write};
@@ -124,8 +125,8 @@ const SALTED: &str = "$scrypt$ln=10,r=8,p=16$TmFDbA";
 
 /// What `hash` and `check` print, name as the fault, and answer as the status.
 static SINGLES: [(&[&str], &str, &str, u8); 18] = [
-    (&["hash", SA, PA], "{A}\n", "", 0),
-    (&["hash", SA, PA, "--workers", "4"], "{A}\n", "", 0),
+    (&["hash", A_SETTING, PA], "{A}\n", "", 0),
+    (&["hash", A_SETTING, PA, "--workers", "4"], "{A}\n", "", 0),
     (
         &["hash", SALTED, PA],
         "$scrypt$ln=10,r=8,p=16$TmFDbA$/bq+HJ00cgB4VucZDQHp/nxq18vII3gw53N2Y0s3MWI\n",
@@ -145,9 +146,9 @@ static SINGLES: [(&[&str], &str, &str, u8); 18] = [
         "credbook: 3 version\n",
         1,
     ),
-    (&["hash", SA, "!"], "", "credbook: 13 password\n", 1),
-    (&["hash", SA, "-"], "", "credbook: 13 password\n", 1),
-    (&["hash", SA, ""], "", "credbook: 13 password\n", 1),
+    (&["hash", A_SETTING, "!"], "", "credbook: 13 password\n", 1),
+    (&["hash", A_SETTING, "-"], "", "credbook: 13 password\n", 1),
+    (&["hash", A_SETTING, ""], "", "credbook: 13 password\n", 1),
     (&["check", A, PA], "yes\n", "", 0),
     (&["check", "--workers=4", A, PA], "yes\n", "", 0),
     (&["check", SCRYPT, PA], "yes\n", "", 0),
@@ -156,7 +157,7 @@ static SINGLES: [(&[&str], &str, &str, u8); 18] = [
     (&["check", A, "!"], "", "credbook: 13 password\n", 1),
     (&["check", A, "-"], "", "credbook: 13 password\n", 1),
     (&["check", A, ""], "", "credbook: 13 password\n", 1),
-    (&["check", SA, "!"], "", "credbook: 1 shape\n", 1),
+    (&["check", A_SETTING, "!"], "", "credbook: 1 shape\n", 1),
 ];
 
 fn judge_single<R: Threads + Wait + Sync + Abort>(
@@ -232,7 +233,7 @@ fn judge_stops<R: Threads + Wait + Sync + Abort>(
 }
 
 static PRINTED: [(&[&str], &str); 3] = [
-    (&["hash", SA, PA], "{A}\n"),
+    (&["hash", A_SETTING, PA], "{A}\n"),
     (&["check", A, PA], "yes\n"),
     (&["check", A], "no\n"),
 ];

@@ -1,8 +1,9 @@
 //! Scripts and their answers.
 use super::dialogue::{Case, Dialogue, judge_cases};
-use super::{A, Line, empty_book, hold, hold_bytes, hold_end, hold_shown, run_on_book};
+use super::{Line, empty_book, hold, hold_bytes, hold_end, hold_shown, run_on_book};
 use cred_book::BookError;
 use cred_cli::End;
+use samples::A;
 use std::alloc::Global;
 use std::process::Abort;
 

@@ -1,8 +1,9 @@
 //! Writers that take little at once, that fail, or that take nothing.
 use super::dialogue::Dialogue;
-use super::{A, Line, Shown, empty_book, hold, hold_bytes, hold_end, hold_shown};
+use super::{Line, Shown, empty_book, hold, hold_bytes, hold_end, hold_shown};
 use cred_book::{Book, BookError};
 use cred_cli::{End, ScriptFault, Watched, run_script};
+use samples::A;
 use std::alloc::Global;
 use std::io;
 use std::io::Write;

@@ -1,8 +1,9 @@
 //! The tags that other programs gave, made again.
 
-use super::{A, OLD, SCRYPT, stored};
+use super::stored;
 use cred_phc::{Password, Record, TagError, tag_of};
 use cred_pool::NoGate;
+use samples::{A, OLD, SCRYPT};
 use std::alloc::Global;
 use std::process::Abort;
 use std::thread::Threads;

@@ -1,9 +1,8 @@
 //! Records and settings that are read, made of their parts and written.
 
-use super::{
-    A, A_SCHEME, A_SETTING, OLD, OLD_WRITTEN, SCRYPT, is_record_text, is_setting_text, stored,
-};
+use super::{A_SCHEME, is_record_text, is_setting_text, stored};
 use cred_phc::{Password, PhcError, Record, Setting, Tag, parse_record, parse_setting};
+use samples::{A, A_SETTING, OLD, OLD_WRITTEN, SCRYPT};
 use std::alloc::Global;
 use std::process::Abort;
 

@@ -2,9 +2,9 @@
 use super::standard_tag;
 use super::vectors::I_TAG;
 use crate::tests::is_hex;
-use crate::tests::meetings::Meetings;
 use cred_argon::{ArgonError, Kind, Params, argon2};
 use cred_pool::NoGate;
+use samples::Meetings;
 use std::alloc::Global;
 use std::thread::Threads;
 

@@ -1,7 +1,8 @@
 //! That two workers mix two pieces side by side.
-use crate::tests::meetings::Meetings;
+
 use cred_pool::Gate;
 use cred_scrypt::{ScryptError, ScryptParams, scrypt};
+use samples::Meetings;
 use std::alloc::Global;
 use std::thread::Threads;
 

@@ -7,14 +7,14 @@ const TURNS: u64 = 100_000_000;
 
 /// Holds the n-th entry of part 0 until part 1 has entered n times, and counts how often that was in time.
 #[derive(Drop)]
-pub(super) struct Meetings {
+pub struct Meetings {
     first: AtomicU64,
     second: AtomicU64,
     met: AtomicU64,
 }
 
 impl Meetings {
-    pub(super) fn new() -> Self {
+    pub fn new() -> Self {
         Meetings {
             first: AtomicU64::new(0),
             second: AtomicU64::new(0),
@@ -23,7 +23,7 @@ impl Meetings {
     }
 
     /// How often the two parts met.
-    pub(super) fn count(&self) -> u64 {
+    pub fn count(&self) -> u64 {
         self.met.load(Ordering::SeqCst)
     }
 }

@@ -1,0 +1,11 @@
+//! What several crates of tests share: settings and records that other programs made, what is to be answered to damaged
+//! ones, and a gate at which two parts of a hash meet.
+#![tactic(auto)]
+
+pub use damaged::{Answer, CUTS_OF_A, Change, DAMAGED_A, DAMAGED_SCRYPT, OTHER_TEXTS};
+pub use meetings::Meetings;
+pub use strings::{A, A_SETTING, B, B_SETTING, OLD, OLD_WRITTEN, SCRYPT};
+
+mod damaged;
+mod meetings;
+mod strings;
