@@ -1,3 +1,4 @@
+-- The lemmas of Argon2, and the vectors that pin the definitions.
 pub mod QuadLemmas
 pub mod Whole
 pub mod Ranges

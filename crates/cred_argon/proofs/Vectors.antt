@@ -1,5 +1,5 @@
--- The definitions computed at vectors from outside. vectors/argon/compress.py of hash_tests made them: Argon2 in plain
--- Python, which gives the tags of RFC 9106, section 5.
+-- The definitions computed at vectors from outside. vectors/argon/compress.py of hash_tests made
+-- them: Argon2 in plain Python, which gives the tags of RFC 9106, section 5.
 use Rattle.std.proofs.Common.{◌≡◌, [], ◌∷◌, refl, replicate}
 use Rattle.std.specs.List.{range_with_len}
 use Rattle.cred_argon.specs.Compress.{mixed, straight, slanted, permuted, rows, columns, xor_words, compress}

@@ -87,7 +87,8 @@ half_words x y q h i e hh hi he word =
     let n = 16 * i + 8 * h + e in
     ap₂ bit_xor (both_words x y n (omega arith)) word ∙ sym (xor_words_at r (columns (rows r)) n (omega arith))
 
--- a block whose words are those of G, or those of another block with G's added, is what G makes of it
+-- a block whose words are those of G, or those of another block with G's added, is what G makes of
+-- it
 pub compress_is : (x y out : List ℕ) → length out ≡ 128 → ((n : ℕ) → n < 128 → slice_index out n ≡ slice_index (compress x y) n) → out ≡ compress x y
 unfolding compress xor_words
 compress_is x y out len same =

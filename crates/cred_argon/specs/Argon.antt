@@ -13,7 +13,8 @@ use Rattle.cred_argon.specs.Cells.{cell}
 abbrev pub le32 : ℕ → List ℕ
 le32 n = to_le_bytes w32 n
 
--- H0, the first hash, of the parameters, the password P, the salt S, the secret K and the associated data X
+-- H0, the first hash, of the parameters, the password P, the salt S, the secret K and the
+-- associated data X
 unfoldable pub first_hash : Parameters → List ℕ → List ℕ → List ℕ → List ℕ → List ℕ
 first_hash a pw salt secret assoc =
     blake 64 [] (le32 a.lanes ++ le32 a.tag_len ++ le32 a.memory ++ le32 a.passes ++ le32 (version_number a.version) ++ le32 (kind_number a.kind)

@@ -1,5 +1,5 @@
--- The blocks of Argon2's memory on each pass, each by the blocks that it names (RFC 9106, sections 3.2 and 3.4). There is
--- no memory here, and no order in which it is filled.
+-- The blocks of Argon2's memory on each pass, each by the blocks that it names (RFC 9106, sections
+-- 3.2 and 3.4). There is no memory here, and no order in which it is filled.
 use Rattle.std.specs.Prelude.{ℕ, zero, suc, ◌+◌, ◌-◌, ◌*◌, ◌/◌, ◌%◌, ◌^◌, List, [], ◌∷◌, ◌++◌, Bool, true, false, not, nat_lt, ◌==◌, ◌&&◌, if◌then◌else◌, slice_index, replicate}
 use Rattle.std.specs.Int.{w32, to_le_bytes}
 use Rattle.cred_blake.specs.Words.{words_of}
@@ -19,13 +19,15 @@ use Rattle.cred_argon.specs.Times.{time_of}
 unfoldable pub first_cell : List ℕ → ℕ → ℕ → List ℕ
 first_cell h lane column = words_of (hash_prime 1024 (h ++ to_le_bytes w32 column ++ to_le_bytes w32 lane)) 128
 
--- whether the words that name a reference come from the block before it (section 3.4.1), else from the place alone
+-- whether the words that name a reference come from the block before it (section 3.4.1), else from
+-- the place alone
 abbrev pub is_dependent : Kind → ℕ → ℕ → Bool
 is_dependent D pass slice = true
 is_dependent I pass slice = false
 is_dependent Id pass slice = not ((pass == 0) && nat_lt slice 2)
 
--- what the address block of this number is made of, for a lane's segment in a slice of a pass (section 3.4.1.2)
+-- what the address block of this number is made of, for a lane's segment in a slice of a pass
+-- (section 3.4.1.2)
 abbrev pub address_input : Parameters → ℕ → ℕ → ℕ → ℕ → List ℕ
 address_input a pass lane slice number =
     pass ∷ lane ∷ slice ∷ (4 * segment_len a * a.lanes) ∷ a.passes ∷ kind_number a.kind ∷ number ∷ replicate 121 0

@@ -1,3 +1,4 @@
+-- The definitions that the contracts of Argon2 cite.
 pub mod Numbers
 pub mod Parameters
 pub mod Errors

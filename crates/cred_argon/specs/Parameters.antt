@@ -3,7 +3,8 @@ use Rattle.std.specs.Prelude.{ℕ, ◌*◌, ◌/◌, ◌≤◌}
 use Rattle.cred_argon.specs.declared.kind.Kind.{Kind}
 use Rattle.cred_argon.specs.declared.kind.Version.{Version}
 
--- version v, type y, memory size m in KiB, number of passes t, degree of parallelism p, tag length T in bytes
+-- version v, type y, memory size m in KiB, number of passes t, degree of parallelism p, tag length
+-- T in bytes
 pub record Parameters : Type 0 where
   pub version : Version
   pub kind : Kind
@@ -16,7 +17,8 @@ abbrev pub parameters : Version → Kind → ℕ → ℕ → ℕ → ℕ → Par
 parameters version kind memory passes lanes tag_len =
     record { version = version; kind = kind; memory = memory; passes = passes; lanes = lanes; tag_len = tag_len }
 
--- the columns of a segment: the memory has m' = 4 * p * floor(m / 4p) blocks, a lane m' / p of them, in four segments
+-- the columns of a segment: the memory has m' = 4 * p * floor(m / 4p) blocks, a lane m' / p of
+-- them, in four segments
 abbrev pub segment_len : Parameters → ℕ
 segment_len a = a.memory / (4 * a.lanes)
 

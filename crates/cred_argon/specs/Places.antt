@@ -1,5 +1,5 @@
--- Places of blocks, and the blocks that a place may refer to (RFC 9106, section 3.4.2). s is the number of
--- columns of a segment.
+-- Places of blocks, and the blocks that a place may refer to (RFC 9106, section 3.4.2). s is the
+-- number of columns of a segment.
 use Rattle.std.specs.Prelude.{◌≡◌, ℕ, ◌+◌, ◌-◌, ◌*◌, ◌/◌, ◌%◌, ◌^◌, ◌<◌, ◌≤◌, List, Bool, length, map, filter, flat_map, take, nat_le, nat_lt, ◌==◌, ◌&&◌, ◌||◌, if◌then◌else◌, slice_index_or}
 use Rattle.std.specs.List.{range_with_len}
 use Rattle.cred_argon.specs.declared.place.Place.{Place}
@@ -26,7 +26,8 @@ pub record IsComputed (s lanes : ℕ) (p : Place) : Type 0 where
 abbrev pub lane_places : ℕ → ℕ → ℕ → List Place
 lane_places s last l = flat_map (λ r. map (λ j. place r l j) (range_with_len 0 (4 * s))) (range_with_len 0 (last + 1))
 
--- c lies in one of the three segments before p's, as far as there are three, or in p's own segment and lane, before p
+-- c lies in one of the three segments before p's, as far as there are three, or in p's own segment
+-- and lane, before p
 abbrev pub is_finished : ℕ → Place → Place → Bool
 is_finished s p c =
     (nat_le (segment_of s p - 3) (segment_of s c) && nat_lt (segment_of s c) (segment_of s p))
@@ -35,8 +36,8 @@ is_finished s p c =
 abbrev pub without_last : List Place → List Place
 without_last xs = take (length xs - 1) xs
 
--- W: the places of lane l that p may refer to, the oldest first. The last is left out in p's own lane, where it is the
--- block before p, and in another lane where p is the first of its segment.
+-- W: the places of lane l that p may refer to, the oldest first. The last is left out in p's own
+-- lane, where it is the block before p, and in another lane where p is the first of its segment.
 unfoldable pub reference_set : ℕ → Place → ℕ → List Place
 reference_set s p l =
     let all = filter (is_finished s p) (lane_places s p.pass l) in

@@ -1,4 +1,5 @@
--- Sixteen-word lists that lie side by side in vectors of four words: how the code holds a block's rows and columns.
+-- Sixteen-word lists that lie side by side in vectors of four words: how the code holds a block's
+-- rows and columns.
 use Rattle.std.specs.Prelude.{ℕ, ◌+◌, ◌*◌, ◌/◌, ◌%◌, List, [], ◌∷◌, Bool, bit_xor, if◌then◌else◌, slice_index, slice_index_or}
 
 -- lane j of vector k
@@ -33,7 +34,8 @@ column_list j x =
 abbrev pub put_word : Bool → ℕ → ℕ → ℕ
 put_word onto old new = if onto then bit_xor old new else new
 
--- a word of the exclusive or of three blocks, the third in the vectors of a half: two vectors of each row
+-- a word of the exclusive or of three blocks, the third in the vectors of a half: two vectors of
+-- each row
 abbrev pub half_word : List ℕ → List ℕ → List (List ℕ) → ℕ → ℕ → ℕ → ℕ
 half_word x y half at i e =
     bit_xor (bit_xor (slice_index x (16 * i + at + e)) (slice_index y (16 * i + at + e))) (lane_at half (2 * i + e / 4) (e % 4))

@@ -1,5 +1,5 @@
--- What the code's memory holds: four slices, each a list of one segment a lane. Segments are counted over all passes, so
--- that segment g is that of pass g / 4 and slice g % 4.
+-- What the code's memory holds: four slices, each a list of one segment a lane. Segments are
+-- counted over all passes, so that segment g is that of pass g / 4 and slice g % 4.
 use Rattle.std.specs.Prelude.{◌≡◌, ℕ, ◌+◌, ◌-◌, ◌*◌, ◌/◌, ◌%◌, ◌<◌, ◌≤◌, List, length, slice_index_or, vec_len, vec_capacity, ◌==◌, if◌then◌else◌}
 use Rattle.cred_argon.specs.declared.block.Block.{Block}
 use Rattle.cred_argon.specs.declared.place.Place.{Place}
@@ -10,8 +10,8 @@ use Rattle.cred_argon.specs.Places.{place}
 use Rattle.cred_argon.specs.Times.{IsBefore}
 use Rattle.cred_argon.specs.Cells.{cell}
 
--- a segment for each lane, in order, with room for its blocks: it has them all where n segments or more were worked
--- before segment g, and else as many as it began with
+-- a segment for each lane, in order, with room for its blocks: it has them all where n segments or
+-- more were worked before segment g, and else as many as it began with
 pub record IsSlice (a : Parameters) (g n start : ℕ) (segments : List Segment) : Type 0 where
   pub count : length segments ≡ a.lanes
   pub lane : (l : ℕ) (d : Segment) → l < a.lanes → (slice_index_or segments l d).lane ≡ l
@@ -59,7 +59,8 @@ place_in c l k = place c.pass l (c.slice * segment_len c.params + k)
 abbrev pub DoneHolds : List ℕ → Shared → ℕ → List Block → Type 0
 DoneHolds h c l blocks = (i : ℕ) (d : Block) → i < length blocks → (slice_index_or blocks i d).0 ≡ cell c.params h (place_in c l i)
 
--- a segment that is worked up to k: before it the cells of this pass, behind it those of the pass before
+-- a segment that is worked up to k: before it the cells of this pass, behind it those of the pass
+-- before
 pub record OwnHolds (h : List ℕ) (c : Shared) (l k : ℕ) (blocks : List Block) : Type 0 where
   pub new : (i : ℕ) (d : Block) → i < k → (slice_index_or blocks i d).0 ≡ cell c.params h (place_in c l i)
   pub old : (i : ℕ) (d : Block) → k ≤ i → i < segment_len c.params → 0 < c.pass

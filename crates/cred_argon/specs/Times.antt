@@ -1,4 +1,5 @@
--- Places as the code counts them: by time, the number of columns that come before a place in its lane, over all passes.
+-- Places as the code counts them: by time, the number of columns that come before a place in its
+-- lane, over all passes.
 use Rattle.std.specs.Prelude.{◌≢◌, ℕ, ◌+◌, ◌-◌, ◌*◌, ◌<◌, ◌≤◌, Bool, min, ◌==◌, ◌||◌, if◌then◌else◌}
 use Rattle.cred_argon.specs.declared.place.Place.{Place}
 use Rattle.cred_argon.specs.Places.{segment_of}
@@ -6,7 +7,8 @@ use Rattle.cred_argon.specs.Places.{segment_of}
 abbrev pub time_of : ℕ → Place → ℕ
 time_of s p = p.pass * (4 * s) + p.column
 
--- how many places of a lane are finished for the place of offset k in segment g, and how many of them it may refer to
+-- how many places of a lane are finished for the place of offset k in segment g, and how many of
+-- them it may refer to
 abbrev pub finished_count : ℕ → ℕ → ℕ → Bool → ℕ
 finished_count s g k own = min 3 g * s + (if own then k else 0)
 

@@ -17,6 +17,7 @@ pub(crate) struct Addresses {
 }
 
 impl Addresses {
+    /// No address block yet.
     pub(crate) fn none() -> Self
         ensures { result.number ≡ 0 }
     {
@@ -41,6 +42,7 @@ impl Addresses {
     }
 }
 
+/// The address block of this number.
 fn address_block(params: &Params, pass: u32, lane: u32, slice: u32, number: u32) -> Block
     ensures { result.0 ≡ address_block params.now pass lane slice number }
 {
@@ -48,6 +50,7 @@ fn address_block(params: &Params, pass: u32, lane: u32, slice: u32, number: u32)
     compress(&Block::ZERO, &compress(&Block::ZERO, &input))
 }
 
+/// What that address block is made of.
 fn address_input(params: &Params, pass: u32, lane: u32, slice: u32, number: u32) -> Block
     ensures { result.0 ≡ address_input params.now pass lane slice number }
 {

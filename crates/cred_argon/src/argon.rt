@@ -17,8 +17,10 @@ use std::thread::Threads;
 /// 9106, section 3.1). In each slice the lanes are worked by at most `workers` threads, behind the
 /// gate; the tag is the same for any number.
 ///
-/// Refused as `InputLen` where an input has 2^32 bytes or more, before memory is taken, or else as
-/// `Memory`. The memory that is taken is that of the parameters, at most, and some KiB.
+/// The memory that is taken is that of the parameters, at most, and some KiB.
+///
+/// Errors: `InputLen` where an input has 2^32 bytes or more, judged before memory is taken; else
+/// `Memory` where there is none for the blocks or the tag.
 pub fn argon2<R: Threads + Sync, G: Gate + Sync>(
     rt: &R,
     alloc: Global,

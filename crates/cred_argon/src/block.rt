@@ -3,8 +3,8 @@ ghost use Rattle.std.specs.Prelude.{◌≡◌, ℕ, ◌+◌, ◌*◌, ◌<◌, �
 ghost use Rattle.cred_argon.specs.Compress.{compress, rows, xor_words};
 ghost use Rattle.cred_argon.specs.Quads.{lane_at, put_word, half_word};
 
-use crate::mix::xor;
-use crate::permute::{four_columns, four_rows};
+use crate::permutation::xor;
+use crate::rows_columns::{four_columns, four_rows};
 use std::simd::u64x4;
 
 /// A block of 1024 bytes, as 128 words of 64 bits.
@@ -31,47 +31,15 @@ pub(crate) fn compress_to(x: &Block, y: &Block, out: &mut Block, onto: bool)
     ensures { let made = compress x.now.0 y.now.0 in
         out.new.0 ≡ (if onto then xor_words out.old.0 made else made) }
 {
-    let [
-        z0,
-        z1,
-        z2,
-        z3,
-        z4,
-        z5,
-        z6,
-        z7,
-        z8,
-        z9,
-        z10,
-        z11,
-        z12,
-        z13,
-        z14,
-        z15,
-    ] = rows_from(&x.0, &y.0, 0);
-    let [
-        z16,
-        z17,
-        z18,
-        z19,
-        z20,
-        z21,
-        z22,
-        z23,
-        z24,
-        z25,
-        z26,
-        z27,
-        z28,
-        z29,
-        z30,
-        z31,
-    ] = rows_from(&x.0, &y.0, 4);
+    let top = rows_from(&x.0, &y.0, 0);
+    let low = rows_from(&x.0, &y.0, 4);
     let left = four_columns([
-        z0, z1, z4, z5, z8, z9, z12, z13, z16, z17, z20, z21, z24, z25, z28, z29,
+        top[0], top[1], top[4], top[5], top[8], top[9], top[12], top[13], low[0], low[1], low[4],
+        low[5], low[8], low[9], low[12], low[13],
     ]);
     let right = four_columns([
-        z2, z3, z6, z7, z10, z11, z14, z15, z18, z19, z22, z23, z26, z27, z30, z31,
+        top[2], top[3], top[6], top[7], top[10], top[11], top[14], top[15], low[2], low[3], low[6],
+        low[7], low[10], low[11], low[14], low[15],
     ]);
     put_half(&x.0, &y.0, &mut out.0, 0, left, onto);
     put_half(&x.0, &y.0, &mut out.0, 8, right, onto);
@@ -169,6 +137,7 @@ fn put(out: &mut [u64; 128], at: usize, words: u64x4, onto: bool)
     out[at + 3] = put_word(onto, out[at + 3], w3);
 }
 
+/// A word written over another, or added to it by exclusive or.
 #[inline(always)]
 fn put_word(onto: bool, old: u64, new: u64) -> u64
     ensures { result ≡ put_word onto old new }

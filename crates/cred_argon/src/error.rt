@@ -1,31 +1,37 @@
-//! Why a call of this library was refused.
-ghost use Rattle.std.specs.Prelude.{◌≡◌, codes};
+//! Why a call of this crate was refused.
+
+ghost use Rattle.std.specs.Prelude.{◌≡◌};
 ghost use Rattle.cred_argon.specs.Errors.{error_number, error_word};
 ghost use Rattle.cred_argon.specs.declared.error.ArgonError.TheVariants.{Memory as OutOfMemory};
 
 use std::alloc::AllocError;
-use std::error::Error;
-use std::fmt;
+use thiserror::Error;
 
 /// Why parameters or inputs were refused, or that memory was.
-#[derive(Clone, Copy, Debug, PartialEq, Eq)]
+#[derive(Clone, Copy, Debug, PartialEq, Eq, Error)]
 pub enum ArgonError {
     /// The number of lanes isn't 1 to 255.
+    #[error("the number of lanes is not 1 to 255")]
     Lanes,
     /// The memory isn't 8 KiB a lane to 2 GiB.
+    #[error("the memory is not 8 KiB a lane to 2 GiB")]
     Cost,
     /// There is no pass.
+    #[error("there is no pass")]
     Passes,
     /// The tag isn't 4 to 64 bytes long.
+    #[error("the tag is not 4 to 64 bytes long")]
     TagLen,
     /// An input has 2^32 bytes or more.
+    #[error("an input is too long")]
     InputLen,
-    /// No memory was granted.
+    /// There was no memory for the blocks or the tag.
+    #[error("out of memory")]
     Memory,
 }
 
 impl ArgonError {
-    /// The error's number, 1 to 6.
+    /// The number of the error, from 1 to 6.
     pub fn number(self) -> u8
         ensures { result ≡ error_number self }
     {
@@ -39,7 +45,7 @@ impl ArgonError {
         }
     }
 
-    /// The error's name in lower case.
+    /// The name of the error in lower case, as `taglen`.
     pub fn word(self) -> &'static str
         ensures { result.now ≡ error_word self }
     {
@@ -53,21 +59,6 @@ impl ArgonError {
         }
     }
 }
-
-impl fmt::Display for ArgonError {
-    fn fmt<W: fmt::Write>(&self, f: &mut fmt::Formatter<W>) -> fmt::Result {
-        f.write_str(match self {
-            ArgonError::Lanes => "the number of lanes is not 1 to 255",
-            ArgonError::Cost => "the memory is not 8 KiB a lane to 2 GiB",
-            ArgonError::Passes => "there is no pass",
-            ArgonError::TagLen => "the tag is not 4 to 64 bytes long",
-            ArgonError::InputLen => "an input is too long",
-            ArgonError::Memory => "no memory was granted",
-        })
-    }
-}
-
-impl Error for ArgonError {}
 
 impl From<AllocError> for ArgonError {
     ghost from_gives = { λ _ e. e ≡ OutOfMemory };

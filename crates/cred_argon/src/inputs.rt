@@ -42,6 +42,7 @@ pub(crate) fn first_hash(
     hasher.finalize()
 }
 
+/// Feeds a number as four bytes, low byte first.
 fn feed_number(hasher: &mut Blake2b, number: u32)
     ensures { (n : ℕ) → (key m : List ℕ) → Holds n key hasher.old m
         → Holds n key hasher.new (m ++ le32 number) }

@@ -67,9 +67,12 @@ impl Model for Params {
 }
 
 impl Params {
-    /// Parameters of version 0x13: `memory` in KiB, from 8 a lane to 2 GiB, at least one pass, 1 to
-    /// 255 lanes, and a tag of 4 to 64 bytes. Refused as `Lanes`, `Cost`, `Passes` or `TagLen`,
-    /// judged in this order.
+    /// Parameters of version 0x13 (RFC 9106, section 3.1), with `memory` in KiB and `tag_len` in
+    /// bytes.
+    ///
+    /// Errors: `Lanes` where `lanes` is outside 1 to 255; else `Cost` where `memory` is below 8 KiB
+    /// a lane or over 2 GiB; else `Passes` where there is no pass; else `TagLen` where the tag
+    /// isn't 4 to 64 bytes long.
     pub fn new(
         kind: Kind,
         memory: u32,
@@ -85,7 +88,7 @@ impl Params {
         Params::with_version(Version::V13, kind, memory, passes, lanes, tag_len)
     }
 
-    /// The same at a version of the caller's choice.
+    /// The same at a version of the caller's choice, with the same errors.
     pub fn with_version(
         version: Version,
         kind: Kind,

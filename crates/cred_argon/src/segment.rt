@@ -16,7 +16,7 @@ use crate::block::{Block, compress_to};
 use crate::kind::{Kind, Version};
 use crate::params::Params;
 use crate::place::Place;
-use crate::window::reference_from;
+use crate::reference_block::reference_from;
 use cred_pool::Part;
 
 /// The blocks of one lane in one slice. It has room for all of them from the start; on the first

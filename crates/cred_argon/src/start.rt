@@ -1,4 +1,5 @@
-//! The memory before it is filled: room for all blocks, and the first two blocks of each lane.
+//! The memory before it is filled: room for all blocks, and the first two blocks of each lane (RFC
+//! 9106, section 3.2, steps 2 to 4).
 ghost use Rattle.std.specs.Prelude.{◌≡◌, ℕ, ◌+◌, ◌<◌, ◌≤◌, List, [], ◌∷◌, ◌++◌, length, slice_index_or, vec_len, vec_capacity, IfOk};
 ghost use Rattle.cred_argon.specs.declared.block.Block.{Block};
 ghost use Rattle.cred_argon.specs.declared.segment.Segment.{Segment};
@@ -59,6 +60,7 @@ fn begin_lanes(params: &Params, segments: &mut [Segment], hash: &[u8])
     }
 }
 
+/// Makes the first two blocks of a lane.
 fn begin(segment: &mut Segment, hash: &[u8])
     requires hash { length hash.now ≡ 64 }
     requires empty { vec_len segment.old.blocks ≡ 0 }

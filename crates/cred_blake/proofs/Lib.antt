@@ -1,3 +1,4 @@
+-- The lemmas of BLAKE2b and H', and the vectors that pin the definitions.
 pub mod Blocks
 pub mod Feeding
 pub mod Halves

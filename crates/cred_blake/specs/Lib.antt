@@ -1,4 +1,5 @@
-pub mod BlakeError
+-- The definitions that the contracts of BLAKE2b and H' cite.
+pub mod Errors
 pub mod Words
 pub mod Blake2b
 pub mod Hasher

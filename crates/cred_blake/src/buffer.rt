@@ -24,6 +24,7 @@ impl Model for Buffer {
 }
 
 impl Buffer {
+    /// No bytes yet.
     pub(crate) fn new() -> Buffer
         ensures { result ≡ [] }
     {
@@ -33,6 +34,7 @@ impl Buffer {
         }
     }
 
+    /// How many bytes there are.
     pub(crate) fn len(&self) -> usize
         ensures exact { result ≡ length self.now }
         ensures fits { result ≤ BLOCK_LEN }
@@ -40,18 +42,21 @@ impl Buffer {
         self.len
     }
 
+    /// The bytes so far.
     pub(crate) fn bytes(&self) -> &[u8]
         ensures { result.now ≡ self.now }
     {
         &self.bytes[..self.len]
     }
 
+    /// Empties the block.
     pub(crate) fn clear(&mut self)
         ensures { self.new ≡ [] }
     {
         self.len = 0;
     }
 
+    /// Adds `input`, for which there is room.
     pub(crate) fn extend(&mut self, input: &[u8])
         requires { length self.old + length input.now ≤ BLOCK_LEN }
         ensures { self.new ≡ self.old ++ input.now }

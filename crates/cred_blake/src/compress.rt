@@ -20,7 +20,7 @@ pub(crate) const IV: [u64; 8] = [
     0x5be0cd19137e2179,
 ];
 
-// The message schedule SIGMA (RFC 7693, section 2.7). Rounds 10 and 11 take rows 0 and 1 again.
+/// The message schedule SIGMA (RFC 7693, section 2.7). Rounds 10 and 11 take rows 0 and 1 again.
 const SIGMA: [[usize; 16]; 10] = [
     [0, 1, 2, 3, 4, 5, 6, 7, 8, 9, 10, 11, 12, 13, 14, 15],
     [14, 10, 4, 8, 9, 15, 13, 6, 1, 12, 0, 2, 11, 7, 5, 3],
@@ -34,7 +34,7 @@ const SIGMA: [[usize; 16]; 10] = [
     [10, 2, 8, 4, 7, 6, 1, 5, 15, 11, 9, 14, 3, 12, 13, 0],
 ];
 
-// The mixing function G on four words (RFC 7693, section 3.1).
+/// The mixing function G on four words (RFC 7693, section 3.1).
 #[inline(always)]
 fn mixed(a: u64, b: u64, c: u64, d: u64, x: u64, y: u64) -> (u64, u64, u64, u64)
     ensures { result ≡ mixed a b c d x y }
@@ -50,7 +50,7 @@ fn mixed(a: u64, b: u64, c: u64, d: u64, x: u64, y: u64) -> (u64, u64, u64, u64)
     (a, b, c, d)
 }
 
-// G at the places i, j, k, l of the work vector.
+/// G at the places i, j, k, l of the work vector.
 #[inline(always)]
 fn mix(v: &mut [u64; 16], i: usize, j: usize, k: usize, l: usize, x: u64, y: u64)
     requires { (i < 16) × (j < 16) × (k < 16) × (l < 16) }
@@ -63,7 +63,7 @@ fn mix(v: &mut [u64; 16], i: usize, j: usize, k: usize, l: usize, x: u64, y: u64
     v[l] = d;
 }
 
-// The word of the message that round `r` takes in its place `i`.
+/// The word of the message that round `r` takes in its place `i`.
 #[inline(always)]
 fn word(m: &[u64; 16], r: usize, i: usize) -> u64
     requires { (r < 10) × (i < 16) }
@@ -72,7 +72,7 @@ fn word(m: &[u64; 16], r: usize, i: usize) -> u64
     m[SIGMA[r][i]]
 }
 
-// One round with row `r` of the schedule: the columns, then the diagonals.
+/// One round with row `r` of the schedule: the columns, then the diagonals.
 #[inline(always)]
 fn round(v: &mut [u64; 16], m: &[u64; 16], r: usize)
     requires { r < 10 }
@@ -88,7 +88,7 @@ fn round(v: &mut [u64; 16], m: &[u64; 16], r: usize)
     mix(v, 3, 4, 9, 14, word(m, r, 14), word(m, r, 15));
 }
 
-// The twelve rounds, unrolled so that each one's row of the schedule is a constant.
+/// The twelve rounds, unrolled so that each one's row of the schedule is a constant.
 #[inline(always)]
 fn rounds(v: &mut [u64; 16], m: &[u64; 16])
     ensures { v.new ≡ rounds v.old m.now 12 }
@@ -107,7 +107,7 @@ fn rounds(v: &mut [u64; 16], m: &[u64; 16])
     round(v, m, 1);
 }
 
-// The word at byte `i` of a block.
+/// The word at byte `i` of a block.
 #[inline(always)]
 fn load(block: &[u8], i: usize) -> u64
     requires { i + 8 ≤ length block.now }
@@ -125,7 +125,7 @@ fn load(block: &[u8], i: usize) -> u64
     ])
 }
 
-// The 16 words of a block.
+/// The 16 words of a block.
 #[inline(always)]
 fn words(block: &[u8]) -> [u64; 16]
     requires { length block.now ≡ BLOCK_LEN }
@@ -151,7 +151,7 @@ fn words(block: &[u8]) -> [u64; 16]
     ]
 }
 
-// The work vector of a block with this byte counter; the last block has the flag.
+/// The work vector of a block with this byte counter; the last block has the flag.
 #[inline(always)]
 fn work_vector(h: &[u64; 8], counter: u128, last: bool) -> [u64; 16]
     ensures { result ≡ work_vector h.now counter last }

@@ -1,4 +1,4 @@
-//! The digest of a message.
+//! The digest of a message (RFC 7693, section 3.3).
 
 ghost use Rattle.std.specs.Prelude.{◌≡◌, ◌≤◌, List, ℕ, take};
 ghost use Rattle.cred_blake.specs.Words.{bytes_of};

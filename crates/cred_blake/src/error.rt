@@ -1,35 +1,41 @@
-//! Why a hasher or a hash could not be made.
+//! Why a call of this crate was refused.
 
 ghost use Rattle.std.specs.Prelude.{◌≡◌};
-ghost use Rattle.cred_blake.specs.BlakeError.{number_of, word_of};
-ghost use Rattle.cred_blake.specs.declared.error.BlakeError.TheVariants.{Memory};
+ghost use Rattle.cred_blake.specs.Errors.{error_number, error_word};
+ghost use Rattle.cred_blake.specs.declared.error.BlakeError.TheVariants.{Memory as OutOfMemory};
 
 use std::alloc::AllocError;
-use std::error::Error;
-use std::fmt;
+use thiserror::Error;
 
 /// Why a hasher or a hash could not be made.
-#[derive(Clone, Copy, Debug, PartialEq, Eq)]
+#[derive(Clone, Copy, Debug, PartialEq, Eq, Error)]
 pub enum BlakeError {
     /// The length of the digest is outside 1 to 64 bytes, or that of H' is 0.
-    OutLen = 1,
+    #[error("the length of the digest is out of range")]
+    OutLen,
     /// The key is over 64 bytes.
-    KeyLen = 2,
+    #[error("the key is longer than 64 bytes")]
+    KeyLen,
     /// There was no memory for the result.
-    Memory = 3,
+    #[error("out of memory")]
+    Memory,
 }
 
 impl BlakeError {
-    /// The error's number: 1, 2 or 3.
+    /// The number of the error, from 1 to 3.
     pub fn number(self) -> u8
-        ensures { result ≡ number_of self }
+        ensures { result ≡ error_number self }
     {
-        self as u8
+        match self {
+            BlakeError::OutLen => 1,
+            BlakeError::KeyLen => 2,
+            BlakeError::Memory => 3,
+        }
     }
 
-    /// The error's name: `outlen`, `keylen` or `memory`.
+    /// The name of the error in lower case, as `outlen`.
     pub fn word(self) -> &'static str
-        ensures { result.now ≡ word_of self }
+        ensures { result.now ≡ error_word self }
     {
         match self {
             BlakeError::OutLen => "outlen",
@@ -39,22 +45,10 @@ impl BlakeError {
     }
 }
 
-impl fmt::Display for BlakeError {
-    fn fmt<W: fmt::Write>(&self, f: &mut fmt::Formatter<W>) -> fmt::Result {
-        match self {
-            BlakeError::OutLen => f.write_str("the length of the digest is out of range"),
-            BlakeError::KeyLen => f.write_str("the key is longer than 64 bytes"),
-            BlakeError::Memory => f.write_str("out of memory"),
-        }
-    }
-}
-
-impl Error for BlakeError {}
-
 impl From<AllocError> for BlakeError {
-    ghost from_gives = { λ _ e. e ≡ Memory };
+    ghost from_gives = { λ _ e. e ≡ OutOfMemory };
 
-    fn from(_refused: AllocError) -> BlakeError {
+    fn from(_error: AllocError) -> Self {
         BlakeError::Memory
     }
 }

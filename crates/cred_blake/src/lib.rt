@@ -1,4 +1,5 @@
-//! BLAKE2b (RFC 7693) and the hash H' of any length that Argon2 makes of it (RFC 9106, section 3.3).
+//! BLAKE2b (RFC 7693) and the hash H' of any length that Argon2 makes of it (RFC 9106, section
+//! 3.3).
 //!
 //! ```rust
 //! use cred_blake::Blake2b;

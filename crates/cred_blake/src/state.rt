@@ -5,7 +5,7 @@ ghost use Rattle.cred_blake.specs.Blake2b.{compress, initial_state};
 
 use crate::compress::{BLOCK_LEN, IV, compress};
 
-// The fanout and the depth in the parameter block, both 1: no tree (RFC 7693, section 2.5).
+/// The fanout and the depth in the parameter block, both 1: no tree (RFC 7693, section 2.5).
 const SEQUENTIAL: u64 = 0x01010000;
 
 /// The state after the blocks so far, and the bytes of those blocks.

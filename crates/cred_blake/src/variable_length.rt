@@ -9,10 +9,10 @@ use crate::error::BlakeError;
 use crate::hasher::Blake2b;
 use std::alloc::Global;
 
-// The bytes of a hash that go into a longer one: its first half.
+/// How many bytes of a hash go into a longer one: its first half.
 const HALF_LEN: usize = MAX_LEN / 2;
 
-// The hash of two pieces, without a key.
+/// The hash of two pieces, without a key.
 fn hash(out_len: usize, first: &[u8], second: &[u8]) -> Digest
     requires { (1 ≤ out_len) × (out_len ≤ 64) }
     ensures value { result ≡ blake out_len [] (first.now ++ second.now) }
@@ -24,6 +24,7 @@ fn hash(out_len: usize, first: &[u8], second: &[u8]) -> Digest
     hasher.finalize()
 }
 
+/// The half of a whole digest that goes into H'.
 fn first_half(digest: &Digest) -> &[u8]
     requires { length digest.now ≡ 64 }
     ensures value { result.now ≡ take 32 digest.now }
@@ -33,7 +34,7 @@ fn first_half(digest: &Digest) -> &[u8]
     &bytes[..HALF_LEN]
 }
 
-// Writes `piece` into `out` from byte `at` on.
+/// Writes `piece` into `out` from byte `at` on.
 fn put(out: &mut [u8], at: usize, piece: &[u8])
     requires { at + length piece.now ≤ length out.old }
     ensures { take (at + length piece.now) out.new ≡ take at out.old ++ piece.now }
@@ -41,7 +42,7 @@ fn put(out: &mut [u8], at: usize, piece: &[u8])
     out[at..at + piece.len()].copy_from_slice(piece);
 }
 
-// Fills `out` with H' of its length.
+/// Fills `out` with H' of its length.
 fn write_hash_prime(out: &mut [u8], input: &[u8])
     requires low { 1 ≤ length out.old }
     requires high { length out.old < 2 ^ 32 }

@@ -1,0 +1,1 @@
+-- No definition: each type that is a part names its own relations (src/part.rt).

@@ -1,7 +1,7 @@
 //! The gate round each part's work.
 
-/// What is called round each part's work, on the thread that works it. A gate can watch the parts, or hold one back
-/// until another has come.
+/// What is called round each part's work, on the thread that works it. A gate can watch the parts,
+/// or hold one back until another has come.
 pub trait Gate {
     /// The work of the part with this index is about to begin.
     fn enter(&self, part: usize);

@@ -1,7 +1,8 @@
 //! Parts of a work that are dealt to threads, behind a gate that sees each part begin and end.
 //!
-//! [`run_parts`] works each part once, in at most so many threads, and its contract says how each part stands to
-//! the part before and the value that all of them share. [`NoGate`] is the gate that lets every part through.
+//! [`run_parts`] works each part once, in at most so many threads, and its contract says how each
+//! part stands to the part before and the value that all of them share. [`NoGate`] is the gate that
+//! lets every part through.
 #![tactic(auto)]
 
 mod gate;

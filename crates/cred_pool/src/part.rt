@@ -7,8 +7,9 @@ use std::marker::{Send, Sync};
 use std::thread;
 use std::thread::Threads;
 
-/// One part of a work, whose parts have a value of type `C` in common. Each implementation names what its work needs
-/// of the shared value and the part, and how the part stands afterwards to the part before.
+/// One part of a work, whose parts have a value of type `C` in common. Each implementation names
+/// what its work needs of the shared value and the part, and how the part stands afterwards to the
+/// part before.
 pub trait Part<C> {
     ghost can_work: { C → Self → Type 0 };
 
@@ -20,11 +21,13 @@ pub trait Part<C> {
         ensures { works shared.now self.old self.new };
 }
 
-/// Works each part once, in at most `workers` new threads, which the caller waits for, and calls `enter` and `leave`
-/// of the gate with the part's index before and after its work. The parts are dealt in runs of neighbours of one length.
+/// Works each part once, in at most `workers` new threads, which the caller waits for, and calls
+/// `enter` and `leave` of the gate with the part's index before and after its work. The parts are
+/// dealt in runs of neighbours of one length.
 ///
-/// Where `workers` is 0 or 1, or there are fewer than two parts, no thread is started. Where a thread can't be started
-/// its parts are worked by the threads that are there, so nothing is refused.
+/// Where `workers` is 0 or 1, or there are fewer than two parts, no thread is started. Where a
+/// thread can't be started its parts are worked by the threads that are there, so nothing is
+/// refused.
 pub fn run_parts<R: Threads + Sync, G: Gate + Sync, C: Sync, P: Part<C> + Send>(
     rt: &R,
     workers: u8,
@@ -69,9 +72,9 @@ fn run_from<R: Threads + Sync, G: Gate + Sync, C: Sync, P: Part<C> + Send>(
     run_both(rt, gate, shared, base, size, run, rest);
 }
 
-/// Works a run in a new thread and the rest from here, so that one thread starts all the others and works nothing
-/// itself: a new thread is often given the processor of the one that started it, and then one of the two waits for
-/// milliseconds.
+/// Works a run in a new thread and the rest from here, so that one thread starts all the others and
+/// works nothing itself: a new thread is often given the processor of the one that started it, and
+/// then one of the two waits for milliseconds.
 #[cycle(runs)]
 fn run_both<R: Threads + Sync, G: Gate + Sync, C: Sync, P: Part<C> + Send>(
     rt: &R,
@@ -137,6 +140,7 @@ fn work_run<R: Threads + Sync, G: Gate + Sync, C: Sync, P: Part<C> + Send>(
     );
 }
 
+/// Works a part between the gate's `enter` and `leave`.
 fn work_behind<G: Gate, C, P: Part<C>>(gate: &G, shared: &C, index: usize, part: &mut P)
     requires { P.can_work shared.now part.old }
     ensures { P.works shared.now part.old part.new }

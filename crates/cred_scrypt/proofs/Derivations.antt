@@ -2,7 +2,7 @@
 use Rattle.std.proofs.Common.{◌≡◌, ◌≤◌, ℕ, suc, ◌+◌, ◌-◌, List, ◌++◌, length, take, min, refl, sym, ◌∙◌, ap, ap₂, add-one, arith}
 use Rattle.std.proofs.lemmas.List.{take_all, take_min}
 use Rattle.std.proofs.Math.Seq.{take-append-add}
-use Rattle.cred_scrypt.specs.Zips.{xor_all}
+use Rattle.cred_scrypt.specs.Xor.{xor_all}
 use Rattle.cred_scrypt.specs.Pbkdf2.{turn, turns, derived}
 
 -- from n turns to k = n + 1

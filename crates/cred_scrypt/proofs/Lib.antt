@@ -1,8 +1,9 @@
+-- The lemmas of scrypt, and the vectors that pin the definitions.
 pub mod Pointwise
 pub mod Steps
 pub mod Cuts
 pub mod TableRows
 pub mod Derivations
-mod BlockVectors
-mod MacVectors
-mod KeyVectors
+mod MixingVectors
+mod HmacVectors
+mod ScryptVectors

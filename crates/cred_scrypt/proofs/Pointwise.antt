@@ -1,4 +1,5 @@
--- A loop that takes the elements of one list into those of another, one after another, makes their zip.
+-- A loop that takes the elements of one list into those of another, one after another, makes their
+-- zip.
 use Rattle.std.proofs.Common.{◌≡◌, ◌≢◌, ◌<◌, ◌≤◌, ℕ, ◌+◌, List, length, get_or, set, refl, arith, below_more, get_or-set_other, get_or-set_same, sym, ◌∙◌, ap}
 use Rattle.std.proofs.Math.ListN.{length-set}
 use Rattle.std.proofs.lemmas.Grind.{same_number_lists}

@@ -1,6 +1,6 @@
 -- The definition of BlockMix, one step on, as the loop's counter says it.
 use Rattle.std.proofs.Common.{◌≡◌, ℕ, ◌+◌, ◌*◌, suc, List, ◌++◌, refl, ◌∙◌, ap, add-one, arith}
-use Rattle.cred_scrypt.specs.Zips.{xor_all}
+use Rattle.cred_scrypt.specs.Xor.{xor_all}
 use Rattle.cred_scrypt.specs.Salsa.{salsa20_8}
 use Rattle.cred_scrypt.specs.Mixing.{block_at, chain, every_second}
 

@@ -5,7 +5,7 @@ use Rattle.std.proofs.lemmas.Nat.{pow-add}
 use Rattle.std.proofs.Math.Nat.{add-mul-mod_self_left}
 use Rattle.std.proofs.Math.Seq.{drop-append_seam}
 use Rattle.cred_scrypt.proofs.Cuts.{part_inside}
-use Rattle.cred_scrypt.specs.Zips.{xor_all}
+use Rattle.cred_scrypt.specs.Xor.{xor_all}
 use Rattle.cred_scrypt.specs.Mixing.{block_at, block_mix, mixes, little_endian, integerify, walked, ro_mix}
 use Rattle.cred_scrypt.specs.Table.{IsTable, row_at}
 

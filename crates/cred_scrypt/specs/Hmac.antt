@@ -1,7 +1,7 @@
 -- HMAC-SHA-256 (RFC 2104) as a function on lists of bytes. SHA-256's block has 64 bytes.
 use Rattle.std.specs.Prelude.{ℕ, ◌-◌, List, ◌++◌, length, replicate, if◌then◌else◌, nat_lt}
 use Rattle.sha2.specs.Sha256.{sha256}
-use Rattle.cred_scrypt.specs.Zips.{xor_all}
+use Rattle.cred_scrypt.specs.Xor.{xor_all}
 
 -- the key, or its digest where it is longer than a block (section 2)
 abbrev pub short_key : List ℕ → List ℕ

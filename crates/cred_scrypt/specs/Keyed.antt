@@ -1,9 +1,9 @@
 -- What a key leaves in the two hashers of its HMAC. No public contract speaks of it.
 use Rattle.std.specs.Prelude.{List, ℕ}
 use Rattle.sha2.specs.Hashers.{Holds256}
-use Rattle.cred_scrypt.specs.declared.mac.Mac.{Mac}
+use Rattle.cred_scrypt.specs.declared.hmac.Hmac.{Hmac}
 use Rattle.cred_scrypt.specs.Hmac.{inner_pad, outer_pad}
 
 -- the hashers hold the key under the inner and the outer padding
-abbrev pub IsKeyed : List ℕ → Mac → Type 0
+abbrev pub IsKeyed : List ℕ → Hmac → Type 0
 IsKeyed key mac = Holds256 mac.inner (inner_pad key) × Holds256 mac.outer (outer_pad key)

@@ -1,4 +1,5 @@
-pub mod Zips
+-- The definitions that the contracts of scrypt cite.
+pub mod Xor
 pub mod Salsa
 pub mod Mixing
 pub mod Table
@@ -6,6 +7,6 @@ pub mod Hmac
 pub mod Keyed
 pub mod Pbkdf2
 pub mod Params
-pub mod Fault
+pub mod Errors
 pub mod Scrypt
 pub mod Pieces

@@ -1,8 +1,8 @@
 -- The ranges of scrypt's numbers.
 use Rattle.std.specs.Prelude.{◌≡◌, ℕ, ◌*◌, ◌^◌, ◌<◌, ◌≤◌, ◌⊎◌}
 
--- ln is outside 1..=24; or N = 2 ^ ln is not below 2 ^ (16r), as RFC 7914, section 6, wants it; or ROMix's table, of
--- 128r bytes for each of N rows, is over 2 GiB
+-- ln is outside 1..=24; or N = 2 ^ ln is not below 2 ^ (16r), as RFC 7914, section 6, wants it; or
+-- ROMix's table, of 128r bytes for each of N rows, is over 2 GiB
 abbrev pub IsCostly : ℕ → ℕ → Type 0
 IsCostly ln r = (ln ≡ 0) ⊎ (24 < ln) ⊎ (16 * r ≤ ln) ⊎ (16777216 < r * 2 ^ ln)
 

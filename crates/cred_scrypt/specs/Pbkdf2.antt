@@ -2,7 +2,7 @@
 use Rattle.std.specs.Prelude.{ℕ, zero, suc, ◌+◌, ◌-◌, ◌/◌, List, [], ◌++◌, take}
 use Rattle.std.specs.Int.{w32, to_be_bytes}
 use Rattle.cred_scrypt.specs.Hmac.{hmac}
-use Rattle.cred_scrypt.specs.Zips.{xor_all}
+use Rattle.cred_scrypt.specs.Xor.{xor_all}
 
 -- U_(n + 1) of block i
 unfoldable pub turn : List ℕ → List ℕ → ℕ → ℕ → List ℕ

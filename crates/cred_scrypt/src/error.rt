@@ -1,31 +1,36 @@
-//! What the calls of this crate refuse.
+//! Why a call of this crate was refused.
+
 ghost use Rattle.std.specs.Prelude.{◌≡◌};
+ghost use Rattle.cred_scrypt.specs.Errors.{error_number, error_word};
+ghost use Rattle.cred_scrypt.specs.declared.error.ScryptError.TheVariants.{Memory as OutOfMemory};
 
 use std::alloc::{AllocError, AllocFailed};
-use std::error::Error;
-use std::fmt;
+use thiserror::Error;
 
-/// Why a call was refused.
-#[derive(Clone, Copy, Debug, PartialEq, Eq)]
+/// Why parameters were refused, or that memory was.
+#[derive(Clone, Copy, Debug, PartialEq, Eq, Error)]
 pub enum ScryptError {
     /// The cost is out of its range, or too high for the block size or for the table's 2 GiB.
+    #[error("the cost is out of range, or too high for the block size or for a table of 2 GiB")]
     Cost,
     /// The block size is 0.
+    #[error("the block size is 0")]
     BlockSize,
     /// There is no piece: p is 0.
+    #[error("the parallelization is 0")]
     Blocks,
-    /// The key isn't of 4 to 64 bytes.
+    /// The key isn't 4 to 64 bytes long.
+    #[error("the key is not 4 to 64 bytes long")]
     Len,
-    /// There was no memory.
+    /// There was no memory for the pieces, for a table or for the key.
+    #[error("out of memory")]
     Memory,
 }
 
 impl ScryptError {
-    ghost use Rattle.cred_scrypt.specs.Fault.{fault_number, fault_word};
-
-    /// The error's number, from 1 to 5.
+    /// The number of the error, from 1 to 5.
     pub fn number(self) -> u8
-        ensures { result ≡ fault_number self }
+        ensures { result ≡ error_number self }
     {
         match self {
             ScryptError::Cost => 1,
@@ -36,9 +41,9 @@ impl ScryptError {
         }
     }
 
-    /// The error's word, in small letters.
+    /// The name of the error in lower case, as `blocksize`.
     pub fn word(self) -> &'static str
-        ensures { result.now ≡ fault_word self }
+        ensures { result.now ≡ error_word self }
     {
         match self {
             ScryptError::Cost => "cost",
@@ -50,30 +55,18 @@ impl ScryptError {
     }
 }
 
-impl fmt::Display for ScryptError {
-    fn fmt<W: fmt::Write>(&self, f: &mut fmt::Formatter<W>) -> fmt::Result {
-        f.write_str(self.word())
-    }
-}
-
-impl Error for ScryptError {}
-
 impl From<AllocError> for ScryptError {
-    ghost use Rattle.cred_scrypt.specs.declared.error.ScryptError.TheVariants.{Memory};
+    ghost from_gives = { λ _ e. e ≡ OutOfMemory };
 
-    ghost from_gives = { λ _ e. e ≡ Memory };
-
-    fn from(_refused: AllocError) -> ScryptError {
+    fn from(_error: AllocError) -> Self {
         ScryptError::Memory
     }
 }
 
 impl<T: Drop> From<AllocFailed<T>> for ScryptError {
-    ghost use Rattle.cred_scrypt.specs.declared.error.ScryptError.TheVariants.{Memory};
+    ghost from_gives = { λ _ e. e ≡ OutOfMemory };
 
-    ghost from_gives = { λ _ e. e ≡ Memory };
-
-    fn from(_refused: AllocFailed<T>) -> ScryptError {
+    fn from(_error: AllocFailed<T>) -> Self {
         ScryptError::Memory
     }
 }

@@ -1,27 +1,27 @@
-//! scrypt (RFC 7914) with what it is made of: HMAC-SHA-256 (RFC 2104), PBKDF2 (RFC 8018), Salsa20/8, BlockMix and
-//! ROMix.
+//! scrypt (RFC 7914) with what it is made of: HMAC-SHA-256 (RFC 2104), PBKDF2 (RFC 8018),
+//! Salsa20/8, BlockMix and ROMix.
 //!
-//! [`scrypt`] derives a key from a password and a salt. Its p pieces are the parts of a run of worker threads, and the
-//! key is the standard's for any number of workers.
+//! [`scrypt`] derives a key from a password and a salt. Its p pieces are the parts of a run of
+//! worker threads, and the key is the standard's for any number of workers.
 #![tactic(auto)]
 
-mod blocks;
-mod derivation;
+mod blockmix;
 mod error;
-mod key;
-mod mac;
+mod hmac;
+mod key_derivation;
 mod params;
+mod pbkdf;
 mod pieces;
-mod rows;
+mod romix;
 mod salsa;
 mod words;
-mod zips;
+mod xor;
 
-pub use blocks::block_mix;
-pub use derivation::pbkdf2;
+pub use blockmix::block_mix;
 pub use error::ScryptError;
-pub use key::scrypt;
-pub use mac::hmac_sha256;
+pub use hmac::hmac_sha256;
+pub use key_derivation::scrypt;
 pub use params::ScryptParams;
-pub use rows::ro_mix;
+pub use pbkdf::pbkdf2;
+pub use romix::ro_mix;
 pub use salsa::salsa20_8;

@@ -1,4 +1,4 @@
-//! The numbers that scrypt is run with, each in its range.
+//! The numbers that scrypt is run with, each in its range (RFC 7914, section 2).
 ghost use Rattle.std.specs.Prelude.{◌≡◌, ◌<◌, ◌≤◌, ◌*◌, ◌^◌, ◌↔◌, IsTrue, IfOk};
 ghost use Rattle.cred_scrypt.specs.Params.{IsBadLen, IsCostly};
 
@@ -37,9 +37,12 @@ pub struct ScryptParams {
 }
 
 impl ScryptParams {
-    /// The numbers with N = 2^`ln`, block size `r`, parallelization `p` and a key of `len` bytes (RFC 7914,
-    /// section 2). Refused are, judged in this order: `r` 0 (BlockSize); `p` 0 (Blocks); an `ln` outside 1 to 24, one
-    /// not below 16r, and a table over 2 GiB (Cost); a key not of 4 to 64 bytes (Len).
+    /// The numbers with N = 2^`ln`, block size `r`, parallelization `p` and a key of `len` bytes
+    /// (RFC 7914, section 2).
+    ///
+    /// Errors: `BlockSize` where `r` is 0; else `Blocks` where `p` is 0; else `Cost` where `ln` is
+    /// outside 1 to 24 or not below 16r, or the table is over 2 GiB; else `Len` where the key isn't
+    /// 4 to 64 bytes long.
     pub fn new(ln: u8, r: u8, p: u8, len: u32) -> Result<ScryptParams, ScryptError>
         ensures block_size { (result ≡ Err ScryptError.BlockSize) ↔ (r ≡ 0) }
         ensures blocks { (result ≡ Err ScryptError.Blocks) ↔ ((1 ≤ r) × (p ≡ 0)) }
@@ -65,6 +68,7 @@ impl ScryptParams {
     }
 }
 
+/// Whether the cost is out of its range, or too high for the block size or for the table.
 fn is_costly(ln: u8, r: u8) -> bool
     ensures { IsTrue result ↔ IsCostly ln r }
 {

@@ -1,11 +1,12 @@
-//! The pieces that scrypt mixes, each by itself, as the parts of a run of workers.
+//! The pieces that scrypt mixes, each by itself, as the parts of a run of workers (RFC 7914,
+//! section 6, step 2).
 ghost use Rattle.std.specs.Prelude.{◌≡◌, ℕ, ◌*◌, ◌^◌, ◌<◌, List, IfOk, false, length};
 ghost use Rattle.cred_scrypt.specs.Mixing.{ro_mix};
 ghost use Rattle.cred_scrypt.specs.Scrypt.{mixed_pieces};
 
 use crate::error::ScryptError;
 use crate::params::ScryptParams;
-use crate::rows::ro_mix;
+use crate::romix::ro_mix;
 use crate::words::{put_words, words_of};
 use cred_pool::{Gate, Part, run_parts};
 use std::alloc::Global;
@@ -48,7 +49,8 @@ impl Part<Mixing> for Piece {
     }
 }
 
-/// The `p` pieces of `bytes`, each mixed by itself in at most `workers` threads, and then one after another again.
+/// The `p` pieces of `bytes`, each mixed by itself in at most `workers` threads, and then one after
+/// another again.
 pub(crate) fn mixed<R: Threads + Sync, G: Gate + Sync>(
     rt: &R,
     alloc: Global,
@@ -111,7 +113,9 @@ impl Piece {
         run_parts(rt, workers, gate, &shared, pieces);
     }
 
-    /// The bytes of all the pieces in turn. The answer is Memory where one of them was refused its table.
+    /// The bytes of all the pieces in turn.
+    ///
+    /// Errors: `Memory` where a piece was refused its table, or there is none for the bytes.
     fn joined(alloc: Global, size: usize, pieces: &[Piece]) -> Result<Vec<u8>, ScryptError>
         ensures memory { (e : _) → result ≡ Err e → e ≡ ScryptError.Memory }
         ensures ok { (ln r : ℕ) (b : List ℕ) → AreMixed ln r b pieces.now

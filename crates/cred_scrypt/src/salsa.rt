@@ -1,7 +1,8 @@
-//! Salsa20/8, the core that BlockMix is made of.
+//! The Salsa20/8 core, which BlockMix is made of (RFC 7914, section 3).
 ghost use Rattle.std.specs.Prelude.{◌≡◌, ◌<◌};
 ghost use Rattle.cred_scrypt.specs.Salsa.{stirred, quarter_round, column_round, row_round, double_rounds, salsa20_8};
 
+/// A step of the quarter round: x ^ ((y + z) <<< n).
 #[inline(always)]
 fn stirred(x: u32, y: u32, z: u32, n: u32) -> u32
     requires { n < 32 }
@@ -10,6 +11,7 @@ fn stirred(x: u32, y: u32, z: u32, n: u32) -> u32
     x ^ y.wrapping_add(z).rotate_left(n)
 }
 
+/// The quarter round of four words.
 #[inline(always)]
 fn quarter_round(a: u32, b: u32, c: u32, d: u32) -> (u32, u32, u32, u32)
     ensures { result ≡ quarter_round a b c d }
@@ -21,6 +23,7 @@ fn quarter_round(a: u32, b: u32, c: u32, d: u32) -> (u32, u32, u32, u32)
     (a1, b1, c1, d1)
 }
 
+/// Quarter rounds on the columns of the square of sixteen words.
 #[inline(always)]
 fn column_round(x: [u32; 16]) -> [u32; 16]
     ensures { result ≡ column_round x }
@@ -34,6 +37,7 @@ fn column_round(x: [u32; 16]) -> [u32; 16]
     ]
 }
 
+/// Quarter rounds on the rows.
 #[inline(always)]
 fn row_round(x: [u32; 16]) -> [u32; 16]
     ensures { result ≡ row_round x }
@@ -47,6 +51,7 @@ fn row_round(x: [u32; 16]) -> [u32; 16]
     ]
 }
 
+/// A column round and a row round.
 #[inline(always)]
 fn double_round(x: [u32; 16]) -> [u32; 16]
     ensures { result ≡ row_round (column_round x) }
@@ -54,6 +59,7 @@ fn double_round(x: [u32; 16]) -> [u32; 16]
     row_round(column_round(x))
 }
 
+/// Four double rounds.
 #[inline(always)]
 fn eight_rounds(x: [u32; 16]) -> [u32; 16]
     ensures { result ≡ double_rounds 4 x }
@@ -64,7 +70,8 @@ fn eight_rounds(x: [u32; 16]) -> [u32; 16]
     double_round(x)
 }
 
-/// The Salsa20/8 core (RFC 7914, section 3), in place, on sixteen words that are little-endian in a block of 64 bytes.
+/// The Salsa20/8 core (RFC 7914, section 3), in place, on sixteen words that are little-endian in a
+/// block of 64 bytes.
 #[inline(always)]
 pub fn salsa20_8(x: &mut [u32; 16])
     ensures { x.new ≡ salsa20_8 x.old }

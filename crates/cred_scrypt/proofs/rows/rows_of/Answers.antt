@@ -1,6 +1,0 @@
-use Rattle.std.proofs.Common.{◌≤◌, ◌^◌, arith}
-use Rattle.std.proofs.Math.Pow.{pow_mono}
-use Rattle.cred_scrypt.proofs.rows.rows_of.Goals as goal
-
-pub returns-clause-below : goal.returns-clause-below
-returns-clause-below c = let most : 2 ^ c.args.ln ≤ 2 ^ 24 = pow_mono c.requires in omega arith

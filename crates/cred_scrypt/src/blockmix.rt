@@ -1,0 +1,61 @@
+//! BlockMix, which mixes 2r blocks by a chain of Salsa20/8 (RFC 7914, section 4).
+ghost use Rattle.std.specs.Prelude.{◌≡◌, ◌+◌, ◌*◌, ◌/◌, ◌%◌, ◌<◌, ◌≤◌, ◌++◌, length, take};
+ghost use Rattle.cred_scrypt.specs.Mixing.{block_at, block_mix};
+ghost use Rattle.cred_scrypt.specs.Salsa.{salsa20_8};
+ghost use Rattle.cred_scrypt.specs.Xor.{xor_all};
+
+use crate::salsa::salsa20_8;
+use crate::xor::xor_words;
+
+/// The words of a block of 64 bytes.
+const BLOCK: usize = 16;
+
+/// BlockMix (RFC 7914, section 4) of `from`, which has 2r blocks of sixteen words for some r from 1
+/// on, into `into`, which is as long.
+#[inline(always)]
+pub fn block_mix(from: &[u32], into: &mut [u32])
+    requires whole { length from.now % 32 ≡ 0 }
+    requires some { 0 < length from.now }
+    requires same { length into.old ≡ length from.now }
+    ensures { into.new ≡ block_mix (length from.now / 32) from.now }
+{
+    let r = from.len() / (2 * BLOCK);
+    let mut x = block(from, 2 * r - 1);
+    let (even, odd) = into.split_at_mut(BLOCK * r);
+    'pairs: for i in 0..r {
+        chain(&mut x, from, 2 * i);
+        put(even, i, &x);
+        chain(&mut x, from, 2 * i + 1);
+        put(odd, i, &x);
+    }
+}
+
+/// Block `i` of sixteen words.
+#[inline(always)]
+fn block(from: &[u32], i: usize) -> [u32; 16]
+    requires { 16 * i + 16 ≤ length from.now }
+    ensures { result ≡ block_at from.now i }
+{
+    let mut x = [0; BLOCK];
+    x.copy_from_slice(&from[BLOCK * i..BLOCK * i + BLOCK]);
+    x
+}
+
+/// The next X of the chain, from block `i`.
+#[inline(always)]
+fn chain(x: &mut [u32; 16], from: &[u32], i: usize)
+    requires { 16 * i + 16 ≤ length from.now }
+    ensures { x.new ≡ salsa20_8 (xor_all x.old (block_at from.now i)) }
+{
+    xor_words(x, &from[BLOCK * i..BLOCK * i + BLOCK]);
+    salsa20_8(x);
+}
+
+/// Writes a block at place `i`, after those that were written before it.
+#[inline(always)]
+fn put(into: &mut [u32], i: usize, x: &[u32; 16])
+    requires { 16 * i + 16 ≤ length into.old }
+    ensures { take (16 * (i + 1)) into.new ≡ take (16 * i) into.old ++ x.now }
+{
+    into[BLOCK * i..BLOCK * i + BLOCK].copy_from_slice(x);
+}

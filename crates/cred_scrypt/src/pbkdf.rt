@@ -1,0 +1,74 @@
+//! PBKDF2 with HMAC-SHA-256 (RFC 8018, section 5.2).
+ghost use Rattle.std.specs.Prelude.{◌≡◌, ℕ, ◌+◌, ◌-◌, ◌≤◌, List, IfOk, length};
+ghost use Rattle.cred_scrypt.specs.Pbkdf2.{pbkdf2, turn, turns};
+ghost use Rattle.cred_scrypt.specs.Keyed.{IsKeyed};
+
+use crate::error::ScryptError;
+use crate::hmac::Hmac;
+use crate::xor::xor_bytes;
+use sha2::Digest;
+use std::alloc::Global;
+
+/// The length of an HMAC in bytes.
+const MAC: usize = 32;
+
+/// PBKDF2 (RFC 8018, section 5.2) with HMAC-SHA-256: `len` bytes, by `c` turns, at least one, for
+/// each 32 of them. Password and salt have any length.
+///
+/// Errors: `Memory` where there is none for the key.
+pub fn pbkdf2(
+    alloc: Global,
+    pw: &[u8],
+    salt: &[u8],
+    c: u32,
+    len: u32,
+) -> Result<Vec<u8>, ScryptError>
+    requires { 1 ≤ c }
+    ensures memory { (e : _) → result ≡ Err e → e ≡ ScryptError.Memory }
+    ensures ok { IfOk result (λ key. key.items ≡ pbkdf2 pw.now salt.now c len) }
+    ensures size { IfOk result (λ key. length key.items ≡ len) }
+{
+    let mac = Hmac::new(pw);
+    let len = len as usize;
+    let mut key = Vec::with_capacity(alloc, len)?;
+    'macs: for i in 0..len.div_ceil(MAC) {
+        let block = derived_block(&mac, salt, c, i as u32 + 1);
+        let width = (len - MAC * i).min(MAC);
+        key.extend_from_slice(&block[..width])?;
+    }
+    Ok(key)
+}
+
+/// T_i, block i of the key: the exclusive or of `c` turns.
+fn derived_block(mac: &Hmac, salt: &[u8], c: u32, i: u32) -> [u8; 32]
+    requires { 1 ≤ c }
+    ensures { (pw : List ℕ) → IsKeyed pw mac.now → result ≡ turns pw salt.now i (c - 1) }
+{
+    let mut last = first_turn(mac, salt, i);
+    let mut all = last;
+    'turns: for _turn in 1..c {
+        last = next_turn(mac, &last);
+        xor_bytes(&mut all, &last);
+    }
+    all
+}
+
+/// U_1, of the salt and the number of the block.
+fn first_turn(mac: &Hmac, salt: &[u8], i: u32) -> [u8; 32]
+    ensures { (pw : List ℕ) → IsKeyed pw mac.now → result ≡ turn pw salt.now i 0 }
+{
+    let mut hasher = mac.begin();
+    hasher.update(salt);
+    hasher.update(&i.to_be_bytes());
+    mac.finish(hasher)
+}
+
+/// From one turn to the next.
+fn next_turn(mac: &Hmac, last: &[u8; 32]) -> [u8; 32]
+    ensures { (pw salt : List ℕ) (i n : ℕ) → IsKeyed pw mac.now → last.now ≡ turn pw salt i n
+        → result ≡ turn pw salt i (n + 1) }
+{
+    let mut hasher = mac.begin();
+    hasher.update(last);
+    mac.finish(hasher)
+}

@@ -1,0 +1,124 @@
+//! ROMix, with the table of rows that it looks back into (RFC 7914, section 5).
+ghost use Rattle.std.specs.Prelude.{◌≡◌, ℕ, ◌+◌, ◌*◌, ◌^◌, ◌%◌, ◌<◌, ◌≤◌, List, length, OnOk, OnErr, IfOk};
+ghost use Rattle.cred_scrypt.specs.Mixing.{block_mix, integerify, mixes, ro_mix};
+ghost use Rattle.cred_scrypt.specs.Table.{IsTable, row_at};
+ghost use Rattle.cred_scrypt.specs.Xor.{xor_all};
+
+use crate::blockmix::block_mix;
+use crate::error::ScryptError;
+use crate::xor::xor_words;
+use std::alloc::Global;
+use std::mem;
+
+/// ROMix (RFC 7914, section 5) with N = 2^`ln`, in place, on `block`: 2r blocks of sixteen words,
+/// of which each has 32 bits. r is at least 1, `ln` at most 24, and `r * N` at most 16777216, so
+/// the table has 2 GiB at most.
+///
+/// Errors: `Memory` where there is none for the table and two pieces more; `block` is then as it
+/// was.
+pub fn ro_mix(alloc: Global, r: u8, ln: u8, block: &mut [u32]) -> Result<(), ScryptError>
+    requires block_size { 1 ≤ r }
+    requires cost { ln ≤ 24 }
+    requires room { r * 2 ^ ln ≤ 16777216 }
+    requires size { length block.old ≡ 32 * r }
+    ensures memory { (e : _) → result ≡ Err e → e ≡ ScryptError.Memory }
+    ensures ok { OnOk result (block.new ≡ ro_mix r (2 ^ ln) block.old) }
+    ensures unchanged { OnErr result (block.new ≡ block.old) }
+{
+    let mut x = Vec::from_slice(alloc, block)?;
+    let mut y = Vec::from_slice(alloc, block)?;
+    let r = usize::from(r);
+    let table = filled(alloc, r, rows_of(ln), &mut x, &mut y)?;
+    walk(r, ln, &table, &mut x, &mut y);
+    block.copy_from_slice(&x);
+    Ok(())
+}
+
+/// N, which is how many rows the table has.
+fn rows_of(ln: u8) -> usize
+    requires { ln ≤ 24 }
+    ensures value { result ≡ 2 ^ ln }
+    ensures below { result ≤ 16777216 }
+{
+    1 << ln
+}
+
+/// The table of the rows that `x` goes through as it is mixed `n` times.
+fn filled(
+    alloc: Global,
+    r: usize,
+    n: usize,
+    x: &mut Vec<u32>,
+    y: &mut Vec<u32>,
+) -> Result<Vec<u32>, ScryptError>
+    requires block_size { 1 ≤ r }
+    requires room { r * n ≤ 16777216 }
+    requires size { length x.old.items ≡ 32 * r }
+    requires same { length y.old.items ≡ 32 * r }
+    ensures memory { (e : _) → result ≡ Err e → e ≡ ScryptError.Memory }
+    ensures table { IfOk result (λ table. IsTable r x.old.items table.items n) }
+    ensures mixed { OnOk result (x.new.items ≡ mixes r x.old.items n) }
+    ensures size { length x.new.items ≡ 32 * r }
+    ensures same { length y.new.items ≡ 32 * r }
+{
+    let mut table = Vec::with_capacity(alloc, 32 * r * n)?;
+    'rows: for _row in 0..n {
+        table.extend_from_slice(x)?;
+        advance(r, x, y);
+    }
+    Ok(table)
+}
+
+/// Mixes `x` 2^`ln` times, each time after it took in the row of the table that it names itself.
+fn walk(r: usize, ln: u8, table: &[u32], x: &mut Vec<u32>, y: &mut Vec<u32>)
+    requires block_size { 1 ≤ r }
+    requires cost { ln ≤ 24 }
+    requires room { length table.now ≡ 32 * r * 2 ^ ln }
+    requires size { length x.old.items ≡ 32 * r }
+    requires same { length y.old.items ≡ 32 * r }
+    ensures mixed { (b : List ℕ) → IsTable r b table.now (2 ^ ln) → x.old.items ≡ mixes r b (2 ^ ln)
+        → x.new.items ≡ ro_mix r (2 ^ ln) b }
+    ensures size { length x.new.items ≡ 32 * r }
+{
+    'steps: for _step in 0..rows_of(ln) {
+        let j = named_row(r, ln, x);
+        absorb(r, x, table, j);
+        advance(r, x, y);
+    }
+}
+
+/// The row that `x` names, which is Integerify mod N: N is a power of two below that of a word, so
+/// the low word of the last block tells it.
+#[tactic(auto, using(crate::proofs::TableRows::integerify_low_word))]
+fn named_row(r: usize, ln: u8, x: &[u32]) -> usize
+    requires block_size { 1 ≤ r }
+    requires cost { ln ≤ 24 }
+    requires size { length x.now ≡ 32 * r }
+    ensures value { result ≡ integerify r x.now % 2 ^ ln }
+    ensures below { result < 2 ^ ln }
+{
+    x[32 * r - 16] as usize % rows_of(ln)
+}
+
+/// Takes row `j` of the table into `x`.
+fn absorb(r: usize, x: &mut Vec<u32>, table: &[u32], j: usize)
+    requires size { length x.old.items ≡ 32 * r }
+    requires row { 32 * r * j + 32 * r ≤ length table.now }
+    ensures mixed { x.new.items ≡ xor_all x.old.items (row_at r table.now j) }
+    ensures size { length x.new.items ≡ 32 * r }
+{
+    xor_words(x, &table[32 * r * j..32 * r * j + 32 * r]);
+}
+
+/// Mixes `x`, with `y` to write into. The two then change places.
+fn advance(r: usize, x: &mut Vec<u32>, y: &mut Vec<u32>)
+    requires block_size { 1 ≤ r }
+    requires size { length x.old.items ≡ 32 * r }
+    requires same { length y.old.items ≡ 32 * r }
+    ensures mixed { x.new.items ≡ block_mix r x.old.items }
+    ensures size { length x.new.items ≡ 32 * r }
+    ensures same { length y.new.items ≡ 32 * r }
+{
+    block_mix(x, y);
+    mem::swap(x, y);
+}
