@@ -5,8 +5,8 @@ use Rattle.std.proofs.lemmas.Bool.Decides.{Decides-and, Decides-like, Decides-eq
 use Rattle.std.proofs.lemmas.Slice.Eq.{bytes_eq-Decides}
 use Rattle.cred_phc.specs.declared.scheme.Scheme.{Scheme}
 use Rattle.cred_phc.specs.declared.scheme.Scheme.TheVariants.{Argon2, Scrypt}
-use Rattle.cred_phc.specs.declared.scheme.Version.{Version}
-use Rattle.cred_phc.specs.declared.scheme.Version.TheVariants.{V10, V13}
+use Rattle.cred_argon.specs.declared.kind.Version.{Version}
+use Rattle.cred_argon.specs.declared.kind.Version.TheVariants.{V10, V13}
 use Rattle.cred_phc.specs.declared.scheme.Variant.{Variant}
 use Rattle.cred_phc.specs.declared.scheme.Variant.TheVariants.{D, I, Id}
 use Rattle.cred_phc.specs.Values.{SettingValue, RecordValue}

@@ -1,7 +1,7 @@
 -- Records of the password `password` that other programs made, as values.
 use Rattle.std.specs.Prelude.{[], ◌∷◌, codes}
 use Rattle.cred_phc.specs.declared.scheme.Scheme.TheVariants.{Argon2, Scrypt}
-use Rattle.cred_phc.specs.declared.scheme.Version.TheVariants.{V10, V13}
+use Rattle.cred_argon.specs.declared.kind.Version.TheVariants.{V10, V13}
 use Rattle.cred_phc.specs.declared.scheme.Variant.TheVariants.{I, Id}
 use Rattle.cred_phc.specs.Values.{RecordValue, setting_of, record_of}
 

@@ -5,14 +5,14 @@ ghost use Rattle.cred_argon.specs.Argon.{argon};
 ghost use Rattle.cred_argon.specs.Parameters.{parameters};
 ghost use Rattle.cred_scrypt.specs.Scrypt.{scrypt};
 ghost use Rattle.cred_phc.specs.Ranges.{argon_fits, scrypt_fits};
-ghost use Rattle.cred_phc.specs.Tags.{argon_kind, argon_version, tag};
+ghost use Rattle.cred_phc.specs.Tags.{argon_kind, tag};
 ghost use Rattle.cred_phc.specs.Values.{IsTag};
 
 use crate::password::Password;
-use crate::scheme::{Scheme, Variant, Version};
+use crate::scheme::{Scheme, Variant};
 use crate::setting::Setting;
 use crate::tag::Tag;
-use cred_argon::{ArgonError, Kind, Params, argon2};
+use cred_argon::{ArgonError, Kind, Params, Version, argon2};
 use cred_pool::Gate;
 use cred_scrypt::{ScryptParams, scrypt};
 use std::alloc::Global;
@@ -155,10 +155,10 @@ fn argon_params(version: Version, variant: Variant, m: u32, t: u32, p: u8, len: 
     requires fits { IsTrue (argon_fits m t p) }
     requires low { 4 ≤ len }
     requires high { len ≤ 64 }
-    ensures { result ≡ parameters (argon_version version) (argon_kind variant) m t p len }
+    ensures { result ≡ parameters version (argon_kind variant) m t p len }
 {
     match Params::with_version(
-        argon_version(version),
+        version,
         argon_kind(variant),
         m,
         t,
@@ -167,15 +167,6 @@ fn argon_params(version: Version, variant: Variant, m: u32, t: u32, p: u8, len: 
     ) {
         Ok(params) => params,
         Err(_) => unreachable!(),
-    }
-}
-
-fn argon_version(version: Version) -> cred_argon::Version
-    ensures { result ≡ argon_version version }
-{
-    match version {
-        Version::V10 => cred_argon::Version::V10,
-        Version::V13 => cred_argon::Version::V13,
     }
 }
 

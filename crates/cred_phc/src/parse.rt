@@ -12,9 +12,10 @@ use crate::error::PhcError;
 use crate::number::numbers;
 use crate::pieces::Pieces;
 use crate::record::Record;
-use crate::scheme::{Name, SCRYPT, Scheme, Variant, Version};
+use crate::scheme::{Name, SCRYPT, Scheme, Variant, version_text};
 use crate::setting::Setting;
 use crate::tag::Tag;
+use cred_argon::Version;
 
 /// Longer texts are not looked at. No text that stands for a value has even half as many bytes.
 const MAX_TEXT: usize = 512;
@@ -122,14 +123,14 @@ fn version(fields: &mut Pieces<'_>, old: bool) -> Result<Version, PhcError>
     ensures { Gives (λ version. (version, fields.new)) result (version_at old fields.old) }
 {
     let field = fields.peek().ok_or(PhcError::Shape)?;
-    if field == Version::V13.text().as_bytes() {
+    if field == version_text(Version::V13).as_bytes() {
         let _ = fields.next();
         return Ok(Version::V13);
     }
     if !old {
         return Err(PhcError::Version);
     }
-    if field == Version::V10.text().as_bytes() {
+    if field == version_text(Version::V10).as_bytes() {
         let _ = fields.next();
         return Ok(Version::V10);
     }

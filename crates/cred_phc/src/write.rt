@@ -8,7 +8,7 @@ ghost use Rattle.cred_phc.specs.Values.{IsRecord, IsSetting};
 
 use crate::error::PhcError;
 use crate::record::Record;
-use crate::scheme::{SCRYPT, Scheme};
+use crate::scheme::{SCRYPT, Scheme, version_text};
 use crate::setting::Setting;
 use base64::engine::general_purpose::STANDARD_NO_PAD;
 use itoa::Buffer;
@@ -78,7 +78,7 @@ fn push_scheme(text: &mut String, scheme: Scheme) -> Result<(), AllocError>
             p,
         } => {
             push_field(text, variant.name())?;
-            push_field(text, version.text())?;
+            push_field(text, version_text(version))?;
             push_numbers(text, "m=", m, "t=", t, "p=", p)
         }
         Scheme::Scrypt { ln, r, p } => {
