@@ -1,4 +1,5 @@
--- The fields of a text: no `$` stands in one, they are short, and fields of bytes make a text of bytes.
+-- The fields of a text: no `$` stands in one, they are short, and fields of bytes make a text of
+-- bytes.
 use Rattle.std.proofs.Common.{◌≡◌, ℕ, suc, ◌+◌, ◌^◌, ◌<◌, ◌≤◌, lit≤, Bool, true, List, [], ◌∷◌, ◌++◌, length, inl, inr, codes, arith, refl, length-append}
 use Rattle.std.proofs.lemmas.Fmt.{length-decimal-le}
 use Rattle.std.specs.List.{join_with_byte}

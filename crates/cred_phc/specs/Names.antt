@@ -1,4 +1,5 @@
--- How variants and versions are named in texts: 0x13, the version of RFC 9106, is 19, and 0x10 is 16.
+-- How variants and versions are named in texts: 0x13, the version of RFC 9106, is 19, and 0x10
+-- is 16.
 use Rattle.std.specs.Prelude.{ℕ, List, codes}
 use Rattle.cred_argon.specs.declared.kind.Version.{Version}
 use Rattle.cred_argon.specs.declared.kind.Version.TheVariants.{V10, V13}

@@ -11,14 +11,14 @@ use Rattle.cred_phc.specs.declared.scheme.Scheme.{Scheme}
 use Rattle.cred_phc.specs.declared.scheme.Scheme.TheVariants.{Argon2, Scrypt}
 use Rattle.cred_phc.specs.Values.{SettingValue}
 
--- RFC 9106 section 3.1, type y
+-- RFC 9106, section 3.1, type y
 abbrev pub argon_kind : Variant → Kind
 argon_kind D = ArgonD
 argon_kind I = ArgonI
 argon_kind Id = ArgonId
 
--- the tag of len bytes by a scheme: Argon2 with no secret and no associated data (RFC 9106 section 3.1),
--- or scrypt with N = 2 ^ ln (RFC 7914 section 6)
+-- the tag of len bytes by a scheme: Argon2 with no secret and no associated data (RFC 9106,
+-- section 3.1), or scrypt with N = 2 ^ ln (RFC 7914, section 6)
 abbrev pub scheme_tag : Scheme → ℕ → List ℕ → List ℕ → List ℕ
 scheme_tag (Argon2 version variant m t p) len pw salt =
     argon (parameters version (argon_kind variant) m t p len) pw salt [] []

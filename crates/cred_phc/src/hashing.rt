@@ -11,7 +11,7 @@ ghost use Rattle.cred_phc.specs.Values.{IsTag};
 use crate::password::Password;
 use crate::scheme::{Scheme, Variant};
 use crate::setting::Setting;
-use crate::tag::Tag;
+use crate::tag::{MAX_TAG, Tag};
 use cred_argon::{ArgonError, Kind, Params, Version, argon2};
 use cred_pool::Gate;
 use cred_scrypt::{ScryptParams, scrypt};
@@ -28,7 +28,7 @@ pub enum TagError {
 }
 
 impl TagError {
-    /// The number of the error: 1.
+    /// The error's number: 1.
     pub fn number(self) -> u8
         ensures { result ≡ 1 }
     {
@@ -37,7 +37,7 @@ impl TagError {
         }
     }
 
-    /// The name of the error in lower case.
+    /// The error's name in lower case: `memory`.
     pub fn word(self) -> &'static str
         ensures { result.now ≡ codes "memory" }
     {
@@ -48,9 +48,10 @@ impl TagError {
 }
 
 /// The tag of `len` bytes, 4 to 64, that the setting gives the password: Argon2 with no secret and
-/// no associated data (RFC 9106 section 3.1), or scrypt (RFC 7914 section 6). The work is done by at
-/// most `workers` threads, behind the gate; the tag is the same for any number. Refused with
-/// `Memory` where there is too little for the setting.
+/// no associated data (RFC 9106, section 3.1), or scrypt (RFC 7914, section 6). The work is done by
+/// at most `workers` threads, behind the gate; the tag is the same for any number.
+///
+/// Errors: `Memory` where there is too little for the setting.
 #[tactic(auto, unfolding(crate::specs::Tags::tag))]
 pub fn tag_of<R: Threads + Sync, G: Gate + Sync>(
     rt: &R,
@@ -144,7 +145,7 @@ fn tag_from(bytes: &[u8]) -> Tag
     match Tag::new(bytes) {
         Some(tag) => {
             // A tag is in its range, which its accessor tells.
-            prove!(tag.bytes().len() <= 64);
+            prove!(tag.bytes().len() <= MAX_TAG);
             tag
         }
         None => unreachable!(),

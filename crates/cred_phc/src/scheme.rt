@@ -7,7 +7,7 @@ ghost use Rattle.cred_phc.specs.Ranges.{argon_fits, is_current, salt_low, scheme
 
 use cred_argon::Version;
 
-/// The variants of Argon2 (RFC 9106 section 1).
+/// The variants of Argon2 (RFC 9106, section 1).
 #[derive(Clone, Copy, Debug, PartialEq, Eq)]
 pub enum Variant {
     D,
@@ -23,11 +23,11 @@ const MAX_BLOCKS: u32 = 16777216;
 
 /// A function of passwords with its cost.
 ///
-/// - Argon2 (RFC 9106 section 3.1): memory `m` in KiB, from 8 for each lane to 2097152; `t` passes and
-///   `p` lanes, at least 1 of each.
-/// - scrypt (RFC 7914 section 2): `ln`, the logarithm to the base 2 of the cost, from 1 to 24 and below
-///   16 `r`; the block size `r` and the parallelization `p`, each at least 1. `r` times the cost is at
-///   most 2^24, so that memory is at most 2 GiB.
+/// - Argon2 (RFC 9106, section 3.1): memory `m` in KiB, from 8 for each lane to 2097152; `t` passes
+///   and `p` lanes, at least 1 of each.
+/// - scrypt (RFC 7914, section 2): `ln`, the logarithm to the base 2 of the cost, from 1 to 24 and
+///   below 16 `r`; the block size `r` and the parallelization `p`, each at least 1. `r` times the
+///   cost is at most 2^24, so that memory is at most 2 GiB.
 ///
 /// A `Scheme` may be outside these ranges; that of a `Setting` isn't.
 #[derive(Clone, Copy, Debug, PartialEq, Eq)]

@@ -7,7 +7,7 @@ use cred_phc::{Password, PhcError, Record, Setting, Tag, parse_record, parse_set
 use std::alloc::Global;
 use std::process::Abort;
 
-/// A setting whose salt is written with each letter of base64 once, in the order of RFC 4648 section 4.
+/// A setting whose salt is written with each letter of base64 once, in the order of RFC 4648, section 4.
 const ALPHABET: &str =
     "$argon2id$v=19$m=256,t=2,p=1$ABCDEFGHIJKLMNOPQRSTUVWXYZabcdefghijklmnopqrstuvwxyz0123456789+/";
 
