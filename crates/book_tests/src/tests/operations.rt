@@ -9,7 +9,7 @@ use std::thread::Threads;
 
 const PASSWORD: &str = "password";
 
-/// The vector of RFC 7914 section 12 for `password` and `NaCl`.
+/// The vector of RFC 7914, section 12 for `password` and `NaCl`.
 const SCRYPT: &str =
     "$scrypt$ln=10,r=8,p=16$TmFDbA$/bq+HJ00cgB4VucZDQHp/nxq18vII3gw53N2Y0s3MWIurzDZLiKjiG/xCSedmDDaxyevuUqD7m2DYMvfoswGQA";
 
