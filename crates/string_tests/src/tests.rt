@@ -1,6 +1,6 @@
-//! Texts and what is answered to them, from other programs or worked out by hand: the faults of damaged texts
-//! (`faults`), values read, made and written (`texts`), tags (`tags`) and drawn salts (`salts`). Here stand the texts
-//! that several of these are about.
+//! Texts and what is answered to them, from other programs or worked out by hand: the faults of
+//! damaged texts (`faults`), values read, made and written (`texts`), tags (`tags`) and drawn salts
+//! (`salts`). Here stand the texts that several of these are about.
 
 mod faults;
 mod salts;

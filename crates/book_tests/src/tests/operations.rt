@@ -1,4 +1,5 @@
-//! Whole operations, each begun, worked and committed: what is answered, and which record stands then.
+//! Whole operations, each begun, worked and committed: what is answered, and which record stands
+//! then.
 use super::work::{Seen, operate};
 use super::{A, A_SETTING, B, B_SETTING, enrol, name, password, setting, stored, verify};
 use cred_book::{Reply, Request};
@@ -16,7 +17,8 @@ const SCRYPT: &str =
 /// Its scheme and numbers with another salt.
 const SCRYPT_SETTING: &str = "$scrypt$ln=10,r=8,p=16$c29tZXNhbHQ";
 
-/// The record of `password` by the reference program of Argon2, of version 0x10, and what it becomes in an upgrade.
+/// The record of `password` by the reference program of Argon2, of version 0x10, and what it
+/// becomes in an upgrade.
 const OLD: &str = "$argon2i$m=256,t=2,p=1$c29tZXNhbHQ$/U3YPXYsSb3q9XxHvc0MLxur+GP960kN9j7emXX8zwY";
 
 const RENEWED_SETTING: &str = "$argon2i$v=19$m=256,t=2,p=1$c29tZXNhbHQ";
@@ -67,7 +69,8 @@ fn standing<R: Abort>(rt: &R, text: Option<&str>) -> Option<Record> {
     }
 }
 
-/// A whole operation on the account a: the record there, what is asked, what is answered, and the record after it.
+/// A whole operation on the account a: the record there, what is asked, what is answered, and the
+/// record after it.
 type Row = (Option<&'static str>, Request, Reply, Option<&'static str>);
 
 fn hold<R: Threads + Sync + Abort>(rt: &R, alloc: Global, table: &[Row]) {
