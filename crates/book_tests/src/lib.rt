@@ -1,4 +1,5 @@
-//! Tests of the book of accounts, over what is public in `cred_book`: what none of its clauses says.
+//! Tests of the book of accounts, over what is public in `cred_book`: what none of its clauses
+//! says.
 #![tactic(auto)]
 
 #[cfg(test)]

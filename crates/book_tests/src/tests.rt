@@ -1,8 +1,9 @@
-//! That the calls succeed, that the rules of names and the limit are those that were meant, that whole operations
-//! answer as records from outside want it, and what want of memory leaves.
+//! That the calls succeed, that the rules of names and the limit are those that were meant, that
+//! whole operations answer as records from outside want it, and what want of memory leaves.
 //!
-//! `calls` plays calls on a book and `work` whole operations; the other files have the tests. What a test asserts it is
-//! handed as a plain value, since its proof is far longer where a book is alive beside an assertion.
+//! `calls` plays calls on a book and `work` whole operations; the other files have the tests. What
+//! a test asserts it is handed as a plain value, since its proof is far longer where a book is
+//! alive beside an assertion.
 
 mod accounts;
 mod calls;

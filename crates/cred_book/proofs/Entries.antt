@@ -1,4 +1,5 @@
--- Entries in the order of their keys: what a binary search finds among them, and what a write at its place does.
+-- Entries in the order of their keys: what a binary search finds among them, and what a write at
+-- its place does.
 use Rattle.std.proofs.Common.{◌≡◌, ℕ, zero, suc, ◌<◌, ◌≤◌, List, [], ◌∷◌, length, lit≤, get_or, set, Some, None, Result, Ok, Err, T, Bool, true, false, refl, sym, ap, subst, ◌∙◌, arith, ◌&&◌}
 use Rattle.std.specs.List.{insert}
 use Rattle.std.specs.List.Sorted.{IsSearchInRange, IsBinarySearchResult, IsNonDecreasingBy}

@@ -1,15 +1,14 @@
 -- The test of two records is equality.
-use Rattle.std.proofs.Common.{◌≡◌, ℕ, List, Bool, true, false, ◌&&◌, Option, Some, None, refl, ap, sym, ◌∙◌, ◌↔◌, IsTrue}
+use Rattle.std.proofs.Common.{◌≡◌, Bool, true, false, ◌&&◌, Option, Some, None, refl, ap, sym, ◌∙◌, ◌↔◌, IsTrue}
 use Rattle.std.specs.Bool.{Decides}
 use Rattle.std.proofs.lemmas.Bool.Decides.{Decides-and, Decides-like, Decides-eqb}
 use Rattle.std.proofs.lemmas.Slice.Eq.{bytes_eq-Decides}
 use Rattle.cred_phc.specs.declared.scheme.Scheme.{Scheme}
 use Rattle.cred_phc.specs.declared.scheme.Scheme.TheVariants.{Argon2, Scrypt}
-use Rattle.cred_phc.specs.declared.scheme.Version.{Version}
-use Rattle.cred_phc.specs.declared.scheme.Version.TheVariants.{V10, V13}
+use Rattle.cred_phc.specs.Names.{Version, V10, V13}
 use Rattle.cred_phc.specs.declared.scheme.Variant.{Variant}
 use Rattle.cred_phc.specs.declared.scheme.Variant.TheVariants.{D, I, Id}
-use Rattle.cred_phc.specs.Values.{SettingValue, RecordValue}
+use Rattle.cred_phc.specs.Values.{RecordValue, setting_of, record_of}
 use Rattle.cred_book.specs.Works.{same_version, same_variant, same_scheme, same_record, same}
 
 version : (a b : Version) → Decides (same_version a b) (a ≡ b)
@@ -44,14 +43,7 @@ scheme (Scrypt ln r p) (Scrypt ln' r' p') =
 scheme (Argon2 v k m t p) (Scrypt ln r p') = (λ h. cc, λ e. cc)
 scheme (Scrypt ln r p) (Argon2 v k m t p') = (λ h. cc, λ e. cc)
 
-setting_of : Scheme → List ℕ → SettingValue
-setting_of scheme salt = record { scheme = scheme; salt = salt }
-
-record_of : SettingValue → List ℕ → RecordValue
-record_of setting tag = record { setting = setting; tag = tag }
-
 equal_parts : (a b : RecordValue) → a.setting.scheme ≡ b.setting.scheme → a.setting.salt ≡ b.setting.salt → a.tag ≡ b.tag → a ≡ b
-unfolding setting_of record_of
 equal_parts a b scheme salt tag = ap (λ s. record_of (setting_of s a.setting.salt) a.tag) scheme ∙ ap (λ s. record_of (setting_of b.setting.scheme s) a.tag) salt ∙ ap (record_of b.setting) tag
 
 record_decides : (a b : RecordValue) → Decides (same_record a b) (a ≡ b)

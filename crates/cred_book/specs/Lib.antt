@@ -1,3 +1,4 @@
+-- Definitions that contracts cite: names, books, whole operations, and what each call does.
 pub mod Accounts
 pub mod Calls
 pub mod Commits

@@ -4,13 +4,12 @@ use Rattle.std.specs.Str.{bytes_eq}
 use Rattle.std.specs.FinMap as map
 use Rattle.cred_phc.specs.declared.scheme.Scheme.{Scheme}
 use Rattle.cred_phc.specs.declared.scheme.Scheme.TheVariants.{Argon2, Scrypt}
-use Rattle.cred_phc.specs.declared.scheme.Version.{Version}
-use Rattle.cred_phc.specs.declared.scheme.Version.TheVariants.{V10, V13}
+use Rattle.cred_phc.specs.Names.{Version, V10, V13}
 use Rattle.cred_phc.specs.declared.scheme.Variant.{Variant}
 use Rattle.cred_phc.specs.declared.scheme.Variant.TheVariants.{D, I, Id}
 use Rattle.cred_phc.specs.Ranges.{is_current}
 use Rattle.cred_phc.specs.Tags.{tag}
-use Rattle.cred_phc.specs.Values.{SettingValue, RecordValue}
+use Rattle.cred_phc.specs.Values.{SettingValue, RecordValue, record_of}
 use Rattle.cred_book.specs.Accounts.{Accounts}
 use Rattle.cred_book.specs.declared.request.Request.{Request}
 use Rattle.cred_book.specs.declared.request.Request.TheVariants.{Enrol, Verify, Change, Upgrade, Remove}
@@ -54,7 +53,7 @@ right stored pw = bytes_eq (tag stored.setting (length stored.tag) pw) stored.ta
 
 -- the record of a password under a setting
 abbrev pub made : SettingValue → List ℕ → RecordValue
-made setting pw = record { setting = setting; tag = tag setting 32 pw }
+made setting pw = record_of setting (tag setting 32 pw)
 
 abbrev pub name_of : Request → List ℕ
 name_of (Enrol name pw setting) = name
@@ -78,7 +77,8 @@ is_for_current (Change name pw new setting) = is_current setting.scheme
 is_for_current (Upgrade name pw setting) = is_current setting.scheme
 is_for_current (Remove name pw) = true
 
--- an upgrade judges the password first; salt and tag length play no part in whether the record is kept
+-- an upgrade judges the password first; salt and tag length play no part in whether the record is
+-- kept
 abbrev pub upgraded : RecordValue → List ℕ → SettingValue → Reply × Option RecordValue
 upgraded stored pw setting =
     if not (right stored pw) then (reply.Wrong, Some stored)

@@ -47,18 +47,20 @@ impl Model for Book {
 }
 
 impl Book {
-    /// A book with no name. `Memory` where there is none for 4096 accounts.
+    /// A book with no name.
+    ///
+    /// Errors: `Memory` where there is none for 4096 accounts.
     pub fn new(alloc: Global) -> Result<Book, BookError>
         ensures empty { IfOk result (λ book. book ≡ map.empty) }
         ensures memory { IfErr result (λ e. e ≡ BookError.Memory) }
     {
-        match Vec::with_capacity(alloc, MOST_ACCOUNTS) {
-            Ok(accounts) => Ok(Book { accounts }),
-            Err(_) => Err(BookError::Memory),
-        }
+        let accounts = Vec::with_capacity(alloc, MOST_ACCOUNTS)?;
+        Ok(Book { accounts })
     }
 
-    /// Adds a name, with no record. Refused with `Exists` where it is there, and with `Full` at 4096 names.
+    /// Adds a name, with no record.
+    ///
+    /// Errors: `Exists` where the name is there; `Full` where the book has 4096 names.
     pub fn admit(&mut self, name: Name) -> Result<(), BookError>
         ensures done { Admits self.old self.new name result }
         ensures granted { result ≡ Err BookError.Memory → ⊥ }
@@ -79,12 +81,15 @@ impl Book {
 
     /// Whether there is no room for another name.
     pub fn is_full(&self) -> bool
-        ensures { MatchBool result (most_accounts ≤ map.len self.now) (map.len self.now < most_accounts) }
+        ensures { MatchBool result (most_accounts ≤ map.len self.now)
+            (map.len self.now < most_accounts) }
     {
         self.accounts.len() == MOST_ACCOUNTS
     }
 
-    /// Puts a record at a name, in the place of one that stands there. Refused with `NoAccount` where the name isn't there.
+    /// Puts a record at a name, in the place of one that stands there.
+    ///
+    /// Errors: `NoAccount` where the name isn't there.
     pub fn load(&mut self, name: &Name, stored: Record) -> Result<(), BookError>
         ensures done { Loads self.old self.new name.now stored result }
         ensures granted { result ≡ Err BookError.Memory → ⊥ }
@@ -98,7 +103,9 @@ impl Book {
         }
     }
 
-    /// The record that stands at a name, if one does. Refused with `NoAccount` where the name isn't there.
+    /// The record that stands at a name, if one does.
+    ///
+    /// Errors: `NoAccount` where the name isn't there.
     pub fn show(&self, name: &Name) -> Result<Option<Record>, BookError>
         ensures { Shows self.now name.now result }
     {
@@ -108,9 +115,10 @@ impl Book {
         }
     }
 
-    /// Copies the record of the request's account into a ticket. A setting in the request isn't of version 0x10, as `Request::is_for_current` tells.
+    /// Copies the record of the request's account into a ticket. A setting in the request isn't of
+    /// version 0x10, as `Request::is_for_current` tells.
     ///
-    /// Refused with `NoAccount` where the name isn't there; the request comes back.
+    /// Errors: `NoAccount` where the name isn't there; the request comes back.
     pub fn begin(&self, request: Request) -> Result<Ticket, (Request, BookError)>
         requires { is_for_current request ≡ true }
         ensures { Begins self.now request result }
@@ -138,7 +146,8 @@ impl Book {
         }
     }
 
-    /// What `commit` would answer, the record that would stand then (none where the name isn't there), and whether that would be a change.
+    /// What `commit` would answer, the record that would stand then (none where the name isn't
+    /// there), and whether that would be a change.
     pub fn judge(&self, worked: &Worked) -> (Reply, Option<Record>, bool)
         ensures { result ≡ judged self.now worked.now }
     {
@@ -154,7 +163,9 @@ impl Book {
         }
     }
 
-    /// Puts a record, or none, at a name. Refused with `NoAccount` where the name isn't there.
+    /// Puts a record, or none, at a name.
+    ///
+    /// Errors: `NoAccount` where the name isn't there.
     pub fn set(&mut self, name: &Name, now: Option<Record>) -> Result<(), BookError>
         ensures { Sets self.old self.new name.now now result }
     {
@@ -167,7 +178,8 @@ impl Book {
         }
     }
 
-    /// Puts a record, or none, at a name, and adds the name where it is new and there is room for it. It can't fail: without room nothing changes.
+    /// Puts a record, or none, at a name, and adds the name where it is new and there is room for
+    /// it. It can't fail: without room nothing changes.
     pub fn put(&mut self, name: &Name, now: Option<Record>)
         ensures { self.new ≡ with_entry self.old name.now now }
     {
@@ -184,26 +196,24 @@ impl Book {
         }
     }
 
-    /// An equal book. `Memory` where there is none for 4096 accounts.
+    /// An equal book.
+    ///
+    /// Errors: `Memory` where there is none for 4096 accounts.
     pub fn copy(&self) -> Result<Book, BookError>
         ensures equal { IfOk result (λ book. book ≡ self.now) }
         ensures memory { IfErr result (λ e. e ≡ BookError.Memory) }
     {
-        let mut accounts = match Vec::with_capacity(*self.accounts.allocator(), MOST_ACCOUNTS) {
-            Ok(accounts) => accounts,
-            Err(_) => return Err(BookError::Memory),
-        };
-        match accounts.extend_from_slice(&self.accounts) {
-            Ok(()) => Ok(Book { accounts }),
-            Err(_) => Err(BookError::Memory),
-        }
+        let mut accounts = Vec::with_capacity(*self.accounts.allocator(), MOST_ACCOUNTS)?;
+        accounts.extend_from_slice(&self.accounts)?;
+        Ok(Book { accounts })
     }
 }
 
-// The place of the name, or the place where it would go.
+/// The place of the name, or the place where it would go.
 fn place_of(accounts: &[(Name, Option<Record>)], name: &Name) -> Result<usize, usize>
     requires { IsTrue (map.is_sorted name_cmp accounts.now) }
-    ensures { MatchResult result (IsPlaceOf name_cmp accounts.now name.now) (IsGapFor name_cmp accounts.now name.now) }
+    ensures { MatchResult result (IsPlaceOf name_cmp accounts.now name.now)
+        (IsGapFor name_cmp accounts.now name.now) }
 {
     accounts.binary_search_by_key(name, |&(there, _)| there)
 }

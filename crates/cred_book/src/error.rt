@@ -2,19 +2,23 @@
 
 ghost use Rattle.std.specs.Prelude.{◌≡◌};
 ghost use Rattle.cred_book.specs.Refusals.{refusal_number, refusal_word};
+ghost use Rattle.cred_book.specs.declared.error.BookError.TheVariants.{Memory as OutOfMemory};
+
+use std::alloc::AllocError;
+use thiserror::Error;
 
 /// Why a name isn't one, or why a book doesn't do what it is asked.
-#[derive(Clone, Copy, Debug, PartialEq, Eq)]
+#[derive(Clone, Copy, Debug, PartialEq, Eq, Error)]
 pub enum BookError {
-    /// The name is there already.
+    #[error("the name is there already")]
     Exists,
-    /// The book has 4096 names.
+    #[error("the book has 4096 names")]
     Full,
-    /// The bytes aren't a name.
+    #[error("the bytes are not a name")]
     Name,
-    /// Out of memory.
+    #[error("out of memory")]
     Memory,
-    /// The name isn't there.
+    #[error("the name is not there")]
     NoAccount,
 }
 
@@ -43,5 +47,13 @@ impl BookError {
             BookError::Memory => "memory",
             BookError::NoAccount => "noaccount",
         }
+    }
+}
+
+impl From<AllocError> for BookError {
+    ghost from_gives = { λ _ e. e ≡ OutOfMemory };
+
+    fn from(_refused: AllocError) -> BookError {
+        BookError::Memory
     }
 }

@@ -11,7 +11,8 @@ use std::sync::Wait;
 
 /// Keeps a book, which its calls answer from and change.
 ///
-/// Those that take `rt` may wait, and may be refused with `Memory`; nothing is changed then.
+/// Those that take `rt` may wait, and may answer `Memory` where there is none; nothing is changed
+/// then.
 pub trait Keeper {
     ghost use Rattle.cred_book.specs.Accounts.{Accounts};
     ghost use Rattle.std.specs.Prelude.{◌≡◌, true};
@@ -21,26 +22,35 @@ pub trait Keeper {
 
     ghost book: { Self → Accounts };
 
-    /// Adds a name, with no record. Refused with `Exists` where it is there, and with `Full` at 4096 names.
+    /// Adds a name, with no record.
+    ///
+    /// Errors: `Exists` where the name is there; `Full` where the book has 4096 names; `Memory`.
     fn admit<R: Wait>(&mut self, rt: &R, name: Name) -> Result<(), BookError>
         ensures { Admits (book self.old) (book self.new) name result };
 
-    /// Puts a record at a name, in the place of one that stands there. Refused with `NoAccount` where the name isn't there.
+    /// Puts a record at a name, in the place of one that stands there.
+    ///
+    /// Errors: `NoAccount` where the name isn't there; `Memory`.
     fn load<R: Wait>(&mut self, rt: &R, name: &Name, stored: Record) -> Result<(), BookError>
         ensures { Loads (book self.old) (book self.new) name.now stored result };
 
-    /// The record that stands at a name, if one does. Refused with `NoAccount` where the name isn't there.
+    /// The record that stands at a name, if one does.
+    ///
+    /// Errors: `NoAccount` where the name isn't there.
     fn show(&self, name: &Name) -> Result<Option<Record>, BookError>
         ensures { Shows (book self.now) name.now result };
 
-    /// Copies the record of the request's account into a ticket. A setting in the request isn't of version 0x10, as `Request::is_for_current` tells.
+    /// Copies the record of the request's account into a ticket. A setting in the request isn't of
+    /// version 0x10, as `Request::is_for_current` tells.
     ///
-    /// Refused with `NoAccount` where the name isn't there; the request comes back.
+    /// Errors: `NoAccount` where the name isn't there; the request comes back.
     fn begin(&self, request: Request) -> Result<Ticket, (Request, BookError)>
         requires { is_for_current request ≡ true }
         ensures { Begins (book self.now) request result };
 
-    /// Does the whole operation, if the record is the one that was copied, and else nothing. Refused with `Memory`; the work comes back.
+    /// Does the whole operation, if the record is the one that was copied, and else nothing.
+    ///
+    /// Errors: `Memory`; the work comes back.
     fn commit<R: Wait>(&mut self, rt: &R, worked: Worked) -> Result<Reply, (Worked, BookError)>
         ensures { Commits (book self.old) (book self.new) worked result };
 }

@@ -1,8 +1,8 @@
 //! The book of accounts: names, each with at most one record.
 //!
-//! [`Book::begin`] copies an account's record into a [`Ticket`], [`Ticket::work`] hashes with nothing held, and
-//! [`Book::commit`] does the whole operation where the record that stands is the copy. [`Keeper`] is what a script asks of
-//! whoever keeps a book.
+//! [`Book::begin`] copies an account's record into a [`Ticket`], [`Ticket::work`] hashes with
+//! nothing held, and [`Book::commit`] does the whole operation where the record that stands is the
+//! copy. [`Keeper`] is what a script asks of whoever keeps a book.
 #![tactic(auto)]
 
 mod book;

@@ -9,12 +9,15 @@ use cred_phc::ShortBytes;
 use std::cmp::Ordering;
 use std::marker::Model;
 
+/// How many bytes a name has at most.
+const MAX_NAME: usize = 32;
+
 /// The name of an account: 1 to 32 bytes out of `a-z`, `0-9`, `.`, `_` and `-`.
 ///
 /// Names are in the order of their bytes.
 #[derive(Clone, Copy, Debug, PartialEq, Eq)]
 pub struct Name {
-    bytes: ShortBytes<32>,
+    bytes: ShortBytes<MAX_NAME>,
 }
 
 impl Model for Name {
@@ -31,7 +34,9 @@ impl Model for Name {
 }
 
 impl Name {
-    /// These bytes as a name. Refused with `Name` where they aren't one.
+    /// These bytes as a name.
+    ///
+    /// Errors: `Name` where they aren't one.
     pub fn new(bytes: &[u8]) -> Result<Name, BookError>
         ensures { result ≡ made_name bytes.now }
     {
@@ -87,7 +92,7 @@ impl Ord for Name {
     }
 }
 
-// Whether each byte may stand in a name.
+/// Whether each byte may stand in a name.
 fn has_name_bytes(bytes: &[u8]) -> bool
     ensures { result ≡ list_all is_name_byte bytes.now }
 {

@@ -72,7 +72,8 @@ impl<R: Threads + Sync, G: Gate + Sync> Hashing<'_, R, G> {
     }
 
     fn verify(&self, stored: &Record, pw: &Password) -> Result<Outcome, TagError>
-        ensures { IfOk result (λ outcome. outcome ≡ (if right stored.now pw.now then Reply.Yes else Reply.No, Some stored.now)) }
+        ensures { IfOk result (λ outcome. outcome
+            ≡ (if right stored.now pw.now then Reply.Yes else Reply.No, Some stored.now)) }
     {
         let reply = if self.is_right(stored, pw)? {
             Reply::Yes
@@ -89,7 +90,9 @@ impl<R: Threads + Sync, G: Gate + Sync> Hashing<'_, R, G> {
         new_pw: &Password,
         setting: &Setting,
     ) -> Result<Outcome, TagError>
-        ensures { IfOk result (λ outcome. outcome ≡ (if right stored.now pw.now then (Reply.Replaced, Some (made setting.now new_pw.now)) else (Reply.Wrong, Some stored.now))) }
+        ensures { IfOk result (λ outcome. outcome
+            ≡ (if right stored.now pw.now then (Reply.Replaced, Some (made setting.now new_pw.now))
+            else (Reply.Wrong, Some stored.now))) }
     {
         if !self.is_right(stored, pw)? {
             return Ok((Reply::Wrong, Some(*stored)));
@@ -117,7 +120,8 @@ impl<R: Threads + Sync, G: Gate + Sync> Hashing<'_, R, G> {
     }
 
     fn remove(&self, stored: &Record, pw: &Password) -> Result<Outcome, TagError>
-        ensures { IfOk result (λ outcome. outcome ≡ (if right stored.now pw.now then (Reply.Removed, None) else (Reply.Wrong, Some stored.now))) }
+        ensures { IfOk result (λ outcome. outcome
+            ≡ (if right stored.now pw.now then (Reply.Removed, None) else (Reply.Wrong, Some stored.now))) }
     {
         if !self.is_right(stored, pw)? {
             return Ok((Reply::Wrong, Some(*stored)));
@@ -125,7 +129,10 @@ impl<R: Threads + Sync, G: Gate + Sync> Hashing<'_, R, G> {
         Ok((Reply::Removed, None))
     }
 
-    /// Whether the record is one of this password: the tag of the password under the record's setting, with the length of the record's tag, is the record's tag.
+    /// Whether the record is one of this password: the tag of the password under the record's
+    /// setting, with the length of the record's tag, is the record's tag.
+    ///
+    /// Errors: `Memory` where there is too little for the setting.
     #[tactic(auto, unfolding(crate::specs::Works::right))]
     pub fn is_right(&self, stored: &Record, pw: &Password) -> Result<bool, TagError>
         ensures { IfOk result (λ answer. answer ≡ right stored.now pw.now) }
@@ -136,6 +143,8 @@ impl<R: Threads + Sync, G: Gate + Sync> Hashing<'_, R, G> {
     }
 
     /// The record of this password under this setting, with a tag of 32 bytes.
+    ///
+    /// Errors: `Memory` where there is too little for the setting.
     pub fn made(&self, setting: &Setting, pw: &Password) -> Result<Record, TagError>
         ensures { IfOk result (λ stored. stored ≡ made setting.now pw.now) }
     {

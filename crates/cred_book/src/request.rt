@@ -26,7 +26,8 @@ pub enum Request {
         new_pw: Password,
         setting: Setting,
     },
-    /// Makes the record of the same password anew, where it isn't of this scheme with these numbers.
+    /// Makes the record of the same password anew, where it isn't of this scheme with these
+    /// numbers.
     Upgrade {
         name: Name,
         pw: Password,
@@ -55,7 +56,8 @@ impl Request {
         }
     }
 
-    /// Whether the setting of a new record, if one may be made, isn't of the version 0x10 of old ones.
+    /// Whether the setting of a new record, if one may be made, isn't of the version 0x10 of old
+    /// ones.
     pub fn is_for_current(&self) -> bool
         ensures { result ≡ is_for_current self.now }
     {

@@ -1,4 +1,5 @@
-//! An operation between its beginning and its commit: the request with a copy of its account's record, and then what it does at the copy.
+//! An operation between its beginning and its commit: the request with a copy of its account's
+//! record, and then what it does at the copy.
 
 ghost use Rattle.std.specs.Prelude.{◌≡◌, IfErr, IfOk, true, false};
 ghost use Rattle.cred_book.specs.Works.{is_verify, whole};
@@ -48,7 +49,9 @@ impl Ticket {
         self.copy
     }
 
-    /// Hashes, with nothing held, by at most `workers` threads. Where there is no memory the ticket comes back.
+    /// Hashes, with nothing held, by at most `workers` threads.
+    ///
+    /// Errors: the ticket comes back where there is no memory.
     pub fn work<R: Threads + Sync, G: Gate + Sync>(
         self,
         rt: &R,
@@ -124,7 +127,9 @@ impl Worked {
         self.after
     }
 
-    /// The same work as that of a verify; another operation's comes back.
+    /// The same work, as that of a verify.
+    ///
+    /// Errors: the work comes back where it is another operation's.
     pub fn into_verify(self) -> Result<VerifyWorked, Worked>
         ensures verify { IfOk result (λ verify. (verify ≡ self) × (is_verify self.0 ≡ true)) }
         ensures other { IfErr result (λ back. (back ≡ self) × (is_verify self.0 ≡ false)) }

@@ -1,4 +1,5 @@
--- Base64 by the strict engine with no padding: a text decodes to bytes exactly where it is their encoding.
+-- Base64 by the strict engine with no padding: a text decodes to bytes exactly where it is their
+-- encoding.
 use Rattle.std.proofs.Common.{◌≡◌, ◌∙◌, ℕ, zero, suc, ◌+◌, ◌*◌, ◌/◌, ◌%◌, ◌<◌, ◌≤◌, ◌==◌, not, true, List, [], ◌∷◌, length, get_or, Some, None, Result, Ok, Err, arith, refl, ap, append-nil}
 use Rattle.std.proofs.lemmas.Bool.Decides.{nat_tests}
 use Rattle.base64.specs.declared.decode.DecodeError.{DecodeError}

@@ -1,4 +1,5 @@
--- The fields of a text: no `$` stands in one, they are short, and fields of bytes make a text of bytes.
+-- The fields of a text: no `$` stands in one, they are short, and fields of bytes make a text of
+-- bytes.
 use Rattle.std.proofs.Common.{◌≡◌, ℕ, suc, ◌+◌, ◌^◌, ◌<◌, ◌≤◌, lit≤, Bool, true, List, [], ◌∷◌, ◌++◌, length, inl, inr, codes, arith, refl, length-append}
 use Rattle.std.proofs.lemmas.Fmt.{length-decimal-le}
 use Rattle.std.specs.List.{join_with_byte}
@@ -6,8 +7,8 @@ use Rattle.base64.specs.GeneralPurpose.{IsBytes}
 use Rattle.base64.proofs.EngineFacts.{front_bytes}
 use Rattle.cred_phc.specs.declared.scheme.Scheme.{Scheme}
 use Rattle.cred_phc.specs.declared.scheme.Scheme.TheVariants.{Argon2, Scrypt}
-use Rattle.cred_phc.specs.declared.scheme.Version.{Version}
-use Rattle.cred_phc.specs.declared.scheme.Version.TheVariants.{V10, V13}
+use Rattle.cred_argon.specs.declared.kind.Version.{Version}
+use Rattle.cred_argon.specs.declared.kind.Version.TheVariants.{V10, V13}
 use Rattle.cred_phc.specs.declared.scheme.Variant.{Variant}
 use Rattle.cred_phc.specs.declared.scheme.Variant.TheVariants.{D, I, Id}
 use Rattle.cred_phc.specs.Names.{variant_name, version_text}

@@ -5,7 +5,7 @@ use Rattle.cred_phc.specs.declared.error.PhcError.{PhcError}
 use Rattle.cred_phc.specs.declared.error.PhcError.TheVariants.{Shape, Version as WrongVersion, Params, Range, Salt, Tag, TooLong, Scheme as NoScheme}
 use Rattle.cred_phc.specs.declared.scheme.Name.{Name}
 use Rattle.cred_phc.specs.declared.scheme.Name.TheVariants.{Argon2, Scrypt}
-use Rattle.cred_phc.specs.Ranges.{argon_fits, scrypt_fits}
+use Rattle.cred_phc.specs.Ranges.{argon_fits, scrypt_fits, most_salt, least_tag, most_tag, most_text}
 use Rattle.cred_phc.specs.Pieces.{pieces}
 use Rattle.cred_phc.specs.Base64.{bytes_of}
 use Rattle.cred_phc.specs.Fields.{name_of, numbers_of}
@@ -29,10 +29,10 @@ bytes_fault low high e field = unless (is_some (bytes_of low high field)) e
 abbrev pub judges_of : Name → List Judge
 judges_of (Argon2 variant) =
     (λ field. numbers_fault argon_fits (numbers_of (codes "m=") (codes "t=") (codes "p=") field))
-    ∷ bytes_fault 8 48 Salt ∷ []
+    ∷ bytes_fault 8 most_salt Salt ∷ []
 judges_of Scrypt =
     (λ field. numbers_fault scrypt_fits (numbers_of (codes "ln=") (codes "r=") (codes "p=") field))
-    ∷ bytes_fault 1 48 Salt ∷ []
+    ∷ bytes_fault 1 most_salt Salt ∷ []
 
 -- the fault that comes first
 abbrev pub first : Option PhcError → Option PhcError → Option PhcError
@@ -69,10 +69,10 @@ fields_fault old last (front ∷ []) = Some Shape
 fields_fault old last (front ∷ name ∷ fields) =
     first (unless (length front == 0) Shape) (named_fault old last (name_of name) fields)
 
--- a text over 512 bytes is not looked at; any other is cut at each `$` (byte 36)
+-- a text that is too long is not looked at; any other is cut at each `$` (byte 36)
 abbrev pub text_fault : Bool → List Judge → List ℕ → Option PhcError
 text_fault old last text =
-    if nat_lt 512 (length text) then Some TooLong else fields_fault old last (pieces 36 text)
+    if nat_lt most_text (length text) then Some TooLong else fields_fault old last (pieces 36 text)
 
 -- the first fault of a setting's text, if it has any
 unfoldable pub setting_fault : List ℕ → Option PhcError
@@ -80,4 +80,4 @@ setting_fault text = text_fault false [] text
 
 -- the first fault of a record's text, if it has any
 unfoldable pub record_fault : List ℕ → Option PhcError
-record_fault text = text_fault true (bytes_fault 4 64 Tag ∷ []) text
+record_fault text = text_fault true (bytes_fault least_tag most_tag Tag ∷ []) text

@@ -1,3 +1,5 @@
+-- Definitions that contracts cite: the values, their ranges and texts, how texts are read and
+-- their faults judged, and tags.
 pub mod Padded
 pub mod Ranges
 pub mod Values

@@ -1,7 +1,8 @@
--- How variants and versions are named in texts: 0x13, the version of RFC 9106, is 19, and 0x10 is 16.
+-- How variants and versions are named in texts: 0x13, the version of RFC 9106, is 19, and 0x10
+-- is 16.
 use Rattle.std.specs.Prelude.{ℕ, List, codes}
-use Rattle.cred_phc.specs.declared.scheme.Version.{Version}
-use Rattle.cred_phc.specs.declared.scheme.Version.TheVariants.{V10, V13}
+pub use Rattle.cred_argon.specs.declared.kind.Version.{Version}
+pub use Rattle.cred_argon.specs.declared.kind.Version.TheVariants.{V10, V13}
 use Rattle.cred_phc.specs.declared.scheme.Variant.{Variant}
 use Rattle.cred_phc.specs.declared.scheme.Variant.TheVariants.{D, I, Id}
 

@@ -1,5 +1,6 @@
--- Reading as a function: the value that a text stands for, or its fault. Contracts say of the readers
--- that they compute it, and that it agrees with the texts of values and with the table of faults.
+-- Reading as a function: the value that a text stands for, or its fault. Contracts say of the
+-- readers that they compute it, and that it agrees with the texts of values and with the table of
+-- faults.
 use Rattle.std.specs.Prelude.{◌≡◌, ℕ, List, [], ◌∷◌, length, take, Option, Some, None, Result, Ok, Err, Bool, true, false, nat_lt, ◌==◌, not, if◌then◌else◌, codes}
 use Rattle.std.specs.Option.{ok_or}
 use Rattle.std.specs.Str.{bytes_eq}
@@ -7,12 +8,12 @@ use Rattle.cred_phc.specs.declared.error.PhcError.{PhcError}
 use Rattle.cred_phc.specs.declared.error.PhcError.TheVariants.{Shape, Version as WrongVersion, Params, Range, Salt, Tag, TooLong, Scheme as NoScheme}
 use Rattle.cred_phc.specs.declared.scheme.Scheme.{Scheme}
 use Rattle.cred_phc.specs.declared.scheme.Scheme.TheVariants.{Argon2, Scrypt}
-use Rattle.cred_phc.specs.declared.scheme.Version.{Version}
-use Rattle.cred_phc.specs.declared.scheme.Version.TheVariants.{V10, V13}
+use Rattle.cred_argon.specs.declared.kind.Version.{Version}
+use Rattle.cred_argon.specs.declared.kind.Version.TheVariants.{V10, V13}
 use Rattle.cred_phc.specs.declared.scheme.Variant.{Variant}
 use Rattle.cred_phc.specs.declared.scheme.Name.{Name}
 use Rattle.cred_phc.specs.declared.scheme.Name.TheVariants.{Argon2 as NamesArgon2, Scrypt as NamesScrypt}
-use Rattle.cred_phc.specs.Ranges.{argon_fits, scrypt_fits, salt_low}
+use Rattle.cred_phc.specs.Ranges.{argon_fits, scrypt_fits, salt_low, most_salt, least_tag, most_tag, most_text}
 use Rattle.cred_phc.specs.Values.{SettingValue, setting_of, RecordValue, record_of}
 use Rattle.cred_phc.specs.Pieces.{pieces}
 use Rattle.cred_phc.specs.Base64.{bytes_of}
@@ -90,17 +91,17 @@ unfoldable pub setting_at : Bool → List (List ℕ) → Result (SettingValue ×
 setting_at old fields =
     scheme_at old fields >>= λ scheme.
     next scheme.1 >>= λ field.
-    ok_or (bytes_of (salt_low scheme.0) 48 field.0) Salt >>= λ salt.
+    ok_or (bytes_of (salt_low scheme.0) most_salt field.0) Salt >>= λ salt.
     Ok (setting_of scheme.0 salt, field.1)
 
 unfoldable pub tag_at : List (List ℕ) → Result (List ℕ × List (List ℕ)) PhcError
 tag_at fields =
     next fields >>= λ field.
-    ok_or (bytes_of 4 64 field.0) Tag >>= λ tag.
+    ok_or (bytes_of least_tag most_tag field.0) Tag >>= λ tag.
     Ok (tag, field.1)
 
 unfoldable pub fields_of : List ℕ → Result (List (List ℕ)) PhcError
-fields_of text = if nat_lt 512 (length text) then Err TooLong else Ok (pieces 36 text)
+fields_of text = if nat_lt most_text (length text) then Err TooLong else Ok (pieces 36 text)
 
 -- the setting that a text stands for, or its first fault
 unfoldable pub read_setting : List ℕ → Result SettingValue PhcError

@@ -2,35 +2,26 @@
 use Rattle.std.specs.Prelude.{ℕ, List, []}
 use Rattle.cred_argon.specs.declared.kind.Kind.{Kind}
 use Rattle.cred_argon.specs.declared.kind.Kind.TheVariants.{D as ArgonD, I as ArgonI, Id as ArgonId}
-use Rattle.cred_argon.specs.declared.kind.Version.{Version as ArgonVersion}
-use Rattle.cred_argon.specs.declared.kind.Version.TheVariants.{V10 as ArgonV10, V13 as ArgonV13}
 use Rattle.cred_argon.specs.Parameters.{parameters}
 use Rattle.cred_argon.specs.Argon.{argon}
 use Rattle.cred_scrypt.specs.Scrypt.{scrypt}
-use Rattle.cred_phc.specs.declared.scheme.Version.{Version}
-use Rattle.cred_phc.specs.declared.scheme.Version.TheVariants.{V10, V13}
 use Rattle.cred_phc.specs.declared.scheme.Variant.{Variant}
 use Rattle.cred_phc.specs.declared.scheme.Variant.TheVariants.{D, I, Id}
 use Rattle.cred_phc.specs.declared.scheme.Scheme.{Scheme}
 use Rattle.cred_phc.specs.declared.scheme.Scheme.TheVariants.{Argon2, Scrypt}
 use Rattle.cred_phc.specs.Values.{SettingValue}
 
--- RFC 9106 section 3.1, version v; 0x10 is the version before it
-abbrev pub argon_version : Version → ArgonVersion
-argon_version V10 = ArgonV10
-argon_version V13 = ArgonV13
-
--- RFC 9106 section 3.1, type y
+-- RFC 9106, section 3.1, type y
 abbrev pub argon_kind : Variant → Kind
 argon_kind D = ArgonD
 argon_kind I = ArgonI
 argon_kind Id = ArgonId
 
--- the tag of len bytes by a scheme: Argon2 with no secret and no associated data (RFC 9106 section 3.1),
--- or scrypt with N = 2 ^ ln (RFC 7914 section 6)
+-- the tag of len bytes by a scheme: Argon2 with no secret and no associated data (RFC 9106,
+-- section 3.1), or scrypt with N = 2 ^ ln (RFC 7914, section 6)
 abbrev pub scheme_tag : Scheme → ℕ → List ℕ → List ℕ → List ℕ
 scheme_tag (Argon2 version variant m t p) len pw salt =
-    argon (parameters (argon_version version) (argon_kind variant) m t p len) pw salt [] []
+    argon (parameters version (argon_kind variant) m t p len) pw salt [] []
 scheme_tag (Scrypt ln r p) len pw salt = scrypt ln r p len pw salt
 
 -- the tag of len bytes that a setting gives the password pw

@@ -1,5 +1,5 @@
--- The texts of settings and records, in the PHC string format: `$`, the name, and further fields with
--- `$` (byte 36) between.
+-- The texts of settings and records, in the PHC string format: `$`, the name, and further fields
+-- with `$` (byte 36) between.
 use Rattle.std.specs.Prelude.{◌≡◌, ℕ, List, [], ◌∷◌, ◌++◌, ◌⊎◌, codes, decimal, true, false}
 use Rattle.std.specs.List.{join_with_byte}
 use Rattle.cred_phc.specs.declared.scheme.Scheme.{Scheme}
@@ -50,7 +50,8 @@ unfoldable pub bare_text : RecordValue → List ℕ
 bare_text v =
     join_with_byte 36 (bare_fields v.setting.scheme ++ base64 v.setting.salt ∷ base64 v.tag ∷ [])
 
--- The text stands for this setting: never for one of version 0x10, as new records are of version 0x13.
+-- The text stands for this setting: never for one of version 0x10, as new records are of version
+-- 0x13.
 abbrev pub IsSettingText : List ℕ → SettingValue → Type 0
 IsSettingText text v = (is_current v.scheme ≡ true) × (text ≡ setting_text v)
 

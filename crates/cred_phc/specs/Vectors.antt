@@ -1,7 +1,7 @@
 -- Records of the password `password` that other programs made, as values.
 use Rattle.std.specs.Prelude.{[], ◌∷◌, codes}
 use Rattle.cred_phc.specs.declared.scheme.Scheme.TheVariants.{Argon2, Scrypt}
-use Rattle.cred_phc.specs.declared.scheme.Version.TheVariants.{V10, V13}
+use Rattle.cred_argon.specs.declared.kind.Version.TheVariants.{V10, V13}
 use Rattle.cred_phc.specs.declared.scheme.Variant.TheVariants.{I, Id}
 use Rattle.cred_phc.specs.Values.{RecordValue, setting_of, record_of}
 
@@ -17,7 +17,7 @@ old_argon2i_record = record_of (setting_of (Argon2 V10 I 256 2 1) (codes "somesa
     (253 ∷ 77 ∷ 216 ∷ 61 ∷ 118 ∷ 44 ∷ 73 ∷ 189 ∷ 234 ∷ 245 ∷ 124 ∷ 71 ∷ 189 ∷ 205 ∷ 12 ∷ 47
     ∷ 27 ∷ 171 ∷ 248 ∷ 99 ∷ 253 ∷ 235 ∷ 73 ∷ 13 ∷ 246 ∷ 62 ∷ 222 ∷ 153 ∷ 117 ∷ 252 ∷ 207 ∷ 6 ∷ [])
 
--- RFC 7914 section 12, with the salt `NaCl`
+-- RFC 7914, section 12, with the salt `NaCl`
 unfoldable pub scrypt_record : RecordValue
 scrypt_record = record_of (setting_of (Scrypt 10 8 16) (codes "NaCl"))
     (253 ∷ 186 ∷ 190 ∷ 28 ∷ 157 ∷ 52 ∷ 114 ∷ 0 ∷ 120 ∷ 86 ∷ 231 ∷ 25 ∷ 13 ∷ 1 ∷ 233 ∷ 254

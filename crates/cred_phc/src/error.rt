@@ -2,7 +2,9 @@
 
 ghost use Rattle.std.specs.Prelude.{◌≡◌};
 ghost use Rattle.cred_phc.specs.Fault.{fault_number, fault_word};
+ghost use Rattle.cred_phc.specs.declared.error.PhcError.TheVariants.{Memory as OutOfMemory};
 
+use std::alloc::AllocError;
 use thiserror::Error;
 
 /// The fault of a text or of a value's parts: the first from the left, where there are several.
@@ -61,5 +63,13 @@ impl PhcError {
             PhcError::Memory => "memory",
             PhcError::TooLong => "toolong",
         }
+    }
+}
+
+impl From<AllocError> for PhcError {
+    ghost from_gives = { λ _ e. e ≡ OutOfMemory };
+
+    fn from(_refused: AllocError) -> PhcError {
+        PhcError::Memory
     }
 }

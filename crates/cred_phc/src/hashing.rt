@@ -5,14 +5,14 @@ ghost use Rattle.cred_argon.specs.Argon.{argon};
 ghost use Rattle.cred_argon.specs.Parameters.{parameters};
 ghost use Rattle.cred_scrypt.specs.Scrypt.{scrypt};
 ghost use Rattle.cred_phc.specs.Ranges.{argon_fits, scrypt_fits};
-ghost use Rattle.cred_phc.specs.Tags.{argon_kind, argon_version, tag};
+ghost use Rattle.cred_phc.specs.Tags.{argon_kind, tag};
 ghost use Rattle.cred_phc.specs.Values.{IsTag};
 
 use crate::password::Password;
-use crate::scheme::{Scheme, Variant, Version};
+use crate::scheme::{Scheme, Variant};
 use crate::setting::Setting;
-use crate::tag::Tag;
-use cred_argon::{ArgonError, Kind, Params, argon2};
+use crate::tag::{MAX_TAG, Tag};
+use cred_argon::{ArgonError, Kind, Params, Version, argon2};
 use cred_pool::Gate;
 use cred_scrypt::{ScryptParams, scrypt};
 use std::alloc::Global;
@@ -28,7 +28,7 @@ pub enum TagError {
 }
 
 impl TagError {
-    /// The number of the error: 1.
+    /// The error's number: 1.
     pub fn number(self) -> u8
         ensures { result ≡ 1 }
     {
@@ -37,7 +37,7 @@ impl TagError {
         }
     }
 
-    /// The name of the error in lower case.
+    /// The error's name in lower case: `memory`.
     pub fn word(self) -> &'static str
         ensures { result.now ≡ codes "memory" }
     {
@@ -48,9 +48,10 @@ impl TagError {
 }
 
 /// The tag of `len` bytes, 4 to 64, that the setting gives the password: Argon2 with no secret and
-/// no associated data (RFC 9106 section 3.1), or scrypt (RFC 7914 section 6). The work is done by at
-/// most `workers` threads, behind the gate; the tag is the same for any number. Refused with
-/// `Memory` where there is too little for the setting.
+/// no associated data (RFC 9106, section 3.1), or scrypt (RFC 7914, section 6). The work is done by
+/// at most `workers` threads, behind the gate; the tag is the same for any number.
+///
+/// Errors: `Memory` where there is too little for the setting.
 #[tactic(auto, unfolding(crate::specs::Tags::tag))]
 pub fn tag_of<R: Threads + Sync, G: Gate + Sync>(
     rt: &R,
@@ -144,7 +145,7 @@ fn tag_from(bytes: &[u8]) -> Tag
     match Tag::new(bytes) {
         Some(tag) => {
             // A tag is in its range, which its accessor tells.
-            prove!(tag.bytes().len() <= 64);
+            prove!(tag.bytes().len() <= MAX_TAG);
             tag
         }
         None => unreachable!(),
@@ -155,10 +156,10 @@ fn argon_params(version: Version, variant: Variant, m: u32, t: u32, p: u8, len: 
     requires fits { IsTrue (argon_fits m t p) }
     requires low { 4 ≤ len }
     requires high { len ≤ 64 }
-    ensures { result ≡ parameters (argon_version version) (argon_kind variant) m t p len }
+    ensures { result ≡ parameters version (argon_kind variant) m t p len }
 {
     match Params::with_version(
-        argon_version(version),
+        version,
         argon_kind(variant),
         m,
         t,
@@ -167,15 +168,6 @@ fn argon_params(version: Version, variant: Variant, m: u32, t: u32, p: u8, len: 
     ) {
         Ok(params) => params,
         Err(_) => unreachable!(),
-    }
-}
-
-fn argon_version(version: Version) -> cred_argon::Version
-    ensures { result ≡ argon_version version }
-{
-    match version {
-        Version::V10 => cred_argon::Version::V10,
-        Version::V13 => cred_argon::Version::V13,
     }
 }
 

@@ -17,6 +17,7 @@ mod short_bytes;
 mod tag;
 mod write;
 
+pub use cred_argon::Version;
 pub use error::PhcError;
 pub use hashing::{TagError, tag_of};
 pub use laws::{
@@ -28,7 +29,7 @@ pub use password::Password;
 pub use pieces::Pieces;
 pub use record::Record;
 pub use salt::draw_salt;
-pub use scheme::{Scheme, Variant, Version};
+pub use scheme::{Scheme, Variant};
 pub use setting::Setting;
 pub use short_bytes::ShortBytes;
 pub use tag::Tag;

@@ -12,18 +12,19 @@ use crate::error::PhcError;
 use crate::number::numbers;
 use crate::pieces::Pieces;
 use crate::record::Record;
-use crate::scheme::{Name, SCRYPT, Scheme, Variant, Version};
+use crate::scheme::{Name, SCRYPT, Scheme, Variant, version_text};
 use crate::setting::Setting;
 use crate::tag::Tag;
+use cred_argon::Version;
 
 /// Longer texts are not looked at. No text that stands for a value has even half as many bytes.
 const MAX_TEXT: usize = 512;
 
-/// The setting that a text stands for, as `$argon2id$v=19$m=256,t=2,p=1$c29tZXNhbHQ`. One of version
-/// 0x10 is not read: new records are of version 0x13.
+/// The setting that a text stands for, as `$argon2id$v=19$m=256,t=2,p=1$c29tZXNhbHQ`. One of
+/// version 0x10 is not read: new records are of version 0x13.
 ///
-/// Any other text is refused: with `TooLong` for over 512 bytes, else with the fault of the first
-/// field from the left that is wrong or missing, which is never `Tag` or `Memory`.
+/// Errors: `TooLong` where the text has over 512 bytes; else, by the first field from the left that
+/// is wrong or missing, `Shape`, `Scheme`, `Version`, `Params`, `Range` or `Salt`.
 pub fn parse_setting(text: &[u8]) -> Result<Setting, PhcError>
     ensures found { IfOk result (λ v. IsSetting v × IsSettingText text.now v) }
     ensures only { (v : SettingValue) → IsSetting v → IsSettingText text.now v → result ≡ Ok v }
@@ -37,8 +38,8 @@ pub fn parse_setting(text: &[u8]) -> Result<Setting, PhcError>
 /// The record that a text stands for: a setting's text, then `$` and the tag in base64. A record of
 /// version 0x10 has `$v=16` or no version.
 ///
-/// Any other text is refused: with `TooLong` for over 512 bytes, else with the fault of the first
-/// field from the left that is wrong or missing, which is never `Memory`.
+/// Errors: `TooLong` where the text has over 512 bytes; else, by the first field from the left that
+/// is wrong or missing, `Shape`, `Scheme`, `Version`, `Params`, `Range`, `Salt` or `Tag`.
 pub fn parse_record(text: &[u8]) -> Result<Record, PhcError>
     ensures found { IfOk result (λ v. IsRecord v × IsRecordText text.now v) }
     ensures only { (v : RecordValue) → IsRecord v → IsRecordText text.now v → result ≡ Ok v }
@@ -122,14 +123,14 @@ fn version(fields: &mut Pieces<'_>, old: bool) -> Result<Version, PhcError>
     ensures { Gives (λ version. (version, fields.new)) result (version_at old fields.old) }
 {
     let field = fields.peek().ok_or(PhcError::Shape)?;
-    if field == Version::V13.text().as_bytes() {
+    if field == version_text(Version::V13).as_bytes() {
         let _ = fields.next();
         return Ok(Version::V13);
     }
     if !old {
         return Err(PhcError::Version);
     }
-    if field == Version::V10.text().as_bytes() {
+    if field == version_text(Version::V10).as_bytes() {
         let _ = fields.next();
         return Ok(Version::V10);
     }

@@ -6,7 +6,8 @@ ghost use Rattle.cred_phc.specs.Pieces.{pieces, pieces_left};
 
 use std::marker::Model;
 
-/// The pieces of a text that are still to be read. A text has at least one piece, which may be empty.
+/// The pieces of a text that are still to be read. A text has at least one piece, which may be
+/// empty.
 #[derive(Drop)]
 pub struct Pieces<'a> {
     rest: Option<&'a [u8]>,

@@ -4,8 +4,8 @@ ghost use Rattle.std.specs.Prelude.{◌≡◌, IfOk};
 ghost use Rattle.cred_phc.specs.Values.{IsRecord, made_record, record_of};
 
 use crate::error::PhcError;
-use crate::setting::Setting;
-use crate::tag::Tag;
+use crate::setting::{MAX_SALT, Setting};
+use crate::tag::{MAX_TAG, Tag};
 use std::marker::Model;
 
 /// A setting, and the tag of a password under it.
@@ -28,7 +28,9 @@ impl Model for Record {
 }
 
 impl Record {
-    /// This setting with a tag of 4 to 64 bytes. Refused with `Tag` for another length.
+    /// This setting with a tag of 4 to 64 bytes.
+    ///
+    /// Errors: `Tag` where the tag has another length.
     pub fn new(setting: Setting, tag: &[u8]) -> Result<Record, PhcError>
         ensures made { result ≡ made_record setting tag.now }
         ensures ranges { IfOk result IsRecord }
@@ -45,8 +47,8 @@ impl Record {
         ensures ranges { IsRecord result }
     {
         // A setting and a tag are in their ranges, which their accessors tell.
-        prove!(setting.salt().len() <= 48);
-        prove!(tag.bytes().len() <= 64);
+        prove!(setting.salt().len() <= MAX_SALT);
+        prove!(tag.bytes().len() <= MAX_TAG);
         Record { setting, tag }
     }
 

@@ -5,14 +5,9 @@ ghost use Rattle.cred_phc.specs.Names.{variant_name, version_text};
 ghost use Rattle.cred_phc.specs.Reading.{argon_of, scrypt_of};
 ghost use Rattle.cred_phc.specs.Ranges.{argon_fits, is_current, salt_low, scheme_fits, scrypt_fits};
 
-/// The versions of Argon2: 0x10 of old records, and 0x13, that of RFC 9106.
-#[derive(Clone, Copy, Debug, PartialEq, Eq)]
-pub enum Version {
-    V10,
-    V13,
-}
+use cred_argon::Version;
 
-/// The variants of Argon2 (RFC 9106 section 1).
+/// The variants of Argon2 (RFC 9106, section 1).
 #[derive(Clone, Copy, Debug, PartialEq, Eq)]
 pub enum Variant {
     D,
@@ -28,11 +23,11 @@ const MAX_BLOCKS: u32 = 16777216;
 
 /// A function of passwords with its cost.
 ///
-/// - Argon2 (RFC 9106 section 3.1): memory `m` in KiB, from 8 for each lane to 2097152; `t` passes and
-///   `p` lanes, at least 1 of each.
-/// - scrypt (RFC 7914 section 2): `ln`, the logarithm to the base 2 of the cost, from 1 to 24 and below
-///   16 `r`; the block size `r` and the parallelization `p`, each at least 1. `r` times the cost is at
-///   most 2^24, so that memory is at most 2 GiB.
+/// - Argon2 (RFC 9106, section 3.1): memory `m` in KiB, from 8 for each lane to 2097152; `t` passes
+///   and `p` lanes, at least 1 of each.
+/// - scrypt (RFC 7914, section 2): `ln`, the logarithm to the base 2 of the cost, from 1 to 24 and
+///   below 16 `r`; the block size `r` and the parallelization `p`, each at least 1. `r` times the
+///   cost is at most 2^24, so that memory is at most 2 GiB.
 ///
 /// A `Scheme` may be outside these ranges; that of a `Setting` isn't.
 #[derive(Clone, Copy, Debug, PartialEq, Eq)]
@@ -61,15 +56,13 @@ pub(crate) enum Name {
 /// The name of scrypt in a text.
 pub(crate) const SCRYPT: &str = "scrypt";
 
-impl Version {
-    /// The field that names the version.
-    pub(crate) fn text(self) -> &'static str
-        ensures { result.now ≡ version_text self }
-    {
-        match self {
-            Version::V10 => "v=16",
-            Version::V13 => "v=19",
-        }
+/// The field that names the version in a text.
+pub(crate) fn version_text(version: Version) -> &'static str
+    ensures { result.now ≡ version_text version }
+{
+    match version {
+        Version::V10 => "v=16",
+        Version::V13 => "v=19",
     }
 }
 

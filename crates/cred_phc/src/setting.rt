@@ -12,10 +12,10 @@ use crate::short_bytes::ShortBytes;
 use std::marker::Model;
 
 /// How many bytes a salt has at most, so that a setting has a fixed size.
-const MAX_SALT: usize = 48;
+pub(crate) const MAX_SALT: usize = 48;
 
-/// A scheme with its numbers, all in their ranges, and a salt: 8 to 48 bytes for Argon2, 1 to 48 for
-/// scrypt.
+/// A scheme with its numbers, all in their ranges, and a salt: 8 to 48 bytes for Argon2, 1 to 48
+/// for scrypt.
 #[derive(Clone, Copy, Debug, PartialEq, Eq)]
 pub struct Setting {
     scheme: Scheme,
@@ -35,8 +35,10 @@ impl Model for Setting {
 }
 
 impl Setting {
-    /// This scheme with this salt. Refused with `Range` where one of the scheme's numbers is outside its
-    /// range, else with `Salt` where the salt's length is.
+    /// This scheme with this salt.
+    ///
+    /// Errors: `Range` where one of the scheme's numbers is outside its range; else `Salt` where
+    /// the salt's length is.
     pub fn new(scheme: Scheme, salt: &[u8]) -> Result<Setting, PhcError>
         ensures made { result ≡ made_setting scheme salt.now }
         ensures ranges { IfOk result IsSetting }

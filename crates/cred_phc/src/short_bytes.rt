@@ -52,14 +52,15 @@ impl<const CAP: usize> ShortBytes<CAP> {
         })
     }
 
-    /// The bytes that these letters stand for, in base64 with no padding (RFC 4648 section 4), if there
-    /// are at least `low` of them and at most `CAP`, which is at most 256.
+    /// The bytes that these letters stand for, in base64 with no padding (RFC 4648, section 4), if
+    /// there are at least `low` of them and at most `CAP`, which is at most 256.
     #[tactic(auto, unfolding(crate::specs::Base64::unbase64))]
     pub fn from_base64(letters: &[u8], low: usize) -> Option<ShortBytes<CAP>>
         requires { CAP ≤ 256 }
         ensures { result ≡ bytes_of low CAP letters.now }
     {
-        // 256 bytes have 342 letters, and the decoder asks for three bytes of room for each four letters.
+        // 256 bytes have 342 letters, and the decoder asks for three bytes of room for each four
+        // letters.
         if letters.len() > 342 {
             return None;
         }
@@ -89,8 +90,8 @@ impl<const CAP: usize> PartialEq for ShortBytes<CAP> {
 
     ghost laws = { partial_equiv_from_equiv nat_list_eq_equiv };
 
-    /// Every byte is read also where an early one differs, so that its time doesn't tell how far two
-    /// tags agree.
+    /// Every byte is read also where an early one differs, so that its time doesn't tell how far
+    /// two tags agree.
     fn eq(&self, other: &Self) -> bool {
         let (these, those) = (self.as_slice(), other.as_slice());
         if these.len() != those.len() {

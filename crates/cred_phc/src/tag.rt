@@ -7,11 +7,11 @@ ghost use Rattle.cred_phc.specs.Values.{IsTag, tag_fits};
 use crate::short_bytes::ShortBytes;
 use std::marker::Model;
 
-/// The least tag of Argon2 (RFC 9106 section 3.1), which is the least of scrypt here too.
+/// The least tag of Argon2 (RFC 9106, section 3.1), which is the least of scrypt here too.
 const MIN_TAG: usize = 4;
 
 /// How many bytes a tag has at most, so that a record has a fixed size.
-const MAX_TAG: usize = 64;
+pub(crate) const MAX_TAG: usize = 64;
 
 /// What a password hashing function answers: 4 to 64 bytes.
 #[derive(Clone, Copy, Debug, PartialEq, Eq)]

@@ -1,6 +1,6 @@
 //! From settings and records to text.
 
-ghost use Rattle.std.specs.Prelude.{◌≡◌, [], ◌∷◌, ◌++◌, IfErr, IfOk, OnOk};
+ghost use Rattle.std.specs.Prelude.{◌≡◌, ◌∷◌, ◌++◌, IfErr, IfOk, OnOk};
 ghost use Rattle.std.specs.String.{string_bytes};
 ghost use Rattle.cred_phc.specs.Base64.{base64};
 ghost use Rattle.cred_phc.specs.Text.{label, numbers_text, record_text, scheme_text, setting_text};
@@ -8,51 +8,47 @@ ghost use Rattle.cred_phc.specs.Values.{IsRecord, IsSetting};
 
 use crate::error::PhcError;
 use crate::record::Record;
-use crate::scheme::{SCRYPT, Scheme};
+use crate::scheme::{SCRYPT, Scheme, version_text};
 use crate::setting::Setting;
 use base64::engine::general_purpose::STANDARD_NO_PAD;
 use itoa::Buffer;
 use std::alloc::{AllocError, Global};
 
-/// The length of the longest text of a setting: `$argon2id$v=19$m=2097152,t=4294967295,p=255$` and 64
-/// letters of salt.
+/// The length of the longest text of a setting: `$argon2id$v=19$m=2097152,t=4294967295,p=255$` and
+/// 64 letters of salt.
 const LONGEST_SETTING: usize = 108;
 
 /// The same with `$` and the 86 letters of a tag behind it.
 const LONGEST_RECORD: usize = 195;
 
-/// The text of a setting, as `$scrypt$ln=10,r=8,p=16$TmFDbA`. That of a setting of version 0x10 is not
-/// read again. Refused with `Memory` alone.
+/// The text of a setting, as `$scrypt$ln=10,r=8,p=16$TmFDbA`. That of a setting of version 0x10 is
+/// not read again.
+///
+/// Errors: `Memory` where there is none for the text.
 pub fn write_setting(alloc: Global, setting: &Setting) -> Result<Vec<u8>, PhcError>
     ensures text { IfOk result (λ text. text.items ≡ setting_text setting.now) }
     ensures memory { IfErr result (λ fault. fault ≡ PhcError.Memory) }
     ensures ranges { OnOk result (IsSetting setting.now) }
 {
-    let mut text = room(alloc, LONGEST_SETTING)?;
-    push_setting(&mut text, setting).map_err(|_| PhcError::Memory)?;
+    let mut text = String::with_capacity(alloc, LONGEST_SETTING)?;
+    push_setting(&mut text, setting)?;
     Ok(text.into_bytes())
 }
 
-/// The text of a record, which is read as this record: its setting's, then `$` and the tag in base64.
-/// One of version 0x10 is written with `$v=16`. Refused with `Memory` alone.
+/// The text of a record, which is read as this record: its setting's, then `$` and the tag in
+/// base64. One of version 0x10 is written with `$v=16`.
+///
+/// Errors: `Memory` where there is none for the text.
 #[tactic(auto, using(crate::proofs::WritingLaws::record_written))]
 pub fn write_record(alloc: Global, stored: &Record) -> Result<Vec<u8>, PhcError>
     ensures text { IfOk result (λ text. text.items ≡ record_text stored.now) }
     ensures memory { IfErr result (λ fault. fault ≡ PhcError.Memory) }
     ensures ranges { OnOk result (IsRecord stored.now) }
 {
-    let mut text = room(alloc, LONGEST_RECORD)?;
-    push_setting(&mut text, &stored.setting()).map_err(|_| PhcError::Memory)?;
-    push_bytes(&mut text, stored.tag().bytes()).map_err(|_| PhcError::Memory)?;
+    let mut text = String::with_capacity(alloc, LONGEST_RECORD)?;
+    push_setting(&mut text, &stored.setting())?;
+    push_bytes(&mut text, stored.tag().bytes())?;
     Ok(text.into_bytes())
-}
-
-/// Room for a text, taken at once.
-fn room(alloc: Global, length: usize) -> Result<String, PhcError>
-    ensures empty { IfOk result (λ text. string_bytes text ≡ []) }
-    ensures memory { IfErr result (λ fault. fault ≡ PhcError.Memory) }
-{
-    String::with_capacity(alloc, length).map_err(|_| PhcError::Memory)
 }
 
 #[tactic(auto, using(crate::proofs::WritingLaws::setting_written))]
@@ -78,7 +74,7 @@ fn push_scheme(text: &mut String, scheme: Scheme) -> Result<(), AllocError>
             p,
         } => {
             push_field(text, variant.name())?;
-            push_field(text, version.text())?;
+            push_field(text, version_text(version))?;
             push_numbers(text, "m=", m, "t=", t, "p=", p)
         }
         Scheme::Scrypt { ln, r, p } => {

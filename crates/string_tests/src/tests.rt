@@ -1,5 +1,6 @@
-//! Texts and what is answered to them, from other programs or worked out by hand: the faults of damaged texts
-//! (`faults`), values read, made and written (`texts`), tags (`tags`) and drawn salts (`salts`). The texts are those of `samples`.
+//! Texts and what is answered to them, from other programs or worked out by hand: the faults of
+//! damaged texts (`faults`), values read, made and written (`texts`), tags (`tags`) and drawn salts
+//! (`salts`). Most of the texts are those of `samples`.
 
 mod faults;
 mod salts;

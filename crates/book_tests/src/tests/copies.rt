@@ -1,4 +1,5 @@
-//! Copies of a book, entries that are put there, and work that is handed back or comes from another book.
+//! Copies of a book, entries that are put there, and work that is handed back or comes from another
+//! book.
 use super::calls::{Call, DONE, Entry, Line, Slip, book_with, play};
 use super::work::{Seen, committed, worked_at};
 use super::{enrol, name, stored, verify};
@@ -7,7 +8,8 @@ use samples::{A, A_SETTING, B};
 use std::alloc::Global;
 use std::thread::Threads;
 
-/// Plays the lines on a book with one account, and then those of the copy on one that was copied before.
+/// Plays the lines on a book with one account, and then those of the copy on one that was copied
+/// before.
 fn play_on_both(
     alloc: Global,
     account: Entry,

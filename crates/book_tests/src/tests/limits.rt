@@ -1,5 +1,5 @@
-//! The most accounts that a book has, and the memory that it takes. `refused_book` holds whether or not the request is
-//! refused: tools/refuse_memory.py refuses it.
+//! The most accounts that a book has, and the memory that it takes. `refused_book` holds whether or
+//! not the request is refused: tools/refuse_memory.py refuses it.
 use super::calls::{Call, DONE, Line, Slip, play, play_on_new};
 use super::{name, stored};
 use cred_book::{Book, BookError, Name};
@@ -52,8 +52,8 @@ fn first_other(book: &Book) -> Option<u32> {
     None
 }
 
-/// Plays the lines on a full book: the number that isn't admitted before, the slip, and the number that shows otherwise
-/// than as it was admitted after it.
+/// Plays the lines on a full book: the number that isn't admitted before, the slip, and the number
+/// that shows otherwise than as it was admitted after it.
 fn play_on_full(
     alloc: Global,
     lines: &[Line],

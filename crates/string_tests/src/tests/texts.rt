@@ -6,7 +6,8 @@ use samples::{A, A_SETTING, OLD, OLD_WRITTEN, SCRYPT};
 use std::alloc::Global;
 use std::process::Abort;
 
-/// A setting whose salt is written with each letter of base64 once, in the order of RFC 4648 section 4.
+/// A setting whose salt is written with each letter of base64 once, in the order of RFC 4648,
+/// section 4.
 const ALPHABET: &str =
     "$argon2id$v=19$m=256,t=2,p=1$ABCDEFGHIJKLMNOPQRSTUVWXYZabcdefghijklmnopqrstuvwxyz0123456789+/";
 
@@ -57,7 +58,8 @@ fn passwords(rt: HostRuntime) {
     assert_eq!(rt; Password::from_base64(b""), None);
 }
 
-/// Whether the text is the one that is written for the record that it is read as; none where it isn't read.
+/// Whether the text is the one that is written for the record that it is read as; none where it
+/// isn't read.
 fn is_written_again(alloc: Global, text: &[u8]) -> Result<Option<bool>, PhcError> {
     match parse_record(text) {
         Ok(stored) => Ok(Some(is_record_text(alloc, &stored, text)?)),
