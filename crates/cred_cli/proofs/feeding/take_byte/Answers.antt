@@ -1,7 +1,7 @@
 use Rattle.std.proofs.Common.{◌≡◌, arith, sym, ap, ◌∙◌, length, ◌∷◌, [], add-one, Some, slice_get}
 use Rattle.std.proofs.lemmas.List.{length-append}
 use Rattle.std.proofs.lemmas.Option.{slice_get_within}
-use Rattle.cred_cli.specs.Events.{event_of}
+use Rattle.cred_cli.specs.Events.{event_of, most_kept}
 use Rattle.cred_cli.specs.Outcome.{longest_script}
 use Rattle.cred_cli.specs.Script.{events_of}
 use Rattle.cred_cli.proofs.Feeds.{ended_event, take-kept, take_front}
@@ -23,7 +23,7 @@ returns-then-byte-ne10-clause-fed g c = λ book all front rest before cut at. re
   stands = at.stands;
   tickets = at.tickets;
   lines_are = at.lines_are ∙ sym (line_ends-more front c.args.byte c.if-byte-ne10.true);
-  start_is = c.push.ensures ∙ rw (at.start_is, unfinished_from-more [] front c.args.byte c.if-byte-ne10.true) (take-kept 1025 _ c.args.byte);
+  start_is = c.push.ensures ∙ rw (at.start_is, unfinished_from-more [] front c.args.byte c.if-byte-ne10.true) (take-kept most_kept _ c.args.byte);
   taken_is = omega (arith, at.taken_is, length-append front (c.args.byte ∷ []));
 }
 
