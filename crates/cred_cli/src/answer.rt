@@ -113,10 +113,12 @@ fn commit<T: Threads + Wait + Sync, K: Keeper>(
     let Some(ticket) = tickets.close(key) else {
         return bad(resources.alloc, Refusal::Idle);
     };
-    let worked = ticket
-        .work(resources.rt, resources.alloc, resources.workers, &NoGate)
-        .map_err(|_| AllocError)?;
-    let reply = keeper.commit(resources.rt, worked).map_err(|_| AllocError)?;
+    let Ok(worked) = ticket.work(resources.rt, resources.alloc, resources.workers, &NoGate) else {
+        return Err(AllocError);
+    };
+    let Ok(reply) = keeper.commit(resources.rt, worked) else {
+        return Err(AllocError);
+    };
     Ok(AnswerLine::Fixed(reply_line(&reply)))
 }
 

@@ -4,7 +4,7 @@ use Rattle.std.specs.FinMap as map
 use Rattle.cred_phc.specs.Values.{RecordValue}
 use Rattle.cred_book.specs.Accounts.{Accounts}
 use Rattle.cred_book.specs.Commits.{judged, judged_at, judged_if}
-use Rattle.cred_book.specs.Works.{Task, name_of, same, whole, makes_change, right}
+use Rattle.cred_book.specs.Works.{Task, name_of, same, right}
 use Rattle.cred_book.specs.declared.reply.Reply.{Reply}
 use Rattle.cred_book.specs.declared.reply.Reply.TheVariants as reply
 use Rattle.cred_book.specs.declared.request.Request.TheVariants.{Verify}
