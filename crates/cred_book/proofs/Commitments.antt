@@ -12,7 +12,8 @@ use Rattle.cred_book.specs.declared.reply.Reply.{Reply}
 use Rattle.cred_book.specs.declared.reply.Reply.TheVariants as reply
 use Rattle.cred_book.proofs.Equality.{same-Decides}
 
-committed-at : (book : Accounts) (work : Task) (name : List ℕ) (entry : Option (Option RecordValue)) → name ≡ name_of work.0 → map.get book name ≡ entry → committed book work ≡ committed_at book work entry
+-- the definition, once it is known what stands at the name
+pub committed-at : (book : Accounts) (work : Task) (name : List ℕ) (entry : Option (Option RecordValue)) → name ≡ name_of work.0 → map.get book name ≡ entry → committed book work ≡ committed_at book work entry
 unfolding committed
 committed-at book work name entry is found = ap (λ n. committed_at book work (map.get book n)) (sym is) ∙ ap (committed_at book work) found
 

@@ -15,24 +15,30 @@ abbrev pub Begins : Accounts → Request → Result Task (Request × BookError) 
 Begins book request (Ok ticket) = (ticket.0 ≡ request) × (map.get book (name_of request) ≡ Some ticket.1)
 Begins book request (Err e) = (e ≡ (request, error.NoAccount)) × (map.get book (name_of request) ≡ None)
 
--- the reply, the record after, and whether that is a change
-abbrev pub judged_at : Task → Option (Option RecordValue) → Reply × Option RecordValue × Bool
-judged_at work None = (reply.NoAccount, None, false)
-judged_at work (Some now) =
-    if same now work.1
+-- the reply where this record stands, which is the copied one or not, with the record after and whether that is a change
+abbrev pub judged_if : Task → Option RecordValue → Bool → Reply × Option RecordValue × Bool
+judged_if work now is_copy =
+    if is_copy
     then ((whole work.0 now).0, (whole work.0 now).1, makes_change (whole work.0 now).0)
     else (reply.Changed now, now, false)
+
+abbrev pub judged_at : Task → Option (Option RecordValue) → Reply × Option RecordValue × Bool
+judged_at work None = (reply.NoAccount, None, false)
+judged_at work (Some now) = judged_if work now (same now work.1)
 
 unfoldable pub judged : Accounts → Task → Reply × Option RecordValue × Bool
 judged book work = judged_at work (map.get book (name_of work.0))
 
--- the reply and the book after
-abbrev pub committed_at : Accounts → Task → Option (Option RecordValue) → Reply × Accounts
-committed_at book work None = (reply.NoAccount, book)
-committed_at book work (Some now) =
-    if same now work.1
+-- the reply likewise, with the book after
+abbrev pub committed_if : Accounts → Task → Option RecordValue → Bool → Reply × Accounts
+committed_if book work now is_copy =
+    if is_copy
     then ((whole work.0 now).0, map.insert book (name_of work.0) (whole work.0 now).1)
     else (reply.Changed now, book)
+
+abbrev pub committed_at : Accounts → Task → Option (Option RecordValue) → Reply × Accounts
+committed_at book work None = (reply.NoAccount, book)
+committed_at book work (Some now) = committed_if book work now (same now work.1)
 
 unfoldable pub committed : Accounts → Task → Reply × Accounts
 committed book work = committed_at book work (map.get book (name_of work.0))

@@ -3,7 +3,7 @@ use Rattle.std.proofs.Common.{◌≡◌, ℕ, suc, ◌+◌, ◌<◌, List, [], �
 use Rattle.std.proofs.lemmas.Bool.{cases_lt}
 use Rattle.std.proofs.lemmas.List.{length-append, length-map, length-take, take-append-le, take_all, take_more}
 use Rattle.std.proofs.Math.Seq.{drop-cons}
-use Rattle.cred_cli.specs.Events.{event_of}
+use Rattle.cred_cli.specs.Events.{event_of, most_kept}
 use Rattle.cred_cli.specs.Feeding.{unfinished_from}
 use Rattle.cred_cli.specs.Script.{lines_of, events_of, line_ends}
 use Rattle.cred_cli.proofs.Lines.{whole_from, lines_of-line_end, lines_of-ended, lines_of-unfinished, length-whole_from, event_of-kept}
@@ -12,9 +12,9 @@ get_seam : (front : List (List ℕ)) (line : List ℕ) (more : List (List ℕ)) 
 get_seam [] line more = refl
 get_seam (l ∷ ls) line more = get_seam ls line more
 
--- the line at place i, of which no more than 1025 bytes are kept
+-- the line at place i, of which not all need be kept
 event_at : (all whole : List ℕ) (line : List ℕ) (more : List (List ℕ)) → lines_of all ≡ whole_from [] whole ++ line ∷ more →
-    slice_get (events_of all) (line_ends whole) ≡ Some (event_of (take 1025 line))
+    slice_get (events_of all) (line_ends whole) ≡ Some (event_of (take most_kept line))
 event_at all whole line more cut =
     ap (λ lines. slice_get (map event_of lines) (line_ends whole)) cut
     ∙ ap (slice_get (map event_of (whole_from [] whole ++ line ∷ more))) (sym (length-whole_from [] whole))
@@ -22,20 +22,20 @@ event_at all whole line more cut =
     ∙ ap Some (sym (event_of-kept line))
 
 -- the line that ends behind the front
-pub ended_event : (all front rest : List ℕ) → all ≡ front ++ 10 ∷ rest → slice_get (events_of all) (line_ends front) ≡ Some (event_of (take 1025 (unfinished_from [] front)))
+pub ended_event : (all front rest : List ℕ) → all ≡ front ++ 10 ∷ rest → slice_get (events_of all) (line_ends front) ≡ Some (event_of (take most_kept (unfinished_from [] front)))
 ended_event all front rest cut = event_at all front (unfinished_from [] front) (lines_of rest) (ap lines_of cut ∙ lines_of-line_end front rest)
 
--- bytes, of which no more than 1025 are kept
-pub none_kept : (start line : List ℕ) → start ≡ take 1025 line → length start ≡ 0 → line ≡ []
+-- bytes, of which not all need be kept
+pub none_kept : (start line : List ℕ) → start ≡ take most_kept line → length start ≡ 0 → line ≡ []
 none_kept start [] kept none = refl
-none_kept start (c ∷ cs) kept none = absurd (omega (arith, none, ap length kept, length-take 1025 (c ∷ cs)))
+none_kept start (c ∷ cs) kept none = absurd (omega (arith, none, ap length kept, length-take most_kept (c ∷ cs)))
 
-pub some_kept : (start line : List ℕ) → start ≡ take 1025 line → 0 < length start → 0 < length line
-some_kept start line kept some = omega (arith, some, ap length kept, length-take 1025 line)
+pub some_kept : (start line : List ℕ) → start ≡ take most_kept line → 0 < length start → 0 < length line
+some_kept start line kept some = omega (arith, some, ap length kept, length-take most_kept line)
 
 -- the line that the script leaves unfinished is its last
 pub record HasLast (all : List ℕ) : Type 0 where
-  pub event : slice_get (events_of all) (line_ends all) ≡ Some (event_of (take 1025 (unfinished_from [] all)))
+  pub event : slice_get (events_of all) (line_ends all) ≡ Some (event_of (take most_kept (unfinished_from [] all)))
   pub count : length (events_of all) ≡ suc (line_ends all)
 
 pub has_last : (all : List ℕ) → 0 < length (unfinished_from [] all) → HasLast all

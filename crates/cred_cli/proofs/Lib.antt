@@ -1,3 +1,4 @@
+-- The lemmas that the proofs of the script engine cite.
 pub mod Doing
 pub mod Feeds
 pub mod Lines

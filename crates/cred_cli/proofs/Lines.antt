@@ -7,7 +7,7 @@ use Rattle.std.proofs.lemmas.List.{length-take, take_all}
 use Rattle.cred_phc.specs.Pieces.{pieces}
 use Rattle.cred_cli.specs.declared.event.Event.TheVariants.{Bad}
 use Rattle.cred_cli.specs.declared.refusal.Refusal.TheVariants.{Long}
-use Rattle.cred_cli.specs.Events.{event_of, asked, or_bad, longest_line}
+use Rattle.cred_cli.specs.Events.{event_of, asked, or_bad, longest_line, most_kept}
 use Rattle.cred_cli.specs.Feeding.{unfinished_from}
 use Rattle.cred_cli.specs.Script.{lines_of, onto_first, line_ends}
 
@@ -107,8 +107,8 @@ unfolding event_of
 too_long line long = ap (λ test. if test then Bad Long else or_bad (asked (pieces 32 line))) (longer line long)
 
 -- so no more of it is kept than shows that
-pub event_of-kept : (line : List ℕ) → event_of (take 1025 line) ≡ event_of line
-event_of-kept line = elim (cases_lt 1024 (length line)) [
-  | inl long ↦ too_long (take 1025 line) (rw length-take (omega (arith, long))) ∙ sym (too_long line long)
-  | inr short ↦ ap event_of (take_all 1025 line (omega (arith, short)))
+pub event_of-kept : (line : List ℕ) → event_of (take most_kept line) ≡ event_of line
+event_of-kept line = elim (cases_lt longest_line (length line)) [
+  | inl long ↦ too_long (take most_kept line) (rw length-take (omega (arith, long))) ∙ sym (too_long line long)
+  | inr short ↦ ap event_of (take_all most_kept line (omega (arith, short)))
 ]

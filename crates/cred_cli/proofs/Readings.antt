@@ -1,5 +1,5 @@
 -- What a read makes of a script: its start, the bytes that came, and its end.
-use Rattle.std.proofs.Common.{◌≡◌, ℕ, zero, suc, get_or, ◌-◌, replicate, List, [], ◌++◌, take, Option, Some, None, IfSome, refl, sym, ap, ◌∙◌, append_assoc}
+use Rattle.std.proofs.Common.{◌≡◌, ℕ, zero, suc, get_or, ◌-◌, replicate, List, [], ◌++◌, take, Option, Some, None, IfSome, Result, Ok, Err, IfOk, IfErr, OnOk, MatchResult, refl, sym, ap, ◌∙◌, append_assoc}
 use Rattle.std.specs.Io.KnownBytes.{Consumes, IsAtEnd}
 use Rattle.std.proofs.KnownBytes.{Appends-nil}
 use Rattle.cred_book.specs.Accounts.{Accounts}
@@ -62,6 +62,13 @@ came_to_end (Some xs) (Some ys) rest buffer n none known consumed end =
 pub if_known : (known : Option (List ℕ)) (P : List ℕ → Type 0) → ((all : List ℕ) → known ≡ Some all → P all) → IfSome known P
 if_known None P h = tt
 if_known (Some all) P h = h all refl
+
+-- so may what a result is, by cases
+pub known_cases : {T E : Type 0} (known : Option (List ℕ)) (result : Result T E) (P : T → List ℕ → Type 0) (Q : List ℕ → Type 0) (F : List ℕ → E → Type 0)
+    → ((all : List ℕ) → known ≡ Some all → MatchResult result (λ t. P t all × Q all) (F all))
+    → IfOk result (λ t. IfSome known (P t)) × OnOk result (IfSome known Q) × IfErr result (λ e. IfSome known (λ all. F all e))
+known_cases known (Ok t) P Q F each = (if_known known (P t) (λ all is. (each all is).0), if_known known Q (λ all is. (each all is).1), tt)
+known_cases known (Err e) P Q F each = (tt, tt, if_known known (λ all. F all e) each)
 
 -- the cut moves behind the bytes that came
 pub cut_behind : (all front rest bytes left : List ℕ) → all ≡ front ++ rest → rest ≡ bytes ++ left → all ≡ (front ++ bytes) ++ left

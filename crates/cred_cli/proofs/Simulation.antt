@@ -1,4 +1,5 @@
--- One event, done on the book that stands with the tickets that are open, is what the history says of its place.
+-- One event, done on the book that stands with the tickets that are open, is what the history says
+-- of its place.
 use Rattle.std.proofs.Common.{◌≡◌, ◌≢◌, ℕ, suc, ◌-◌, ◌≤◌, List, take, Option, Some, None, Bool, true, false, not, ◌&&◌, if◌then◌else◌, is_none, is_some, nat_lt, refl, sym, ap, ◌∙◌, slice_get, set, arith, inl, inr}
 use Rattle.std.specs.FinMap as map
 use Rattle.std.proofs.lemmas.Bool.Decides.{eqb_tells}
@@ -15,6 +16,7 @@ use Rattle.cred_book.specs.declared.reply.Reply.{Reply}
 use Rattle.cred_book.specs.declared.reply.Reply.TheVariants as reply
 use Rattle.cred_book.specs.declared.request.Request.{Request}
 use Rattle.cred_book.specs.declared.request.Request.TheVariants as request
+use Rattle.cred_book.proofs.Commitments.{committed-at}
 use Rattle.cred_cli.specs.declared.event.Event.{Event}
 use Rattle.cred_cli.specs.declared.event.Event.TheVariants.{Account, Load, Show, Begin, Commit, Bad}
 use Rattle.cred_cli.specs.declared.refusal.Refusal.TheVariants.{Book, Busy, Idle}
@@ -186,10 +188,6 @@ module _ (book : Accounts) (events : List Event) (i : ℕ) (slots : List (Option
 
 -- ---- commits
 
-committed-at : (book : Accounts) (task : Task) (name : List ℕ) (entry : Option (Option RecordValue)) → name_of task.0 ≡ name → map.get book name ≡ entry → committed book task ≡ committed_at book task entry
-unfolding committed
-committed-at book task name entry is found = ap (λ n. committed_at book task (map.get book n)) is ∙ ap (committed_at book task) found
-
 seq-at : (book : Accounts) (request : Request) (entry : Option (Option RecordValue)) → map.get book (name_of request) ≡ entry → seq book request ≡ seq_at book request entry
 unfolding seq
 seq-at book request entry found = ap (seq_at book request) found
@@ -236,7 +234,7 @@ module _ (book : Accounts) (events : List Event) (i : ℕ) (slots : List (Option
     stale = stale-at book (done book events i) opened now task.1 found began
 
     commits : committed (book_at book events i) task ≡ committed_at (book_at book events i) task (Some now)
-    commits = committed-at (book_at book events i) task (name_of opened.request) (Some now) (ap name_of asked) found
+    commits = committed-at (book_at book events i) task (name_of opened.request) (Some now) (sym (ap name_of asked)) found
 
     told : answer_of book events i (Some (Commit key)) ≡ closed book (done book events i) (Some opened)
     told = ap (closed book (done book events i)) is

@@ -1,5 +1,5 @@
 -- What a line of a script asks for.
-use Rattle.std.specs.Prelude.{◌≡◌, ℕ, ◌≤◌, List, [], ◌∷◌, length, nat_lt, if◌then◌else◌, Option, Some, None, Result, Ok, Err, true, codes}
+use Rattle.std.specs.Prelude.{◌≡◌, ℕ, ◌+◌, ◌≤◌, List, [], ◌∷◌, length, nat_lt, if◌then◌else◌, Option, Some, None, Result, Ok, Err, true, codes}
 use Rattle.std.specs.Option.{ok_or}
 use Rattle.std.specs.Str.{bytes_eq}
 use Rattle.cred_phc.specs.Base64.{bytes_of}
@@ -128,6 +128,11 @@ or_bad (Err why) = Bad why
 -- the longest line in bytes, its end not counted
 abbrev pub longest_line : ℕ
 longest_line = 1024
+
+-- of which no more than this is kept while it is read: a longer line is refused whatever it goes on
+-- with
+abbrev pub most_kept : ℕ
+most_kept = longest_line + 1
 
 -- a line is cut at every space
 unfoldable pub event_of : List ℕ → Event

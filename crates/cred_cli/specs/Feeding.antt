@@ -2,6 +2,7 @@
 use Rattle.std.specs.Prelude.{◌≡◌, ℕ, ◌==◌, if◌then◌else◌, Option, List, [], ◌∷◌, ◌++◌, length, take}
 use Rattle.cred_book.specs.Accounts.{Accounts}
 use Rattle.cred_book.specs.Works.{Task}
+use Rattle.cred_cli.specs.Events.{most_kept}
 use Rattle.cred_cli.specs.declared.progress.Progress.{Progress}
 use Rattle.cred_cli.specs.Outcome.{StandsAfter}
 use Rattle.cred_cli.specs.Script.{events_of, line_ends}
@@ -17,5 +18,5 @@ pub record IsAt (book : Accounts) (all front : List ℕ) (before now : Option (L
   pub stands : StandsAfter book (events_of all) progress.lines before now accounts
   pub tickets : HoldTickets book (events_of all) progress.lines slots
   pub lines_are : progress.lines ≡ line_ends front
-  pub start_is : progress.start ≡ take 1025 (unfinished_from [] front)
+  pub start_is : progress.start ≡ take most_kept (unfinished_from [] front)
   pub taken_is : progress.taken ≡ length front

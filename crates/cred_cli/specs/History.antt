@@ -1,4 +1,5 @@
--- The history that a list of events makes: which names there are, which numbers are open, what was done, and the book that it leaves.
+-- The history that a list of events makes: which names there are, which numbers are open, what was
+-- done, and the book that it leaves.
 use Rattle.std.specs.Prelude.{ℕ, zero, suc, ◌==◌, ◌&&◌, if◌then◌else◌, Bool, true, false, not, Option, Some, None, is_none, List, [], ◌∷◌, ◌++◌, length, take, fold, nat_lt, slice_get}
 use Rattle.std.specs.List.{list_any}
 use Rattle.std.specs.Str.{bytes_eq}
@@ -83,7 +84,8 @@ abbrev pub closing : Accounts → List (Option Deed) → Option Opened → Optio
 closing book past None = None
 closing book past (Some opened) = if is_stale book past opened then None else Some (Whole opened.request)
 
--- an account event whose name is new, while there is room; a load on a name that is there; the request of a commit that closes a begin and isn't stale
+-- an account event whose name is new, while there is room; a load on a name that is there; the
+-- request of a commit that closes a begin and isn't stale
 abbrev pub deed_of : Accounts → List Event → ℕ → List (Option Deed) → Option Event → Option Deed
 deed_of book events i past (Some (Account name)) =
     if is_among (names_at book events i) name then None

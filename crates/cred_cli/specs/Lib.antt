@@ -1,3 +1,4 @@
+-- The definitions that the contracts of the script engine cite.
 pub mod Answers
 pub mod Arguments
 pub mod Commands

@@ -1,5 +1,5 @@
 -- How a script ends, and what stands then.
-use Rattle.std.specs.Prelude.{◌≡◌, ℕ, suc, ◌<◌, ◌≤◌, Option, Some, Bool, true, List, ◌++◌, length, take}
+use Rattle.std.specs.Prelude.{◌≡◌, ℕ, suc, ◌+◌, ◌<◌, ◌≤◌, Option, Some, Bool, true, List, ◌++◌, length, take}
 use Rattle.std.specs.Io.KnownBytes.{Appends, Consumes}
 use Rattle.cred_book.specs.Accounts.{Accounts}
 use Rattle.cred_cli.specs.declared.event.Event.{Event}
@@ -13,9 +13,10 @@ use Rattle.cred_cli.specs.Texts.{line_of}
 abbrev pub longest_script : ℕ
 longest_script = 1048576
 
--- how often the reader is called at most
+-- how often the reader is called at most: once for each byte, once for a byte too many or the end,
+-- and once behind that
 abbrev pub most_calls : ℕ
-most_calls = 1048578
+most_calls = longest_script + 2
 
 -- a proper front of the bytes is written
 abbrev pub FrontWritten : Option (List ℕ) → Option (List ℕ) → List ℕ → Type 0
@@ -32,7 +33,8 @@ pub record StandsAfter (book : Accounts) (events : List Event) (i : ℕ) (before
   pub written : Appends before now (answers_before book events i)
   pub accounts_are : accounts ≡ book_at book events i
 
--- the first i lines are answered, a proper front of the next one's answer is written, and that line is done
+-- the first i lines are answered, a proper front of the next one's answer is written, and that line
+-- is done
 pub record StopsIn (book : Accounts) (events : List Event) (i : ℕ) (before now : Option (List ℕ)) (accounts : Accounts) : Type 0 where
   pub written : (n : ℕ) × (n < length (line_of (answer_at book events i)))
       × Appends before now (answers_before book events i ++ take n (line_of (answer_at book events i)))

@@ -26,7 +26,8 @@ use std::io::Write;
 use std::sync::Wait;
 use std::thread::Threads;
 
-/// The bytes of an answer with its line end. One that follows a change is a fixed text, so that it can't be refused memory.
+/// The bytes of an answer with its line end. One that follows a change is a fixed text, so that it
+/// can't be refused memory.
 #[derive(Drop)]
 pub(crate) enum AnswerLine {
     Fixed(&'static [u8]),
@@ -46,7 +47,8 @@ impl AnswerLine {
     }
 }
 
-/// Does the event on the keeper's book and the open tickets. Where there is no memory the book stays.
+/// Does the event on the keeper's book and the open tickets. Where there is no memory the book
+/// stays.
 pub(crate) fn do_event<T: Threads + Wait + Sync, K: Keeper>(
     resources: &Resources<'_, T>,
     keeper: &mut K,
@@ -111,13 +113,13 @@ fn commit<T: Threads + Wait + Sync, K: Keeper>(
     let Some(ticket) = tickets.close(key) else {
         return bad(resources.alloc, Refusal::Idle);
     };
-    match ticket.work(resources.rt, resources.alloc, resources.workers, &NoGate) {
-        Ok(worked) => match keeper.commit(resources.rt, worked) {
-            Ok(reply) => Ok(AnswerLine::Fixed(reply_line(&reply))),
-            Err(_) => Err(AllocError),
-        },
-        Err(_) => Err(AllocError),
-    }
+    let Ok(worked) = ticket.work(resources.rt, resources.alloc, resources.workers, &NoGate) else {
+        return Err(AllocError);
+    };
+    let Ok(reply) = keeper.commit(resources.rt, worked) else {
+        return Err(AllocError);
+    };
+    Ok(AnswerLine::Fixed(reply_line(&reply)))
 }
 
 fn reply_line(reply: &Reply) -> &'static [u8]

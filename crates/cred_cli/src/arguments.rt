@@ -25,10 +25,7 @@ pub(crate) fn value<'a>(matches: &ArgMatches<'a>, id: &str) -> Option<&'a str>
 
 /// The number of workers; `clap` has seen to the range.
 pub(crate) fn workers_of(matches: &ArgMatches<'_>) -> u8 {
-    match matches.get_one("workers") {
-        Some(workers) => workers,
-        None => 1,
-    }
+    matches.get_one("workers").unwrap_or(1)
 }
 
 fn credbook<'a>(alloc: Global) -> Result<Command<'a>, AllocError>
@@ -39,7 +36,7 @@ fn credbook<'a>(alloc: Global) -> Result<Command<'a>, AllocError>
     with_one(alloc, command, "check", "record")
 }
 
-// The same with a subcommand on one setting or record.
+/// The same with a subcommand on one setting or record.
 fn with_one<'a>(
     alloc: Global,
     command: Command<'a>,
@@ -50,10 +47,7 @@ fn with_one<'a>(
     ensures app { IfOk result (λ c. app_of c ≡ with_subcommand (app_of command.entry) (one_app word.entry.now what.entry.now).top) }
     ensures local { IfOk result (λ c. (out-Command c).has_globals ≡ false) }
 {
-    match of_one(alloc, word, what) {
-        Ok(one) => command.subcommand(one),
-        Err(refused) => Err(refused),
-    }
+    command.subcommand(of_one(alloc, word, what)?)
 }
 
 fn running<'a>(alloc: Global) -> Result<Command<'a>, AllocError>
@@ -74,7 +68,7 @@ fn run<'a>(alloc: Global) -> Result<Command<'a>, AllocError>
     Command::new(alloc, "run").arg(workers(alloc))
 }
 
-// A subcommand on one setting or record, and a password.
+/// A subcommand on one setting or record, and a password.
 fn of_one<'a>(alloc: Global, word: &'a str, what: &'a str) -> Result<Command<'a>, AllocError>
     ensures app { IfOk result (λ c. app_of c ≡ one_app word.entry.now what.entry.now) }
     ensures local { IfOk result (λ c. (out-Command c).has_globals ≡ false) }
@@ -84,7 +78,7 @@ fn of_one<'a>(alloc: Global, word: &'a str, what: &'a str) -> Result<Command<'a>
     with_arg(command, workers(alloc))
 }
 
-// The same with an argument of its own.
+/// The same with an argument of its own.
 fn with_arg<'a>(command: Command<'a>, arg: Arg<'a>) -> Result<Command<'a>, AllocError>
     requires local { ((out-Command command).has_globals ≡ false) × (arg.global ≡ false) }
     ensures app { IfOk result (λ c. app_of c ≡ with_rule (app_of command.entry) (rule_of arg.entry)) }

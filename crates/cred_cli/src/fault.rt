@@ -2,7 +2,9 @@
 
 ghost use Rattle.std.specs.Prelude.{◌≡◌};
 ghost use Rattle.cred_cli.specs.Faults.{script_number, script_word};
+ghost use Rattle.cred_cli.specs.declared.fault.ScriptFault.TheVariants.{Memory as OutOfMemory};
 
+use std::alloc::AllocError;
 use thiserror::Error;
 
 /// The fault that ended a script.
@@ -16,6 +18,14 @@ pub enum ScriptFault {
     Memory,
     #[error("the script has over 1048576 bytes")]
     TooLong,
+}
+
+impl From<AllocError> for ScriptFault {
+    ghost from_gives = { λ _ e. e ≡ OutOfMemory };
+
+    fn from(_error: AllocError) -> ScriptFault {
+        ScriptFault::Memory
+    }
 }
 
 impl ScriptFault {

@@ -42,15 +42,11 @@ pub(crate) fn take_byte<T: Threads + Wait + Sync, K: Keeper, W: Write>(
         progress.taken += 1;
         return Ok(());
     }
-    match answer_line(resources, keeper, tickets, writer, progress.start.bytes()) {
-        Ok(()) => {
-            progress.start.clear();
-            progress.taken += 1;
-            progress.lines += 1;
-            Ok(())
-        }
-        Err(fault) => Err(fault),
-    }
+    answer_line(resources, keeper, tickets, writer, progress.start.bytes())?;
+    progress.start.clear();
+    progress.taken += 1;
+    progress.lines += 1;
+    Ok(())
 }
 
 /// Takes the bytes in turn.
@@ -71,10 +67,7 @@ pub(crate) fn take_bytes<T: Threads + Wait + Sync, K: Keeper, W: Write>(
     ensures cause { IfErr result (HasCause false (failed_of writer.new)) }
 {
     for byte in bytes {
-        match take_byte(resources, keeper, tickets, writer, progress, *byte) {
-            Ok(()) => {}
-            Err(fault) => return Err(fault),
-        }
+        take_byte(resources, keeper, tickets, writer, progress, *byte)?;
     }
     Ok(())
 }
@@ -97,8 +90,6 @@ pub(crate) fn finish<T: Threads + Wait + Sync, K: Keeper, W: Write>(
     if progress.start.bytes().is_empty() {
         return Ok(progress.lines);
     }
-    match answer_line(resources, keeper, tickets, writer, progress.start.bytes()) {
-        Ok(()) => Ok(progress.lines + 1),
-        Err(fault) => Err(fault),
-    }
+    answer_line(resources, keeper, tickets, writer, progress.start.bytes())?;
+    Ok(progress.lines + 1)
 }

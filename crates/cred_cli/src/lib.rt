@@ -1,7 +1,7 @@
 //! The script engine: lines that ask for operations on a book, and an answer line for each.
 //!
-//! [`run_script`] runs a script on any keeper of a book, and [`command`] is the program `credbook`: a script on an empty
-//! book, or one record made or judged.
+//! [`run_script`] runs a script on any keeper of a book, and [`command`] is the program `credbook`:
+//! a script on an empty book, or one record made or judged.
 #![tactic(auto)]
 
 mod answer;
@@ -11,7 +11,7 @@ mod fault;
 mod feeding;
 mod fields;
 mod key;
-mod law;
+mod laws;
 mod line;
 mod printing;
 mod program;
@@ -25,7 +25,7 @@ mod watched;
 mod writing;
 
 pub use fault::ScriptFault;
-pub use law::{history_is_a_front, names_are_the_books};
+pub use laws::{history_is_a_front, names_are_the_books};
 pub use program::command;
 pub use script::{End, run_script};
 pub use watched::Watched;

@@ -36,8 +36,6 @@ pub(crate) fn answer_line<T: Threads + Wait + Sync, K: Keeper, W: Write>(
         (LineFails book events i before (W.contents (inner_of writer.new)) (K.book keeper.new)) }
     ensures cause { IfErr result (HasCause false (failed_of writer.new)) }
 {
-    let Ok(answer) = do_event(resources, keeper, tickets, Event::of_line(line)) else {
-        return Err(ScriptFault::Memory);
-    };
+    let answer = do_event(resources, keeper, tickets, Event::of_line(line))?;
     answer.write_to(writer)
 }

@@ -22,9 +22,14 @@ use std::io::{Read, Write};
 use std::sync::Wait;
 use std::thread::Threads;
 
-/// Runs the program on the words after its name, and answers its exit status. No call was made on the reader or the writer before.
+/// Runs the program on the words after its name, and answers its exit status. No call was made on
+/// the reader or the writer before.
 ///
-/// `run` runs a script on an empty book: 0 where it was answered whole, 2 after the faults `Read`, `Write` and `TooLong`. `hash` prints the record of a password: 0. `check` prints `yes`, 0, or `no`, 4. A bad setting, record or password, and words that don't parse, are 1; a failed write is 2; want of memory is 3. What ended it is named on `faults`, as `credbook: read`, or by `clap`'s text. Whether `faults` takes its text changes nothing.
+/// `run` runs a script on an empty book: 0 where it was answered whole, 2 after the faults `Read`,
+/// `Write` and `TooLong`. `hash` prints the record of a password: 0. `check` prints `yes`, 0, or
+/// `no`, 4. A bad setting, record or password, and words that don't parse, are 1; a failed write is
+/// 2; want of memory is 3. What ended it is named on `faults`, as `credbook: read`, or by `clap`'s
+/// text. Whether `faults` takes its text changes nothing.
 pub fn command<T: Threads + Wait + Sync, R: Read, W: Write, F: Write>(
     rt: &T,
     alloc: Global,
@@ -70,9 +75,8 @@ fn act<T: Threads + Wait + Sync, R: Read, W: Write, F: Write>(
         (R.remaining (inner_of reader.old)) (R.remaining (inner_of reader.new)) (W.contents (inner_of writer.old)) (W.contents (inner_of writer.new))
         (failed_of reader.new) (failed_of writer.new) result }
 {
-    let (word, values) = match matches.subcommand() {
-        Some(found) => found,
-        None => return 1,
+    let Some((word, values)) = matches.subcommand() else {
+        return 1;
     };
     let resources = Resources {
         rt,
@@ -99,9 +103,8 @@ fn run<T: Threads + Wait + Sync, R: Read, W: Write, F: Write>(
     ensures { Runs (R.remaining (inner_of reader.old)) (R.remaining (inner_of reader.new)) (W.contents (inner_of writer.old)) (W.contents (inner_of writer.new))
         (failed_of reader.new) (failed_of writer.new) result }
 {
-    let mut book = match Book::new(resources.alloc) {
-        Ok(book) => book,
-        Err(_) => return failed(faults, ScriptFault::Memory),
+    let Ok(mut book) = Book::new(resources.alloc) else {
+        return failed(faults, ScriptFault::Memory);
     };
     match run_script(
         resources.rt,

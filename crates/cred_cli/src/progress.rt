@@ -1,14 +1,18 @@
 //! How far a script has been read.
 
 ghost use Rattle.std.specs.Prelude.{◌≡◌, [], ◌∷◌, ◌++◌, ◌≤◌, take};
+ghost use Rattle.cred_cli.specs.Events.{most_kept};
+ghost use Rattle.cred_cli.specs.Outcome.{longest_script};
 
+use crate::event::LONGEST_LINE;
 use std::marker::Model;
 
 /// The longest script in bytes.
 pub(crate) const LONGEST_SCRIPT: u64 = 1048576;
 
-/// How many bytes of a line are kept: one more than a line may have, as a longer one is refused whatever it goes on with.
-const KEPT: usize = 1025;
+/// How many bytes of a line are kept: one more than a line may have, as a longer one is refused
+/// whatever it goes on with.
+const KEPT: usize = LONGEST_LINE + 1;
 
 /// The line that is being read, as far as it is kept.
 #[derive(Drop)]
@@ -19,12 +23,13 @@ pub(crate) struct LineStart {
 
 impl Model for LineStart {
     ghost use Rattle.std.specs.Prelude.{◌≡◌, ◌≤◌, List, ℕ, length, take};
+    ghost use Rattle.cred_cli.specs.Events.{most_kept};
 
     ghost Value = { List ℕ };
 
     ghost view = { λ l. take l.len l.bytes };
 
-    ghost invariant = { λ l. (l.len ≤ 1025) × (length l.bytes ≡ 1025) };
+    ghost invariant = { λ l. (l.len ≤ most_kept) × (length l.bytes ≡ most_kept) };
 }
 
 impl LineStart {
@@ -38,7 +43,7 @@ impl LineStart {
     }
 
     pub(crate) fn push(&mut self, byte: u8)
-        ensures { self.new ≡ take 1025 (self.old ++ byte ∷ []) }
+        ensures { self.new ≡ take most_kept (self.old ++ byte ∷ []) }
     {
         if self.len < KEPT {
             self.bytes[self.len] = byte;
@@ -70,7 +75,7 @@ pub(crate) struct Progress {
     pub(crate) taken: u64,
 
     ghost fewer_lines: { lines ≤ taken },
-    ghost not_too_long: { taken ≤ 1048576 },
+    ghost not_too_long: { taken ≤ longest_script },
 }
 
 impl Progress {

@@ -8,7 +8,7 @@ ghost use Rattle.cred_cli.specs.Watched.{IsNew, calls_of, failed_of, inner_of};
 
 use crate::fault::ScriptFault;
 use crate::feeding::{finish, take_bytes};
-use crate::progress::Progress;
+use crate::progress::{LONGEST_SCRIPT, Progress};
 use crate::resources::Resources;
 use crate::tickets::Tickets;
 use crate::watched::Watched;
@@ -21,8 +21,9 @@ use std::thread::Threads;
 /// How many bytes are asked for at once.
 const CHUNK: usize = 4096;
 
-/// How often the reader is called at most: once for each byte, once more for a byte too many or the end, and once behind that.
-const MOST_CALLS: u64 = 1048578;
+/// How often the reader is called at most: once for each byte, once more for a byte too many or the
+/// end, and once behind that.
+const MOST_CALLS: u64 = LONGEST_SCRIPT + 2;
 
 /// How a script ended that met no fault.
 #[derive(Clone, Copy, Debug, PartialEq, Eq)]
@@ -31,9 +32,12 @@ pub struct End {
     pub lines: u64,
 }
 
-/// Reads a script of at most 1048576 bytes to its end, does what each line asks of the keeper's book, and writes an answer line for each, whole, before the reader is called again. At most `workers` threads hash. No call was made on the reader or the writer before.
+/// Reads a script of at most 1048576 bytes to its end, does what each line asks of the keeper's
+/// book, and writes an answer line for each, whole, before the reader is called again. At most
+/// `workers` threads hash. No call was made on the reader or the writer before.
 ///
-/// Ended by `Read` or `Write` where a call on the reader or the writer failed, by `Memory`, or by `TooLong` where the script has more bytes.
+/// Errors: `Read` or `Write` where a call on the reader or the writer failed; `Memory` where there
+/// is none; `TooLong` where the script has more bytes.
 pub fn run_script<T: Threads + Wait + Sync, K: Keeper, R: Read, W: Write>(
     rt: &T,
     alloc: Global,
@@ -54,22 +58,16 @@ pub fn run_script<T: Threads + Wait + Sync, K: Keeper, R: Read, W: Write>(
     ensures calls { calls_of reader.new ≤ most_calls }
 {
     let resources = Resources { rt, alloc, workers };
-    let mut tickets = match Tickets::new(alloc) {
-        Ok(tickets) => tickets,
-        Err(_) => return Err(ScriptFault::Memory),
-    };
+    let mut tickets = Tickets::new(alloc)?;
     let mut progress = Progress::new();
-    match read_all(
+    read_all(
         &resources,
         keeper,
         &mut tickets,
         reader,
         writer,
         &mut progress,
-    ) {
-        Ok(end) => Ok(end),
-        Err(fault) => Err(fault),
-    }
+    )
 }
 
 fn read_all<T: Threads + Wait + Sync, K: Keeper, R: Read, W: Write>(
@@ -93,14 +91,11 @@ fn read_all<T: Threads + Wait + Sync, K: Keeper, R: Read, W: Write>(
     let mut buffer = [0; CHUNK];
     for _call in 0..MOST_CALLS {
         match reader.read(&mut buffer) {
-            Ok(0) => match finish(resources, keeper, tickets, writer, progress) {
-                Ok(lines) => return Ok(End { lines }),
-                Err(fault) => return Err(fault),
-            },
-            Ok(n) => match take_bytes(resources, keeper, tickets, writer, progress, &buffer[..n]) {
-                Ok(()) => {}
-                Err(fault) => return Err(fault),
-            },
+            Ok(0) => {
+                let lines = finish(resources, keeper, tickets, writer, progress)?;
+                return Ok(End { lines });
+            }
+            Ok(n) => take_bytes(resources, keeper, tickets, writer, progress, &buffer[..n])?,
             Err(_) => return Err(ScriptFault::Read),
         }
     }

@@ -1,6 +1,6 @@
 //! A reader or a writer that counts the calls on it, and keeps in mind whether one failed.
 
-ghost use Rattle.std.specs.Prelude.{◌≡◌, ◌+◌, ◌-◌, ◌^◌, ◌<◌, min, true, length, IfOk, OnOk, OnErr};
+ghost use Rattle.std.specs.Prelude.{◌≡◌, ◌||◌, ◌+◌, ◌-◌, ◌^◌, ◌<◌, min, true, length, IfOk, OnOk, OnErr};
 ghost use Rattle.std.specs.Io.{ReadsAtMost, WritesAtMost};
 ghost use Rattle.std.specs.Io.KnownBytes.{Keeps, ReadConsumes, WriteAppends};
 ghost use Rattle.cred_cli.specs.Watched.{IsNew, calls_of, failed_of, inner_of};
@@ -50,6 +50,16 @@ impl<X> Watched<X> {
         let Watched { inner, .. } = self;
         inner
     }
+
+    /// Counts a call, and keeps in mind whether it failed.
+    fn note(&mut self, failed: bool)
+        ensures inner { self.new.inner ≡ self.old.inner }
+        ensures calls { self.new.calls ≡ min (self.old.calls + 1) (2 ^ 64 - 1) }
+        ensures failed { self.new.failed ≡ (self.old.failed || failed) }
+    {
+        self.calls = self.calls.saturating_add(1);
+        self.failed |= failed;
+    }
 }
 
 impl<R: Read> Read for Watched<R> {
@@ -62,14 +72,9 @@ impl<R: Read> Read for Watched<R> {
         ensures failed { OnErr result (self.new.failed ≡ true) }
         ensures kept { OnOk result (self.new.failed ≡ self.old.failed) }
     {
-        self.calls = self.calls.saturating_add(1);
-        match self.inner.read(buf) {
-            Ok(n) => Ok(n),
-            Err(e) => {
-                self.failed = true;
-                Err(e)
-            }
-        }
+        let taken = self.inner.read(buf);
+        self.note(taken.is_err());
+        taken
     }
 }
 
@@ -85,19 +90,13 @@ impl<W: Write> Write for Watched<W> {
         ensures kept { IfOk result (λ n. 0 < n → self.new.failed ≡ self.old.failed) }
         ensures nothing { OnOk result (length buf.now ≡ 0 → self.new.failed ≡ self.old.failed) }
     {
-        self.calls = self.calls.saturating_add(1);
-        match self.inner.write(buf) {
-            Ok(n) => {
-                if n == 0 && !buf.is_empty() {
-                    self.failed = true;
-                }
-                Ok(n)
-            }
-            Err(e) => {
-                self.failed = true;
-                Err(e)
-            }
-        }
+        let taken = self.inner.write(buf);
+        let failed = match taken {
+            Ok(n) => n == 0 && !buf.is_empty(),
+            Err(_) => true,
+        };
+        self.note(failed);
+        taken
     }
 
     fn flush(&mut self) -> io::Result<()>
@@ -106,13 +105,8 @@ impl<W: Write> Write for Watched<W> {
         ensures failed { OnErr result (self.new.failed ≡ true) }
         ensures kept { OnOk result (self.new.failed ≡ self.old.failed) }
     {
-        self.calls = self.calls.saturating_add(1);
-        match self.inner.flush() {
-            Ok(()) => Ok(()),
-            Err(e) => {
-                self.failed = true;
-                Err(e)
-            }
-        }
+        let flushed = self.inner.flush();
+        self.note(flushed.is_err());
+        flushed
     }
 }

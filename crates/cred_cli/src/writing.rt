@@ -9,7 +9,8 @@ use crate::fault::ScriptFault;
 use crate::watched::Watched;
 use std::io::Write;
 
-/// Writes all the bytes, in as many calls as the writer needs. It gives up where one fails, an interrupted one included, or takes no byte.
+/// Writes all the bytes, in as many calls as the writer needs. It gives up where one fails, an
+/// interrupted one included, or takes no byte.
 pub(crate) fn write_whole<W: Write>(
     writer: &mut Watched<W>,
     bytes: &[u8],

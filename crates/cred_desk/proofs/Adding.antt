@@ -42,7 +42,8 @@ adds_goes list v e old len pre false is =
       rw is (ap length all),
     )
 
--- whatever the list is, the exchange adds the entry to all that was seen, or finds that the list is longer
+-- whatever the list is, the exchange adds the entry to all that was seen, or finds that the list is
+-- longer
 pub adds_moves : (v : List Entry) (e : Entry) (old : ℕ) → length v ≡ old
     → Moves IsKept shown moved 0 (v, (no_nib, None)) (λ n. either (n == old) (old + 1) n) (Adds (step 0 old (old + 1) e) (v, (no_nib, None)))
 adds_moves v e old len cs list kept pre away =

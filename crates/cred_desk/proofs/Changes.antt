@@ -1,4 +1,5 @@
--- A commit that makes a change leaves what some operation makes, and one that makes none leaves the book.
+-- A commit that makes a change leaves what some operation makes, and one that makes none leaves the
+-- book.
 use Rattle.std.proofs.Common.{◌≡◌, ℕ, List, Bool, true, false, cond, Option, Some, None, if◌then◌else◌, not, refl, sym, ap, ◌∙◌}
 use Rattle.std.specs.FinMap as map
 use Rattle.std.specs.Ordering.{is_eq}
@@ -8,7 +9,7 @@ use Rattle.std.specs.declared.cmp.Ordering.TheVariants.{Less, Equal, Greater}
 use Rattle.cred_phc.specs.Values.{RecordValue}
 use Rattle.cred_book.specs.Accounts.{Accounts}
 use Rattle.cred_book.specs.Names.{name_cmp}
-use Rattle.cred_book.specs.Commits.{committed, committed_at, judged, judged_at}
+use Rattle.cred_book.specs.Commits.{committed, committed_at, committed_if, judged, judged_at, judged_if}
 use Rattle.cred_book.specs.Works.{Task, name_of, same, same_scheme, whole, makes_change, right}
 use Rattle.cred_book.specs.declared.reply.Reply.{Reply}
 use Rattle.cred_book.specs.declared.reply.Reply.TheVariants as reply
@@ -78,10 +79,6 @@ whole_stays (Remove name pw) (Some stored) stays = two (IsStill (Some stored)) (
 
 -- ---- commits
 
--- what the commit of a work answers where this record stands, which is the copied one or not
-abbrev judged_if : Task → Option RecordValue → Bool → Reply × Option RecordValue × Bool
-judged_if work now fresh = if fresh then ((whole work.0 now).0, (whole work.0 now).1, makes_change (whole work.0 now).0) else (reply.Changed now, now, false)
-
 judged_if_follows : (work : Task) → HavePasswords work.0 → (now : Option RecordValue) (fresh : Bool) → (judged_if work now fresh).2 ≡ true → Follows now (judged_if work now fresh).1
 judged_if_follows work held now true change = whole_follows work.0 held now change
 judged_if_follows work held now false change = absurd cc
@@ -108,9 +105,6 @@ after_list book list (Some e) = after_snoc book list e
 
 abbrev entry_if : Task → Reply × Option RecordValue × Bool → Option Entry
 entry_if work answer = if answer.2 then Some (entry (name_of work.0) answer.1) else None
-
-abbrev committed_if : Accounts → Task → Option RecordValue → Bool → Reply × Accounts
-committed_if book work now fresh = if fresh then ((whole work.0 now).0, map.insert book (name_of work.0) (whole work.0 now).1) else (reply.Changed now, book)
 
 module _ (book : Accounts) (work : Task) where
   module _ (now : Option RecordValue) (found : map.get book (name_of work.0) ≡ Some now) where

@@ -1,3 +1,4 @@
+-- The lemmas that the proofs of the desk cite.
 pub mod Adding
 pub mod Changes
 pub mod Lists

@@ -31,7 +31,8 @@ IsOpened stored = (pw : List ℕ) × IsPassword pw × (right stored pw ≡ true)
 abbrev pub IsMinted : RecordValue → Type 0
 IsMinted stored = (pw : List ℕ) × IsPassword pw × (stored.tag ≡ tag stored.setting 32 pw)
 
--- an operation may leave this where that stood: a new record where none stood or its password was known, and none where it was known
+-- an operation may leave this where that stood: a new record where none stood or its password was
+-- known, and none where it was known
 abbrev pub Follows : Option RecordValue → Option RecordValue → Type 0
 Follows None None = ⊥
 Follows None (Some new) = IsMinted new
@@ -58,7 +59,8 @@ IsLoaded book entry = (map.contains_key book entry.name ≡ true) × ((stored : 
 
 -- ---- lists
 
--- an entry that may come next: of an operation, and where loads may stand in the list, of one who keeps the book
+-- an entry that may come next: of an operation, and where loads may stand in the list, of one who
+-- keeps the book
 abbrev pub Allowed : Bool → Accounts → Entry → Type 0
 Allowed false book entry = IsMade book entry
 Allowed true book entry = IsMade book entry ⊎ (IsAdmitted book entry ⊎ IsLoaded book entry)

@@ -1,3 +1,4 @@
+-- The definitions that the contracts of the desk cite.
 pub mod Commits
 pub mod Histories
 pub mod Published

@@ -4,7 +4,8 @@ use mathlib.Core.List.{IsPrefix}
 use Rattle.logbook.specs.Pages.{Cell, Step, View, Book, Named}
 use Rattle.cred_desk.specs.declared.entry.Entry.{Entry}
 
--- the first word is the length of the list. A book of words has two, of which this one leaves the second at 0
+-- the first word is the length of the list. A book of words has two, of which this one leaves the
+-- second at 0
 abbrev pub IsKept : List Cell → List Entry → Type 0
 IsKept cells list = cells ≡ (length list, true) ∷ (0, true) ∷ []
 

@@ -44,7 +44,8 @@ IsUnsettled error.Sessions behind change = ⊥
 IsUnsettled error.Session behind change = ⊥
 IsUnsettled error.NoAccount behind change = ⊥
 
--- a settle is a commit at a legal list that begins with the known one, and is counted if it is a change
+-- a settle is a commit at a legal list that begins with the known one, and is counted if it is a
+-- change
 abbrev pub Settles : Accounts → Standing → Standing → Task → Result (Reply × List Entry) (Task × DeskError) → Type 0
 Settles opening old new work (Ok (answer, told)) =
     (list : List Entry) × IsLegal opening list × IsPrefix old.known list

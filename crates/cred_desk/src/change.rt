@@ -7,7 +7,8 @@ ghost use Rattle.cred_desk.specs.Histories.{IsMade};
 use crate::entry::Entry;
 use cred_book::{Book, Reply, Request, Worked};
 
-/// The answer that the commit of the work has at this book, and the entry that it makes if it is a change.
+/// The answer that the commit of the work has at this book, and the entry that it makes if it is a
+/// change.
 pub(crate) fn judge(book: &Book, work: &Worked) -> (Reply, Option<Entry>)
     ensures reply { result.0 ≡ reply_of book.now work.now }
     ensures entry { result.1 ≡ entry_of book.now work.now }
@@ -23,7 +24,7 @@ pub(crate) fn judge(book: &Book, work: &Worked) -> (Reply, Option<Entry>)
     (reply, Some(Entry { name, now }))
 }
 
-// A request's passwords have at most 256 bytes, which their accessor tells.
+/// A request's passwords have at most 256 bytes, which their accessor tells.
 fn hold_passwords(request: &Request)
     ensures { HavePasswords request.now }
 {

@@ -1,4 +1,5 @@
-//! What lies behind a desk's lock: the publisher of its book, and the count of what its sessions settled.
+//! What lies behind a desk's lock: the publisher of its book, and the count of what its sessions
+//! settled.
 
 ghost use Rattle.std.specs.Prelude.{◌≡◌, ◌≢◌, ◌+◌, ◌≤◌, [], All, IfErr, IfOk, MatchResult, None, false, length, map, sum, vec_capacity, vec_len};
 ghost use mathlib.Core.List.{IsPrefix};
@@ -30,10 +31,10 @@ where
 {
     publisher: Publisher<J>,
     total: Total<J>,
-    // What the sessions' shares are merged into.
+    /// What the sessions' shares are merged into.
     spare: Share<J>,
     sessions: u8,
-    // Empty, with room for each session's count.
+    /// Empty, with room for each session's count.
     counts: Vec<u64>,
 }
 
@@ -76,7 +77,10 @@ impl<J: Naming> Clerk<J> {
         }
     }
 
-    /// Commits the work for the session, which knows the list after it from then on. Where it is refused nothing changes, and the work comes back.
+    /// Commits the work for the session, which knows the list after it from then on.
+    ///
+    /// Errors: `Memory` where a change finds none; `Reader` where the session knew more than the
+    /// list. Nothing changes then, and the work comes back.
     #[tactic(auto, using(crate::proofs::Lists::length_list_after))]
     pub(crate) fn settle<R: Wait>(
         &mut self,
@@ -109,6 +113,8 @@ impl<J: Naming> Clerk<J> {
     }
 
     /// Looks whether these are all sessions of the desk, and none knows more than the journal.
+    ///
+    /// Errors: `Session` where some are missing; `Reader` where one knows more.
     pub(crate) fn look(&self, sessions: &[Session<J>]) -> Result<(), DeskError>
         ensures all { MatchResult result (λ _. length sessions.now ≡ J.parts) (IsMissed (length sessions.now) J.parts) }
         ensures known { IfOk result (λ _. All (λ s. IsPrefix s.known self.now) sessions.now) }
@@ -164,7 +170,7 @@ impl<J: Naming> Clerk<J> {
     }
 }
 
-// Writes each session's count.
+/// Writes each session's count.
 fn write_counts<J: Naming>(counts: &mut Vec<u64>, sessions: &[Session<J>])
     requires empty { counts.old.items ≡ [] }
     requires room { length sessions.now ≤ vec_capacity counts.old }
@@ -175,7 +181,7 @@ fn write_counts<J: Naming>(counts: &mut Vec<u64>, sessions: &[Session<J>])
     }
 }
 
-// Merges the shares of all sessions.
+/// Merges the shares of all sessions.
 fn merge_shares<J: Naming>(all: &mut Share<J>, sessions: Vec<Session<J>>)
     requires { (all.old.parts ≡ 0) × (all.old.amount ≡ 0) }
     ensures parts { all.new.parts ≡ vec_len sessions }

@@ -54,7 +54,8 @@ where
 impl<J: Naming> Committer<J> {
     /// Copies the book, and shows it to so many sessions, 0 to 32 of them.
     ///
-    /// `Sessions` for another number, which is judged first. `Memory` where there is none, and `Reader` where a session gets no place to read.
+    /// Errors: `Sessions` for another number, which is judged first; `Memory` where there is none;
+    /// `Reader` where a session gets no place to read.
     pub fn new<R: Wait>(
         rt: &R,
         alloc: Global,
@@ -81,9 +82,11 @@ impl<J: Naming> Committer<J> {
         Ok((Committer { publisher }, sessions))
     }
 
-    /// Does the whole operation, if the record is the one that was copied, and else nothing, and tells the list then.
+    /// Does the whole operation, if the record is the one that was copied, and else nothing, and
+    /// tells the list then.
     ///
-    /// `Memory` where an entry finds none. Nothing changes then, and the work comes back. A commit that makes no change takes no memory.
+    /// Errors: `Memory` where an entry finds none; nothing changes then, and the work comes back. A
+    /// commit that makes no change takes no memory.
     pub fn commit_told<R: Wait>(
         &mut self,
         rt: &R,
@@ -125,10 +128,9 @@ impl<J: Naming> Keeper for Committer<J> {
         if self.publisher.book().is_full() {
             return Err(BookError::Full);
         }
-        match self.publisher.publish(rt, Entry { name, now: None }) {
-            Ok(()) => Ok(()),
-            Err(_) => Err(BookError::Memory),
-        }
+        self.publisher
+            .publish(rt, Entry { name, now: None })
+            .map_err(|_| BookError::Memory)
     }
 
     #[tactic(auto, using(crate::proofs::Lists::after_snoc))]
@@ -139,10 +141,9 @@ impl<J: Naming> Keeper for Committer<J> {
     {
         self.show(name)?;
         let now = Some(stored);
-        match self.publisher.publish(rt, Entry { name: *name, now }) {
-            Ok(()) => Ok(()),
-            Err(_) => Err(BookError::Memory),
-        }
+        self.publisher
+            .publish(rt, Entry { name: *name, now })
+            .map_err(|_| BookError::Memory)
     }
 
     fn show(&self, name: &Name) -> Result<Option<Record>, BookError> {
@@ -159,9 +160,8 @@ impl<J: Naming> Keeper for Committer<J> {
         ensures list { MatchResult result (λ _. self.new ≡ list_after self.old (entry_of (after J.opening self.old) worked)) (λ _. self.new ≡ self.old) }
         ensures lawful { IsLawful J.opening self.new }
     {
-        match self.publisher.commit(rt, worked) {
-            Ok(reply) => Ok(reply),
-            Err((worked, _)) => Err((worked, BookError::Memory)),
-        }
+        self.publisher
+            .commit(rt, worked)
+            .map_err(|(worked, _)| (worked, BookError::Memory))
     }
 }

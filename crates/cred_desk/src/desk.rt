@@ -21,7 +21,8 @@ use left_right::Absorb;
 use std::alloc::Global;
 use std::sync::{Mutex, MutexGuard, Wait};
 
-/// Keeps a book that sessions read while they change it, and a journal of all changes. It isn't `Drop`: end it by `close` or `end`.
+/// Keeps a book that sessions read while they change it, and a journal of all changes. It isn't
+/// `Drop`: end it by `close` or `end`.
 pub struct Desk<J: Naming>
 where
     Shown<J>: Absorb<Step<J>, State = (Book, [Entry; 0])>,
@@ -31,9 +32,11 @@ where
 }
 
 impl<J: Naming> Desk<J> {
-    /// Copies the book, and shows it to so many sessions, 1 to 32 of them. The names are those of the book from then on.
+    /// Copies the book, and shows it to so many sessions, 1 to 32 of them. The names are those of
+    /// the book from then on.
     ///
-    /// `Sessions` for another number, which is judged first. `Memory` where there is none, and `Reader` where a session gets no place to read.
+    /// Errors: `Sessions` for another number, which is judged first; `Memory` where there is none;
+    /// `Reader` where a session gets no place to read.
     pub fn new<R: Wait>(
         rt: &R,
         alloc: Global,
@@ -50,23 +53,22 @@ impl<J: Naming> Desk<J> {
         if sessions == 0 || sessions > MOST_SESSIONS {
             return Err(DeskError::Sessions);
         }
-        let Ok(counts) = Vec::with_capacity(alloc, usize::from(sessions)) else {
-            return Err(DeskError::Memory);
-        };
-        let made = make(rt, alloc, opened, book, sessions)?;
+        let counts = Vec::with_capacity(alloc, usize::from(sessions))?;
         let Made {
             publisher,
             sessions: seats,
             total,
             spare,
-        } = made;
+        } = make(rt, alloc, opened, book, sessions)?;
         let clerk = Mutex::new(Clerk::new(publisher, total, spare, sessions, counts));
         Ok((Desk { clerk }, seats))
     }
 
-    /// Waits for the lock, and does the whole operation, if the record is the one that was copied, and else nothing. The session knows the list after it from then on, and counts a change.
+    /// Waits for the lock, and does the whole operation, if the record is the one that was copied,
+    /// and else nothing. The session knows the list after it from then on, and counts a change.
     ///
-    /// `Memory` where a change finds none, and `Reader` where the session knew more than the journal, which isn't met. Nothing changes then, and the work comes back.
+    /// Errors: `Memory` where a change finds none; `Reader` where the session knew more than the
+    /// journal, which isn't met. Nothing changes then, and the work comes back.
     pub fn settle<R: Wait>(
         &self,
         rt: &R,
@@ -83,9 +85,11 @@ impl<J: Naming> Desk<J> {
         settled
     }
 
-    /// Gives the book, the journal and the counts, where all sessions of the desk are handed in, in any order. It waits for those that read the book.
+    /// Gives the book, the journal and the counts, where all sessions of the desk are handed in, in
+    /// any order. It waits for those that read the book.
     ///
-    /// `Session` where some are missing, and `Reader` where one knew more than the journal, which isn't met. The desk and the sessions come back.
+    /// Errors: `Session` where some are missing; `Reader` where one knew more than the journal,
+    /// which isn't met. The desk and the sessions come back.
     pub fn close<R: Wait>(
         self,
         rt: &R,

@@ -2,20 +2,32 @@
 
 ghost use Rattle.std.specs.Prelude.{◌≡◌};
 ghost use Rattle.cred_desk.specs.Refusals.{refusal_number, refusal_word};
+ghost use Rattle.cred_desk.specs.declared.error.DeskError.TheVariants.{Memory as OutOfMemory};
+
+use std::alloc::AllocError;
+use thiserror::Error;
 
 /// Why a desk, a committer or a session isn't made, or doesn't do what it is asked.
-#[derive(Clone, Copy, Debug, PartialEq, Eq)]
+#[derive(Clone, Copy, Debug, PartialEq, Eq, Error)]
 pub enum DeskError {
-    /// Out of memory.
+    #[error("out of memory")]
     Memory,
-    /// The number of sessions is none that can be had.
+    #[error("the number of sessions is none that can be had")]
     Sessions,
-    /// Sessions of the desk are missing.
+    #[error("sessions of the desk are missing")]
     Session,
-    /// The reader got no place, or was let in to no book.
+    #[error("the reader got no place, or was let in to no book")]
     Reader,
-    /// The name isn't there.
+    #[error("the name isn't there")]
     NoAccount,
+}
+
+impl From<AllocError> for DeskError {
+    ghost from_gives = { λ _ e. e ≡ OutOfMemory };
+
+    fn from(_error: AllocError) -> DeskError {
+        DeskError::Memory
+    }
 }
 
 impl DeskError {

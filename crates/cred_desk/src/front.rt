@@ -84,7 +84,8 @@ impl<J: Naming> Front<J> {
         }
     }
 
-    /// Whether the other list begins with this one. Of two beginnings of one list the shorter begins the longer, so it is enough to compare lengths.
+    /// Whether the other list begins with this one. Of two beginnings of one list the shorter
+    /// begins the longer, so it is enough to compare lengths.
     pub(crate) fn begins(&self, other: &Front<J>) -> bool
         ensures lists { MatchBool result (IsPrefix self.now other.now) (IsLonger other.now self.now) }
         ensures listed { IsListed J.loads J.opening other.now }

@@ -2,7 +2,6 @@
 
 ghost use Rattle.std.specs.Prelude.{◌≡◌, ◌≤◌, [], All, IfErr, IfOk, IsTrue, drop, false, true, vec_len, length};
 ghost use Rattle.cred_desk.specs.Refusals.{IsRefusedToMake};
-ghost use Rattle.cred_desk.specs.declared.error.DeskError.TheVariants as error;
 
 use crate::entry::Entry;
 use crate::error::DeskError;
@@ -14,7 +13,7 @@ use crate::session::Session;
 use cred_book::Book;
 use crossbeam_utils::rule::Protocol;
 use left_right::Absorb;
-use std::alloc::Global;
+use std::alloc::{AllocError, Global};
 use std::sync::Wait;
 use std::sync::ledger::{Book as Total, Share};
 
@@ -33,7 +32,10 @@ where
     pub(crate) spare: Share<J>,
 }
 
-/// Copies the book, and shows it to so many sessions. `Memory` where there is none, and `Reader` where a reader gets no place, whichever is met first.
+/// Copies the book, and shows it to so many sessions.
+///
+/// Errors: `Memory` where there is none; `Reader` where a session gets no place to read. The first
+/// that is met is answered.
 pub(crate) fn make<J: Naming, R: Wait>(
     rt: &R,
     alloc: Global,
@@ -52,8 +54,8 @@ pub(crate) fn make<J: Naming, R: Wait>(
     let (total, mut spare) = blank.open::<J>();
     let mut writer = open_writer(alloc, &front, book, sessions)?;
     let seats = match warm(&mut writer, rt, &front) {
-        true => seats(alloc, &writer, &front, &mut spare, sessions),
-        false => Err(DeskError::Memory),
+        Ok(()) => seats(alloc, &writer, &front, &mut spare, sessions),
+        Err(AllocError) => Err(DeskError::Memory),
     };
     match seats {
         Ok(sessions) => Ok(Made {
@@ -69,43 +71,39 @@ pub(crate) fn make<J: Naming, R: Wait>(
     }
 }
 
-// Two copies of the book, of which readers see one.
+/// Two copies of the book, of which readers see one.
 fn open_writer<J: Naming>(
     alloc: Global,
     front: &Front<J>,
     book: &Book,
     sessions: u8,
-) -> Result<BookWriter<J>, DeskError>
+) -> Result<BookWriter<J>, AllocError>
     requires empty { front.now ≡ [] }
     requires opening { book.now ≡ J.opening }
     ensures shown { IfOk result (λ w. (w.desk.shown.value.front ≡ []) × (w.desk.shown.value.book ≡ J.opening) × (drop w.behind w.log.items ≡ [])) }
-    ensures refused { IfErr result (λ e. e ≡ error.Memory) }
 {
-    let (Ok(first), Ok(second)) = (book.copy(), book.copy()) else {
-        return Err(DeskError::Memory);
-    };
-    let first = Shown {
-        book: first,
-        front: front.again(),
-    };
-    let second = Shown {
-        book: second,
-        front: front.again(),
-    };
+    let first = Shown::of(book, front)?;
+    let second = Shown::of(book, front)?;
     let readers = usize::from(sessions.max(1));
-    BookWriter::<J>::new(alloc, first, second, readers).map_err(|_| DeskError::Memory)
+    BookWriter::<J>::new(alloc, first, second, readers)
 }
 
-// Publishes the same book twice, so that there is room for two steps from then on, and no later change needs more.
-fn warm<J: Naming, R: Wait>(writer: &mut BookWriter<J>, rt: &R, front: &Front<J>) -> bool
+/// Publishes the same book twice, so that there is room for two steps from then on, and no later
+/// change needs more.
+fn warm<J: Naming, R: Wait>(
+    writer: &mut BookWriter<J>,
+    rt: &R,
+    front: &Front<J>,
+) -> Result<(), AllocError>
     requires empty { front.now ≡ [] }
     requires shown { (writer.old.desk.shown.value.front ≡ []) × (writer.old.desk.shown.value.book ≡ J.opening) × (drop writer.old.behind writer.old.log.items ≡ []) }
     ensures shown { (writer.new.desk.shown.value.front ≡ []) × (writer.new.desk.shown.value.book ≡ J.opening) × (drop writer.new.behind writer.new.log.items ≡ []) }
 {
-    show(writer, rt, Step::staying(front)) && show(writer, rt, Step::staying(front))
+    show(writer, rt, Step::staying(front))?;
+    show(writer, rt, Step::staying(front))
 }
 
-// So many sessions, each with a part of the share.
+/// So many sessions, each with a part of the share.
 fn seats<J: Naming>(
     alloc: Global,
     writer: &BookWriter<J>,
@@ -119,13 +117,9 @@ fn seats<J: Naming>(
     ensures spare { IfOk result (λ _. (spare.new.parts ≡ 0) × (spare.new.amount ≡ 0)) }
     ensures refused { IfErr result (λ e. IsRefusedToMake true e) }
 {
-    let Ok(mut sessions) = Vec::with_capacity(alloc, usize::from(count)) else {
-        return Err(DeskError::Memory);
-    };
+    let mut sessions = Vec::with_capacity(alloc, usize::from(count))?;
     for _index in 0..count {
-        let Ok(reader) = writer.factory().reader() else {
-            return Err(DeskError::Reader);
-        };
+        let reader = writer.factory().reader().map_err(|_| DeskError::Reader)?;
         let share = spare.split_off(1, 0);
         sessions.push_reserved(Session::new(reader, front.again(), share));
     }

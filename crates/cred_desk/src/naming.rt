@@ -10,19 +10,20 @@ use logbook::{Seen, Start, Word};
 use std::marker::Brand;
 use std::sync::ledger::{Blank, Ledger};
 
-/// Names one desk or one committer. A function that is generic over it is called with `Brand`, and that call picks the name.
+/// Names one desk or one committer. A function that is generic over it is called with `Brand`, and
+/// that call picks the name.
 pub trait Naming: Ledger {
     ghost use Rattle.std.specs.Prelude.{Bool};
     ghost use Rattle.logbook.specs.Pages.{Book};
     ghost use Rattle.cred_book.specs.Accounts.{Accounts};
 
-    // Which list.
+    /// Which list.
     ghost book: { Book };
 
-    // The opening book.
+    /// The opening book.
     ghost opening: { Accounts };
 
-    // Whether admissions and loads may stand in the list.
+    /// Whether admissions and loads may stand in the list.
     ghost loads: { Bool };
 }
 

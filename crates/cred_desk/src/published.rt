@@ -1,6 +1,6 @@
 //! What readers see: the book, beside the list of entries that led to it.
 
-ghost use Rattle.std.specs.Prelude.{◌≡◌, Some, None};
+ghost use Rattle.std.specs.Prelude.{◌≡◌, IfOk, Some, None};
 
 use crate::entry::Entry;
 use crate::front::Front;
@@ -18,6 +18,19 @@ use std::marker::PhantomData;
 pub(crate) struct Shown<J: Naming> {
     pub(crate) book: Book,
     pub(crate) front: Front<J>,
+}
+
+impl<J: Naming> Shown<J> {
+    /// A copy of the book, with its list.
+    pub(crate) fn of(book: &Book, front: &Front<J>) -> Result<Shown<J>, AllocError>
+        ensures book { IfOk result (λ shown. shown.book ≡ book.now) }
+        ensures front { IfOk result (λ shown. shown.front ≡ front.now) }
+    {
+        Ok(Shown {
+            book: book.copy().map_err(|_| AllocError)?,
+            front: front.again(),
+        })
+    }
 }
 
 /// What is shown next: the book with one entry more or the same book, and the list then.

@@ -1,6 +1,6 @@
 //! The one who changes the published book, and keeps a journal of it.
 
-ghost use Rattle.std.specs.Prelude.{◌≡◌, ◌+◌, ◌<◌, ◌^◌, ◌++◌, ◌∷◌, [], drop, length, Some, None, IfErr, IfOk, IsOk, IsTrue, MatchBool, MatchResult};
+ghost use Rattle.std.specs.Prelude.{◌≡◌, ◌+◌, ◌<◌, ◌^◌, ◌++◌, ◌∷◌, [], drop, length, Some, None, IfErr, IfOk, IsOk, IsTrue, MatchResult};
 ghost use Rattle.cred_desk.specs.Commits.{entry_of, list_after, reply_of};
 ghost use Rattle.cred_desk.specs.Histories.{Allowed, IsListed, after};
 ghost use Rattle.cred_desk.specs.Published.{with_step};
@@ -17,7 +17,7 @@ use core::mem::replace_with;
 use cred_book::{Book, Reply, Worked};
 use crossbeam_utils::rule::Protocol;
 use left_right::Absorb;
-use std::alloc::Global;
+use std::alloc::{AllocError, Global};
 use std::marker::Model;
 use std::sync::Wait;
 
@@ -49,17 +49,20 @@ where
     ghost invariant = { λ p. (p.journal.items ≡ p.front) × (drop p.writer.behind p.writer.log.items ≡ []) × (p.writer.desk.shown.value.front ≡ p.front) × (p.writer.desk.shown.value.book ≡ after J.opening p.front) × IsListed J.loads J.opening p.front };
 }
 
-/// Shows readers this list, and the book with the entry. Where there is no memory they see what they saw.
-pub(crate) fn show<J: Naming, R: Wait>(writer: &mut BookWriter<J>, rt: &R, step: Step<J>) -> bool
+/// Shows readers this list, and the book with the entry. Where there is no memory they see what
+/// they saw.
+pub(crate) fn show<J: Naming, R: Wait>(
+    writer: &mut BookWriter<J>,
+    rt: &R,
+    step: Step<J>,
+) -> Result<(), AllocError>
     requires book { with_step writer.old.desk.shown.value.book step.entry ≡ after J.opening step.front }
     requires done { drop writer.old.behind writer.old.log.items ≡ [] }
-    ensures shown { MatchBool result ((writer.new.desk.shown.value.front ≡ step.front) × (writer.new.desk.shown.value.book ≡ after J.opening step.front)) ((writer.new.desk.shown.value.front ≡ writer.old.desk.shown.value.front) × (writer.new.desk.shown.value.book ≡ writer.old.desk.shown.value.book)) }
+    ensures shown { MatchResult result (λ _. (writer.new.desk.shown.value.front ≡ step.front) × (writer.new.desk.shown.value.book ≡ after J.opening step.front)) (λ _. (writer.new.desk.shown.value.front ≡ writer.old.desk.shown.value.front) × (writer.new.desk.shown.value.book ≡ writer.old.desk.shown.value.book)) }
     ensures done { drop writer.new.behind writer.new.log.items ≡ [] }
 {
-    if writer.append(step).is_err() {
-        return false;
-    }
-    replace_with(writer, rt, |writer, rt| writer.publish_as::<Sees<J>, R>(rt)).is_ok()
+    writer.append(step).map_err(|_| AllocError)?;
+    replace_with(writer, rt, |writer, rt| writer.publish_as::<Sees<J>, R>(rt))
 }
 
 impl<J: Naming> Publisher<J> {
@@ -105,28 +108,28 @@ impl<J: Naming> Publisher<J> {
         Told::new(self.front.again())
     }
 
-    /// Adds an entry to the list, the journal and the published book. Where there is no memory nothing changes.
+    /// Adds an entry to the list, the journal and the published book.
+    ///
+    /// Errors: `Memory` where there is none; nothing changes then.
     pub(crate) fn publish<R: Wait>(&mut self, rt: &R, entry: Entry) -> Result<(), DeskError>
         requires { Allowed J.loads (after J.opening self.old) entry }
         ensures done { IfOk result (λ _. self.new ≡ self.old ++ entry ∷ []) }
         ensures refused { IfErr result (λ e. (e ≡ error.Memory) × (self.new ≡ self.old)) }
         ensures listed { IsListed J.loads J.opening self.new }
     {
-        if self.journal.reserve(1).is_err() {
-            return Err(DeskError::Memory);
-        }
+        self.journal.reserve(1)?;
         let Some(front) = self.front.add(&self.head, &entry) else {
             return Err(DeskError::Memory);
         };
-        if !show(&mut self.writer, rt, Step::adding(&entry, &front)) {
-            return Err(DeskError::Memory);
-        }
+        show(&mut self.writer, rt, Step::adding(&entry, &front))?;
         self.journal.push_reserved(entry);
         self.front = front;
         Ok(())
     }
 
-    /// Does the whole operation, if the record is the one that was copied, and else nothing. `Memory` where an entry finds none; the work comes back.
+    /// Does the whole operation, if the record is the one that was copied, and else nothing.
+    ///
+    /// Errors: `Memory` where an entry finds none; nothing changes then, and the work comes back.
     pub(crate) fn commit<R: Wait>(
         &mut self,
         rt: &R,
@@ -147,7 +150,8 @@ impl<J: Naming> Publisher<J> {
         Ok(reply)
     }
 
-    /// Lets nobody in to the book from now on, waits for those that read it, and gives the book and the journal.
+    /// Lets nobody in to the book from now on, waits for those that read it, and gives the book and
+    /// the journal.
     pub(crate) fn finish<R: Wait>(self, rt: &R) -> (Book, Vec<Entry>)
         ensures book { result.0 ≡ after J.opening self }
         ensures journal { result.1.items ≡ self }

@@ -1,4 +1,5 @@
-//! The rule under which threads share the length of one list of entries, which only grows. The list itself exists in proofs alone.
+//! The rule under which threads share the length of one list of entries, which only grows. The list
+//! itself exists in proofs alone.
 
 use crate::entry::Entry;
 use logbook::{Gain, Plain, Play, Rule};

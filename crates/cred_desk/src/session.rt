@@ -19,9 +19,11 @@ use crossbeam_utils::rule::Protocol;
 use std::marker::Model;
 use std::sync::ledger::{Book as Total, Share};
 
-/// Begins requests and closes verifies at the published book, in any thread. It reads no older book than it has read or was told of.
+/// Begins requests and closes verifies at the published book, in any thread. It reads no older book
+/// than it has read or was told of.
 ///
-/// Contracts see it as the list of entries that it knows, and the number of changes that its settles made.
+/// Contracts see it as the list of entries that it knows, and the number of changes that its
+/// settles made.
 #[derive(Drop)]
 pub struct Session<J: Naming>
 where
@@ -104,9 +106,12 @@ impl<J: Naming> Session<J> {
         share
     }
 
-    /// Copies the record of the request's account from the published book into a ticket, and knows that book's list from then on. A setting in the request isn't of version 0x10, as `Request::is_for_current` tells.
+    /// Copies the record of the request's account from the published book into a ticket, and knows
+    /// that book's list from then on. A setting in the request isn't of version 0x10, as
+    /// `Request::is_for_current` tells.
     ///
-    /// `NoAccount` where the name isn't there. `Reader` where there is no book to read, as may be once its desk or committer was ended; nothing changes then. The request comes back.
+    /// Errors: `NoAccount` where the name isn't there; `Reader` where there is no book to read, as
+    /// may be once its desk or committer was ended, and nothing changes. The request comes back.
     pub fn begin(&mut self, request: Request) -> Result<Ticket, (Request, DeskError)>
         requires { is_for_current request ≡ true }
         ensures known { IsPrefix self.old.known self.new.known }
@@ -128,9 +133,11 @@ impl<J: Naming> Session<J> {
         begun.map_err(|(request, _)| (request, DeskError::NoAccount))
     }
 
-    /// What the commit of the verify answers at the published book, whose list is known from then on.
+    /// What the commit of the verify answers at the published book, whose list is known from then
+    /// on.
     ///
-    /// `Reader` where there is no book to read, as may be once its desk or committer was ended; nothing changes then, and the work comes back.
+    /// Errors: `Reader` where there is no book to read, as may be once its desk or committer was
+    /// ended. Nothing changes then, and the work comes back.
     pub fn close_verify(&mut self, work: VerifyWorked) -> Result<Reply, (VerifyWorked, DeskError)>
         ensures known { IsPrefix self.old.known self.new.known }
         ensures listed { IsListed J.loads J.opening self.new.known }
@@ -160,7 +167,8 @@ impl<J: Naming> Session<J> {
         self.know(told.front().again());
     }
 
-    // Knows this list from now on, if it begins with the one that was known. Else that one begins with it.
+    /// Knows this list from now on, if it begins with the one that was known. Else that one begins
+    /// with it.
     fn know(&mut self, list: Front<J>) -> bool
         ensures known { MatchBool result (self.new.known ≡ list) (IsPrefix list self.old.known × (self.new.known ≡ self.old.known)) }
         ensures mine { IsPrefix self.old.known self.new.known }
@@ -175,7 +183,8 @@ impl<J: Naming> Session<J> {
     }
 }
 
-// Begins the request in the book that is shown, and gives that book's list too. None where there is no book.
+/// Begins the request in the book that is shown, and gives that book's list too. None where there
+/// is no book.
 fn begin_in<J: Naming>(
     reader: BookReader<J>,
     request: &Request,
@@ -196,7 +205,8 @@ fn begin_in<J: Naming>(
     }
 }
 
-// What the commit of the verify answers at the book that is shown, and that book's list. None where there is no book.
+/// What the commit of the verify answers at the book that is shown, and that book's list. None
+/// where there is no book.
 fn judge_in<J: Naming>(
     reader: BookReader<J>,
     work: &VerifyWorked,

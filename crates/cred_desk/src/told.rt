@@ -6,7 +6,8 @@ use crate::front::Front;
 use crate::naming::Naming;
 use std::marker::Model;
 
-/// The list of entries as it stood after a commit. A session that learns it reads no older book from then on.
+/// The list of entries as it stood after a commit. A session that learns it reads no older book
+/// from then on.
 #[derive(Drop)]
 pub struct Told<J: Naming> {
     front: Front<J>,

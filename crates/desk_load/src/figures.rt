@@ -1,6 +1,7 @@
 //! What threads came to.
 
-/// How often one thread did what it does, how long that took, and the longest that a begin took, in nanoseconds.
+/// How often one thread did what it does, how long that took, and the longest that a begin took, in
+/// nanoseconds.
 #[derive(Clone, Copy)]
 pub(crate) struct Figures {
     pub(crate) done: u32,

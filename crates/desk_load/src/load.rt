@@ -9,8 +9,9 @@ use std::thread::Threads;
 /// How many accounts the book has.
 const ACCOUNTS: usize = 4096;
 
-/// The settings of all records, between which upgrades go to and fro. They cost the same, since Argon2 takes a multiple of
-/// 4 KiB a lane; so a verify takes no longer once an account was upgraded.
+/// The settings of all records, between which upgrades go to and fro. They cost the same, since
+/// Argon2 takes a multiple of 4 KiB a lane; so a verify takes no longer once an account was
+/// upgraded.
 const SETTINGS: [&str; 2] = [
     "$argon2id$v=19$m=8,t=1,p=1$c29tZXNhbHQ",
     "$argon2id$v=19$m=9,t=1,p=1$c29tZXNhbHQ",

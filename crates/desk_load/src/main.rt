@@ -1,6 +1,7 @@
-//! Threads that verify while one upgrades, over a book of 4096 accounts: by sessions of a desk, or with a lock round the book.
-//! The arguments are `desk` or `lock`, how many threads verify, how often each does, how many upgrades are made, `hashed`
-//! where these aren't settled, and `figures` where times are to be printed too.
+//! Threads that verify while one upgrades, over a book of 4096 accounts: by sessions of a desk, or
+//! with a lock round the book. The arguments are `desk` or `lock`, how many threads verify, how
+//! often each does, how many upgrades are made, `hashed` where these aren't settled, and `figures`
+//! where times are to be printed too.
 #![tactic(auto)]
 
 use anyhow::{Context, Result};

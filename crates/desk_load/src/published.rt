@@ -45,19 +45,7 @@ fn run_named<J: Naming + Send + Sync, R: Threads + Wait + Clock + Sync>(
     for session in sessions {
         let _ = seats.push((session, None));
     }
-    let threads = seats.len().max(1);
-    for_each_mut(
-        rt,
-        &mut seats,
-        threads,
-        &|place, seat: &mut (Session<J>, Option<Figures>)| {
-            seat.1 = if place == 0 {
-                upgrade(rt, alloc, &desk, &mut seat.0, load)
-            } else {
-                verify(rt, alloc, &mut seat.0, load)
-            };
-        },
-    );
+    work_all(rt, alloc, &desk, &mut seats, load);
     for (session, came_to) in seats {
         let _ = back.push(session);
         let _ = figures.push(came_to);
@@ -69,6 +57,30 @@ fn run_named<J: Naming + Send + Sync, R: Threads + Wait + Clock + Sync>(
             None
         }
     }
+}
+
+/// Lets the first thread upgrade and the others verify, and leaves what each came to beside its
+/// session.
+fn work_all<J: Naming + Send + Sync, R: Threads + Wait + Clock + Sync>(
+    rt: &R,
+    alloc: Global,
+    desk: &Desk<J>,
+    seats: &mut [(Session<J>, Option<Figures>)],
+    load: &Load,
+) {
+    let threads = seats.len().max(1);
+    for_each_mut(
+        rt,
+        seats,
+        threads,
+        &|place, seat: &mut (Session<J>, Option<Figures>)| {
+            seat.1 = if place == 0 {
+                upgrade(rt, alloc, desk, &mut seat.0, load)
+            } else {
+                verify(rt, alloc, &mut seat.0, load)
+            };
+        },
+    );
 }
 
 fn verify<J: Naming, R: Threads + Clock + Sync>(

@@ -3,8 +3,8 @@ use Rattle.std.proofs.Common.{◌≡◌, ℕ, List, Bool, true, false, Option, S
 use Rattle.std.specs.FinMap as map
 use Rattle.cred_phc.specs.Values.{RecordValue}
 use Rattle.cred_book.specs.Accounts.{Accounts}
-use Rattle.cred_book.specs.Commits.{judged, judged_at}
-use Rattle.cred_book.specs.Works.{Task, name_of, same, whole, makes_change, right}
+use Rattle.cred_book.specs.Commits.{judged, judged_at, judged_if}
+use Rattle.cred_book.specs.Works.{Task, name_of, same, right}
 use Rattle.cred_book.specs.declared.reply.Reply.{Reply}
 use Rattle.cred_book.specs.declared.reply.Reply.TheVariants as reply
 use Rattle.cred_book.specs.declared.request.Request.TheVariants.{Verify}
@@ -15,19 +15,14 @@ yes_if_right : (is : Bool) → (if is then reply.Yes else reply.No) ≡ reply.Ye
 yes_if_right true said = refl
 yes_if_right false said = absurd cc
 
--- what the commit answers where this record stands, which is the copied one or not
-abbrev judged_if : List ℕ → List ℕ → Option RecordValue → Bool → Reply × Option RecordValue × Bool
-judged_if name pw now fresh =
-    if fresh then ((whole (Verify name pw) now).0, (whole (Verify name pw) now).1, makes_change (whole (Verify name pw) now).0) else (reply.Changed now, now, false)
-
-yes_now : (name pw : List ℕ) (now : Option RecordValue) (fresh : Bool) → (judged_if name pw now fresh).0 ≡ reply.Yes → IsOpenedBy pw (Some now)
-yes_now name pw None true said = absurd cc
-yes_now name pw (Some stored) true said = (stored, refl, yes_if_right (right stored pw) said)
-yes_now name pw now false said = absurd cc
+yes_now : (name pw : List ℕ) (copy now : Option RecordValue) (is_copy : Bool) → (judged_if (Verify name pw, copy) now is_copy).0 ≡ reply.Yes → IsOpenedBy pw (Some now)
+yes_now name pw copy None true said = absurd cc
+yes_now name pw copy (Some stored) true said = (stored, refl, yes_if_right (right stored pw) said)
+yes_now name pw copy now false said = absurd cc
 
 yes_at : (name pw : List ℕ) (copy : Option RecordValue) (found : Option (Option RecordValue)) → (judged_at (Verify name pw, copy) found).0 ≡ reply.Yes → IsOpenedBy pw found
 yes_at name pw copy None said = absurd cc
-yes_at name pw copy (Some now) said = yes_now name pw now (same now copy) said
+yes_at name pw copy (Some now) said = yes_now name pw copy now (same now copy) said
 
 opens_at : (book : Accounts) (name pw : List ℕ) (work : Task) → work.0 ≡ Verify name pw → reply_of book work ≡ reply.Yes → Opens book name pw
 unfolding judged

@@ -1,1 +1,2 @@
+-- The lemmas that the proofs of the login service cite.
 pub mod Answers

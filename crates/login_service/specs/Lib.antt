@@ -1,1 +1,2 @@
+-- The definitions that the contracts of the login service cite.
 pub mod Doors

@@ -31,8 +31,8 @@ pub(crate) enum Login {
     Unanswered,
 }
 
-/// Looks whether the password is the one of the record that stands. A record that was changed meanwhile is looked at anew:
-/// the hash under the old record says nothing of the new one.
+/// Looks whether the password is the one of the record that stands. A record that was changed
+/// meanwhile is looked at anew: the hash under the old record says nothing of the new one.
 pub(crate) fn log_in<J: Naming, R: Threads + Sync>(
     rt: &R,
     alloc: Global,
@@ -89,7 +89,8 @@ fn answer<J: Naming>(session: &mut Session<J>, work: VerifyWorked) -> Option<Rep
     session.close_verify(work).ok()
 }
 
-/// Moves a record to another setting, which its owner's password is needed for, and says whether it was moved.
+/// Moves a record to another setting, which its owner's password is needed for, and says whether it
+/// was moved.
 pub(crate) fn move_record<J: Naming, R: Threads + Wait + Sync>(
     rt: &R,
     alloc: Global,

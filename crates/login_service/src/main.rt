@@ -1,5 +1,6 @@
-//! The core of a login service: at two doors people are let in by their passwords, while a third thread moves their records
-//! to a newer setting. No door waits for another or for a move, and whoever comes while a record is moved is looked at again.
+//! The core of a login service: at two doors people are let in by their passwords, while a third
+//! thread moves their records to a newer setting. No door waits for another or for a move, and
+//! whoever comes while a record is moved is looked at again.
 #![tactic(auto)]
 
 use anyhow::{Context, Result};

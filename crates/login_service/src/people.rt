@@ -20,8 +20,8 @@ struct Person {
     next: &'static str,
 }
 
-/// Ada's and Cid's records are of the reference program of Argon2, Ben's is of passlib. That program gives the records that
-/// the example prints at the end, too.
+/// Ada's and Cid's records are of the reference program of Argon2, Ben's is of passlib. That
+/// program gives the records that the example prints at the end, too.
 const PEOPLE: [Person; 3] = [
     Person {
         name: "ada",

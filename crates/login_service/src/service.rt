@@ -75,18 +75,7 @@ fn serve_named<J: Naming + Send + Sync, R: Threads + Wait + Sync>(
     for session in sessions {
         let _ = seats.push((session, Tally::default()));
     }
-    for_each_mut(
-        rt,
-        &mut seats,
-        usize::from(THREADS),
-        &|place, seat: &mut (Session<J>, Tally)| {
-            seat.1 = if place == MOVER {
-                move_all(rt, alloc, &desk, &mut seat.0, accounts)
-            } else {
-                answer_door(rt, alloc, &mut seat.0, accounts)
-            };
-        },
-    );
+    work_all(rt, alloc, &desk, &mut seats, accounts);
     for (session, tally) in seats {
         let _ = back.push(session);
         let _ = tallies.push(tally);
@@ -98,6 +87,28 @@ fn serve_named<J: Naming + Send + Sync, R: Threads + Wait + Sync>(
             None
         }
     }
+}
+
+/// Lets each thread do its work, and leaves its tally beside its session.
+fn work_all<J: Naming + Send + Sync, R: Threads + Wait + Sync>(
+    rt: &R,
+    alloc: Global,
+    desk: &Desk<J>,
+    seats: &mut [(Session<J>, Tally)],
+    accounts: &[Account; 3],
+) {
+    for_each_mut(
+        rt,
+        seats,
+        usize::from(THREADS),
+        &|place, seat: &mut (Session<J>, Tally)| {
+            seat.1 = if place == MOVER {
+                move_all(rt, alloc, desk, &mut seat.0, accounts)
+            } else {
+                answer_door(rt, alloc, &mut seat.0, accounts)
+            };
+        },
+    );
 }
 
 /// Each person comes with the right password, and with another's.

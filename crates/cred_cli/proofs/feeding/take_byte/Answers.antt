@@ -1,7 +1,8 @@
 use Rattle.std.proofs.Common.{◌≡◌, arith, sym, ap, ◌∙◌, length, ◌∷◌, [], add-one, Some, slice_get}
 use Rattle.std.proofs.lemmas.List.{length-append}
 use Rattle.std.proofs.lemmas.Option.{slice_get_within}
-use Rattle.cred_cli.specs.Events.{event_of}
+use Rattle.std.proofs.lemmas.Result.{err_from_is_err_and}
+use Rattle.cred_cli.specs.Events.{event_of, most_kept}
 use Rattle.cred_cli.specs.Outcome.{longest_script}
 use Rattle.cred_cli.specs.Script.{events_of}
 use Rattle.cred_cli.proofs.Feeds.{ended_event, take-kept, take_front}
@@ -23,16 +24,16 @@ returns-then-byte-ne10-clause-fed g c = λ book all front rest before cut at. re
   stands = at.stands;
   tickets = at.tickets;
   lines_are = at.lines_are ∙ sym (line_ends-more front c.args.byte c.if-byte-ne10.true);
-  start_is = c.push.ensures ∙ rw (at.start_is, unfinished_from-more [] front c.args.byte c.if-byte-ne10.true) (take-kept 1025 _ c.args.byte);
+  start_is = c.push.ensures ∙ rw (at.start_is, unfinished_from-more [] front c.args.byte c.if-byte-ne10.true) (take-kept most_kept _ c.args.byte);
   taken_is = omega (arith, at.taken_is, length-append front (c.args.byte ∷ []));
 }
 
 -- a line end
-pub returns-in-Ok-clause-fed : goal.returns-in-Ok-clause-fed
-returns-in-Ok-clause-fed g c = λ book all front rest before cut at.
+pub returns-clause-fed : goal.returns-clause-fed
+returns-clause-fed g c = λ book all front rest before cut at.
     let here = rw c.if-byte-ne10.false at cut in
     let event : slice_get (events_of all) c.args.progress.now.lines ≡ Some (event_of c.bytes.result.now) = rw (c.bytes.ensures, at.lines_are, at.start_is) (ended_event all front rest here) in
-    let done = c.in-Ok.ensures.answered book (events_of all) c.args.progress.now.lines before at.stands at.tickets event in
+    let done = c.in_ok-answer_line.ensures.answered book (events_of all) c.args.progress.now.lines before at.stands at.tickets event in
     record {
       stands = rw add-one done.0;
       tickets = rw add-one done.1;
@@ -42,8 +43,8 @@ returns-in-Ok-clause-fed g c = λ book all front rest before cut at.
     }
 
 -- a fault at a line end
-pub returns-in-Err-clause-fed : goal.returns-in-Err-clause-fed
-returns-in-Err-clause-fed g c = λ book all front rest before cut at left.
+pub returns-in_err-answer_line-clause-fed : goal.returns-in_err-answer_line-clause-fed
+returns-in_err-answer_line-clause-fed g c = λ book all front rest before cut at.
     let here = rw c.if-byte-ne10.false at cut in
     let event : slice_get (events_of all) c.args.progress.now.lines ≡ Some (event_of c.bytes.result.now) = rw (c.bytes.ensures, at.lines_are, at.start_is) (ended_event all front rest here) in
-    fails_at book all c.args.progress.now.lines left before _ _ _ (slice_get_within _ _ _ event) (c.in-Err.ensures.answered book (events_of all) c.args.progress.now.lines before at.stands at.tickets event)
+    let told = err_from_is_err_and c.from_residual.result c.from_residual.ensures.1 in rw (told.1, told.2) (λ left. fails_at book all c.args.progress.now.lines left before _ _ _ (slice_get_within _ _ _ event) (c.in_err-answer_line.ensures.answered book (events_of all) c.args.progress.now.lines before at.stands at.tickets event))

@@ -1,5 +1,6 @@
 use Rattle.std.proofs.Common.{arith, sym, ◌++◌, append-nil, take}
 use Rattle.std.proofs.lemmas.List.{take_all}
+use Rattle.std.proofs.lemmas.Result.{err_from_is_err_and}
 use Rattle.cred_cli.proofs.Feeds.{cut_at, front_more}
 use Rattle.cred_cli.proofs.feeding.take_bytes.Goals as goal
 
@@ -9,13 +10,13 @@ loop-byte-init g c = record { fed = λ book all front rest before cut at. rw app
 pub loop-byte-preserved : goal.loop-byte-preserved
 loop-byte-preserved g c = record {
   fed = λ book all front rest before cut at. rw (front_more front c.args.bytes.now c.loop-byte.byte-index (omega arith))
-      (c.in-Ok.ensures.fed book all (front ++ take c.loop-byte.byte-index c.args.bytes.now) _ before (cut_at all front c.args.bytes.now rest c.loop-byte.byte-index cut (omega arith)) (c.loop-byte.invariant.fed book all front rest before cut at));
-  taken = omega (arith, c.in-Ok.ensures.taken, c.loop-byte.invariant.taken);
+      (c.in_ok-take_byte.ensures.fed book all (front ++ take c.loop-byte.byte-index c.args.bytes.now) _ before (cut_at all front c.args.bytes.now rest c.loop-byte.byte-index cut (omega arith)) (c.loop-byte.invariant.fed book all front rest before cut at));
+  taken = omega (arith, c.in_ok-take_byte.ensures.taken, c.loop-byte.invariant.taken);
 }
 
-pub returns-in-Err-clause-fed : goal.returns-in-Err-clause-fed
-returns-in-Err-clause-fed g c = λ book all front rest before cut at.
-    c.in-Err.ensures.fed book all (front ++ take c.loop-byte.byte-index c.args.bytes.now) _ before (cut_at all front c.args.bytes.now rest c.loop-byte.byte-index cut (omega arith)) (c.loop-byte.invariant.fed book all front rest before cut at)
+pub returns-in_err-take_byte-clause-fed : goal.returns-in_err-take_byte-clause-fed
+returns-in_err-take_byte-clause-fed g c = λ book all front rest before cut at.
+    let told = err_from_is_err_and c.from_residual.result c.from_residual.ensures.1 in rw (told.1, told.2) (c.in_err-take_byte.ensures.fed book all (front ++ take c.loop-byte.byte-index c.args.bytes.now) _ before (cut_at all front c.args.bytes.now rest c.loop-byte.byte-index cut (omega arith)) (c.loop-byte.invariant.fed book all front rest before cut at))
 
 pub returns-clause-fed : goal.returns-clause-fed
 returns-clause-fed g c = λ book all front rest before cut at.

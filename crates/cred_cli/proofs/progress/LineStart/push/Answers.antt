@@ -1,5 +1,6 @@
 use Rattle.std.proofs.Common.{arith, sym, ◌∙◌, take, ◌++◌, ◌∷◌, []}
 use Rattle.std.proofs.lemmas.List.{take_all, take_more_set, take-append-le, length-append, length-take-le}
+use Rattle.cred_cli.specs.Events.{most_kept}
 use Rattle.cred_cli.proofs.progress.LineStart.push.Goals as goal
 
 -- there is room for one more
@@ -7,11 +8,11 @@ pub returns-then-self-lt-KEPT : goal.returns-then-self-lt-KEPT
 returns-then-self-lt-KEPT c =
     let kept = take c.self.inside.len c.self.inside.bytes in
     take_more_set c.self.inside.bytes c.self.inside.len c.args.byte (omega arith)
-    ∙ rw (← c.self.view_is) (sym (take_all 1025 (kept ++ c.args.byte ∷ []) (omega (arith, length-append kept (c.args.byte ∷ []), length-take-le c.self.inside.len c.self.inside.bytes (omega arith)))))
+    ∙ rw (← c.self.view_is) (sym (take_all most_kept (kept ++ c.args.byte ∷ []) (omega (arith, length-append kept (c.args.byte ∷ []), length-take-le c.self.inside.len c.self.inside.bytes (omega arith)))))
 
 -- what is kept has its full length
 pub returns-else-self-lt-KEPT : goal.returns-else-self-lt-KEPT
 returns-else-self-lt-KEPT c =
     let kept = take c.self.inside.len c.self.inside.bytes in
     let size = length-take-le c.self.inside.len c.self.inside.bytes (omega arith) in
-    rw (← c.self.view_is) (sym (take-append-le 1025 kept (c.args.byte ∷ []) (omega (arith, size)) ∙ take_all 1025 kept (omega (arith, size))))
+    rw (← c.self.view_is) (sym (take-append-le most_kept kept (c.args.byte ∷ []) (omega (arith, size)) ∙ take_all most_kept kept (omega (arith, size))))

@@ -1,5 +1,5 @@
 use Rattle.cred_cli.proofs.Names.{take-done}
-use Rattle.cred_cli.proofs.law.history_is_a_front.Goals as goal
+use Rattle.cred_cli.proofs.laws.history_is_a_front.Goals as goal
 
 pub returns : goal.returns
 returns c = λ book events j i le. take-done book events j i le
