@@ -53,7 +53,7 @@ impl BookError {
 impl From<AllocError> for BookError {
     ghost from_gives = { λ _ e. e ≡ OutOfMemory };
 
-    fn from(_refused: AllocError) -> BookError {
+    fn from(_error: AllocError) -> Self {
         BookError::Memory
     }
 }

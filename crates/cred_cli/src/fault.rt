@@ -23,7 +23,7 @@ pub enum ScriptFault {
 impl From<AllocError> for ScriptFault {
     ghost from_gives = { λ _ e. e ≡ OutOfMemory };
 
-    fn from(_error: AllocError) -> ScriptFault {
+    fn from(_error: AllocError) -> Self {
         ScriptFault::Memory
     }
 }

@@ -25,7 +25,7 @@ pub enum DeskError {
 impl From<AllocError> for DeskError {
     ghost from_gives = { λ _ e. e ≡ OutOfMemory };
 
-    fn from(_error: AllocError) -> DeskError {
+    fn from(_error: AllocError) -> Self {
         DeskError::Memory
     }
 }

@@ -69,7 +69,7 @@ impl PhcError {
 impl From<AllocError> for PhcError {
     ghost from_gives = { λ _ e. e ≡ OutOfMemory };
 
-    fn from(_refused: AllocError) -> PhcError {
+    fn from(_error: AllocError) -> Self {
         PhcError::Memory
     }
 }
