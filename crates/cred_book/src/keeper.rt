@@ -57,13 +57,23 @@ pub trait Keeper {
 
 /// A book keeps itself, and is never refused memory.
 impl Keeper for Book {
+    ghost use Rattle.std.specs.Prelude.{◌≡◌, IfErr};
+    ghost use Rattle.cred_book.specs.Calls.{Admits, Loads};
+    ghost use Rattle.cred_book.specs.Commits.{Commits};
+
     ghost book = { λ b. b };
 
-    fn admit<R: Wait>(&mut self, _rt: &R, name: Name) -> Result<(), BookError> {
+    fn admit<R: Wait>(&mut self, _rt: &R, name: Name) -> Result<(), BookError>
+        ensures done { Admits self.old self.new name result }
+        ensures granted { result ≡ Err BookError.Memory → ⊥ }
+    {
         Book::admit(self, name)
     }
 
-    fn load<R: Wait>(&mut self, _rt: &R, name: &Name, stored: Record) -> Result<(), BookError> {
+    fn load<R: Wait>(&mut self, _rt: &R, name: &Name, stored: Record) -> Result<(), BookError>
+        ensures done { Loads self.old self.new name.now stored result }
+        ensures granted { result ≡ Err BookError.Memory → ⊥ }
+    {
         Book::load(self, name, stored)
     }
 
@@ -75,7 +85,10 @@ impl Keeper for Book {
         Book::begin(self, request)
     }
 
-    fn commit<R: Wait>(&mut self, _rt: &R, worked: Worked) -> Result<Reply, (Worked, BookError)> {
+    fn commit<R: Wait>(&mut self, _rt: &R, worked: Worked) -> Result<Reply, (Worked, BookError)>
+        ensures done { Commits self.old self.new worked result }
+        ensures granted { IfErr result (λ _. ⊥) }
+    {
         Ok(Book::commit(self, worked))
     }
 }
