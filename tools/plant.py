@@ -124,7 +124,10 @@ def verdict_of(bug, name, verdicts):
     if "refused" in own:
         return "refused"
     if "called" in own:
-        return None
+        # A bug in a closure: the closure is refused, and the function that makes it calls it.
+        above, _, last = bug.function.rpartition("::")
+        closures = f"{name}::{above}::fn::{last}::"
+        return "refused" if any(kind == "refused" and path.startswith(closures) for path, kind in verdicts.items()) else None
     return "let through" if own else "no verdict"
 
 
