@@ -1,15 +1,16 @@
 #!/usr/bin/env python3
-"""Tries the bugs of plants/NAME.txt, each in turn, and says which of them the contracts of crates/NAME refuse.
+"""Tries the bugs of plants/NAME.txt and says which of them the contracts of crates/NAME refuse.
 
     python3 tools/plant.py NAME [--only WORD] [--jobs N]
 
 A file of bugs is a list of paragraphs. `call:` names the public call whose meaning the next bugs turn, and `fn:` the function
-that they stand in, as `module::Type::function`; both hold until the next such line. A bug is pairs of lines `old:`, a text
+that they stand in, as `module::Type::function`; each holds until the next such line. A bug is pairs of lines `old:`, a text
 that stands once in that function, and `new:`, the text in its place; or one line `body:`, the whole body in its place. A line
-`passes:` in it says why the contract rightly lets it through.
+`passes:` in it says why the contract rightly lets it through, and which test refuses it.
 
-Bugs in functions that don't call each other are tried in one check, since rt check judges each function by itself. Work goes on
-in a copy of the repository under /tmp, whose libraries have to be checked already (rt check)."""
+One bug stands in each of many functions at a time: `rt check --allow-holes` tries the goals of every function, by the contracts of
+those that it calls. A bug that no goal refuses there is planted once more by itself. The work goes on in a copy under /tmp, over
+what earlier checks left in out/."""
 
 import argparse
 import pathlib
@@ -19,6 +20,9 @@ import subprocess
 import sys
 
 TOP = pathlib.Path(__file__).resolve().parent.parent
+
+# What a proof says that names what a bug took away: it says little of the contract.
+GONE = re.compile(r"has no field|is not in scope|has no `|was not admitted")
 
 
 class Bug:
@@ -34,16 +38,13 @@ class Bug:
 def bugs_of(path):
     bugs, call, function, bug = [], None, None, None
     for number, line in enumerate(path.read_text().splitlines(), 1):
-        if not line.strip() or line.startswith("#"):
-            bug = None
-            continue
         word, _, text = line.partition(":")
         text = text[1:]
-        if word == "call":
-            call, function, bug = text, text, None
-        elif word == "fn":
-            function, bug = text, None
-        elif word in ("old", "body", "new", "passes"):
+        if not line.strip() or line.startswith("#"):
+            bug = None
+        elif word in ("call", "fn"):
+            call, function, bug = text if word == "call" else call, text, None
+        elif word in ("old", "new", "body", "passes"):
             if bug is None:
                 bug = Bug(call, function, number)
                 bugs.append(bug)
@@ -51,40 +52,31 @@ def bugs_of(path):
                 bug.changes.append([text, None])
             elif word == "new":
                 bug.changes[-1][1] = text
-            elif word == "body":
-                bug.body = text
             else:
-                bug.passes = text
+                setattr(bug, word, text)
         else:
             sys.exit(f"{path}:{number}: no such word: {word}")
     return bugs
 
 
 def place_of(crate, function):
-    """The file of a function, and its first and last line in it."""
-    parts = function.split("::")
-    *above, name = parts
-    file, owner = None, None
-    for n in range(len(above), -1, -1):
-        for tried in (crate / "src" / ("/".join(above[:n] or ["lib"]) + ".rt"), crate / "src" / "/".join(above[:n]) / "mod.rt"):
-            if file is None and tried.is_file():
-                file, owner = tried, above[n:]
-    lines = file.read_text().split("\n")
-    found, holder = [], ""
+    """The file of a function, and its first and last line there."""
+    *above, name = function.split("::")
+    file, owner = next((crate / "src" / ("/".join(above[:n]) + ".rt"), above[n:]) for n in range(len(above), 0, -1)
+                       if (crate / "src" / ("/".join(above[:n]) + ".rt")).is_file())
+    lines, found, holder = file.read_text().split("\n"), [], ""
     for i, line in enumerate(lines):
-        if re.match(r"(impl|pub trait|trait|macro_rules!)\b", line):
+        if re.match(r"(impl|pub trait|trait)\b", line):
             holder = line
         elif line.startswith("}"):
             holder = ""
-        if re.match(rf"\s*(pub(\([a-z]+\))? )?(const )?fn {re.escape(name)}\b", line):
-            if all(re.search(rf"\b{re.escape(it)}\b", holder) for it in owner) and (owner or not holder):
-                found.append(i)
+        is_it = re.match(rf"\s*(pub(\([a-z]+\))? )?(const )?fn {re.escape(name)}\b", line)
+        if is_it and bool(owner) == bool(holder) and all(re.search(rf"\b{re.escape(it)}\b", holder) for it in owner):
+            found.append(i)
     if len(found) != 1:
         sys.exit(f"{function}: stands {len(found)} times in {file}")
-    first = found[0]
-    indent = re.match(r"\s*", lines[first]).group()
-    last = next(i for i in range(first, len(lines)) if lines[i] == indent + "}")
-    return file, first, last
+    indent = re.match(r"\s*", lines[found[0]]).group()
+    return file, found[0], next(i for i in range(found[0], len(lines)) if lines[i] == indent + "}")
 
 
 def plant(crate, bug):
@@ -92,126 +84,148 @@ def plant(crate, bug):
     lines = file.read_text().split("\n")
     text = "\n".join(lines[first:last + 1])
     if bug.body is not None:
-        opening = next(m.start() for m in re.finditer(r"(?m)(^\s*\{$|(?<=\) )\{$|(?<=[\w>\]] )\{$)", text))
-        text = text[:opening] + "{ " + bug.body + " }"
+        opening = re.search(r"(?m)\{$(?!\n\s*(ensures|requires))", text).end()
+        text = f"{text[:opening]}\n{bug.body}\n{lines[last]}"
     for old, new in bug.changes:
         if text.count(old) != 1 or new is None:
             sys.exit(f"{bug}: `{old}` stands {text.count(old)} times")
         text = text.replace(old, new)
-    file.write_text("\n".join(lines[:first]) + ("\n" if first else "") + text + "\n" + "\n".join(lines[last + 1:]))
+    file.write_text("\n".join(lines[:first] + [text] + lines[last + 1:]))
 
 
-def verdicts_of(said):
-    """What a check said of each function: proved, called (no verdict), or refused."""
-    verdicts = {}
-    for line in said.splitlines():
-        found = re.match(r"(?:fn|impl|struct|enum|trait) (\S+): (.*)", line)
-        if found:
-            path, what = found.groups()
-            kind = "proved" if what.startswith("proved") else "called" if "no proof: it calls" in what else "refused"
-            verdicts[path] = kind
-    return verdicts
+class Copy:
+    """A copy of the crate and of those below it, to which each round comes back."""
+
+    def __init__(self, name, jobs):
+        self.at, self.jobs = pathlib.Path(f"/tmp/plant-{name}"), str(jobs)
+        shutil.rmtree(self.at, ignore_errors=True)
+        lines = [it.split("#")[0].partition(":") for it in (TOP / "crates.txt").read_text().splitlines()]
+        below = {it[0].split()[0]: it[2].split() for it in lines if it[1]}
+        needed = [name]
+        for it in needed:
+            needed += [other for other in below[it] if other in below and other not in needed]
+        (self.at / "crates").mkdir(parents=True)
+        (self.at / "crates.txt").write_text("".join(f"{it}: {' '.join(below[it])}\n" for it in needed))
+        shutil.copy(TOP / "HANDLES", self.at)
+        for it in needed:
+            shutil.copytree(TOP / "crates" / it, self.at / "crates" / it, symlinks=True)
+        self.crate, self.kept = self.at / "crates" / name, self.at / "kept"
+        shutil.rmtree(self.crate / "must-fail", ignore_errors=True)
+        shutil.copytree(self.crate / "src", self.kept / "src")
+
+    def check(self, *words):
+        return subprocess.run(["rt", "check", "--jobs", self.jobs, *words], cwd=self.crate, text=True,
+                              stdout=subprocess.PIPE, stderr=subprocess.STDOUT).stdout
+
+    def keep(self):
+        shutil.copytree(self.crate / "out", self.kept / "out", symlinks=True)
+
+    def planted(self, bugs, *words):
+        """What a check says where these bugs stand in the crate as it was kept."""
+        for part in [it.name for it in self.kept.iterdir()]:
+            shutil.rmtree(self.crate / part)
+            shutil.copytree(self.kept / part, self.crate / part, symlinks=True)
+        for bug in bugs:
+            plant(self.crate, bug)
+        return self.check(*words)
 
 
-def verdict_of(bug, name, verdicts):
-    wanted = f"{name}::{bug.function}"
-    own = [kind for path, kind in verdicts.items() if path.replace("+", "") == wanted]
-    if not own:
-        words = bug.function.split("::")
-        own = [kind for path, kind in verdicts.items() if path.split("::")[-1] == words[-1]
-               and (len(words) == 1 or path.split("::")[-2].startswith(words[-2])
-                    or words[-2] in path.split("::"))]
-    if "refused" in own:
-        return "refused"
-    if "called" in own:
-        # A bug in a closure: the closure is refused, and the function that makes it calls it.
-        above, _, last = bug.function.rpartition("::")
-        closures = f"{name}::{above}::fn::{last}::"
-        return "refused" if any(kind == "refused" and path.startswith(closures) for path, kind in verdicts.items()) else None
-    return "let through" if own else "no verdict"
+def is_of(path, name, function):
+    """Whether this is the function's path, its closures' among them: an impl of a trait has both names in one."""
+    *above, last = function.split("::")
+    module, owner = (above[:-1], above[-1]) if above and above[-1][:1].isupper() else (above, "")
+    start = "::".join([name, *module]) + "::"
+    if not path.startswith(start):
+        return False
+    rest = path[len(start):].replace("+", "").split("::")
+    if owner:
+        return rest[0].startswith(owner) and (rest[1:2] == [last] or rest[1:3] == ["fn", last])
+    return rest[:1] == [last] or rest[:2] == ["fn", last]
 
 
-def check(crate, jobs):
-    done = subprocess.run(["rt", "check", "--jobs", str(jobs)], cwd=crate, text=True, stdout=subprocess.PIPE,
-                          stderr=subprocess.STDOUT)
-    return done.stdout
+def verdict_of(bug, name, said):
+    """refused; by its proof, where a written proof names what the bug took away and no goal is open; or none."""
+    verdict = None
+    for path, what in re.findall(r"(?m)^(?:fn|closure) (\S+): (.*)$", said):
+        if not is_of(path, name, bug.function):
+            continue
+        own = re.sub(r"[;,]? ?(in `[^`]*`, of this cycle of calls: )?(it calls|it passes the block) .*", "", what)
+        if own in ("proved", "no holes", "no proof:") or "waits for the proof" in what:
+            verdict = verdict or "none"
+            continue
+        folder = "/".join(path.split("::")[1:])
+        errors = re.findall(rf"(?m)^\./proofs/{re.escape(folder)}/\S+: error: (.*)$", said)
+        by_proof = "did not prove" not in own and errors and all(GONE.search(it) for it in errors)
+        verdict = "by its proof" if by_proof and verdict != "refused" else "refused"
+    return verdict
+
+
+def judge(copy, name, bugs):
+    waiting, alone = list(bugs), []
+    while waiting:
+        chosen = {}
+        for bug in waiting:
+            chosen.setdefault(bug.function, bug)
+        said = copy.planted(chosen.values(), "--allow-holes")
+        (copy.at / "said.log").write_text(said)
+        if not re.search(r"(?m)^fn \S+: (proved|no holes)", said):
+            blame(copy, said, list(chosen.values()))
+        else:
+            for bug in chosen.values():
+                bug.verdict = verdict_of(bug, name, said) or "no verdict"
+                if bug.verdict == "none":
+                    alone.append(bug)
+        waiting = [it for it in waiting if it.verdict is None]
+        print(f"# {len(bugs) - len(waiting)} of {len(bugs)} planted", file=sys.stderr, flush=True)
+    for bug in alone:
+        said = copy.planted([bug])
+        bug.verdict = "let through" if "logic=proved" in said else verdict_of(bug, name, said)
+        bug.verdict = "refused by its callers" if bug.verdict in (None, "none") else bug.verdict
+
+
+def blame(copy, said, bugs):
+    """Not one function was judged: a bug doesn't compile, and the compiler names its file and line."""
+    for bug in bugs:
+        file, first, last = place_of(copy.crate, bug.function)
+        places = re.findall(rf"{re.escape(str(file.relative_to(copy.crate)))}:(\d+)", said)
+        if len(bugs) == 1 or any(first < int(it) <= last + 1 for it in places):
+            bug.verdict = "doesn't compile"
+    if not any(it.verdict for it in bugs):
+        sys.exit(f"no verdict, and no line that names a bug:\n{said[-3000:]}")
+    print("\n".join(it for it in said.splitlines() if ": error" in it)[:1000], flush=True)
 
 
 def main():
     asked = argparse.ArgumentParser()
     asked.add_argument("name")
-    asked.add_argument("--only", default="")
+    asked.add_argument("--only", default="", help="the bugs whose call or function has this in its path")
     asked.add_argument("--jobs", type=int, default=1)
     asked = asked.parse_args()
     bugs = [it for it in bugs_of(TOP / "plants" / f"{asked.name}.txt") if asked.only in f"{it.call} {it.function}"]
-    work = pathlib.Path(f"/tmp/plant-{asked.name}")
-    shutil.rmtree(work, ignore_errors=True)
-    shutil.copytree(TOP, work / "top", symlinks=True, ignore=lambda at, names:
-                    [it for it in names if it == ".git" or it == "incremental" and not at.endswith(f"{asked.name}/out")])
-    crate = work / "top" / "crates" / asked.name
-    shutil.rmtree(crate / "must-fail", ignore_errors=True)
-    shutil.copytree(crate / "src", work / "src")
-    said = check(crate, asked.jobs)
+    copy = Copy(asked.name, asked.jobs)
+    for bug in bugs:
+        plant(copy.crate, bug)
+        shutil.rmtree(copy.crate / "src")
+        shutil.copytree(copy.kept / "src", copy.crate / "src")
+    said = copy.check()
     if "logic=proved" not in said:
         sys.exit(f"{asked.name} isn't proved as it stands:\n{said[-2000:]}")
-    shutil.copytree(crate / "out", work / "out", symlinks=True)
+    copy.keep()
+    judge(copy, asked.name, bugs)
     for bug in bugs:
-        place_of(crate, bug.function)
-    waiting = bugs
-    while waiting:
-        # One bug a function; what calls a refused function gets its turn in a later round.
-        chosen = {}
-        for bug in waiting:
-            chosen.setdefault(bug.function, bug)
-        round_of = list(chosen.values())
-        for at, frm in ((crate / "src", work / "src"), (crate / "out", work / "out")):
-            shutil.rmtree(at)
-            shutil.copytree(frm, at, symlinks=True)
-        for bug in round_of:
-            plant(crate, bug)
-        said = check(crate, asked.jobs)
-        (work / "said.log").write_text(said)
-        verdicts = verdicts_of(said)
-        settled = 0
-        if not any(kind == "proved" for kind in verdicts.values()):
-            # Not one function was judged: some bug doesn't compile, and the compiler names its file and line.
-            blamed = [it for it in round_of if len(round_of) == 1 or names(said, crate, it)]
-            if not blamed:
-                sys.exit(f"no verdict, and no line that names a bug:\n{said[-3000:]}")
-            for bug in blamed:
-                bug.verdict = "doesn't compile"
-                print(f"doesn't compile: {bug}", flush=True)
-            print("\n".join(line for line in said.splitlines() if ": error" in line)[:1000], flush=True)
-            settled = 1
-        else:
-            for bug in round_of:
-                bug.verdict = verdict_of(bug, asked.name, verdicts)
-                if bug.verdict:
-                    settled += 1
-                    if (bug.verdict == "let through") != (bug.passes is not None):
-                        print(f"{bug.verdict}: {bug}", flush=True)
-        waiting = [it for it in waiting if it.verdict is None]
-        print(f"# {len(bugs) - len(waiting)} of {len(bugs)} judged", file=sys.stderr, flush=True)
-        if not settled:
-            sys.exit("a round judged nothing:\n" + "\n".join(map(str, round_of)))
+        if bug.verdict not in ("refused", "by its proof") and not (bug.verdict == "let through" and bug.passes):
+            print(f"{bug.verdict}: {bug}")
+        elif bug.passes and bug.verdict != "let through":
+            print(f"refused, though it is said to pass: {bug}")
     table(bugs)
 
 
-def names(said, crate, bug):
-    """Whether a line of the compiler's names a place in the function of this bug."""
-    file, first, last = place_of(crate, bug.function)
-    at = file.relative_to(crate)
-    return any(first < int(line) <= last + 1 for line in re.findall(rf"{re.escape(str(at))}:(\d+)", said))
-
-
 def table(bugs):
-    calls = list(dict.fromkeys(it.call for it in bugs))
-    for call in calls:
-        of_call = [it for it in bugs if it.call == call]
-        refused = sum(it.verdict == "refused" for it in of_call)
-        print(f"| `{call}` | {len(of_call)} | {refused} | {len(of_call) - refused} |")
-    print(f"| all | {len(bugs)} | {sum(it.verdict == 'refused' for it in bugs)} | "
-          f"{sum(it.verdict != 'refused' for it in bugs)} |")
+    """A row for each call: how many bugs, refused by a clause, by the form of a written proof, and let through."""
+    for call in [*dict.fromkeys(it.call for it in bugs), "all"]:
+        verdicts = [it.verdict for it in bugs if call in (it.call, "all")]
+        refused, by_proof = verdicts.count("refused"), verdicts.count("by its proof")
+        print(f"| `{call}` | {len(verdicts)} | {refused} | {by_proof} | {len(verdicts) - refused - by_proof} |")
 
 
 if __name__ == "__main__":
