@@ -1,5 +1,6 @@
-//! Prints the Argon2id tag of `password` and `somesalt` in hexadecimal, for the benchmark beside the reference program.
-//! The arguments are the memory in KiB, the passes, the lanes and the number of workers.
+//! Prints the Argon2id tag of `password` and `somesalt` in hexadecimal, for the benchmark beside
+//! the reference program. The arguments are the memory in KiB, the passes, the lanes and the number
+//! of workers.
 #![tactic(auto)]
 
 use anyhow::{Context, Result};

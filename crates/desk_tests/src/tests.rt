@@ -1,5 +1,5 @@
-//! What no clause says: that the calls succeed, what is answered at records from outside, that sessions in threads see
-//! what was settled, and what want of memory leaves.
+//! What no clause says: that the calls succeed, what is answered at records from outside, that
+//! sessions in threads see what was settled, and what want of memory leaves.
 
 mod closing;
 mod committing;

@@ -1,8 +1,9 @@
-//! What no clause says: values from outside, that parts are worked side by side, which refusals come, and what want of
-//! memory leaves.
+//! What no clause says: values from outside, that parts are worked side by side, which refusals
+//! come, and what want of memory leaves.
 //!
-//! A test mostly plays a table: one function tells of a row whether it is as it should be, and the test asserts once
-//! that no row is otherwise, since each place that may end early beside a value on the heap takes the prover seconds.
+//! A test mostly plays a table: one function tells of a row whether it is as it should be, and the
+//! test asserts once that no row is otherwise, since each place that may end early beside a value
+//! on the heap takes the prover seconds.
 
 mod argon;
 mod blake;
@@ -15,7 +16,8 @@ use std::fmt::Display;
 /// The longest input of the tables that the scripts in vectors/ make.
 const LONGEST: usize = 300;
 
-/// An input of the tables: its byte i is (7 * i + seed) mod 256, and its first bytes are an input that is shorter.
+/// An input of the tables: its byte i is (7 * i + seed) mod 256, and its first bytes are an input
+/// that is shorter.
 fn counted(seed: u8) -> [u8; LONGEST] {
     let mut bytes = [0; LONGEST];
     let mut next = seed;

@@ -1,5 +1,5 @@
-//! Records that were damaged, and the faults that are to be found in them, worked out by hand from the rules of the
-//! strings.
+//! Records that were damaged, and the faults that are to be found in them, worked out by hand from
+//! the rules of the strings.
 
 use crate::strings::A;
 
@@ -76,8 +76,8 @@ pub static OTHER_TEXTS: [(&str, Change); 5] = [
     ("$argon2id$v=19$m=0256,t=2,p=1", ("0", "0", 1, PARAMS)),
 ];
 
-/// What is answered to the front of `A`, of as many bytes as from the first to the second number. Its tag may be cut
-/// where the unused bits of the last letter are zero.
+/// What is answered to the front of `A`, of as many bytes as from the first to the second number.
+/// Its tag may be cut where the unused bits of the last letter are zero.
 pub static CUTS_OF_A: [(usize, usize, Answer); 30] = [
     (0, 0, SHAPE),
     (1, 7, SCHEME),

@@ -1,5 +1,5 @@
-//! What several crates of tests share: settings and records that other programs made, what is to be answered to damaged
-//! ones, and a gate at which two parts of a hash meet.
+//! What several crates of tests share: settings and records that other programs made, what is to be
+//! answered to damaged ones, and a gate at which two parts of a hash meet.
 #![tactic(auto)]
 
 pub use damaged::{Answer, CUTS_OF_A, Change, DAMAGED_A, DAMAGED_SCRYPT, OTHER_TEXTS};

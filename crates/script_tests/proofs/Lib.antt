@@ -1,1 +1,2 @@
+-- The lemmas that the proofs of the tests' own keeper cite.
 pub mod Shelves

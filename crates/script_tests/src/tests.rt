@@ -1,6 +1,7 @@
-//! What no clause says: worked scripts with their answers, which stand here as text, and what becomes of a script whose
-//! reader, writer, keeper or memory fails. Here are the records and settings, the runs, and what holds a value against
-//! another; each module has the tests of one matter.
+//! What no clause says: worked scripts with their answers, which stand here as text, and what
+//! becomes of a script whose reader, writer, keeper or memory fails. Here are the records and
+//! settings, the runs, and what holds a value against another; each module has the tests of one
+//! matter.
 
 mod committers;
 mod dialogue;

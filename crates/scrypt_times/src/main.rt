@@ -1,5 +1,6 @@
-//! Times scrypt: for each line of the input, one key of `password` and `NaCl`. The arguments are ln, r, p and the number
-//! of workers. Each line that it prints has the time in nanoseconds and the key in hexadecimal.
+//! Times scrypt: for each line of the input, one key of `password` and `NaCl`. The arguments are
+//! ln, r, p and the number of workers. Each line that it prints has the time in nanoseconds and the
+//! key in hexadecimal.
 #![tactic(auto)]
 
 use anyhow::{Context, Result};

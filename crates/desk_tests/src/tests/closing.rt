@@ -32,7 +32,8 @@ fn removal_in_a_journal(rt: HostRuntime) {
     assert_eq!(rt; closed.book.show(&name(&rt, "a")), Ok(None));
 }
 
-/// Session 0 enrols a and tells session 1, which verifies and upgrades twice; session 2 never settles what it worked.
+/// Session 0 enrols a and tells session 1, which verifies and upgrades twice; session 2 never
+/// settles what it worked.
 #[test]
 fn closing(rt: HostRuntime) {
     let lines = [
@@ -62,7 +63,7 @@ fn closing(rt: HostRuntime) {
     assert_eq!(rt; closed.book.show(&name(&rt, "b")), Ok(None));
 }
 
-// Makes a desk with so many sessions, and ends it.
+/// Makes a desk with so many sessions, and ends it.
 fn make_and_end<J: Naming, R: Wait>(
     rt: &R,
     alloc: Global,

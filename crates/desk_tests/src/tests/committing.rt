@@ -22,7 +22,8 @@ type Shows = [Result<Option<Record>, BookError>; 4];
 
 type Changes = [Result<(), BookError>; 4];
 
-// The calls of any keeper: what it shows at a, and at b before and after them and in between, and what they answer.
+/// The calls of any keeper: what it shows at a, and at b before and after them and in between, and
+/// what they answer.
 fn keep<R: Wait, K: Keeper>(
     rt: &R,
     keeper: &mut K,
@@ -43,7 +44,7 @@ fn keep<R: Wait, K: Keeper>(
     )
 }
 
-// A verify of b, begun and committed by the keeper.
+/// A verify of b, begun and committed by the keeper.
 fn keep_verify<R: Threads + Wait + Abort + Sync, K: Keeper>(
     rt: &R,
     alloc: Global,
@@ -57,7 +58,7 @@ fn keep_verify<R: Threads + Wait + Abort + Sync, K: Keeper>(
     keeper.commit(rt, worked(rt, alloc, &mut open)?).ok()
 }
 
-// A ticket on a name that the committer doesn't have.
+/// A ticket on a name that the committer doesn't have.
 fn foreign<R: Abort>(rt: &R, alloc: Global) -> Option<Ticket> {
     let other = book_of(rt, alloc, OTHER)?;
     let request = enrol(rt, "zed", B_SETTING);
@@ -67,7 +68,7 @@ fn foreign<R: Abort>(rt: &R, alloc: Global) -> Option<Ticket> {
     other.begin(request).ok()
 }
 
-// Works the ticket and commits it, and has the session learn what was told.
+/// Works the ticket and commits it, and has the session learn what was told.
 fn commit<J: Naming, R: Threads + Wait + Sync>(
     rt: &R,
     alloc: Global,
@@ -87,7 +88,8 @@ fn commit<J: Naming, R: Threads + Wait + Sync>(
     }
 }
 
-// What a session reads after the committer's changes, and what is answered to work from before them.
+/// What a session reads after the committer's changes, and what is answered to work from before
+/// them.
 fn commit_and_read<J: Naming, R: Threads + Wait + Abort + Sync>(
     rt: &R,
     alloc: Global,
@@ -117,7 +119,7 @@ struct Outcome {
     read: [Answer; 4],
 }
 
-// All calls on a committer, between a session's first beginning and its last.
+/// All calls on a committer, between a session's first beginning and its last.
 fn keep_and_commit<J: Naming, R: Threads + Wait + Abort + Sync>(
     rt: &R,
     alloc: Global,
@@ -135,7 +137,8 @@ fn keep_and_commit<J: Naming, R: Threads + Wait + Abort + Sync>(
     }
 }
 
-// Commits and reads, ends the committer, and begins once more: what that answers, and what it reads then.
+/// Commits and reads, ends the committer, and begins once more: what that answers, and what it
+/// reads then.
 fn committed<J: Naming, R: Threads + Wait + Abort + Sync>(
     rt: &R,
     alloc: Global,
@@ -184,7 +187,7 @@ fn committer_is_read_and_ended(rt: HostRuntime) {
     assert!(rt; late == ended || late == [Answer::Done, Answer::Copied(now)]);
 }
 
-// Makes a committer with this number of sessions, and ends it.
+/// Makes a committer with this number of sessions, and ends it.
 fn make_and_end<J: Naming, R: Wait>(
     rt: &R,
     alloc: Global,

@@ -1,4 +1,5 @@
-//! What want of memory leaves. The tests hold whichever request is refused: tools/refuse_memory.py refuses each in turn.
+//! What want of memory leaves. The tests hold whichever request is refused: tools/refuse_memory.py
+//! refuses each in turn.
 ghost use Rattle.std.specs.Prelude.{◌≡◌, false, true};
 
 use super::scene::{Answer, begin, close_desk, read};
@@ -14,10 +15,11 @@ use std::process::Abort;
 use std::sync::Wait;
 use std::thread::Threads;
 
-/// How many upgrades are made, to and fro between `A` and `B`; the journal grows more than once on the way.
+/// How many upgrades are made, to and fro between `A` and `B`; the journal grows more than once on
+/// the way.
 const UPGRADES: u64 = 6;
 
-// Works the ticket, a second time where it comes back.
+/// Works the ticket, a second time where it comes back.
 fn worked_again<R: Threads + Sync>(rt: &R, alloc: Global, ticket: Ticket) -> Option<Worked> {
     match ticket.work(rt, alloc, 1, &NoGate) {
         Ok(work) => Some(work),
@@ -25,7 +27,7 @@ fn worked_again<R: Threads + Sync>(rt: &R, alloc: Global, ticket: Ticket) -> Opt
     }
 }
 
-// The work of the upgrade of this place in the row.
+/// The work of the upgrade of this place in the row.
 fn upgrade_work<J: Naming, R: Threads + Abort + Sync>(
     rt: &R,
     alloc: Global,
@@ -38,7 +40,8 @@ fn upgrade_work<J: Naming, R: Threads + Abort + Sync>(
     worked_again(rt, alloc, open?)
 }
 
-// Whether the work is the one that was handed in, and each session reads the record that it copied.
+/// Whether the work is the one that was handed in, and each session reads the record that it
+/// copied.
 fn is_same<J: Naming, R: Abort>(
     rt: &R,
     sessions: &mut [Session<J>],
@@ -66,7 +69,8 @@ fn settle<J: Naming, R: Wait>(
     Ok(reply)
 }
 
-// Settles the work, a second time where there was no memory, and none of the sessions saw it until then.
+/// Settles the work, a second time where there was no memory, and none of the sessions saw it until
+/// then.
 fn settle_again<J: Naming, R: Wait + Abort>(
     rt: &R,
     desk: &Desk<J>,
@@ -85,7 +89,7 @@ fn settle_again<J: Naming, R: Wait + Abort>(
     }
 }
 
-// How many upgrades were settled before one that wasn't, of so many.
+/// How many upgrades were settled before one that wasn't, of so many.
 fn settle_all<J: Naming, R: Threads + Wait + Abort + Sync>(
     rt: &R,
     alloc: Global,
@@ -108,7 +112,7 @@ fn settle_all<J: Naming, R: Threads + Wait + Abort + Sync>(
     UPGRADES
 }
 
-// A desk that is made, settled at and closed, or isn't made.
+/// A desk that is made, settled at and closed, or isn't made.
 fn settled<J: Naming, R: Threads + Wait + Abort + Sync>(
     rt: &R,
     alloc: Global,
@@ -153,12 +157,13 @@ fn commit<J: Naming, R: Wait>(
     Ok(reply)
 }
 
-// Whether the committer shows this record at a.
+/// Whether the committer shows this record at a.
 fn shows<J: Naming, R: Abort>(rt: &R, committer: &Committer<J>, record: Option<Record>) -> bool {
     committer.show(&name(rt, "a")) == Ok(record)
 }
 
-// Commits the work, a second time where there was no memory, and neither the keeper nor a session showed it until then.
+/// Commits the work, a second time where there was no memory, and neither the keeper nor a session
+/// showed it until then.
 fn commit_again<J: Naming, R: Wait + Abort>(
     rt: &R,
     committer: &mut Committer<J>,
@@ -178,7 +183,7 @@ fn commit_again<J: Naming, R: Wait + Abort>(
     }
 }
 
-// How many upgrades were committed before one that wasn't, of so many.
+/// How many upgrades were committed before one that wasn't, of so many.
 fn commit_all<J: Naming, R: Threads + Wait + Abort + Sync>(
     rt: &R,
     alloc: Global,
@@ -201,7 +206,7 @@ fn commit_all<J: Naming, R: Threads + Wait + Abort + Sync>(
     UPGRADES
 }
 
-// A committer that is made, commits and is ended, or isn't made.
+/// A committer that is made, commits and is ended, or isn't made.
 fn committed<J: Naming, R: Threads + Wait + Abort + Sync>(
     rt: &R,
     alloc: Global,

@@ -1,4 +1,5 @@
-//! Scenes at a desk: what its sessions do one after another, and in threads, and how each call is to answer.
+//! Scenes at a desk: what its sessions do one after another, and in threads, and how each call is
+//! to answer.
 ghost use Rattle.std.specs.Prelude.{◌≡◌, false};
 
 use super::{Accounts, book_of};
@@ -57,7 +58,8 @@ pub(super) enum Closing {
     Late,
 }
 
-/// A desk: the accounts of its book, how many sessions it has, and how they are handed in at its end.
+/// A desk: the accounts of its book, how many sessions it has, and how they are handed in at its
+/// end.
 #[derive(Clone, Copy)]
 pub(super) struct Setup {
     pub(super) accounts: Accounts<'static>,
@@ -69,7 +71,8 @@ pub(super) struct Setup {
 #[derive(Clone, Copy)]
 struct Scene<'a> {
     closing: Closing,
-    /// What the front half of the sessions does, in a thread of its own. Places count from the front of the half.
+    /// What the front half of the sessions does, in a thread of its own. Places count from the
+    /// front of the half.
     front: &'a [Line],
     /// What the back half does meanwhile.
     back: &'a [Line],
@@ -211,7 +214,7 @@ fn play<J: Naming, R: Threads + Wait + Sync>(
     None
 }
 
-// What one half hands on the other learns, which waits no longer once the first has ended.
+/// What one half hands on the other learns, which waits no longer once the first has ended.
 fn play_in_two<J: Naming + Send + Sync, R: Threads + Wait + Sync>(
     rt: &R,
     alloc: Global,
@@ -272,7 +275,8 @@ pub(super) fn close_desk<J: Naming, R: Wait>(
     }
 }
 
-// Closes the desk where the last session is missing, which is refused, and then with that one in front of the others.
+/// Closes the desk where the last session is missing, which is refused, and then with that one in
+/// front of the others.
 fn close_late<J: Naming, R: Wait>(
     rt: &R,
     desk: Desk<J>,
@@ -316,7 +320,8 @@ fn played<J: Naming + Send + Sync, R: Threads + Wait + Sync>(
     Ok((closed?, slip))
 }
 
-/// Plays what the front half of the sessions does and the back half, in a thread each, and what they do afterwards, and closes the desk.
+/// Plays what the front half of the sessions does and the back half, in a thread each, and what
+/// they do afterwards, and closes the desk.
 pub(super) fn show<'a, R: Threads + Wait + Abort + Sync>(
     rt: &R,
     alloc: Global,

@@ -1,4 +1,5 @@
-//! Two sessions of one desk whose account a has `A`, in one thread: what one settles, the other meets.
+//! Two sessions of one desk whose account a has `A`, in one thread: what one settles, the other
+//! meets.
 use super::scene::{Act, Answer, Closing, Line, Setup, Slip, show};
 use super::{ONE_STANDS, entry, stored, upgrade, verify};
 use cred_book::Reply;
@@ -18,7 +19,8 @@ const SETUP: Setup = Setup {
     closing: Closing::AtOnce,
 };
 
-// Plays the lines; the journal is then one upgrade of a to `B`, and the sessions made so many changes.
+/// Plays the lines; the journal is then one upgrade of a to `B`, and the sessions made so many
+/// changes.
 fn upgraded_once<R: Threads + Wait + Abort + Sync>(
     rt: &R,
     alloc: Global,
@@ -34,7 +36,8 @@ fn upgraded_once<R: Threads + Wait + Abort + Sync>(
     slip
 }
 
-/// A session that has settled an upgrade reads it with nothing learned, and begins nothing at a name that isn't there.
+/// A session that has settled an upgrade reads it with nothing learned, and begins nothing at a
+/// name that isn't there.
 #[test]
 fn own_settle_is_read(rt: HostRuntime) {
     let lines = [

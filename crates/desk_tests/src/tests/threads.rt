@@ -83,7 +83,7 @@ fn seen_after_settle(rt: HostRuntime) {
     assert_eq!(rt; closed.counts.as_slice(), [1, 1].as_slice());
 }
 
-// An enrolment, and then upgrades to and fro.
+/// An enrolment, and then upgrades to and fro.
 fn enrol_and_upgrade<R: Abort>(
     rt: &R,
     alloc: Global,
@@ -103,7 +103,7 @@ fn enrol_and_upgrade<R: Abort>(
     Ok(lines)
 }
 
-// The account's entries stand in its session's order, in which the settings take turns.
+/// The account's entries stand in its session's order, in which the settings take turns.
 fn judge_entries<R: Abort>(rt: &R, closed: &Closed, account: &str) {
     let account = name(rt, account);
     let (once, twice) = (setting(rt, ONCE), setting(rt, TWICE));

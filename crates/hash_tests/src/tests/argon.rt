@@ -1,4 +1,5 @@
-//! Of `cred_argon`: tags and blocks from outside, that the lanes are worked side by side, and which refusals come.
+//! Of `cred_argon`: tags and blocks from outside, that the lanes are worked side by side, and which
+//! refusals come.
 mod gates;
 mod places;
 mod tags;

@@ -1,30 +1,30 @@
-//! Of `cred_blake`: the vectors of RFC 7693 and of the authors of BLAKE2, H' by other programs, the errors' texts, and
-//! what want of memory leaves.
+//! Of `cred_blake`: the vectors of RFC 7693 and of the authors of BLAKE2, H' by other programs, the
+//! errors' texts, and what want of memory leaves.
 ghost use Rattle.std.specs.Prelude.{◌≤◌, length};
 
 use super::{is_hex, is_made, is_shown};
 use cred_blake::{Blake2b, BlakeError, Digest, hprime, hprime_block};
 use std::alloc::Global;
 
-// RFC 7693, appendix A.
+/// RFC 7693, appendix A.
 const ABC: &str = "ba80a53f981c4d0d6a2797b69f12f6e94c212f14685ac4b74b12bb6fdbffa2d1\
     7d87c5392aab792dc252d5de4533cc9518d38aa8dbf1925ab92386edd4009923";
 
 const EMPTY: &str = "786a02f742015903c6c6fd852552d272912f4740e15847618a86e217f71f5419\
     d25e1031afee585313896444934eb04b903a685b1448b755d56f701afe9be2ce";
 
-// The bytes 0 to 127, and 0 to 128.
+/// The bytes 0 to 127, and 0 to 128.
 const ONE_BLOCK: &str = "2319e3789c47e2daa5fe807f61bec2a1a6537fa03f19ff32e87eecbfd64b7e0e\
     8ccff439ac333b040f19b0c4ddd11a61e24ac1fe0f10a039806c5dcc0da3d115";
 
 const TWO_BLOCKS: &str = "f59711d44a031d5f97a9413c065d1e614c417ede998590325f49bad2fd444d3e\
     4418be19aec4e11449ac1a57207898bc57d76a1bcf3566292c20c683a5c4648f";
 
-// The bytes 0 to 254 under the key 0 to 63, the last of the keyed vectors of the BLAKE2 authors.
+/// The bytes 0 to 254 under the key 0 to 63, the last of the keyed vectors of the BLAKE2 authors.
 const KEYED: &str = "142709d62e28fcccd0af97fad0f8465b971e82201dc51070faa0372aa43e9248\
     4be1c1e73ba10906d5d1853db6a4106e0a7bf9800d373d6dee2d46d62ef2a461";
 
-// H' of `abc` to 1, 64, 65, 96 and 97 bytes, and the 64-byte hash of the one to 1024 bytes.
+/// H' of `abc` to 1, 64, 65, 96 and 97 bytes, and the 64-byte hash of the one to 1024 bytes.
 const PRIME_1: &str = "79";
 
 const PRIME_64: &str = "f32577a3172f56657d531faaa43077bb8c9726ada7bb04dd337ec5a65454abff\
@@ -48,7 +48,7 @@ const PRIME_1024_HASHED: &str = "74e1e21a31d8062c02e7ff282659d9361f74761d6b97a3f
 
 const LONG_KEY: [u8; 65] = [7; 65];
 
-// Fills `bytes` with 0, 1, 2 and so on.
+/// Fills `bytes` with 0, 1, 2 and so on.
 fn count_up(bytes: &mut [u8])
     requires { length bytes.old ≤ 256 }
 {
@@ -73,7 +73,7 @@ fn fed_by_bytes(hasher: Blake2b, message: &[u8]) -> Digest {
     hasher.finalize()
 }
 
-// Whether this is the digest of 64 bytes of the pieces, one after the other.
+/// Whether this is the digest of 64 bytes of the pieces, one after the other.
 fn is_hash(key: &[u8], pieces: &[&[u8]], want: &str) -> bool {
     match Blake2b::new(64, key) {
         Ok(hasher) => is_hex(fed(hasher, pieces).bytes(), want),
@@ -118,7 +118,7 @@ fn keyed(rt: HostRuntime) {
     assert!(rt; is_hash(&key, &[&message], KEYED));
 }
 
-// The number and the word of the error, if a hasher is refused.
+/// The number and the word of the error, if a hasher is refused.
 fn refusal(out_len: usize, key: &[u8]) -> Option<(u8, &'static str)> {
     match Blake2b::new(out_len, key) {
         Ok(_) => None,
@@ -179,7 +179,7 @@ fn hash_prime_shapes(rt: HostRuntime) {
     }
 }
 
-// Whether the bytes of H' to 1024 are these.
+/// Whether the bytes of H' to 1024 are these.
 fn is_prime_1024(alloc: Global, block: &[u8; 1024]) -> bool {
     match hprime(alloc, 1024, b"abc") {
         Ok(value) => value.as_slice() == block.as_slice(),
@@ -197,12 +197,12 @@ fn hash_prime_block(rt: HostRuntime) {
     assert_eq!(rt; seen, (true, true));
 }
 
-// The length of H' to 97 bytes.
+/// The length of H' to 97 bytes.
 fn length_97(alloc: Global) -> Result<usize, BlakeError> {
     Ok(hprime(alloc, 97, b"abc")?.len())
 }
 
-// Holds whichever request is refused; tools/refuse_memory.py refuses each in turn.
+/// Holds whichever request is refused; tools/refuse_memory.py refuses each in turn.
 #[test]
 fn refused_memory(rt: HostRuntime) {
     let len = length_97(rt.alloc());

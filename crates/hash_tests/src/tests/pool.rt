@@ -1,4 +1,5 @@
-//! Of `cred_pool`: how often each part is worked and seen by the gate, and that two workers work side by side.
+//! Of `cred_pool`: how often each part is worked and seen by the gate, and that two workers work
+//! side by side.
 ghost use Rattle.std.specs.Prelude.{◌≤◌, ⊤};
 
 use cred_pool::{Gate, Part, run_parts};

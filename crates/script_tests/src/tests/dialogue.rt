@@ -143,7 +143,8 @@ impl Dialogue {
         self.hold_run(rt, workers, end, &written);
     }
 
-    /// Holds it against runs on an empty book, an empty shelf and a committer, with one worker and with four.
+    /// Holds it against runs on an empty book, an empty shelf and a committer, with one worker and
+    /// with four.
     pub(super) fn judge<R: Threads + Wait + Sync + Abort>(&self, rt: &R, alloc: Global) {
         for workers in [1, 4] {
             self.judge_on(rt, alloc, workers, empty_book(rt, alloc));

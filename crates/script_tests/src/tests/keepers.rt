@@ -16,7 +16,8 @@ use std::process::Abort;
 use std::sync::Wait;
 use std::thread::Threads;
 
-/// Keeps an account a book, in the order in which they came. It refuses one load and one commit for want of memory.
+/// Keeps an account a book, in the order in which they came. It refuses one load and one commit for
+/// want of memory.
 #[derive(Drop)]
 pub(super) struct Shelf {
     alloc: Global,
@@ -108,7 +109,7 @@ impl Keeper for Shelf {
     }
 }
 
-// A book with this account alone.
+/// A book with this account alone.
 fn one_account(alloc: Global, name: Name) -> Result<Book, BookError>
     ensures { IfOk result (λ book. book ≡ map.insert map.empty name None) }
 {
@@ -119,7 +120,7 @@ fn one_account(alloc: Global, name: Name) -> Result<Book, BookError>
     }
 }
 
-// The first book with the account.
+/// The first book with the account.
 fn place_of(books: &[Book], name: &Name) -> Option<usize>
     ensures { MatchOption result
         ((k : ℕ) → k < length books.now → map.contains_key (slice_index_or books.now k map.empty) name.now ≡ false)
@@ -134,7 +135,8 @@ fn place_of(books: &[Book], name: &Name) -> Option<usize>
     None
 }
 
-/// How many loads and commits a shelf takes, and what a script then comes to: its end, how many of its lines are answered, and the records of a and b.
+/// How many loads and commits a shelf takes, and what a script then comes to: its end, how many of
+/// its lines are answered, and the records of a and b.
 struct Stop {
     loads: usize,
     commits: usize,
@@ -166,7 +168,8 @@ fn judge_stop<R: Threads + Wait + Sync + Abort>(
     hold_shown(rt, at, &outcome.keeper, "b", stop.b);
 }
 
-/// What a script is answered in which three records are loaded, in lines: all of it, or what comes before one load.
+/// What a script is answered in which three records are loaded, in lines: all of it, or what comes
+/// before one load.
 static LOADS: [Line<'static>; 7] = [
     ("account a", "ok"),
     ("load a {A}", "ok"),
@@ -242,7 +245,8 @@ fn a_shelf_refuses_as_a_book_does(rt: HostRuntime) {
     judge_stop(&rt, rt.alloc(), 1, &REFUSALS, &NO_STOP);
 }
 
-/// What a script is answered in which four numbers are committed, in lines: all of it, or what comes before one commit.
+/// What a script is answered in which four numbers are committed, in lines: all of it, or what
+/// comes before one commit.
 static COMMITS: [Line<'static>; 11] = [
     ("account a", "ok"),
     ("account b", "ok"),

@@ -1,4 +1,5 @@
-//! What want of memory leaves. These tests hold whichever request is refused: tools/refuse_memory.py refuses each in turn.
+//! What want of memory leaves. These tests hold whichever request is refused:
+//! tools/refuse_memory.py refuses each in turn.
 use super::committers::run_on_committer;
 use super::keepers::Shelf;
 use super::{Shown, hold, hold_bytes, hold_shown};
@@ -23,7 +24,8 @@ fn hold_front<R: Abort>(rt: &R, whole: &str, written: &[u8]) {
     assert!(rt; written.is_empty() || written.ends_with(b"\n"));
 }
 
-/// The record of a after so many lines: the first admits it, the second loads A, the ninth makes that B, and the fourteenth removes it.
+/// The record of a after so many lines: the first admits it, the second loads A, the ninth makes
+/// that B, and the fourteenth removes it.
 fn shown_after(written: &[u8]) -> Shown<'static> {
     match written.iter().filter(|&&byte| byte == b'\n').count() {
         0 => Err(BookError::NoAccount),
@@ -101,7 +103,8 @@ fn refused_script_on_a_committer(rt: HostRuntime) {
     }
 }
 
-/// Holds what the program came to: its whole output and status, or 3 with nothing but whole answers written.
+/// Holds what the program came to: its whole output and status, or 3 with nothing but whole answers
+/// written.
 fn hold_ended<R: Abort>(rt: &R, ended: u8, written: &[u8], faults: &[u8], whole: &str, status: u8) {
     if ended == 3 {
         hold_front(rt, whole, written);

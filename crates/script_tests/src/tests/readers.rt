@@ -108,7 +108,8 @@ fn endless_reader(rt: HostRuntime) {
     hold_bytes(&rt, 0, &outcome.written, &answers);
 }
 
-/// Gives its bytes, so many a call. A call fails where not every whole line that it gave before has its answer.
+/// Gives its bytes, so many a call. A call fails where not every whole line that it gave before has
+/// its answer.
 #[derive(Drop)]
 struct Asking<'a> {
     rest: &'a [u8],

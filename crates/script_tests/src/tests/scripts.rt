@@ -104,7 +104,7 @@ fn a_script_leaves_its_book(rt: HostRuntime) {
     hold_shown(&rt, 0, &outcome.keeper, "c", Err(BookError::NoAccount));
 }
 
-// each number below 4096 once, as 1237 is odd
+/// each number below 4096 once, as 1237 is odd
 fn scattered(i: u32) -> u32 {
     i.wrapping_mul(1237) % 4096
 }

@@ -1,7 +1,8 @@
-//! Keys that OpenSSL made, by vectors/scrypt/make.py, which writes this file. Byte i of an input with seed s is
-//! (7 * i + s) mod 256, and a salt and a message have the seed plus 128.
+//! Keys that OpenSSL made, by vectors/scrypt/make.py, which writes this file. Byte i of an input
+//! with seed s is (7 * i + s) mod 256, and a salt and a message have the seed plus 128.
 
-/// Ln, r and p; lengths of the key, of the password and of the salt, and the seed; the key in hexadecimal.
+/// Ln, r and p; lengths of the key, of the password and of the salt, and the seed; the key in
+/// hexadecimal.
 pub(super) const SCRYPT: [((u8, u8, u8), (u32, usize, usize, u8), &str); 40] = [
     ((1, 1, 1), (4, 0, 0, 1), "fa76e020"),
     ((1, 1, 2), (16, 1, 1, 2), "c5abc79eb06248dcfb387015b0294c43"),
@@ -237,7 +238,8 @@ pub(super) const HMAC: [((usize, usize, u8), &str); 13] = [
     ),
 ];
 
-/// Turns; lengths of the key, of the password and of the salt, and the seed; the key in hexadecimal.
+/// Turns; lengths of the key, of the password and of the salt, and the seed; the key in
+/// hexadecimal.
 pub(super) const PBKDF2: [(u32, (u32, usize, usize, u8), &str); 10] = [
     (1, (1, 0, 0, 1), "f7"),
     (

@@ -1,5 +1,5 @@
-//! What want of memory leaves. These tests hold whichever request is refused: tools/refuse_memory.py refuses each in
-//! turn.
+//! What want of memory leaves. These tests hold whichever request is refused:
+//! tools/refuse_memory.py refuses each in turn.
 use super::standard::{BLOCKS, BLOCKS_WALKED};
 use super::workers::{KEY, key_at};
 use cred_pool::NoGate;
