@@ -15,6 +15,7 @@ pub struct Meetings {
 }
 
 impl Meetings {
+    /// A gate that no part has entered.
     pub fn new() -> Self {
         Meetings {
             first: AtomicU64::new(0),
