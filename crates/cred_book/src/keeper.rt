@@ -11,8 +11,8 @@ use std::sync::Wait;
 
 /// Keeps a book, which its calls answer from and change.
 ///
-/// Those that take `rt` may wait, and may answer `Memory` where there is none; nothing is changed
-/// then.
+/// Those that take `rt` may wait, and may answer `Memory` where there is none and no other error is
+/// due; nothing is changed then.
 pub trait Keeper {
     ghost use Rattle.cred_book.specs.Accounts.{Accounts};
     ghost use Rattle.std.specs.Prelude.{◌≡◌, true};

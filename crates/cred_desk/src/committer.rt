@@ -158,6 +158,7 @@ impl<J: Naming> Keeper for Committer<J> {
     fn commit<R: Wait>(&mut self, rt: &R, worked: Worked) -> Result<Reply, (Worked, BookError)>
         ensures book { Commits (after J.opening self.old) (after J.opening self.new) worked result }
         ensures list { MatchResult result (λ _. self.new ≡ list_after self.old (entry_of (after J.opening self.old) worked)) (λ _. self.new ≡ self.old) }
+        ensures plain { entry_of (after J.opening self.old) worked ≡ None → IsOk result }
         ensures lawful { IsLawful J.opening self.new }
     {
         self.publisher
