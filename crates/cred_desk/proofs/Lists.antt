@@ -1,5 +1,5 @@
 -- Beginnings of one list, and books after entries.
-use Rattle.std.proofs.Common.{◌≡◌, ℕ, ◌+◌, ◌<◌, ◌≤◌, List, [], ◌∷◌, ◌++◌, length, Bool, true, false, MatchBool, Option, Some, None, inl, inr, is_some, refl, subst, arith, length-append, get_or}
+use Rattle.std.proofs.Common.{◌≡◌, ℕ, ◌+◌, ◌<◌, ◌≤◌, List, [], ◌∷◌, ◌++◌, length, Bool, true, false, MatchBool, Option, Some, None, inl, inr, is_some, refl, ap, subst, arith, length-append, get_or}
 use Rattle.std.proofs.lemmas.Bool.Decides.{nat_tests}
 use Rattle.std.proofs.lemmas.Bool.{cases_eq}
 use Rattle.std.proofs.lemmas.List.{get_or_read}
@@ -28,6 +28,10 @@ prefix_shorter (x ∷ xs) (y ∷ ys) (z ∷ zs) p q le =
 pub prefix_told : (xs ys zs : List Entry) → IsPrefix xs zs → IsPrefix ys zs → (b : Bool) → leb (length xs) (length ys) ≡ b → MatchBool b (IsPrefix xs ys) (IsLonger ys xs)
 prefix_told xs ys zs p q true is = let le : length xs ≤ length ys = grind (arith, nat_tests) in prefix_shorter xs ys zs p q le
 prefix_told xs ys zs p q false is = let lt : length ys < length xs = grind (arith, nat_tests) in (prefix_shorter ys xs zs q p (omega arith), lt)
+
+-- a longer list is no beginning of a shorter one
+pub longer_ends : (xs ys : List Entry) → IsLonger xs ys → IsPrefix ys xs → ⊥
+longer_ends xs ys longer p = omega (arith, longer.1, ap length (p.1), length-append ys p.0)
 
 -- a beginning as long as the whole is the whole
 pub prefix_whole : {A : Type 0} (xs ys : List A) → IsPrefix xs ys → length ys ≤ length xs → xs ≡ ys

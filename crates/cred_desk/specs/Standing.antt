@@ -39,7 +39,7 @@ ClosesAt book old new work (Err (back, error.NoAccount)) = ⊥
 -- why a work isn't settled: a change found no memory, or the session wasn't behind the list
 abbrev pub IsUnsettled : DeskError → Type 0 → Option Entry → Type 0
 IsUnsettled error.Memory behind change = behind × (change ≢ None)
-IsUnsettled error.Reader behind change = Unit {0}
+IsUnsettled error.Reader behind change = behind → ⊥
 IsUnsettled error.Sessions behind change = ⊥
 IsUnsettled error.Session behind change = ⊥
 IsUnsettled error.NoAccount behind change = ⊥

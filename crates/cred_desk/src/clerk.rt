@@ -81,7 +81,7 @@ impl<J: Naming> Clerk<J> {
     ///
     /// Errors: `Memory` where a change finds none; `Reader` where the session knew more than the
     /// list. Nothing changes then, and the work comes back.
-    #[tactic(auto, using(crate::proofs::Lists::length_list_after))]
+    #[tactic(auto, using(crate::proofs::Lists::length_list_after, crate::proofs::Lists::longer_ends))]
     pub(crate) fn settle<R: Wait>(
         &mut self,
         rt: &R,

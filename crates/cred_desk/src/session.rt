@@ -1,11 +1,12 @@
 //! One who reads the published book in a thread of its own, with no lock.
 
-ghost use Rattle.std.specs.Prelude.{◌≡◌, ◌+◌, ◌<◌, ◌^◌, [], IfSome, IsTrue, MatchBool, true};
+ghost use Rattle.std.specs.Prelude.{◌≡◌, ◌+◌, ◌<◌, ◌^◌, [], IfSome, MatchBool, true};
 ghost use mathlib.Core.List.{IsPrefix};
 ghost use Rattle.cred_book.specs.Commits.{Begins};
 ghost use Rattle.cred_book.specs.Works.{is_for_current};
 ghost use Rattle.cred_desk.specs.Commits.{reply_of};
 ghost use Rattle.cred_desk.specs.Histories.{IsListed, after};
+ghost use Rattle.cred_desk.specs.Rules.{IsLonger};
 ghost use Rattle.cred_desk.specs.Standing.{BeginsAt, ClosesAt};
 
 use crate::error::DeskError;
@@ -66,9 +67,9 @@ impl<J: Naming> Session<J> {
         }
     }
 
-    /// Whether this list begins with the one that it knows.
+    /// Whether this list begins with the one that it knows. Else that one goes on after it.
     pub(crate) fn is_behind(&self, list: &Front<J>) -> bool
-        ensures { IsTrue result → IsPrefix self.now.known list.now }
+        ensures { MatchBool result (IsPrefix self.now.known list.now) (IsLonger list.now self.now.known) }
     {
         self.known.begins(list)
     }
@@ -167,10 +168,10 @@ impl<J: Naming> Session<J> {
         self.know(told.front().again());
     }
 
-    /// Knows this list from now on, if it begins with the one that was known. Else that one begins
-    /// with it.
+    /// Knows this list from now on, if it begins with the one that was known. Else that one goes
+    /// on after it.
     fn know(&mut self, list: Front<J>) -> bool
-        ensures known { MatchBool result (self.new.known ≡ list) (IsPrefix list self.old.known × (self.new.known ≡ self.old.known)) }
+        ensures known { MatchBool result (self.new.known ≡ list) (IsLonger list self.old.known × (self.new.known ≡ self.old.known)) }
         ensures mine { IsPrefix self.old.known self.new.known }
         ensures count { self.new.count ≡ self.old.count }
         ensures listed { IsListed J.loads J.opening self.new.known }
