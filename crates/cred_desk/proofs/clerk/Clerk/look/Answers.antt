@@ -1,4 +1,4 @@
-use Rattle.std.proofs.Common.{List, refl, subst, ◌∙◌, arith}
+use Rattle.std.proofs.Common.{List, subst, ◌∙◌, arith}
 use mathlib.Core.List.{IsPrefix}
 use Rattle.cred_desk.specs.declared.entry.Entry.{Entry}
 use Rattle.cred_desk.proofs.Lists.{all_more}
