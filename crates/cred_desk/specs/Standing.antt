@@ -1,5 +1,5 @@
 -- What a clause sees of a session, and what its calls do.
-use Rattle.std.specs.Prelude.{◌≡◌, ◌≢◌, ◌+◌, ℕ, List, Option, Some, None, Result, Ok, Err}
+use Rattle.std.specs.Prelude.{◌≡◌, ◌≢◌, ◌+◌, ℕ, List, All, length, Option, Some, None, Result, Ok, Err}
 use mathlib.Core.List.{IsPrefix}
 use Rattle.std.specs.FinMap as map
 use Rattle.cred_book.specs.Accounts.{Accounts}
@@ -57,10 +57,10 @@ Settles opening old new work (Err (back, e)) =
     (back ≡ work) × (new ≡ old)
     × ((list : List Entry) × IsLegal opening list × IsUnsettled e (IsPrefix old.known list) (entry_of (after opening list) work))
 
--- why a desk isn't closed, by how many sessions were handed in and how many it has
-abbrev pub IsMissed : ℕ → ℕ → DeskError → Type 0
-IsMissed given all error.Session = given ≢ all
-IsMissed given all error.Reader = given ≡ all
-IsMissed given all error.Memory = ⊥
-IsMissed given all error.Sessions = ⊥
-IsMissed given all error.NoAccount = ⊥
+-- why a desk isn't closed, by how many sessions it has and those handed in: some are missing, or one knows more than the journal
+abbrev pub IsMissed : Accounts → ℕ → List Standing → DeskError → Type 0
+IsMissed opening all given error.Session = length given ≢ all
+IsMissed opening all given error.Reader = (length given ≡ all) × ((list : List Entry) × IsLegal opening list × (All (λ s. IsPrefix s.known list) given → ⊥))
+IsMissed opening all given error.Memory = ⊥
+IsMissed opening all given error.Sessions = ⊥
+IsMissed opening all given error.NoAccount = ⊥

@@ -116,7 +116,7 @@ impl<J: Naming> Clerk<J> {
     ///
     /// Errors: `Session` where some are missing; `Reader` where one knows more.
     pub(crate) fn look(&self, sessions: &[Session<J>]) -> Result<(), DeskError>
-        ensures all { MatchResult result (λ _. length sessions.now ≡ J.parts) (IsMissed (length sessions.now) J.parts) }
+        ensures all { MatchResult result (λ _. length sessions.now ≡ J.parts) (IsMissed J.opening J.parts sessions.now) }
         ensures known { IfOk result (λ _. All (λ s. IsPrefix s.known self.now) sessions.now) }
     {
         if sessions.len() != usize::from(self.sessions) {

@@ -100,7 +100,7 @@ impl<J: Naming> Desk<J> {
         ensures known { IfOk result (λ closed. All (λ s. IsPrefix s.known closed.journal.items) sessions.items) }
         ensures counts { IfOk result (λ closed. closed.counts.items ≡ map (λ s. s.count) sessions.items) }
         ensures total { IfOk result (λ closed. sum closed.counts.items ≡ length closed.journal.items) }
-        ensures all { MatchResult result (λ _. vec_len sessions ≡ J.parts) (λ e. IsMissed (vec_len sessions) J.parts e.2) }
+        ensures all { MatchResult result (λ _. vec_len sessions ≡ J.parts) (λ e. IsMissed J.opening J.parts sessions.items e.2) }
         ensures back { IfErr result (λ e. e.1.items ≡ sessions.items) }
     {
         let Desk { clerk } = self;

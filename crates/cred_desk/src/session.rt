@@ -69,7 +69,8 @@ impl<J: Naming> Session<J> {
 
     /// Whether this list begins with the one that it knows. Else that one goes on after it.
     pub(crate) fn is_behind(&self, list: &Front<J>) -> bool
-        ensures { MatchBool result (IsPrefix self.now.known list.now) (IsLonger list.now self.now.known) }
+        ensures behind { MatchBool result (IsPrefix self.now.known list.now) (IsLonger list.now self.now.known) }
+        ensures listed { IsListed J.loads J.opening list.now }
     {
         self.known.begins(list)
     }
