@@ -1,7 +1,7 @@
 //! What a closed desk leaves, and what it takes to make and to close one.
 ghost use Rattle.std.specs.Prelude.{◌≡◌, false};
 
-use super::scene::{Act, Answer, Closing, Setup, show};
+use super::scene::{Act, Answer, Closing, Setup, judge_closed, show};
 use super::{NONE_STANDS, book_of, enrol, entry, name, remove, stored, upgrade, verify};
 use cred_book::{Book, Reply};
 use cred_desk::{Desk, DeskError, Naming, Opened};
@@ -27,9 +27,7 @@ fn removal_in_a_journal(rt: HostRuntime) {
     let (closed, slip) = show(&rt, rt.alloc(), setup, &[], &[], &lines);
     assert_eq!(rt; slip, None);
     let journal = [entry(&rt, "a", Some(A)), entry(&rt, "a", None)];
-    assert_eq!(rt; closed.journal.as_slice(), journal.as_slice());
-    assert_eq!(rt; closed.counts.as_slice(), [2].as_slice());
-    assert_eq!(rt; closed.book.show(&name(&rt, "a")), Ok(None));
+    judge_closed(&rt, &closed, &journal, &[2], &[(name(&rt, "a"), None)]);
 }
 
 /// Session 0 enrols a and tells session 1, which verifies and upgrades twice; session 2 never
@@ -57,10 +55,11 @@ fn closing(rt: HostRuntime) {
     let (closed, slip) = show(&rt, rt.alloc(), setup, &[], &[], &lines);
     assert_eq!(rt; slip, None);
     let journal = [entry(&rt, "a", Some(A)), entry(&rt, "a", Some(B))];
-    assert_eq!(rt; closed.journal.as_slice(), journal.as_slice());
-    assert_eq!(rt; closed.counts.as_slice(), [0, 1, 1].as_slice());
-    assert_eq!(rt; closed.book.show(&name(&rt, "a")), Ok(Some(stored(&rt, B))));
-    assert_eq!(rt; closed.book.show(&name(&rt, "b")), Ok(None));
+    let records = [
+        (name(&rt, "a"), Some(stored(&rt, B))),
+        (name(&rt, "b"), None),
+    ];
+    judge_closed(&rt, &closed, &journal, &[0, 1, 1], &records);
 }
 
 /// Makes a desk with so many sessions, and ends it.

@@ -157,13 +157,18 @@ fn committed<J: Naming, R: Threads + Wait + Abort + Sync>(
     Ok((outcome, [late, read(&open)]))
 }
 
+/// The same over a book of its own.
+fn committed_alone<R: Threads + Wait + Abort + Sync>(
+    rt: &R,
+    alloc: Global,
+) -> (Outcome, [Answer; 2]) {
+    let book = book_of(rt, alloc, A_ALONE).expect(rt, "a book");
+    committed::<Brand, _>(rt, alloc, Opened::new(1), &book).expect(rt, "a committer")
+}
+
 #[test]
 fn committer_is_read_and_ended(rt: HostRuntime) {
-    let book = book_of(&rt, rt.alloc(), A_ALONE).expect(&rt, "a book");
-    let (outcome, late) = committed::<Brand, _>(&rt, rt.alloc(), Opened::new(1), &book).expect(
-        &rt,
-        "a committer",
-    );
+    let (outcome, late) = committed_alone(&rt, rt.alloc());
     let now = Some(stored(&rt, B));
     let first = Ok(Some(stored(&rt, A)));
     assert_eq!(rt;

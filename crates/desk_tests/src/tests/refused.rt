@@ -2,13 +2,13 @@
 //! refuses each in turn.
 ghost use Rattle.std.specs.Prelude.{◌≡◌, false, true};
 
-use super::scene::{Answer, begin, close_desk, read};
-use super::{ONE_STANDS, book_of, name, stored, upgrade, verify};
+use super::scene::{Answer, begin, close_desk, judge_closed, read};
+use super::{ONE_STANDS, book_of, entry, name, stored, upgrade, verify};
 use cred_book::{Book, Keeper, Reply, Request, Ticket, Worked};
 use cred_desk::{Closed, Committer, Desk, DeskError, Naming, Opened, Session};
 use cred_phc::Record;
 use cred_pool::NoGate;
-use samples::{A, A_SETTING, B_SETTING};
+use samples::{A, A_SETTING, B, B_SETTING};
 use std::alloc::Global;
 use std::marker::Brand;
 use std::process::Abort;
@@ -132,7 +132,6 @@ fn refused_desk(rt: HostRuntime) {
     let Some(book) = book_of(&rt, rt.alloc(), ONE_STANDS) else {
         return;
     };
-    let first = Ok(Some(stored(&rt, A)));
     match settled::<Brand, _>(&rt, rt.alloc(), Opened::new(2), &book) {
         Err(error) => {
             assert!(rt; error == DeskError::Memory || error == DeskError::Reader);
@@ -140,12 +139,13 @@ fn refused_desk(rt: HostRuntime) {
         Ok((closed, done)) => {
             assert_eq!(rt; done, UPGRADES);
             let closed = closed.expect(&rt, "all sessions");
-            assert_eq!(rt; closed.counts.as_slice(), [UPGRADES, 0].as_slice());
-            assert_eq!(rt; closed.journal.len(), 6);
-            assert_eq!(rt; closed.book.show(&name(&rt, "a")), first);
+            let (to, fro) = (entry(&rt, "a", Some(B)), entry(&rt, "a", Some(A)));
+            let journal = [to, fro, to, fro, to, fro];
+            let records = [(name(&rt, "a"), Some(stored(&rt, A)))];
+            judge_closed(&rt, &closed, &journal, &[UPGRADES, 0], &records);
         }
     }
-    assert_eq!(rt; book.show(&name(&rt, "a")), first);
+    assert_eq!(rt; book.show(&name(&rt, "a")), Ok(Some(stored(&rt, A))));
 }
 
 fn commit<J: Naming, R: Wait>(

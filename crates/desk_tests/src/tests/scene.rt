@@ -3,8 +3,8 @@
 ghost use Rattle.std.specs.Prelude.{◌≡◌, false};
 
 use super::{Accounts, book_of};
-use cred_book::{Book, Reply, Request, Ticket, Worked};
-use cred_desk::{Closed, Desk, DeskError, Naming, Opened, Session, Told};
+use cred_book::{Book, Name, Reply, Request, Ticket, Worked};
+use cred_desk::{Closed, Desk, DeskError, Entry, Naming, Opened, Session, Told};
 use cred_phc::Record;
 use cred_pool::NoGate;
 use crossbeam_channel::{Receiver, Sender, unbounded};
@@ -341,4 +341,19 @@ pub(super) fn show<'a, R: Threads + Wait + Abort + Sync>(
         after,
     };
     played::<Brand, R>(rt, alloc, opened, &book, sessions, &scene).expect(rt, "a desk")
+}
+
+/// A closed desk has left this journal and these counts, and at these names these records.
+pub(super) fn judge_closed<R: Abort>(
+    rt: &R,
+    closed: &Closed,
+    journal: &[Entry],
+    counts: &[u64],
+    records: &[(Name, Option<Record>)],
+) {
+    assert_eq!(rt; closed.journal.as_slice(), journal);
+    assert_eq!(rt; closed.counts.as_slice(), counts);
+    for (name, record) in records {
+        assert_eq!(rt; closed.book.show(name), Ok(*record));
+    }
 }

@@ -1,5 +1,5 @@
 //! Sessions in threads of their own.
-use super::scene::{Act, Answer, Closing, Line, Setup, show};
+use super::scene::{Act, Answer, Closing, Line, Setup, Slip, judge_closed, show};
 use super::{
     Accounts, BOTH_STAND, NONE_STANDS, ONE_STANDS, enrol, entry, name, setting, stored, upgrade,
     verify,
@@ -9,7 +9,8 @@ use cred_desk::Closed;
 use samples::{B, B_SETTING};
 use std::alloc::{AllocError, Global};
 use std::process::Abort;
-use std::test::Fail;
+use std::sync::Wait;
+use std::thread::Threads;
 
 /// The settings between which `totals_over_threads` goes to and fro.
 const ONCE: &str = "$argon2id$v=19$m=8,t=1,p=1$c29tZXNhbHQ";
@@ -47,12 +48,9 @@ fn told_and_read(rt: HostRuntime) {
     let setup = two_sessions(ONE_STANDS);
     let (closed, slip) = show(&rt, rt.alloc(), setup, &one, &other, &[]);
     assert_eq!(rt; slip, None);
-    assert_eq!(rt;
-        closed.journal.as_slice(),
-        [entry(&rt, "a", Some(B))].as_slice()
-    );
-    assert_eq!(rt; closed.counts.as_slice(), [1, 0].as_slice());
-    assert_eq!(rt; closed.book.show(&name(&rt, "a")), Ok(Some(stored(&rt, B))));
+    let journal = [entry(&rt, "a", Some(B))];
+    let records = [(name(&rt, "a"), Some(stored(&rt, B)))];
+    judge_closed(&rt, &closed, &journal, &[1, 0], &records);
 }
 
 /// After two threads have settled and ended, each session reads both changes with nothing learned.
@@ -119,16 +117,23 @@ fn judge_entries<R: Abort>(rt: &R, closed: &Closed, account: &str) {
     assert_eq!(rt; found, UPGRADES + 1);
 }
 
-#[test]
-fn totals_over_threads(rt: HostRuntime) -> Result<(), Fail> {
-    let one = enrol_and_upgrade(&rt, rt.alloc(), "a")?;
-    let other = enrol_and_upgrade(&rt, rt.alloc(), "b")?;
+/// Each of two sessions enrols an account of its own and upgrades it to and fro.
+fn upgrade_side_by_side<R: Threads + Wait + Abort + Sync>(
+    rt: &R,
+    alloc: Global,
+) -> Result<(Closed, Option<Slip>), AllocError> {
+    let one = enrol_and_upgrade(rt, alloc, "a")?;
+    let other = enrol_and_upgrade(rt, alloc, "b")?;
     let setup = two_sessions(NONE_STANDS);
-    let (closed, slip) = show(&rt, rt.alloc(), setup, &one, &other, &[]);
+    Ok(show(rt, alloc, setup, &one, &other, &[]))
+}
+
+#[test]
+fn totals_over_threads(rt: HostRuntime) {
+    let (closed, slip) = upgrade_side_by_side(&rt, rt.alloc()).expect(&rt, "memory");
     assert_eq!(rt; slip, None);
     assert_eq!(rt; closed.counts.as_slice(), [21, 21].as_slice());
     assert_eq!(rt; closed.journal.len(), 42);
     judge_entries(&rt, &closed, "a");
     judge_entries(&rt, &closed, "b");
-    Ok(())
 }

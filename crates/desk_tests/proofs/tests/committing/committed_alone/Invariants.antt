@@ -1,5 +1,5 @@
 use Rattle.std.proofs.Common.{true}
-use Rattle.desk_tests.proofs.tests.committing.committer_is_read_and_ended.Given as goal
+use Rattle.desk_tests.proofs.tests.committing.committed_alone.Given as goal
 
 -- the list that was just opened, from this book
 abbrev pub ghosts-committed-J-Naming : goal.ghosts-committed-J-Naming
