@@ -1,4 +1,4 @@
-use Rattle.std.proofs.Common.{ap, arith, is_some, refl, ◌∙◌}
+use Rattle.std.proofs.Common.{rules, ap, arith, is_some, refl, ◌∙◌}
 use Rattle.script_tests.proofs.Shelves.{pushed, pushed_whole, whole_has, whole_lacks}
 use Rattle.script_tests.proofs.tests.keepers.ShelfKeeper.admit.Goals as goal
 
@@ -26,3 +26,17 @@ returns-else-is_err g c =
       omega (arith, c.args.self.now.one_each, c.len.ensures, c.if-len-ge4096.false),
       pushed_whole _ _ _ _ _ c.if-is_err.ensures.negation c.push.ensures.items c.in-Ok.ensures lacks,
     )
+
+pub returns-in_default : goal.returns-in_default
+returns-in_default g c = (
+  ap is_some (whole_lacks _ _ (rw c.deref.ensures.value at c.in-None.ensures)),
+  omega (arith, c.args.self.now.one_each, c.len.ensures, c.if-len-ge4096.false),
+  refl,
+)
+
+pub returns-then-is_err : goal.returns-then-is_err
+returns-then-is_err g c = (
+  ap is_some (whole_lacks _ _ (rw c.deref.ensures.value at c.in-None.ensures)),
+  omega (arith, c.args.self.now.one_each, c.len.ensures, c.if-len-ge4096.false),
+  search rules,
+)

@@ -18,3 +18,8 @@ returns g c =
 
 pub returns-in_default : goal.returns-in_default
 returns-in_default g c = (ap is_some (whole_lacks _ _ (rw c.deref.ensures.value at c.in_default.ensures)), refl)
+
+pub returns-then-self-eq0 : goal.returns-then-self-eq0
+returns-then-self-eq0 g c =
+    let (within, has, lacks) = rw c.deref.ensures.value at c.in-Some.ensures in
+    (ap is_some (whole_has _ _ _ within lacks has) ∙ has, refl)
