@@ -144,11 +144,16 @@ def is_of(path, name, function):
 
 
 def verdict_of(bug, name, said):
-    """refused; by its proof, where a written proof names what the bug took away and no goal is open; or none."""
+    """refused; by its proof, where a written proof names what the bug took away and no goal is open; not covered, where the
+    borrow checker leaves no goals to judge it by; not reached, where it leaves none of a function that it calls; or none."""
     verdict = None
     for path, what in re.findall(r"(?m)^(?:fn|closure) (\S+): (.*)$", said):
         if not is_of(path, name, bug.function):
             continue
+        if "the borrow checker does not cover" in what:
+            return "not covered"
+        if "the borrow checker's part in its proof is not made yet" in what:
+            return "not reached"
         own = re.sub(r"[;,]? ?(in `[^`]*`, of this cycle of calls: )?(it calls|it passes the block) .*", "", what)
         if own in ("proved", "no holes", "no proof:") or "waits for the proof" in what:
             verdict = verdict or "none"
@@ -175,6 +180,10 @@ def judge(copy, name, bugs):
                 bug.verdict = verdict_of(bug, name, said) or "no verdict"
                 if bug.verdict == "none":
                     alone.append(bug)
+            # what stands below them has its verdict by now, and isn't in the next round
+            for bug in chosen.values():
+                if bug.verdict == "not reached" and len(chosen) > 1:
+                    bug.verdict = None
         waiting = [it for it in waiting if it.verdict is None]
         print(f"# {len(bugs) - len(waiting)} of {len(bugs)} planted", file=sys.stderr, flush=True)
     for bug in alone:
