@@ -101,11 +101,12 @@ class Copy:
         shutil.rmtree(self.at, ignore_errors=True)
         lines = [it.split("#")[0].partition(":") for it in (TOP / "crates.txt").read_text().splitlines()]
         below = {it[0].split()[0]: it[2].split() for it in lines if it[1]}
+        said = {it[0].split()[0]: it[0] for it in lines if it[1]}
         needed = [name]
         for it in needed:
             needed += [other for other in below[it] if other in below and other not in needed]
         (self.at / "crates").mkdir(parents=True)
-        (self.at / "crates.txt").write_text("".join(f"{it}: {' '.join(below[it])}\n" for it in needed))
+        (self.at / "crates.txt").write_text("".join(f"{said[it]}: {' '.join(below[it])}\n" for it in needed))
         shutil.copy(TOP / "HANDLES", self.at)
         for it in needed:
             shutil.copytree(TOP / "crates" / it, self.at / "crates" / it, symlinks=True)
@@ -159,8 +160,8 @@ def verdict_of(bug, name, said):
             verdict = verdict or "none"
             continue
         folder = "/".join(path.split("::")[1:])
-        errors = re.findall(rf"(?m)^\./proofs/{re.escape(folder)}/\S+: error: (.*)$", said)
-        by_proof = "did not prove" not in own and errors and all(GONE.search(it) for it in errors)
+        errors = re.findall(rf"(?m)^\./proofs/{re.escape(folder)}/\S+: error: (.*(?:\n  .*)?)", said)
+        by_proof = "did not prove" not in own and errors and all(GONE.search(" ".join(it.split())) for it in errors)
         verdict = "by its proof" if by_proof and verdict != "refused" else "refused"
     return verdict
 

@@ -2,12 +2,12 @@
 
 use crate::figures::{Figures, Ran};
 use crate::load::Load;
-use cred_book::{Book, Reply, Request};
-use cred_pool::NoGate;
+use crate::store::{Store, upgrade, verify};
+use cred_book::{Book, Reply, Request, Ticket, Worked};
 use std::alloc::Global;
 use std::sync::{Mutex, Wait};
 use std::thread::{Threads, for_each_mut};
-use std::time::{Clock, Instant};
+use std::time::Clock;
 
 pub(crate) fn run<R: Threads + Wait + Clock + Sync>(
     rt: &R,
@@ -27,10 +27,11 @@ pub(crate) fn run<R: Threads + Wait + Clock + Sync>(
         &mut figures,
         threads,
         &|place, came_to: &mut Option<Figures>| {
+            let mut store = Locked { book: &book };
             *came_to = if place == 0 {
-                upgrade(rt, alloc, &book, load)
+                upgrade(rt, alloc, &mut store, load)
             } else {
-                verify(rt, alloc, &book, load)
+                verify(rt, alloc, &mut store, load)
             };
         },
     );
@@ -38,74 +39,25 @@ pub(crate) fn run<R: Threads + Wait + Clock + Sync>(
     Ran::of(&figures, u64::from(changes))
 }
 
-fn verify<R: Threads + Wait + Clock + Sync>(
-    rt: &R,
-    alloc: Global,
-    book: &Mutex<Book>,
-    load: &Load,
-) -> Option<Figures> {
-    let start = Instant::now(rt).ok()?;
-    let mut worst = 0;
-    for number in 0..load.verifies {
-        worst = verify_once(rt, alloc, book, load.verify(number)?)?.max(worst);
-    }
-    Some(Figures {
-        done: load.verifies,
-        elapsed: start.elapsed(rt).ok()?.as_nanos(),
-        worst,
-    })
+/// The book behind a lock.
+#[derive(Drop)]
+struct Locked<'a> {
+    book: &'a Mutex<Book>,
 }
 
-/// How long the begin took, in nanoseconds.
-fn verify_once<R: Threads + Wait + Clock + Sync>(
-    rt: &R,
-    alloc: Global,
-    book: &Mutex<Book>,
-    request: Request,
-) -> Option<u128> {
-    if !request.is_for_current() {
-        return None;
+impl<'a, R: Wait> Store<R> for Locked<'a> {
+    fn begin(&mut self, rt: &R, request: Request) -> Option<Ticket> {
+        if !request.is_for_current() {
+            return None;
+        }
+        self.book.lock(rt).begin(request).ok()
     }
-    let before = Instant::now(rt).ok()?;
-    let ticket = book.lock(rt).begin(request).ok()?;
-    let took = before.elapsed(rt).ok()?.as_nanos();
-    let worked = ticket.work(rt, alloc, 1, &NoGate).ok()?;
-    let reply = book.lock(rt).commit(worked);
-    matches!(reply, Reply::Yes | Reply::Changed { .. }).then_some(took)
-}
 
-fn upgrade<R: Threads + Wait + Clock + Sync>(
-    rt: &R,
-    alloc: Global,
-    book: &Mutex<Book>,
-    load: &Load,
-) -> Option<Figures> {
-    let start = Instant::now(rt).ok()?;
-    for number in 0..load.upgrades {
-        upgrade_once(rt, alloc, book, load.upgrade(number)?, load.settles)?;
+    fn close_verify(&mut self, rt: &R, work: Worked) -> Option<Reply> {
+        self.commit(rt, work)
     }
-    Some(Figures {
-        done: load.upgrades,
-        elapsed: start.elapsed(rt).ok()?.as_nanos(),
-        worst: 0,
-    })
-}
 
-fn upgrade_once<R: Threads + Wait + Sync>(
-    rt: &R,
-    alloc: Global,
-    book: &Mutex<Book>,
-    request: Request,
-    settles: bool,
-) -> Option<()> {
-    if !request.is_for_current() {
-        return None;
+    fn commit(&mut self, rt: &R, work: Worked) -> Option<Reply> {
+        Some(self.book.lock(rt).commit(work))
     }
-    let ticket = book.lock(rt).begin(request).ok()?;
-    let worked = ticket.work(rt, alloc, 1, &NoGate).ok()?;
-    if !settles {
-        return Some(());
-    }
-    let reply = book.lock(rt).commit(worked);
-    matches!(reply, Reply::Upgraded).then_some(())
 }

@@ -17,6 +17,7 @@ mod figures;
 mod load;
 mod locked;
 mod published;
+mod store;
 
 /// What the arguments ask for.
 #[derive(Clone, Copy)]

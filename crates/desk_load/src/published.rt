@@ -4,14 +4,14 @@ ghost use Rattle.std.specs.Prelude.{◌≡◌, ◌+◌, false};
 
 use crate::figures::{Figures, Ran};
 use crate::load::Load;
-use cred_book::{Book, Reply, Request};
+use crate::store::{Store, upgrade, verify};
+use cred_book::{Book, Reply, Request, Ticket, Worked};
 use cred_desk::{Desk, Naming, Opened, Session};
-use cred_pool::NoGate;
 use std::alloc::Global;
 use std::marker::Brand;
 use std::sync::Wait;
 use std::thread::{Threads, for_each_mut};
-use std::time::{Clock, Instant};
+use std::time::Clock;
 
 pub(crate) fn run<R: Threads + Wait + Clock + Sync>(
     rt: &R,
@@ -74,86 +74,40 @@ fn work_all<J: Naming + Send + Sync, R: Threads + Wait + Clock + Sync>(
         seats,
         threads,
         &|place, seat: &mut (Session<J>, Option<Figures>)| {
+            let mut store = AtDesk {
+                desk,
+                session: &mut seat.0,
+            };
             seat.1 = if place == 0 {
-                upgrade(rt, alloc, desk, &mut seat.0, load)
+                upgrade(rt, alloc, &mut store, load)
             } else {
-                verify(rt, alloc, &mut seat.0, load)
+                verify(rt, alloc, &mut store, load)
             };
         },
     );
 }
 
-fn verify<J: Naming, R: Threads + Clock + Sync>(
-    rt: &R,
-    alloc: Global,
-    session: &mut Session<J>,
-    load: &Load,
-) -> Option<Figures> {
-    let start = Instant::now(rt).ok()?;
-    let mut worst = 0;
-    for number in 0..load.verifies {
-        worst = verify_once(rt, alloc, session, load.verify(number)?)?.max(worst);
-    }
-    Some(Figures {
-        done: load.verifies,
-        elapsed: start.elapsed(rt).ok()?.as_nanos(),
-        worst,
-    })
+/// A session at its desk.
+#[derive(Drop)]
+struct AtDesk<'a, J: Naming> {
+    desk: &'a Desk<J>,
+    session: &'a mut Session<J>,
 }
 
-/// How long the begin took, in nanoseconds.
-fn verify_once<J: Naming, R: Threads + Clock + Sync>(
-    rt: &R,
-    alloc: Global,
-    session: &mut Session<J>,
-    request: Request,
-) -> Option<u128> {
-    if !request.is_for_current() {
-        return None;
+impl<'a, J: Naming, R: Wait> Store<R> for AtDesk<'a, J> {
+    fn begin(&mut self, _rt: &R, request: Request) -> Option<Ticket> {
+        if !request.is_for_current() {
+            return None;
+        }
+        self.session.begin(request).ok()
     }
-    let before = Instant::now(rt).ok()?;
-    let ticket = session.begin(request).ok()?;
-    let took = before.elapsed(rt).ok()?.as_nanos();
-    let worked = ticket.work(rt, alloc, 1, &NoGate).ok()?;
-    let reply = session.close_verify(worked.into_verify().ok()?).ok()?;
-    matches!(reply, Reply::Yes | Reply::Changed { .. }).then_some(took)
-}
 
-fn upgrade<J: Naming, R: Threads + Wait + Clock + Sync>(
-    rt: &R,
-    alloc: Global,
-    desk: &Desk<J>,
-    session: &mut Session<J>,
-    load: &Load,
-) -> Option<Figures> {
-    let start = Instant::now(rt).ok()?;
-    for number in 0..load.upgrades {
-        let request = load.upgrade(number)?;
-        upgrade_once(rt, alloc, desk, session, request, load.settles)?;
+    fn close_verify(&mut self, _rt: &R, work: Worked) -> Option<Reply> {
+        self.session.close_verify(work.into_verify().ok()?).ok()
     }
-    Some(Figures {
-        done: load.upgrades,
-        elapsed: start.elapsed(rt).ok()?.as_nanos(),
-        worst: 0,
-    })
-}
 
-fn upgrade_once<J: Naming, R: Threads + Wait + Sync>(
-    rt: &R,
-    alloc: Global,
-    desk: &Desk<J>,
-    session: &mut Session<J>,
-    request: Request,
-    settles: bool,
-) -> Option<()> {
-    if !request.is_for_current() {
-        return None;
+    fn commit(&mut self, rt: &R, work: Worked) -> Option<Reply> {
+        let (reply, _told) = self.desk.settle(rt, self.session, work).ok()?;
+        Some(reply)
     }
-    let ticket = session.begin(request).ok()?;
-    let worked = ticket.work(rt, alloc, 1, &NoGate).ok()?;
-    if !settles {
-        return Some(());
-    }
-    let (reply, _told) = desk.settle(rt, session, worked).ok()?;
-    matches!(reply, Reply::Upgraded).then_some(())
 }

@@ -3,9 +3,9 @@ use super::readers::CutOff;
 use super::writers::Stingy;
 use super::{hold, hold_bytes};
 use cred_cli::Watched;
-use std::io;
 use std::io::{Read, Write};
 use std::process::Abort;
+use std::{io, mem};
 
 /// What a call gave, none where it failed; how many calls there were then, and whether one has
 /// failed.
@@ -70,4 +70,53 @@ fn writes_are_counted(rt: HostRuntime) {
     hold_seen(&rt, after_flush(&mut writer), (Some(0), 4, false));
     hold_seen(&rt, after_write(&mut writer, b"c"), (Some(0), 5, true));
     hold_bytes(&rt, 0, &writer.into_inner().taken, "ab");
+}
+
+/// Fails in its first call. Later ones take all bytes, or find none to read.
+#[derive(Drop)]
+struct Stumbling {
+    has_failed: bool,
+}
+
+impl Stumbling {
+    fn step(&mut self) -> io::Result<()> {
+        if mem::replace(&mut self.has_failed, true) {
+            return Ok(());
+        }
+        Err(io::Error::from(io::ErrorKind::Interrupted))
+    }
+}
+
+impl Read for Stumbling {
+    fn read(&mut self, _buf: &mut [u8]) -> io::Result<usize> {
+        self.step()?;
+        Ok(0)
+    }
+}
+
+impl Write for Stumbling {
+    fn write(&mut self, buf: &[u8]) -> io::Result<usize> {
+        self.step()?;
+        Ok(buf.len())
+    }
+
+    fn flush(&mut self) -> io::Result<()> {
+        self.step()
+    }
+}
+
+fn not_called_yet() -> Watched<Stumbling> {
+    Watched::new(Stumbling { has_failed: false })
+}
+
+/// A call that fails is told of, and isn't made again.
+#[test]
+fn failures_are_told(rt: HostRuntime) {
+    hold_seen(&rt, after_read(&mut not_called_yet()), (None, 1, true));
+    hold_seen(
+        &rt,
+        after_write(&mut not_called_yet(), b"a"),
+        (None, 1, true),
+    );
+    hold_seen(&rt, after_flush(&mut not_called_yet()), (None, 1, true));
 }

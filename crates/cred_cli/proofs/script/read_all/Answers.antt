@@ -1,4 +1,4 @@
-use Rattle.std.proofs.Common.{◌≡◌, ◌++◌, arith, sym, ap, ◌∙◌, append-nil, ◌≤◌, ◌+◌, ◌-◌, ◌^◌, length, length-take-le, take}
+use Rattle.std.proofs.Common.{rules, ◌≡◌, ◌++◌, arith, sym, ap, ◌∙◌, append-nil, ◌≤◌, ◌+◌, ◌-◌, ◌^◌, length, length-take-le, take}
 use Rattle.std.proofs.Math.Nat.{min-eq_left}
 use Rattle.std.proofs.lemmas.Result.{err_from_is_err_and}
 use Rattle.cred_cli.proofs.Readings.{came, came_to_end, cut_behind}
@@ -39,3 +39,7 @@ loop-call-preserved g c =
       taken = omega (arith, c.in_ok-take_bytes-in-Ok.ensures.taken, c.loop-call.invariant.taken, c.in-Ok.n-test, length-take-le c.in-Ok.n c.read.new.buf within);
       size = omega (arith, c.loop-call.invariant.size, c.read.auto.buf);
     }
+
+-- written out, so that a body that doesn't meet it is refused here, without a long search
+pub returns-in-Ok-eq0-clause-cause : goal.returns-in-Ok-eq0-clause-cause
+returns-in-Ok-eq0-clause-cause g c = search rules

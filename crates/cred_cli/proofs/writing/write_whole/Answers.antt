@@ -1,4 +1,4 @@
-use Rattle.std.proofs.Common.{refl, arith, ◌<◌, length, take, ◌++◌}
+use Rattle.std.proofs.Common.{rules, refl, arith, ◌<◌, length, take, ◌++◌}
 use Rattle.std.proofs.lemmas.Bool.Decides.{nat_tests}
 use Rattle.std.proofs.lemmas.List.{take_rest}
 use Rattle.std.proofs.KnownBytes.{Appends-trans, Appends-kept}
@@ -26,3 +26,6 @@ returns-in-Err-clause-fails g c =
       c.in-Err.ensures.failed,
       front_written _ _ _ _ _ c.loop-rest.invariant.1 left (Appends-kept _ _ _ _ c.loop-rest.invariant.2 c.in-Err.ensures.bytes),
     )
+
+pub returns-in-Ok-eq0-clause-done : goal.returns-in-Ok-eq0-clause-done
+returns-in-Ok-eq0-clause-done g c = search rules

@@ -7,3 +7,9 @@ returns-clause-counts g c = search rules
 
 pub returns-clause-journal : goal.returns-clause-journal
 returns-clause-journal g c = search rules
+
+pub returns-clause-book : goal.returns-clause-book
+returns-clause-book g c = search rules
+
+pub returns-clause-total : goal.returns-clause-total
+returns-clause-total g c = search rules

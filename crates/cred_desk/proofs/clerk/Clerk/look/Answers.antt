@@ -1,4 +1,4 @@
-use Rattle.std.proofs.Common.{List, Bool, subst, sym, ◌∙◌, arith}
+use Rattle.std.proofs.Common.{rules, List, Bool, subst, sym, ◌∙◌, arith}
 use mathlib.Core.List.{IsPrefix}
 use Rattle.cred_desk.specs.declared.entry.Entry.{Entry}
 use Rattle.cred_desk.specs.Histories.{IsListed}
@@ -28,3 +28,6 @@ returns-then-not-is_behind-clause-all g c =
         λ all. longer_ends list known longer (subst (λ (s : Standing). IsPrefix s.known list) (sym c.session-item.is) (all c.loop-session.session-index c.session-item.result c.loop-session-test.true)),
       ),
     )
+
+pub returns-clause-all : goal.returns-clause-all
+returns-clause-all g c = search rules

@@ -4,3 +4,9 @@ use Rattle.cred_desk.proofs.desk.Desk.new.Goals as goal
 
 pub returns-clause-few : goal.returns-clause-few
 returns-clause-few g c = search rules
+
+pub returns-in_err-publisher-clause-refused : goal.returns-in_err-publisher-clause-refused
+returns-in_err-publisher-clause-refused g c = search rules
+
+pub returns-in_err-counts-clause-refused : goal.returns-in_err-counts-clause-refused
+returns-in_err-counts-clause-refused g c = search rules

@@ -1,4 +1,4 @@
-use Rattle.std.proofs.Common.{◌≡◌, ◌∷◌, ◌++◌, [], length, length-append, subst, sym, ◌∙◌, ap, arith}
+use Rattle.std.proofs.Common.{rules, ◌≡◌, ◌∷◌, ◌++◌, [], length, length-append, subst, sym, ◌∙◌, ap, arith}
 use Rattle.cred_desk.specs.Histories.{Allowed, IsListed, after}
 use Rattle.cred_desk.proofs.Adding.{adds_moves, is_added}
 use Rattle.cred_desk.proofs.Lists.{listed_snoc}
@@ -30,3 +30,6 @@ invariant_of-result g c =
       told.0 ∙ book,
       subst (IsListed g.J.Naming.loads g.J.Naming.opening) (sym grown) listed,
     )
+
+pub returns : goal.returns
+returns g c = search rules

@@ -11,3 +11,6 @@ show-requires-clause-book g c =
 
 pub returns-clause-done : goal.returns-clause-done
 returns-clause-done g c = search rules
+
+pub invariant_of-self-2 : goal.invariant_of-self-2
+invariant_of-self-2 g c = search rules

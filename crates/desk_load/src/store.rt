@@ -1,0 +1,88 @@
+//! What one thread does at a book, whatever keeps it.
+
+use crate::figures::Figures;
+use crate::load::Load;
+use cred_book::{Reply, Request, Ticket, Worked};
+use cred_pool::NoGate;
+use std::alloc::Global;
+use std::thread::Threads;
+use std::time::{Clock, Instant};
+
+/// Where one thread finds the book.
+pub(crate) trait Store<R> {
+    /// Begins at the book as it stands; None where the request is refused.
+    fn begin(&mut self, rt: &R, request: Request) -> Option<Ticket>;
+
+    /// What a verify answers when it is hashed.
+    fn close_verify(&mut self, rt: &R, work: Worked) -> Option<Reply>;
+
+    /// What an upgrade answers when it is hashed.
+    fn commit(&mut self, rt: &R, work: Worked) -> Option<Reply>;
+}
+
+/// Makes all verifies of one thread.
+pub(crate) fn verify<R: Threads + Clock + Sync, S: Store<R>>(
+    rt: &R,
+    alloc: Global,
+    store: &mut S,
+    load: &Load,
+) -> Option<Figures> {
+    let start = Instant::now(rt).ok()?;
+    let mut worst = 0;
+    for number in 0..load.verifies {
+        worst = verify_once(rt, alloc, store, load.verify(number)?)?.max(worst);
+    }
+    Some(Figures {
+        done: load.verifies,
+        elapsed: start.elapsed(rt).ok()?.as_nanos(),
+        worst,
+    })
+}
+
+/// How long the begin took, in nanoseconds.
+fn verify_once<R: Threads + Clock + Sync, S: Store<R>>(
+    rt: &R,
+    alloc: Global,
+    store: &mut S,
+    request: Request,
+) -> Option<u128> {
+    let before = Instant::now(rt).ok()?;
+    let ticket = store.begin(rt, request)?;
+    let took = before.elapsed(rt).ok()?.as_nanos();
+    let worked = ticket.work(rt, alloc, 1, &NoGate).ok()?;
+    let reply = store.close_verify(rt, worked)?;
+    matches!(reply, Reply::Yes | Reply::Changed { .. }).then_some(took)
+}
+
+/// Makes all upgrades.
+pub(crate) fn upgrade<R: Threads + Clock + Sync, S: Store<R>>(
+    rt: &R,
+    alloc: Global,
+    store: &mut S,
+    load: &Load,
+) -> Option<Figures> {
+    let start = Instant::now(rt).ok()?;
+    for number in 0..load.upgrades {
+        upgrade_once(rt, alloc, store, load.upgrade(number)?, load.settles)?;
+    }
+    Some(Figures {
+        done: load.upgrades,
+        elapsed: start.elapsed(rt).ok()?.as_nanos(),
+        worst: 0,
+    })
+}
+
+fn upgrade_once<R: Threads + Sync, S: Store<R>>(
+    rt: &R,
+    alloc: Global,
+    store: &mut S,
+    request: Request,
+    settles: bool,
+) -> Option<()> {
+    let ticket = store.begin(rt, request)?;
+    let worked = ticket.work(rt, alloc, 1, &NoGate).ok()?;
+    if !settles {
+        return Some(());
+    }
+    matches!(store.commit(rt, worked)?, Reply::Upgraded).then_some(())
+}
