@@ -101,12 +101,12 @@ class Copy:
         shutil.rmtree(self.at, ignore_errors=True)
         lines = [it.split("#")[0].partition(":") for it in (TOP / "crates.txt").read_text().splitlines()]
         below = {it[0].split()[0]: it[2].split() for it in lines if it[1]}
-        said = {it[0].split()[0]: it[0] for it in lines if it[1]}
+        heads = {it[0].split()[0]: it[0] for it in lines if it[1]}
         needed = [name]
         for it in needed:
             needed += [other for other in below[it] if other in below and other not in needed]
         (self.at / "crates").mkdir(parents=True)
-        (self.at / "crates.txt").write_text("".join(f"{said[it]}: {' '.join(below[it])}\n" for it in needed))
+        (self.at / "crates.txt").write_text("".join(f"{heads[it]}: {' '.join(below[it])}\n" for it in needed))
         shutil.copy(TOP / "HANDLES", self.at)
         for it in needed:
             shutil.copytree(TOP / "crates" / it, self.at / "crates" / it, symlinks=True)
