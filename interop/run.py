@@ -27,6 +27,7 @@ from cases import (
     scrypt_by_passlib,
     unpadded,
 )
+from writers import PASSWORD, all_writers
 
 PROGRAM = pathlib.Path(__file__).resolve().parent.parent / "crates/credbook/out/credbook"
 WORKERS = "4"
@@ -201,6 +202,31 @@ def settings_refused(program, mismatches):
         print(f"| `{setting}` | {fault} | {answer} |", flush=True)
 
 
+def others(program, mismatches):
+    """The fourth table: strings of further programs as they are and without their prefix, and what these say of credbook's."""
+    print("\n## Further programs, both ways\n")
+    print("| Writer | String | As written | Without its prefix: right, another one | The writer on credbook's: right, another one |")
+    print("|---|---|---|---|---|")
+    found, missing = all_writers()
+    for writer in found:
+        for text in writer.texts:
+            bare = text[text.index("$"):]
+            word = unpadded(PASSWORD)
+            as_written = credbook(program, ["check", text, word])
+            read = ", ".join(str(credbook(program, ["check", bare, unpadded(it)])) for it in [PASSWORD, other(PASSWORD)])
+            made = credbook(program, ["hash", bare.rpartition("$")[0], word]).written.strip()
+            theirs = judged(writer.says, made, PASSWORD)
+            wanted = fault_answer("1 shape") if writer.prefix else Answer(0, "yes\n", "")
+            if (as_written, read, theirs) != (wanted, "yes, no", "yes, no"):
+                mismatches.append(f"{writer.name}: {text}: as written {as_written}, read {read}, {made}: {theirs}")
+            print(f"| {writer.name} | {numbers_of(text)} | {as_written} | {read} | {theirs} |", flush=True)
+            trailing = credbook(program, ["check", bare + "\r", word])
+            if trailing != fault_answer("7 tag"):
+                mismatches.append(f"{writer.name}: a carriage return behind {bare}: {trailing}")
+    if missing:
+        print(f"\nNot tried, since they aren't there: {', '.join(missing)}.")
+
+
 def main():
     program = pathlib.Path(sys.argv[1]).resolve() if len(sys.argv) > 1 else PROGRAM
     if not program.is_file():
@@ -209,6 +235,7 @@ def main():
     taken(program, mismatches)
     written(program, mismatches)
     settings_refused(program, mismatches)
+    others(program, mismatches)
     print(f"\nMismatches: {len(mismatches)}.")
     for mismatch in mismatches:
         print(f"- {mismatch}")
