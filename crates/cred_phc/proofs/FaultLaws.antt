@@ -162,6 +162,15 @@ unfolding read_record record_fault fields_of
 record_fault_law text =
     text_step (nat_lt 512 (length text)) (pieces 36 text) _ _ (setting_law true _ (bytes_fault 4 64 Tag ∷ []) (λ v rest. tag_law (record_of v) rest) (pieces 36 text))
 
+-- a text is refused with a fault exactly where the table finds that fault
+fault_back : {A : Type 0} (read : Result A PhcError) (fault : PhcError) → fault_in read ≡ Some fault → read ≡ Err fault
+fault_back (Ok x) fault e = cc e
+fault_back (Err other) fault e = cc e
+
+pub fault_is : {A : Type 0} (read : Result A PhcError) (found : Option PhcError) (fault : PhcError) → fault_in read ≡ found
+    → ((read ≡ Err fault) → (found ≡ Some fault)) × ((found ≡ Some fault) → (read ≡ Err fault))
+fault_is read found fault law = (λ refused. sym law ∙ ap fault_in refused, λ judged. fault_back read fault (law ∙ judged))
+
 -- what a reader answers is judged by the table
 pub refused_with : {A : Type 0} (r read : Result A PhcError) (fault : Option PhcError) → r ≡ read → fault_in read ≡ fault → IfErr r (λ e. fault ≡ Some e)
 refused_with (Ok x) read fault same law = tt

@@ -2,6 +2,8 @@
 //! function that does nothing.
 
 ghost use Rattle.std.specs.Prelude.{◌≡◌, ◌↔◌, codes, false, IsTrue, List, ℕ};
+ghost use Rattle.base64.specs.GeneralPurpose.{IsBytes};
+ghost use Rattle.cred_phc.specs.Faults.{record_fault, setting_fault};
 ghost use Rattle.cred_phc.specs.Ranges.{is_current};
 ghost use Rattle.cred_phc.specs.Reading.{read_record, read_setting};
 ghost use Rattle.cred_phc.specs.Text.{IsRecordText, IsSettingText, bare_text, record_text, setting_text};
@@ -29,6 +31,24 @@ pub fn equal_schemes(x: Scheme, y: Scheme) -> bool
 /// A record that is written is read as itself.
 pub fn read_as_written()
     ensures { (v : RecordValue) → IsRecord v → read_record (record_text v) ≡ Ok v }
+{}
+
+/// Reading is the grammar. What is read has the text as one of its texts; each text of a value in
+/// its ranges is read as that value; and a text is refused exactly with its first fault. That what
+/// is read is in its ranges is said by `parse_setting` and `parse_record`.
+pub fn reading_is_the_grammar()
+    ensures setting_found { (text : List ℕ) (v : SettingValue) → IsBytes text
+        → read_setting text ≡ Ok v → IsSettingText text v }
+    ensures setting_only { (text : List ℕ) (v : SettingValue) → IsSetting v
+        → IsSettingText text v → read_setting text ≡ Ok v }
+    ensures setting_fault { (text : List ℕ) (fault : PhcError)
+        → (read_setting text ≡ Err fault) ↔ (setting_fault text ≡ Some fault) }
+    ensures record_found { (text : List ℕ) (v : RecordValue) → IsBytes text
+        → read_record text ≡ Ok v → IsRecordText text v }
+    ensures record_only { (text : List ℕ) (v : RecordValue) → IsRecord v
+        → IsRecordText text v → read_record text ≡ Ok v }
+    ensures record_fault { (text : List ℕ) (fault : PhcError)
+        → (read_record text ≡ Err fault) ↔ (record_fault text ≡ Some fault) }
 {}
 
 /// No text stands for two settings, or for two records.

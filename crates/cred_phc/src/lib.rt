@@ -22,6 +22,7 @@ pub use error::PhcError;
 pub use hashing::{TagError, tag_of};
 pub use laws::{
     equal_records, equal_schemes, known_texts, old_not_read, one_value_each, read_as_written,
+    reading_is_the_grammar,
 };
 pub use number::decimal;
 pub use parse::{parse_record, parse_setting};
