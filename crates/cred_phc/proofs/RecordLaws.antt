@@ -1,5 +1,5 @@
 -- The laws of reading: a text is read as a value exactly where it is the value's text.
-use Rattle.std.proofs.Common.{◌≡◌, ◌∙◌, ℕ, Bool, ◌≤◌, nat_lt, not, true, false, List, [], ◌∷◌, ◌++◌, length, Some, Result, Ok, Err, IfOk, inl, inr, arith, refl, sym, ap, subst, append_assoc, lit≤, nat_le}
+use Rattle.std.proofs.Common.{◌≡◌, ◌∙◌, ℕ, Bool, ◌≤◌, nat_lt, not, true, false, List, [], ◌∷◌, ◌++◌, length, Some, Result, Ok, Err, IfOk, inl, inr, arith, refl, sym, ap, subst, append_assoc, length-append, lit≤, nat_le}
 use borrow.Author.Tests.{leb-true, le-ltb, not-true}
 use Rattle.std.specs.Cmp.{second_so}
 use Rattle.std.specs.List.{join_with_byte}
@@ -8,11 +8,14 @@ use Rattle.std.specs.Option.{ok_or}
 use Rattle.cred_phc.specs.declared.error.PhcError.{PhcError}
 use Rattle.cred_phc.specs.declared.error.PhcError.TheVariants.{Salt, Tag, TooLong, Version as WrongVersion}
 use Rattle.cred_phc.specs.declared.scheme.Scheme.{Scheme}
+use Rattle.cred_phc.specs.declared.scheme.Scheme.TheVariants.{Argon2, Scrypt}
+use Rattle.cred_argon.specs.declared.kind.Version.TheVariants.{V10, V13}
+use Rattle.cred_phc.specs.Names.{variant_name, version_text}
 use Rattle.cred_phc.specs.Base64.{base64, bytes_of}
 use Rattle.cred_phc.specs.Pieces.{pieces}
 use Rattle.cred_phc.specs.Ranges.{between, is_current, salt_low}
 use Rattle.cred_phc.specs.Reading.{next, end, scheme_at, setting_at, tag_at, fields_of, read_setting, read_record}
-use Rattle.cred_phc.specs.Text.{scheme_fields, bare_fields, setting_text, record_text, bare_text, IsSettingText, IsRecordText}
+use Rattle.cred_phc.specs.Text.{argon_numbers, scheme_fields, bare_fields, setting_text, record_text, bare_text, IsSettingText, IsRecordText}
 use Rattle.cred_phc.specs.Values.{SettingValue, setting_of, RecordValue, record_of, IsSetting, IsTag, IsRecord}
 use Rattle.cred_phc.proofs.Base64Laws.{bytes_of_is, bytes_of-base64, lacks-base64, length-base64}
 use Rattle.cred_phc.proofs.PieceLaws.{AllLack, pieces-join_front, join-pieces}
@@ -187,6 +190,26 @@ one_record text v w hv hw tv tw = let same = sym (only_record text v hv tv) ∙ 
 
 pub read_back : (v : RecordValue) → IsRecord v → read_record (record_text v) ≡ Ok v
 read_back v h = only_record (record_text v) v h (inl refl)
+
+pub old_texts : (v : RecordValue) → is_current v.setting.scheme ≡ false → IsRecordText (record_text v) v × IsRecordText (bare_text v) v
+old_texts v old = (inl refl, inr (old, refl))
+
+-- the version takes five bytes more
+longer : (name version more : List ℕ) → name ++ (36 ∷ (version ++ (36 ∷ more))) ≡ name ++ (36 ∷ more) → ⊥
+longer name version more same =
+    let sizes = ap length same in
+    omega (arith, length-append name (36 ∷ (version ++ (36 ∷ more))), length-append version (36 ∷ more), length-append name (36 ∷ more), sizes)
+
+old_differ : (scheme : Scheme) (salt tag : List ℕ) → is_current scheme ≡ false
+    → join_with_byte 36 (scheme_fields scheme ++ salt ∷ tag ∷ []) ≡ join_with_byte 36 (bare_fields scheme ++ salt ∷ tag ∷ []) → ⊥
+old_differ (Argon2 V10 variant m t p) salt tag old same =
+    longer (36 ∷ variant_name variant) (version_text V10) (join_with_byte 36 (argon_numbers m t p ∷ salt ∷ tag ∷ [])) same
+old_differ (Argon2 V13 variant m t p) salt tag old same = cc old
+old_differ (Scrypt ln r p) salt tag old same = cc old
+
+pub old_texts_differ : (v : RecordValue) → is_current v.setting.scheme ≡ false → record_text v ≡ bare_text v → ⊥
+unfolding record_text bare_text
+old_texts_differ v old same = old_differ v.setting.scheme (base64 v.setting.salt) (base64 v.tag) old same
 
 -- what a reader answers is a value in its ranges whose text was read
 pub both_of : {A : Type 0} (P Q : A → Type 0) (r read : Result A PhcError) → r ≡ read → IfOk r P → ((v : A) → read ≡ Ok v → Q v) → IfOk r (λ v. P v × Q v)

@@ -1,8 +1,9 @@
--- Records of the password `password` that other programs made, as values.
-use Rattle.std.specs.Prelude.{[], ◌∷◌, codes}
+-- Records that other programs made, as values: those of Argon2i and Argon2id and of scrypt from the
+-- password `password`.
+use Rattle.std.specs.Prelude.{[], ◌∷◌, codes, replicate}
 use Rattle.cred_phc.specs.declared.scheme.Scheme.TheVariants.{Argon2, Scrypt}
 use Rattle.cred_argon.specs.declared.kind.Version.TheVariants.{V10, V13}
-use Rattle.cred_phc.specs.declared.scheme.Variant.TheVariants.{I, Id}
+use Rattle.cred_phc.specs.declared.scheme.Variant.TheVariants.{D, I, Id}
 use Rattle.cred_phc.specs.Values.{RecordValue, setting_of, record_of}
 
 -- by the reference program of Argon2, with the salt `somesalt`
@@ -24,3 +25,10 @@ scrypt_record = record_of (setting_of (Scrypt 10 8 16) (codes "NaCl"))
     ∷ 124 ∷ 106 ∷ 215 ∷ 203 ∷ 200 ∷ 35 ∷ 120 ∷ 48 ∷ 231 ∷ 115 ∷ 118 ∷ 99 ∷ 75 ∷ 55 ∷ 49 ∷ 98
     ∷ 46 ∷ 175 ∷ 48 ∷ 217 ∷ 46 ∷ 34 ∷ 163 ∷ 136 ∷ 111 ∷ 241 ∷ 9 ∷ 39 ∷ 157 ∷ 152 ∷ 48 ∷ 218
     ∷ 199 ∷ 39 ∷ 175 ∷ 185 ∷ 74 ∷ 131 ∷ 238 ∷ 109 ∷ 131 ∷ 96 ∷ 203 ∷ 223 ∷ 162 ∷ 204 ∷ 6 ∷ 64 ∷ [])
+
+-- RFC 9106, section 5.1: the tag there is of a password with a secret and associated data, of which
+-- a text says nothing
+unfoldable pub argon2d_record : RecordValue
+argon2d_record = record_of (setting_of (Argon2 V13 D 32 3 4) (replicate 16 2))
+    (81 ∷ 43 ∷ 57 ∷ 27 ∷ 111 ∷ 17 ∷ 98 ∷ 151 ∷ 83 ∷ 113 ∷ 211 ∷ 9 ∷ 25 ∷ 115 ∷ 66 ∷ 148
+    ∷ 248 ∷ 104 ∷ 227 ∷ 190 ∷ 57 ∷ 132 ∷ 243 ∷ 193 ∷ 161 ∷ 58 ∷ 77 ∷ 185 ∷ 250 ∷ 190 ∷ 74 ∷ 203 ∷ [])

@@ -1,18 +1,22 @@
 //! What holds of `==` and of the definitions that contracts cite. A law about definitions is a
 //! function that does nothing.
 
-ghost use Rattle.std.specs.Prelude.{◌≡◌, ◌↔◌, codes, false, IsTrue, List, ℕ};
+ghost use Rattle.std.specs.Prelude.{◌≡◌, ◌↔◌, codes, false, replicate, true, IsTrue, List, ℕ};
 ghost use Rattle.base64.specs.GeneralPurpose.{IsBytes};
 ghost use Rattle.cred_phc.specs.Faults.{record_fault, setting_fault};
 ghost use Rattle.cred_phc.specs.Ranges.{is_current};
 ghost use Rattle.cred_phc.specs.Reading.{read_record, read_setting};
 ghost use Rattle.cred_phc.specs.Text.{IsRecordText, IsSettingText, bare_text, record_text, setting_text};
-ghost use Rattle.cred_phc.specs.Vectors.{argon2id_record, old_argon2i_record, scrypt_record};
+ghost use Rattle.cred_phc.specs.Vectors.{argon2d_record, argon2id_record, old_argon2i_record, scrypt_record};
 ghost use Rattle.cred_phc.specs.Values.{IsRecord, IsSetting, RecordValue, SettingValue};
 
 use crate::error::PhcError;
+use crate::password::Password;
 use crate::record::Record;
-use crate::scheme::Scheme;
+use crate::scheme::{Scheme, Variant};
+use crate::setting::Setting;
+use crate::tag::Tag;
+use cred_argon::Version;
 
 /// `==` of records, which is equality of all their parts.
 pub fn equal_records(a: &Record, b: &Record) -> bool
@@ -28,9 +32,54 @@ pub fn equal_schemes(x: Scheme, y: Scheme) -> bool
     x == y
 }
 
-/// A record that is written is read as itself.
+/// `==` of settings, which is equality of scheme and salt.
+pub fn equal_settings(setting: &Setting, other: &Setting) -> bool
+    ensures { IsTrue result ↔ (setting.now ≡ other.now) }
+{
+    setting == other
+}
+
+/// `==` of tags, which is equality of their bytes.
+pub fn equal_tags(tag: &Tag, other: &Tag) -> bool
+    ensures { IsTrue result ↔ (tag.now ≡ other.now) }
+{
+    tag == other
+}
+
+/// `==` of passwords, which is equality of their bytes.
+pub fn equal_passwords(password: &Password, other: &Password) -> bool
+    ensures { IsTrue result ↔ (password.now ≡ other.now) }
+{
+    password == other
+}
+
+/// `==` of variants, which is equality.
+pub fn equal_variants(variant: Variant, other: Variant) -> bool
+    ensures { IsTrue result ↔ (variant ≡ other) }
+{
+    variant == other
+}
+
+/// `==` of versions, which is equality.
+pub fn equal_versions(version: Version, other: Version) -> bool
+    ensures { IsTrue result ↔ (version ≡ other) }
+{
+    version == other
+}
+
+/// What is written is read as itself: a record, and a setting that isn't of version 0x10.
 pub fn read_as_written()
-    ensures { (v : RecordValue) → IsRecord v → read_record (record_text v) ≡ Ok v }
+    ensures records { (v : RecordValue) → IsRecord v → read_record (record_text v) ≡ Ok v }
+    ensures settings { (v : SettingValue) → IsSetting v → is_current v.scheme ≡ true
+        → read_setting (setting_text v) ≡ Ok v }
+{}
+
+/// A record of version 0x10 has two texts, with its version and without it, and they differ.
+pub fn two_old_texts()
+    ensures texts { (v : RecordValue) → is_current v.setting.scheme ≡ false
+        → IsRecordText (record_text v) v × IsRecordText (bare_text v) v }
+    ensures differ { (v : RecordValue) → is_current v.setting.scheme ≡ false
+        → record_text v ≡ bare_text v → ⊥ }
 {}
 
 /// Reading is the grammar. What is read has the text as one of its texts; each text of a value in
@@ -65,12 +114,40 @@ pub fn old_not_read()
         → read_setting (setting_text v) ≡ Err PhcError.Version }
 {}
 
-/// The texts that other programs write of these records.
+/// The texts that other programs write of these records, and of the setting of one.
 pub fn known_texts()
     ensures argon2id { record_text argon2id_record
         ≡ codes "$argon2id$v=19$m=256,t=2,p=1$c29tZXNhbHQ$nf65EOgLrQMR/uIPnA4rEsF5h7TKyQwu9U1bMCHGi/4" }
+    ensures argon2d { record_text argon2d_record
+        ≡ codes "$argon2d$v=19$m=32,t=3,p=4$AgICAgICAgICAgICAgICAg$USs5G28RYpdTcdMJGXNClPho4745hPPBoTpNufq+Sss" }
     ensures old_argon2i { bare_text old_argon2i_record
         ≡ codes "$argon2i$m=256,t=2,p=1$c29tZXNhbHQ$/U3YPXYsSb3q9XxHvc0MLxur+GP960kN9j7emXX8zwY" }
+    ensures written_old_argon2i { record_text old_argon2i_record
+        ≡ codes "$argon2i$v=16$m=256,t=2,p=1$c29tZXNhbHQ$/U3YPXYsSb3q9XxHvc0MLxur+GP960kN9j7emXX8zwY" }
     ensures scrypt { record_text scrypt_record
         ≡ codes "$scrypt$ln=10,r=8,p=16$TmFDbA$/bq+HJ00cgB4VucZDQHp/nxq18vII3gw53N2Y0s3MWIurzDZLiKjiG/xCSedmDDaxyevuUqD7m2DYMvfoswGQA" }
+    ensures setting { setting_text argon2id_record.setting
+        ≡ codes "$argon2id$v=19$m=256,t=2,p=1$c29tZXNhbHQ" }
+{}
+
+/// The faults of some damaged texts: the first from the left, and none in a record of version 0x10
+/// that leaves its version out.
+pub fn known_faults()
+    ensures only_a_dollar { record_fault (codes "$") ≡ Some PhcError.Scheme }
+    ensures no_version_number { record_fault (codes "$argon2id$v=$m=256,t=2,p=1$c29tZXNhbHQ$nf65EOgLrQM")
+        ≡ Some PhcError.Version }
+    ensures memory_below_no_salt { record_fault (codes "$argon2id$v=19$m=7,t=2,p=1")
+        ≡ Some PhcError.Range }
+    ensures thirty_digits { setting_fault (codes "$argon2id$v=19$m=100000000000000000000000000000,t=2,p=1$c29tZXNhbHQ")
+        ≡ Some PhcError.Range }
+    ensures leading_zero { record_fault (codes "$argon2id$v=19$m=0256,t=2,p=1$c29tZXNhbHQ$nf65EOgLrQM")
+        ≡ Some PhcError.Params }
+    ensures trailing_bits { record_fault (codes "$argon2id$v=19$m=256,t=2,p=1$c29tZXNhbHQ$nf65EOgLrQN")
+        ≡ Some PhcError.Tag }
+    ensures no_version_record { record_fault (codes "$argon2i$m=256,t=2,p=1$c29tZXNhbHQ$/U3YPXYsSb3q9XxHvc0MLxur+GP960kN9j7emXX8zwY")
+        ≡ None }
+    ensures no_version_setting { setting_fault (codes "$argon2i$m=256,t=2,p=1$c29tZXNhbHQ")
+        ≡ Some PhcError.Version }
+    ensures longest { record_fault (replicate 512 120) ≡ Some PhcError.Shape }
+    ensures too_long { record_fault (replicate 513 120) ≡ Some PhcError.TooLong }
 {}
