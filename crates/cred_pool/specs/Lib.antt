@@ -1,1 +1,2 @@
--- No definition: each type that is a part names its own relations (src/part.rt).
+-- Each type that is a part names its own relations (src/part.rt).
+pub mod Crews

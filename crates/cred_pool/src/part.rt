@@ -41,7 +41,7 @@ pub fn run_parts<R: Threads + Sync, G: Gate + Sync, C: Sync, P: Part<C> + Send>(
         → P.works shared.now (slice_index_or parts.old i d) (slice_index_or parts.new i d) }
 {
     if workers <= 1 || parts.len() <= 1 {
-        work_run(rt, gate, shared, 0, parts);
+        work_run(gate, shared, 0, parts);
         return;
     }
     let size = parts.len().div_ceil(usize::from(workers));
@@ -99,12 +99,12 @@ fn run_both<R: Threads + Sync, G: Gate + Sync, C: Sync, P: Part<C> + Send>(
 {
     let next = base + run.len();
     let mut first = ||
-        requires { IsSync R.row × IsSync G.row × IsSync C.row × IsSend P.row
+        requires { IsSync G.row × IsSync C.row × IsSend P.row
             × (base + length run.now < 2 ^ 64)
             × ((i : ℕ) (d : P) → i < length run.now → P.can_work shared.now (slice_index_or run.now i d)) }
         ensures { (i : ℕ) (d : P) → i < length run.entry.now
             → P.works shared.entry.now (slice_index_or run.entry.now i d) (slice_index_or run.exit.now i d) }
-    { work_run(rt, gate, shared, base, run) };
+    { work_run(gate, shared, base, run) };
     let mut others = ||
         requires { IsSync R.row × IsSync G.row × IsSync C.row × IsSend P.row
             × (0 < size) × (next + length rest.now < 2 ^ 64)
@@ -116,28 +116,16 @@ fn run_both<R: Threads + Sync, G: Gate + Sync, C: Sync, P: Part<C> + Send>(
 }
 
 /// Works the parts of a run in turn, on the caller's thread.
-fn work_run<R: Threads + Sync, G: Gate + Sync, C: Sync, P: Part<C> + Send>(
-    rt: &R,
-    gate: &G,
-    shared: &C,
-    base: usize,
-    run: &mut [P],
-)
+pub(crate) fn work_run<G: Gate, C, P: Part<C>>(gate: &G, shared: &C, base: usize, run: &mut [P])
     requires room { base + length run.old < 2 ^ 64 }
     requires can { (i : ℕ) (d : P) → i < length run.old
         → P.can_work shared.now (slice_index_or run.old i d) }
     ensures { (i : ℕ) (d : P) → i < length run.old
         → P.works shared.now (slice_index_or run.old i d) (slice_index_or run.new i d) }
 {
-    thread::for_each_mut(
-        rt,
-        run,
-        1,
-        &|i, part: &mut P|
-            requires { (base + i < 2 ^ 64) × P.can_work shared.now part.now }
-            ensures { P.works shared.entry.now part.entry.now part.exit.now }
-        { work_behind(gate, shared, base + i, part) },
-    );
+    'parts: for i in 0..run.len() {
+        work_behind(gate, shared, base + i, &mut run[i]);
+    }
 }
 
 /// Works a part between the gate's `enter` and `leave`.

@@ -1,0 +1,60 @@
+//! Who works the parts of a work.
+ghost use Rattle.std.specs.Prelude.{ℕ, ◌<◌, length, slice_index_or};
+
+use crate::gate::Gate;
+use crate::part::{Part, work_run};
+
+/// Whoever works the parts of a work, each once: threads, or the caller's thread alone. What is
+/// made of parts can be written once for every crew.
+pub trait Crew<C, P: Part<C>> {
+    ghost ready: { Self → Type 0 };
+
+    /// Works each part once.
+    fn work_each(&self, shared: &C, parts: &mut [P])
+        requires ready { ready self.now }
+        requires can { (i : ℕ) (d : P) → i < length parts.old
+            → P.can_work shared.now (slice_index_or parts.old i d) }
+        ensures { (i : ℕ) (d : P) → i < length parts.old
+            → P.works shared.now (slice_index_or parts.old i d) (slice_index_or parts.new i d) };
+}
+
+/// The caller's thread alone, which works the parts in turn, each between the gate's `enter` and
+/// `leave` with the part's index. It needs no runtime, so a library for C can have it.
+#[derive(Drop)]
+pub struct Alone<'a, G> {
+    gate: &'a G,
+}
+
+impl<'a, G> Alone<'a, G> {
+    /// The caller's thread, behind this gate.
+    pub fn new(gate: &'a G) -> Alone<'a, G> {
+        Alone { gate }
+    }
+}
+
+impl<'a, G: Gate, C, P: Part<C>> Crew<C, P> for Alone<'a, G> {
+    ghost use Rattle.std.specs.Prelude.{⊤};
+
+    ghost ready = { λ _. ⊤ };
+
+    fn work_each(&self, shared: &C, parts: &mut [P]) {
+        work_run(self.gate, shared, 0, parts);
+    }
+}
+
+/// The crew that a closure is, as one over [`run_parts`](crate::run_parts). It is ready where the
+/// closure's own contract says that each part is worked.
+#[derive(Drop)]
+pub struct CrewFn<F> {
+    pub work_each: F,
+}
+
+impl<C, P: Part<C>, F: Fn(&C, &mut [P])> Crew<C, P> for CrewFn<F> {
+    ghost use Rattle.cred_pool.specs.Crews.{WorksEach};
+
+    ghost ready = { λ crew. WorksEach F.Fn crew.work_each P.can_work P.works };
+
+    fn work_each(&self, shared: &C, parts: &mut [P]) {
+        (self.work_each)(shared, parts);
+    }
+}
