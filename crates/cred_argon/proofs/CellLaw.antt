@@ -6,15 +6,15 @@ use Rattle.std.proofs.lemmas.Bool.Decides.{nat_tests}
 use Rattle.cred_argon.specs.declared.kind.Version.{Version}
 use Rattle.cred_argon.specs.declared.kind.Version.TheVariants.{V10, V13}
 use Rattle.cred_argon.specs.declared.place.Place.{Place}
-use Rattle.cred_argon.specs.Parameters.{Parameters, IsParameters, segment_len}
+use Rattle.cred_argon.specs.Parameters.{Parameters, IsUpTo, segment_len}
 use Rattle.cred_argon.specs.Compress.{compress, xor_words}
 use Rattle.cred_argon.specs.Places.{place, IsPlace, IsComputed, reference_place}
 use Rattle.cred_argon.specs.Times.{time_of}
 use Rattle.cred_argon.specs.Cells.{first_cell, is_dependent, address_word, previous, older, word_by, reference_by, mixed_by, is_first, is_fresh, cell_by, cell_within, cell}
 use Rattle.cred_argon.proofs.Picks.{reference_before}
 
-pub segment_some : (a : Parameters) → IsParameters a → 2 ≤ segment_len a
-segment_some a ok = le-div 2 a.memory (4 * a.lanes) (omega (arith, ok.some_lane)) (omega (arith, ok.memory_at_least))
+pub segment_some : (most : ℕ) (a : Parameters) → IsUpTo most a → 2 ≤ segment_len a
+segment_some most a ok = le-div 2 a.memory (4 * a.lanes) (omega (arith, ok.some_lane)) (omega (arith, ok.memory_at_least))
 
 pass_before : (r q : ℕ) → 0 < r → r * q ≡ (r - 1) * q + q
 pass_before zero q some = absurd (omega arith)

@@ -1,8 +1,19 @@
--- The definitions computed at vectors from outside. vectors/argon/compress.py of hash_tests made
--- them: Argon2 in plain Python, which gives the tags of RFC 9106, section 5.
-use Rattle.std.proofs.Common.{◌≡◌, [], ◌∷◌, refl, replicate}
+-- The definitions computed at vectors from outside. Those of the compression function and of the
+-- address block are made by vectors/argon/compress.py of hash_tests: Argon2 in plain Python, which
+-- gives the tags of RFC 9106, section 5.
+use Rattle.std.proofs.Common.{◌≡◌, ℕ, List, [], ◌∷◌, refl, replicate}
+use Rattle.std.specs.Prelude.{slice_index}
 use Rattle.std.specs.List.{range_with_len}
+use Rattle.cred_blake.specs.Words.{word_at, words_of, bytes_of}
+use Rattle.cred_blake.specs.Blake2b.{blake, state_after, compress as blake_compress, rounds, round, mix, mixed as blake_mixed, work_vector, initial_state, key_block}
+use Rattle.cred_blake.specs.HashPrime.{hash_prime, halves, chain}
+use Rattle.cred_argon.specs.declared.kind.Kind.TheVariants.{Id}
+use Rattle.cred_argon.specs.declared.kind.Version.TheVariants.{V13}
+use Rattle.cred_argon.specs.Argon.{first_hash}
+use Rattle.cred_argon.specs.Cells.{first_cell, address_block}
 use Rattle.cred_argon.specs.Compress.{mixed, straight, slanted, permuted, rows, columns, xor_words, compress}
+use Rattle.cred_argon.specs.Parameters.{Parameters, parameters}
+use Rattle.cred_argon.specs.Places.{place, reference_set, reference_place}
 
 mixed_words : mixed 1 2 3 4 ≡ (1099511639303, 6489126338118157830, 3244562069547450371, 3244562056560705536)
 unfolding mixed
@@ -51,3 +62,48 @@ compressed_block : compress (range_with_len 0 128) (replicate 128 0)
     ∷ 4892754147509670248 ∷ 3885889036906504129 ∷ 10197995410603956175 ∷ 3912917767389101959 ∷ []
 unfolding compress columns rows xor_words straight slanted mixed
 compressed_block = refl
+
+-- The memory of one lane of eight columns, in segments of two: what the sixth column of the first
+-- pass may refer to, and what the first of the second pass may (RFC 9106, section 3.4.2, by hand).
+set_of_first_pass : reference_set 2 (place 0 0 5) 0 ≡ place 0 0 0 ∷ place 0 0 1 ∷ place 0 0 2 ∷ place 0 0 3 ∷ []
+unfolding reference_set
+set_of_first_pass = refl
+
+set_of_second_pass : reference_set 2 (place 1 0 0) 0 ≡ place 0 0 2 ∷ place 0 0 3 ∷ place 0 0 4 ∷ place 0 0 5 ∷ place 0 0 6 ∷ []
+unfolding reference_set
+set_of_second_pass = refl
+
+-- by half of the greatest j1 the sixth column refers to the third, and j2 names another lane
+place_in_one_lane : reference_place 2 1 (place 0 0 5) 2147483648 0 ≡ place 0 0 2
+unfolding reference_place reference_set
+place_in_one_lane = refl
+
+place_in_two_lanes : reference_place 2 2 (place 0 0 2) 0 3 ≡ place 0 1 0
+unfolding reference_place reference_set
+place_in_two_lanes = refl
+
+-- the parameters of RFC 9106, section 5.3
+abbrev standard : Parameters
+standard = parameters V13 Id 32 3 4 32
+
+-- the first hash that stands there
+abbrev standard_hash : List ℕ
+standard_hash =
+    0x28 ∷ 0x89 ∷ 0xde ∷ 0x48 ∷ 0x7e ∷ 0xb4 ∷ 0x2a ∷ 0xe5 ∷ 0x00 ∷ 0xc0 ∷ 0x00 ∷ 0x7e ∷ 0xd9 ∷ 0x25 ∷ 0x2f ∷ 0x10
+    ∷ 0x69 ∷ 0xea ∷ 0xde ∷ 0xc4 ∷ 0x0d ∷ 0x57 ∷ 0x65 ∷ 0xb4 ∷ 0x85 ∷ 0xde ∷ 0x6d ∷ 0xc2 ∷ 0x43 ∷ 0x7a ∷ 0x67 ∷ 0xb8
+    ∷ 0x54 ∷ 0x6a ∷ 0x2f ∷ 0x0a ∷ 0xcc ∷ 0x1a ∷ 0x08 ∷ 0x82 ∷ 0xdb ∷ 0x8f ∷ 0xcf ∷ 0x74 ∷ 0x71 ∷ 0x4b ∷ 0x47 ∷ 0x2e
+    ∷ 0x94 ∷ 0xdf ∷ 0x42 ∷ 0x1a ∷ 0x5d ∷ 0xa1 ∷ 0x11 ∷ 0x2f ∷ 0xfa ∷ 0x11 ∷ 0x43 ∷ 0x43 ∷ 0x70 ∷ 0xa1 ∷ 0xe9 ∷ 0x97 ∷ []
+
+first_hash_vector : first_hash standard (replicate 32 1) (replicate 16 2) (replicate 8 3) (replicate 12 4) ≡ standard_hash
+unfolding first_hash blake state_after blake_compress rounds round mix blake_mixed words_of word_at bytes_of work_vector initial_state key_block
+first_hash_vector = refl
+
+-- the first word of block 0 that stands there
+first_cell_word : slice_index (first_cell standard_hash 0 0) 0 ≡ 0x6b2e09f10671bd43
+unfolding first_cell hash_prime halves chain blake state_after blake_compress rounds round mix blake_mixed words_of word_at bytes_of work_vector initial_state key_block
+first_cell_word = refl
+
+-- of the second lane and slice of the first pass
+address_word_vector : slice_index (address_block standard 0 1 1 1) 0 ≡ 4487447645306391564
+unfolding address_block compress columns rows xor_words straight slanted mixed
+address_word_vector = refl

@@ -10,5 +10,6 @@ pub mod Times
 pub mod Cells
 pub mod Addresses
 pub mod Segments
+pub mod SegmentWork
 pub mod Argon
 pub mod Slices

@@ -22,12 +22,20 @@ parameters version kind memory passes lanes tag_len =
 abbrev pub segment_len : Parameters → ℕ
 segment_len a = a.memory / (4 * a.lanes)
 
--- the ranges that this library takes
-pub record IsParameters (a : Parameters) : Type 0 where
+-- the ranges that this library takes, with a tag of at most `most` bytes
+pub record IsUpTo (most : ℕ) (a : Parameters) : Type 0 where
   pub some_lane : 1 ≤ a.lanes
   pub lanes_at_most : a.lanes ≤ 255
   pub memory_at_least : 8 * a.lanes ≤ a.memory
   pub memory_at_most : a.memory ≤ 2097152
   pub some_pass : 1 ≤ a.passes
   pub tag_at_least : 4 ≤ a.tag_len
-  pub tag_at_most : a.tag_len ≤ 64
+  pub tag_at_most : a.tag_len ≤ most
+
+-- with a tag that a record can hold
+abbrev pub IsParameters : Parameters → Type 0
+IsParameters a = IsUpTo 64 a
+
+-- with any tag that RFC 9106 knows
+abbrev pub IsRaw : Parameters → Type 0
+IsRaw a = IsUpTo 4294967295 a

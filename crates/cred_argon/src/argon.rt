@@ -1,14 +1,18 @@
 //! Argon2 as a whole (RFC 9106, section 3.2).
-ghost use Rattle.std.specs.Prelude.{◌≡◌, ◌^◌, ◌<◌, ◌≤◌, ◌↔◌, ◌⊎◌, IsTrue, IfOk, IfErr, length};
+ghost use Rattle.std.specs.Prelude.{◌≡◌, ◌^◌, ◌<◌, ◌≤◌, ◌↔◌, ◌⊎◌, IsTrue, IfOk, IfErr, ℕ, length, slice_index_or};
 ghost use Rattle.cred_argon.specs.Argon.{argon};
+ghost use Rattle.cred_argon.specs.SegmentWork.{CanWork, Works};
+ghost use Rattle.cred_argon.specs.declared.segment.Segment.{Segment};
+ghost use denote.Param.Send.{IsSync};
 
 use crate::bytes::bytes_of_block;
 use crate::error::ArgonError;
 use crate::inputs::first_hash;
 use crate::params::Params;
+use crate::segment::{Segment, Shared};
 use crate::start::start;
 use cred_blake::hprime;
-use cred_pool::Gate;
+use cred_pool::{Alone, Crew, CrewFn, Gate, run_parts};
 use std::alloc::Global;
 use std::marker::Sync;
 use std::thread::Threads;
@@ -40,12 +44,63 @@ pub fn argon2<R: Threads + Sync, G: Gate + Sync>(
         ⊎ (2 ^ 32 ≤ length secret.now) ⊎ (2 ^ 32 ≤ length assoc.now)) }
     ensures err { IfErr result (λ e. (e ≡ ArgonError.InputLen) ⊎ (e ≡ ArgonError.Memory)) }
 {
+    let work_each = |shared: &Shared, parts: &mut [Segment]|
+        requires { IsSync R.row × IsSync G.row
+            × ((i : ℕ) (d : Segment) → i < length parts.now
+            → CanWork shared.now (slice_index_or parts.now i d)) }
+        ensures { (i : ℕ) (d : Segment) → i < length parts.entry.now
+            → Works shared.entry.now (slice_index_or parts.entry.now i d) (slice_index_or parts.exit.now i d) }
+    { run_parts(rt, workers, gate, shared, parts) };
+    argon2_by(&CrewFn { work_each }, alloc, params, pw, salt, secret, assoc)
+}
+
+/// The same with all the work done on the caller's thread, so that it needs no runtime: each lane of
+/// a slice in turn, behind the gate. The errors are the same.
+pub fn argon2_alone<G: Gate>(
+    alloc: Global,
+    gate: &G,
+    params: &Params,
+    pw: &[u8],
+    salt: &[u8],
+    secret: &[u8],
+    assoc: &[u8],
+) -> Result<Vec<u8>, ArgonError>
+    ensures ok { IfOk result (λ tag. tag.items
+        ≡ argon params.now pw.now salt.now secret.now assoc.now) }
+    ensures size { IfOk result (λ tag. length tag.items ≡ params.now.tag_len) }
+    ensures input_len { (result ≡ Err ArgonError.InputLen)
+        ↔ ((2 ^ 32 ≤ length pw.now) ⊎ (2 ^ 32 ≤ length salt.now)
+        ⊎ (2 ^ 32 ≤ length secret.now) ⊎ (2 ^ 32 ≤ length assoc.now)) }
+    ensures err { IfErr result (λ e. (e ≡ ArgonError.InputLen) ⊎ (e ≡ ArgonError.Memory)) }
+{
+    argon2_by(&Alone::new(gate), alloc, params, pw, salt, secret, assoc)
+}
+
+/// The same with the lanes of each slice worked by this crew.
+fn argon2_by<W: Crew<Shared, Segment>>(
+    crew: &W,
+    alloc: Global,
+    params: &Params,
+    pw: &[u8],
+    salt: &[u8],
+    secret: &[u8],
+    assoc: &[u8],
+) -> Result<Vec<u8>, ArgonError>
+    requires { W.ready crew.now }
+    ensures ok { IfOk result (λ tag. tag.items
+        ≡ argon params.now pw.now salt.now secret.now assoc.now) }
+    ensures size { IfOk result (λ tag. length tag.items ≡ params.now.tag_len) }
+    ensures input_len { (result ≡ Err ArgonError.InputLen)
+        ↔ ((2 ^ 32 ≤ length pw.now) ⊎ (2 ^ 32 ≤ length salt.now)
+        ⊎ (2 ^ 32 ≤ length secret.now) ⊎ (2 ^ 32 ≤ length assoc.now)) }
+    ensures err { IfErr result (λ e. (e ≡ ArgonError.InputLen) ⊎ (e ≡ ArgonError.Memory)) }
+{
     if is_any_too_long(pw, salt, secret, assoc) {
         return Err(ArgonError::InputLen);
     }
     let hash = first_hash(params, pw, salt, secret, assoc);
     let mut memory = start(alloc, params, hash.bytes())?;
-    memory.fill(rt, workers, gate);
+    memory.fill(crew);
     let last = bytes_of_block(&memory.last_blocks());
     match hprime(alloc, params.tag_len(), &last) {
         Ok(tag) => Ok(tag),

@@ -1,7 +1,8 @@
 //! Argon2, the memory-hard function of RFC 9106: kinds d, i and id, version 0x13 and the older
 //! 0x10.
 //!
-//! [`argon2`] makes a tag from a password, a salt and [`Params`], its lanes worked by threads.
+//! [`argon2`] makes a tag from a password, a salt and [`Params`], its lanes worked by threads;
+//! [`argon2_alone`] makes it on the caller's thread.
 //! [`compress`] and [`reference`] are the two parts that its memory is filled with, for whoever
 //! wants to look at them alone.
 #![tactic(auto)]
@@ -23,7 +24,7 @@ mod rows_columns;
 mod segment;
 mod start;
 
-pub use argon::argon2;
+pub use argon::{argon2, argon2_alone};
 pub use block::{Block, compress};
 pub use error::ArgonError;
 pub use kind::{Kind, Version};

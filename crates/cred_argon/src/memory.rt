@@ -8,10 +8,8 @@ ghost use Rattle.cred_argon.specs.Argon.{last_blocks};
 
 use crate::block::{Block, add_onto};
 use crate::segment::{Segment, Shared, block_of};
-use cred_pool::{Gate, run_parts};
-use std::marker::Sync;
+use cred_pool::Crew;
 use std::mem;
-use std::thread::Threads;
 
 /// The slice that is to be worked, and what its lanes share.
 #[derive(Drop)]
@@ -22,8 +20,9 @@ pub(crate) struct Memory {
 
 impl Memory {
     /// Makes all passes.
-    pub(crate) fn fill<R: Threads + Sync, G: Gate + Sync>(&mut self, rt: &R, workers: u8, gate: &G)
-        requires { IsMemory 0 self.old }
+    pub(crate) fn fill<W: Crew<Shared, Segment>>(&mut self, crew: &W)
+        requires crew { W.ready crew.now }
+        requires shape { IsMemory 0 self.old }
         ensures params { self.new.shared.params ≡ self.old.shared.params }
         ensures some { 1 ≤ self.old.shared.params.passes }
         ensures shape { IsMemory (4 * self.old.shared.params.passes) self.new }
@@ -33,20 +32,14 @@ impl Memory {
         let passes = self.shared.params.passes();
         'passes: for pass in 0..passes {
             'slices: for slice in 0..4 {
-                self.work(rt, workers, gate, pass, slice);
+                self.work(crew, pass, slice);
             }
         }
     }
 
     /// Works a slice of a pass, and hands the slices on.
-    fn work<R: Threads + Sync, G: Gate + Sync>(
-        &mut self,
-        rt: &R,
-        workers: u8,
-        gate: &G,
-        pass: u32,
-        slice: u32,
-    )
+    fn work<W: Crew<Shared, Segment>>(&mut self, crew: &W, pass: u32, slice: u32)
+        requires crew { W.ready crew.now }
         requires slice { slice < 4 }
         requires shape { IsMemory (4 * pass + slice) self.old }
         ensures params { self.new.shared.params ≡ self.old.shared.params }
@@ -56,12 +49,13 @@ impl Memory {
     {
         self.shared.pass = pass;
         self.shared.slice = slice;
-        self.work_current(rt, workers, gate);
+        self.work_current(crew);
         self.hand_on();
     }
 
     /// Works the segments of the current slice.
-    fn work_current<R: Threads + Sync, G: Gate + Sync>(&mut self, rt: &R, workers: u8, gate: &G)
+    fn work_current<W: Crew<Shared, Segment>>(&mut self, crew: &W)
+        requires crew { W.ready crew.now }
         requires slice { self.old.shared.slice < 4 }
         requires shape { IsMemory (number self.old.shared) self.old }
         ensures shared { self.new.shared ≡ self.old.shared }
@@ -70,7 +64,7 @@ impl Memory {
         ensures holds { (h : List ℕ) → MemoryHolds h (number self.old.shared) self.old
             → HoldsSlice self.old.shared.params h (number self.old.shared) self.new.current.items }
     {
-        run_parts(rt, workers, gate, &self.shared, &mut self.current);
+        crew.work_each(&self.shared, &mut self.current);
     }
 
     /// The current slice comes to be the newest, and the oldest the current one.

@@ -1,7 +1,7 @@
 //! What an Argon2 tag is asked for.
 ghost use Rattle.std.specs.Prelude.{◌≡◌, ◌*◌, ◌≤◌, ◌↔◌, IfOk};
-ghost use Rattle.cred_argon.specs.Parameters.{parameters, IsParameters, segment_len};
-ghost use Rattle.cred_argon.specs.Faults.{IsFirstFault};
+ghost use Rattle.cred_argon.specs.Faults.{IsFaultUpTo, IsFirstFault, IsFirstRawFault};
+ghost use Rattle.cred_argon.specs.Parameters.{parameters, IsParameters, IsRaw, IsUpTo, segment_len};
 
 use crate::error::ArgonError;
 use crate::kind::{Kind, Version};
@@ -13,10 +13,10 @@ const MAX_LANES: u32 = 255;
 /// The most memory, in KiB: 2 GiB.
 const MAX_MEMORY: u32 = 2_097_152;
 
-/// The fewest and the most bytes of a tag: RFC 9106 has no fewer, and one BLAKE2b digest has no
-/// more.
+/// The fewest bytes of a tag (RFC 9106, section 3.1).
 const MIN_TAG: u32 = 4;
 
+/// The most that a record holds: one BLAKE2b digest has no more.
 const MAX_TAG: u32 = 64;
 
 /// The version, kind, costs and tag length of an Argon2 tag (RFC 9106, section 3.1), always in
@@ -35,14 +35,14 @@ pub struct Params {
 impl Model for Params {
     ghost use Rattle.std.specs.Prelude.{◌≡◌, ℕ, ◌*◌, ◌/◌};
     ghost use Rattle.std.proofs.Common.{sym, ap};
-    ghost use Rattle.cred_argon.specs.Parameters.{Parameters, parameters, IsParameters};
+    ghost use Rattle.cred_argon.specs.Parameters.{Parameters, parameters, IsRaw};
 
     ghost Value = { Parameters };
 
     ghost view = { λ a. parameters a.version a.kind a.memory a.passes a.lanes a.tag_len };
 
     ghost invariant = { λ a.
-        IsParameters (parameters a.version a.kind a.memory a.passes a.lanes a.tag_len)
+        IsRaw (parameters a.version a.kind a.memory a.passes a.lanes a.tag_len)
         × (a.segment ≡ a.memory / (4 * a.lanes)) };
 
     ghost inverse = { λ v. record {
@@ -102,6 +102,43 @@ impl Params {
         ensures err { (e : ArgonError) → (result ≡ Err e)
             ↔ IsFirstFault (parameters version kind memory passes lanes tag_len) e }
     {
+        Params::up_to(MAX_TAG, version, kind, memory, passes, lanes, tag_len)
+    }
+
+    /// The same for a tag that no record has to hold: of 4 bytes or more, as RFC 9106 has it.
+    ///
+    /// Errors: those of [`new`](Params::new), but `TagLen` where the tag is below 4 bytes alone.
+    pub fn raw(
+        version: Version,
+        kind: Kind,
+        memory: u32,
+        passes: u32,
+        lanes: u32,
+        tag_len: u32,
+    ) -> Result<Self, ArgonError>
+        ensures ok { IfOk result (λ a. (a ≡ parameters version kind memory passes lanes tag_len)
+            × IsRaw (parameters version kind memory passes lanes tag_len)) }
+        ensures err { (e : ArgonError) → (result ≡ Err e)
+            ↔ IsFirstRawFault (parameters version kind memory passes lanes tag_len) e }
+    {
+        Params::up_to(u32::MAX, version, kind, memory, passes, lanes, tag_len)
+    }
+
+    /// Parameters of a tag of at most `most` bytes.
+    fn up_to(
+        most: u32,
+        version: Version,
+        kind: Kind,
+        memory: u32,
+        passes: u32,
+        lanes: u32,
+        tag_len: u32,
+    ) -> Result<Self, ArgonError>
+        ensures ok { IfOk result (λ a. (a ≡ parameters version kind memory passes lanes tag_len)
+            × IsUpTo most (parameters version kind memory passes lanes tag_len)) }
+        ensures err { (e : ArgonError) → (result ≡ Err e)
+            ↔ IsFaultUpTo most (parameters version kind memory passes lanes tag_len) e }
+    {
         if lanes == 0 || lanes > MAX_LANES {
             return Err(ArgonError::Lanes);
         }
@@ -111,7 +148,7 @@ impl Params {
         if passes == 0 {
             return Err(ArgonError::Passes);
         }
-        if tag_len < MIN_TAG || tag_len > MAX_TAG {
+        if tag_len < MIN_TAG || tag_len > most {
             return Err(ArgonError::TagLen);
         }
         Ok(Params {
@@ -167,7 +204,6 @@ impl Params {
     pub fn tag_len(&self) -> u32
         ensures value { result ≡ self.now.tag_len }
         ensures some { 4 ≤ result }
-        ensures at_most { result ≤ 64 }
     {
         self.tag_len
     }

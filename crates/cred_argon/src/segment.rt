@@ -9,6 +9,7 @@ ghost use Rattle.cred_argon.specs.Places.{place, reference_place};
 ghost use Rattle.cred_argon.specs.Times.{IsBefore};
 ghost use Rattle.cred_argon.specs.Cells.{cell, is_dependent, is_fresh, previous, older};
 ghost use Rattle.cred_argon.specs.Addresses.{KeepsAddresses, AreAddresses};
+ghost use Rattle.cred_argon.specs.SegmentWork.{CanWork, Works};
 ghost use Rattle.cred_argon.specs.Segments.{IsSlice, HoldsSlice, IsShaped, SharedHolds, OwnHolds, DoneHolds, IsReadable, first_offset, begun_len, number, place_in};
 
 use crate::address::Addresses;
@@ -40,14 +41,9 @@ pub(crate) struct Shared {
 }
 
 impl Part<Shared> for Segment {
-    ghost can_work = { λ c p. IsShaped c × (p.lane < c.params.lanes)
-        × (segment_len c.params ≤ vec_capacity p.blocks)
-        × (vec_len p.blocks ≡ begun_len c) };
+    ghost can_work = { CanWork };
 
-    ghost works = { λ c p q. (vec_len q.blocks ≡ segment_len c.params) × (q.lane ≡ p.lane)
-        × (segment_len c.params ≤ vec_capacity q.blocks)
-        × ((h : List ℕ) → SharedHolds h c → OwnHolds h c p.lane (first_offset c) p.blocks.items
-        → OwnHolds h c q.lane (segment_len c.params) q.blocks.items) };
+    ghost works = { Works };
 
     fn work(&mut self, shared: &Shared) {
         let segment_len = shared.params.segment_len();

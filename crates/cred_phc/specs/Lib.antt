@@ -14,3 +14,4 @@ pub mod Reading
 pub mod Faults
 pub mod Vectors
 pub mod Tags
+pub mod Functions

@@ -1,9 +1,8 @@
 //! The tag of a password under a setting.
 
-ghost use Rattle.std.specs.Prelude.{◌≡◌, ◌≤◌, [], codes, length, IfOk, IsTrue};
-ghost use Rattle.cred_argon.specs.Argon.{argon};
+ghost use Rattle.std.specs.Prelude.{◌≡◌, ◌<◌, ◌≤◌, ◌^◌, List, ℕ, codes, length, IfOk, IsTrue};
 ghost use Rattle.cred_argon.specs.Parameters.{parameters};
-ghost use Rattle.cred_scrypt.specs.Scrypt.{scrypt};
+ghost use Rattle.cred_phc.specs.Functions.{key, key_len};
 ghost use Rattle.cred_phc.specs.Ranges.{argon_fits, scrypt_fits};
 ghost use Rattle.cred_phc.specs.Tags.{argon_kind, tag};
 ghost use Rattle.cred_phc.specs.Values.{IsTag};
@@ -12,9 +11,9 @@ use crate::password::Password;
 use crate::scheme::{Scheme, Variant};
 use crate::setting::Setting;
 use crate::tag::{MAX_TAG, Tag};
-use cred_argon::{ArgonError, Kind, Params, Version, argon2};
+use cred_argon::{Kind, Params, Version, argon2, argon2_alone};
 use cred_pool::Gate;
-use cred_scrypt::{ScryptParams, scrypt};
+use cred_scrypt::{ScryptParams, scrypt, scrypt_alone};
 use std::alloc::Global;
 use std::marker::Sync;
 use std::thread::Threads;
@@ -52,7 +51,6 @@ impl TagError {
 /// at most `workers` threads, behind the gate; the tag is the same for any number.
 ///
 /// Errors: `Memory` where there is too little for the setting.
-#[tactic(auto, unfolding(crate::specs::Tags::tag))]
 pub fn tag_of<R: Threads + Sync, G: Gate + Sync>(
     rt: &R,
     alloc: Global,
@@ -67,71 +65,95 @@ pub fn tag_of<R: Threads + Sync, G: Gate + Sync>(
     ensures made { IfOk result (λ t. t ≡ tag setting.now len pw.now) }
     ensures ranges { IfOk result IsTag }
 {
-    match setting.scheme() {
-        Scheme::Argon2 {
-            version,
-            variant,
-            m,
-            t,
-            p,
-        } => {
-            let params = argon_params(version, variant, m, t, p, len);
-            argon_tag(rt, alloc, workers, gate, &params, setting, pw)
+    let salt = setting.salt();
+    match Function::of(setting, len) {
+        Function::Argon2(params) => tag_made(argon2(
+            rt,
+            alloc,
+            workers,
+            gate,
+            &params,
+            pw.bytes(),
+            salt,
+            b"",
+            b"",
+        )),
+        Function::Scrypt(params) => tag_made(scrypt(
+            rt,
+            alloc,
+            workers,
+            gate,
+            &params,
+            pw.bytes(),
+            salt,
+        )),
+    }
+}
+
+/// The same with all the work done on the caller's thread, so that it needs no runtime, and for a
+/// password of any length that Argon2 takes.
+///
+/// Errors: `Memory` where there is too little for the setting.
+pub fn tag_alone<G: Gate>(
+    alloc: Global,
+    gate: &G,
+    setting: &Setting,
+    len: u8,
+    pw: &[u8],
+) -> Result<Tag, TagError>
+    requires low { 4 ≤ len }
+    requires high { len ≤ 64 }
+    requires password { length pw.now < 2 ^ 32 }
+    ensures made { IfOk result (λ t. t ≡ tag setting.now len pw.now) }
+    ensures ranges { IfOk result IsTag }
+{
+    let salt = setting.salt();
+    match Function::of(setting, len) {
+        Function::Argon2(params) => {
+            tag_made(argon2_alone(alloc, gate, &params, pw, salt, b"", b""))
         }
-        Scheme::Scrypt { ln, r, p } => {
-            let params = scrypt_params(ln, r, p, len);
-            scrypt_tag(rt, alloc, workers, gate, &params, setting, pw)
+        Function::Scrypt(params) => tag_made(scrypt_alone(alloc, gate, &params, pw, salt)),
+    }
+}
+
+/// The function that a setting asks for, with all its numbers.
+enum Function {
+    Argon2(Params),
+    Scrypt(ScryptParams),
+}
+
+impl Function {
+    /// That of the setting, for a tag of `len` bytes.
+    #[tactic(auto, unfolding(crate::specs::Tags::tag))]
+    fn of(setting: &Setting, len: u8) -> Function
+        requires low { 4 ≤ len }
+        requires high { len ≤ 64 }
+        ensures tag { (pw : List ℕ) → key result pw setting.now.salt ≡ tag setting.now len pw }
+        ensures len { key_len result ≡ len }
+    {
+        match setting.scheme() {
+            Scheme::Argon2 {
+                version,
+                variant,
+                m,
+                t,
+                p,
+            } => Function::Argon2(argon_params(version, variant, m, t, p, len)),
+            Scheme::Scrypt { ln, r, p } => Function::Scrypt(scrypt_params(ln, r, p, len)),
         }
     }
 }
 
-fn argon_tag<R: Threads + Sync, G: Gate + Sync>(
-    rt: &R,
-    alloc: Global,
-    workers: u8,
-    gate: &G,
-    params: &Params,
-    setting: &Setting,
-    pw: &Password,
-) -> Result<Tag, TagError>
-    requires low { 4 ≤ params.now.tag_len }
-    requires high { params.now.tag_len ≤ 64 }
-    ensures made { IfOk result (λ t. t ≡ argon params.now pw.now setting.now.salt [] []) }
+/// The tag of the bytes that a function made. It refuses no input of a setting, so it made none for
+/// want of memory alone.
+fn tag_made<E: Drop>(made: Result<Vec<u8>, E>) -> Result<Tag, TagError>
+    requires low { IfOk made (λ v. 4 ≤ length v.items) }
+    requires high { IfOk made (λ v. length v.items ≤ 64) }
+    ensures made { (tag : List ℕ) → IfOk made (λ v. v.items ≡ tag) → IfOk result (λ t. t ≡ tag) }
     ensures ranges { IfOk result IsTag }
 {
-    match argon2(
-        rt,
-        alloc,
-        workers,
-        gate,
-        params,
-        pw.bytes(),
-        setting.salt(),
-        b"",
-        b"",
-    ) {
-        Ok(tag) => Ok(tag_from(&tag)),
-        Err(ArgonError::Memory) => Err(TagError::Memory),
-        // Passwords and salts are short.
-        Err(_) => unreachable!(),
-    }
-}
-
-fn scrypt_tag<R: Threads + Sync, G: Gate + Sync>(
-    rt: &R,
-    alloc: Global,
-    workers: u8,
-    gate: &G,
-    params: &ScryptParams,
-    setting: &Setting,
-    pw: &Password,
-) -> Result<Tag, TagError>
-    ensures made { IfOk result (λ t. t
-        ≡ scrypt params.now.ln params.now.r params.now.p params.now.len pw.now setting.now.salt) }
-    ensures ranges { IfOk result IsTag }
-{
-    match scrypt(rt, alloc, workers, gate, params, pw.bytes(), setting.salt()) {
-        Ok(tag) => Ok(tag_from(&tag)),
+    match made {
+        Ok(bytes) => Ok(tag_from(&bytes)),
         Err(_) => Err(TagError::Memory),
     }
 }

@@ -10,3 +10,4 @@ pub mod Params
 pub mod Errors
 pub mod Scrypt
 pub mod Pieces
+pub mod PieceWork

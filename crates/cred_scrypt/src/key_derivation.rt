@@ -1,12 +1,15 @@
 //! scrypt itself: PBKDF2, ROMix on each piece, PBKDF2 (RFC 7914, section 6).
-ghost use Rattle.std.specs.Prelude.{◌≡◌, IfOk, length};
+ghost use Rattle.std.specs.Prelude.{◌≡◌, ◌<◌, ℕ, IfOk, length, slice_index_or};
+ghost use Rattle.cred_scrypt.specs.PieceWork.{CanWork, Works};
 ghost use Rattle.cred_scrypt.specs.Scrypt.{scrypt};
+ghost use Rattle.cred_scrypt.specs.declared.pieces.Piece.{Piece};
+ghost use denote.Param.Send.{IsSync};
 
 use crate::error::ScryptError;
 use crate::params::ScryptParams;
 use crate::pbkdf::pbkdf2;
-use crate::pieces::mixed;
-use cred_pool::Gate;
+use crate::pieces::{Mixing, Piece, mixed};
+use cred_pool::{Alone, Crew, CrewFn, Gate, run_parts};
 use std::alloc::Global;
 use std::marker::Sync;
 use std::thread::Threads;
@@ -31,8 +34,49 @@ pub fn scrypt<R: Threads + Sync, G: Gate + Sync>(
         ≡ scrypt params.now.ln params.now.r params.now.p params.now.len pw.now salt.now) }
     ensures size { IfOk result (λ key. length key.items ≡ params.now.len) }
 {
+    let work_each = |shared: &Mixing, parts: &mut [Piece]|
+        requires { IsSync R.row × IsSync G.row
+            × ((i : ℕ) (d : Piece) → i < length parts.now
+            → CanWork shared.now (slice_index_or parts.now i d)) }
+        ensures { (i : ℕ) (d : Piece) → i < length parts.entry.now
+            → Works shared.entry.now (slice_index_or parts.entry.now i d) (slice_index_or parts.exit.now i d) }
+    { run_parts(rt, workers, gate, shared, parts) };
+    scrypt_by(&CrewFn { work_each }, alloc, params, pw, salt)
+}
+
+/// The same with all the work done on the caller's thread, so that it needs no runtime: each piece
+/// in turn, behind the gate. The errors are the same.
+pub fn scrypt_alone<G: Gate>(
+    alloc: Global,
+    gate: &G,
+    params: &ScryptParams,
+    pw: &[u8],
+    salt: &[u8],
+) -> Result<Vec<u8>, ScryptError>
+    ensures memory { (e : _) → result ≡ Err e → e ≡ ScryptError.Memory }
+    ensures ok { IfOk result (λ key. key.items
+        ≡ scrypt params.now.ln params.now.r params.now.p params.now.len pw.now salt.now) }
+    ensures size { IfOk result (λ key. length key.items ≡ params.now.len) }
+{
+    scrypt_by(&Alone::new(gate), alloc, params, pw, salt)
+}
+
+/// The same with the pieces mixed by this crew.
+fn scrypt_by<W: Crew<Mixing, Piece>>(
+    crew: &W,
+    alloc: Global,
+    params: &ScryptParams,
+    pw: &[u8],
+    salt: &[u8],
+) -> Result<Vec<u8>, ScryptError>
+    requires { W.ready crew.now }
+    ensures memory { (e : _) → result ≡ Err e → e ≡ ScryptError.Memory }
+    ensures ok { IfOk result (λ key. key.items
+        ≡ scrypt params.now.ln params.now.r params.now.p params.now.len pw.now salt.now) }
+    ensures size { IfOk result (λ key. length key.items ≡ params.now.len) }
+{
     let size = 128 * u32::from(params.r) * u32::from(params.p);
     let start = pbkdf2(alloc, pw, salt, 1, size)?;
-    let mixed = mixed(rt, alloc, workers, gate, params, &start)?;
+    let mixed = mixed(crew, alloc, params, &start)?;
     pbkdf2(alloc, pw, &mixed, 1, params.len)
 }

@@ -2,7 +2,8 @@
 //! Salsa20/8, BlockMix and ROMix.
 //!
 //! [`scrypt`] derives a key from a password and a salt. Its p pieces are the parts of a run of
-//! worker threads, and the key is the standard's for any number of workers.
+//! worker threads, and the key is the standard's for any number of workers; [`scrypt_alone`] mixes
+//! them on the caller's thread.
 #![tactic(auto)]
 
 mod blockmix;
@@ -20,7 +21,7 @@ mod xor;
 pub use blockmix::block_mix;
 pub use error::ScryptError;
 pub use hmac::hmac_sha256;
-pub use key_derivation::scrypt;
+pub use key_derivation::{scrypt, scrypt_alone};
 pub use params::ScryptParams;
 pub use pbkdf::pbkdf2;
 pub use romix::ro_mix;

@@ -32,8 +32,7 @@ pub struct ScryptParams {
     ghost some_pieces: { 1 ≤ p },
     ghost below_block_size: { ln < 16 * r },
     ghost room: { r * 2 ^ ln ≤ 16777216 },
-    ghost long_enough: { 4 ≤ len },
-    ghost short_enough: { len ≤ 64 },
+    ghost some_bytes: { 1 ≤ len },
 }
 
 impl ScryptParams {
@@ -52,6 +51,25 @@ impl ScryptParams {
         ensures memory { result ≡ Err ScryptError.Memory → ⊥ }
         ensures ok { IfOk result (λ made. (made.ln ≡ ln) × (made.r ≡ r) × (made.p ≡ p) × (made.len ≡ len)) }
     {
+        let params = ScryptParams::raw(ln, r, p, len)?;
+        if len < MIN_LEN || len > MAX_LEN {
+            return Err(ScryptError::Len);
+        }
+        Ok(params)
+    }
+
+    /// The same for a key that no record has to hold: of any length but 0.
+    ///
+    /// Errors: those of [`new`](ScryptParams::new), but `Len` where `len` is 0 alone.
+    pub fn raw(ln: u8, r: u8, p: u8, len: u32) -> Result<ScryptParams, ScryptError>
+        ensures block_size { (result ≡ Err ScryptError.BlockSize) ↔ (r ≡ 0) }
+        ensures blocks { (result ≡ Err ScryptError.Blocks) ↔ ((1 ≤ r) × (p ≡ 0)) }
+        ensures cost { (result ≡ Err ScryptError.Cost) ↔ ((1 ≤ r) × (1 ≤ p) × IsCostly ln r) }
+        ensures len { (result ≡ Err ScryptError.Len)
+            ↔ ((1 ≤ r) × (1 ≤ p) × (IsCostly ln r → ⊥) × (len ≡ 0)) }
+        ensures memory { result ≡ Err ScryptError.Memory → ⊥ }
+        ensures ok { IfOk result (λ made. (made.ln ≡ ln) × (made.r ≡ r) × (made.p ≡ p) × (made.len ≡ len)) }
+    {
         if r == 0 {
             return Err(ScryptError::BlockSize);
         }
@@ -61,7 +79,7 @@ impl ScryptParams {
         if is_costly(ln, r) {
             return Err(ScryptError::Cost);
         }
-        if len < MIN_LEN || len > MAX_LEN {
+        if len == 0 {
             return Err(ScryptError::Len);
         }
         Ok(ScryptParams { ln, r, p, len })

@@ -1,24 +1,22 @@
 //! The pieces that scrypt mixes, each by itself, as the parts of a run of workers (RFC 7914,
 //! section 6, step 2).
 ghost use Rattle.std.specs.Prelude.{◌≡◌, ℕ, ◌*◌, ◌^◌, ◌<◌, List, IfOk, false, length};
-ghost use Rattle.cred_scrypt.specs.Mixing.{ro_mix};
+ghost use Rattle.cred_scrypt.specs.PieceWork.{CanWork, Works};
 ghost use Rattle.cred_scrypt.specs.Scrypt.{mixed_pieces};
 
 use crate::error::ScryptError;
 use crate::params::ScryptParams;
 use crate::romix::ro_mix;
 use crate::words::{put_words, words_of};
-use cred_pool::{Gate, Part, run_parts};
+use cred_pool::{Crew, Part};
 use std::alloc::Global;
-use std::marker::Sync;
-use std::thread::Threads;
 
 /// How many bytes a piece has for each unit of the block size: two blocks.
 const PAIR: usize = 128;
 
 /// What the pieces share.
 #[derive(Drop)]
-struct Mixing {
+pub(crate) struct Mixing {
     alloc: Global,
     params: ScryptParams,
 }
@@ -32,10 +30,9 @@ pub(crate) struct Piece {
 }
 
 impl Part<Mixing> for Piece {
-    ghost can_work = { λ shared old. length old.words.items ≡ 32 * shared.params.r };
+    ghost can_work = { CanWork };
 
-    ghost works = { λ shared old new. new.refused ≡ false
-        → new.words.items ≡ ro_mix shared.params.r (2 ^ shared.params.ln) old.words.items };
+    ghost works = { Works };
 
     /// Mixes the piece by ROMix, over a table that stands while the piece is worked and no longer.
     fn work(&mut self, shared: &Mixing) {
@@ -49,23 +46,21 @@ impl Part<Mixing> for Piece {
     }
 }
 
-/// The `p` pieces of `bytes`, each mixed by itself in at most `workers` threads, and then one after
-/// another again.
-pub(crate) fn mixed<R: Threads + Sync, G: Gate + Sync>(
-    rt: &R,
+/// The `p` pieces of `bytes`, each mixed by itself, by this crew, and then one after another again.
+pub(crate) fn mixed<W: Crew<Mixing, Piece>>(
+    crew: &W,
     alloc: Global,
-    workers: u8,
-    gate: &G,
     params: &ScryptParams,
     bytes: &[u8],
 ) -> Result<Vec<u8>, ScryptError>
-    requires { length bytes.now ≡ 128 * params.now.r * params.now.p }
+    requires crew { W.ready crew.now }
+    requires size { length bytes.now ≡ 128 * params.now.r * params.now.p }
     ensures memory { (e : _) → result ≡ Err e → e ≡ ScryptError.Memory }
     ensures ok { IfOk result (λ mixed. mixed.items
         ≡ mixed_pieces params.now.ln params.now.r bytes.now params.now.p) }
 {
     let mut pieces = Piece::cut(alloc, usize::from(params.r), usize::from(params.p), bytes)?;
-    Piece::mix_all(rt, alloc, workers, gate, params, pieces.as_mut_slice());
+    Piece::mix_all(crew, alloc, params, pieces.as_mut_slice());
     Piece::joined(alloc, bytes.len(), &pieces)
 }
 
@@ -93,16 +88,15 @@ impl Piece {
         Ok(pieces)
     }
 
-    /// Mixes each piece, in at most `workers` threads.
-    fn mix_all<R: Threads + Sync, G: Gate + Sync>(
-        rt: &R,
+    /// Has the crew mix each piece.
+    fn mix_all<W: Crew<Mixing, Piece>>(
+        crew: &W,
         alloc: Global,
-        workers: u8,
-        gate: &G,
         params: &ScryptParams,
         pieces: &mut [Piece],
     )
-        requires { AreWhole params.now.r pieces.old }
+        requires crew { W.ready crew.now }
+        requires whole { AreWhole params.now.r pieces.old }
         ensures { (b : List ℕ) → AreCut params.now.r b pieces.old
             → AreMixed params.now.ln params.now.r b pieces.new }
     {
@@ -110,7 +104,7 @@ impl Piece {
             alloc,
             params: *params,
         };
-        run_parts(rt, workers, gate, &shared, pieces);
+        crew.work_each(&shared, pieces);
     }
 
     /// The bytes of all the pieces in turn.

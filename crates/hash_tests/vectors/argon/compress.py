@@ -1,7 +1,8 @@
 #!/usr/bin/env python3
 """Argon2 in plain Python, from the text of RFC 9106. It makes the standard's three tags, and then prints the vectors of
 the compression function that proofs/Vectors.antt of cred_argon and the tests hold: four words mixed, the permutation of
-sixteen words, and G of two blocks.
+sixteen words, and G of two blocks; and, at the parameters of section 5.3, the first
+word of an address block.
 
     python3 vectors/argon/compress.py
 """
@@ -68,6 +69,11 @@ def hash_prime(n, data):
     return out + blake(n - 32 * r, v)
 
 
+def address_block(r, i, u, blocks, t, kind, number):
+    zero = [0] * 128
+    return compress(zero, compress(zero, [r, i, u, blocks, t, kind, number] + [0] * 121))
+
+
 def argon2(kind, m, t, p, n, pw, salt, secret, assoc, version=0x13):
     h = struct.pack("<6I", p, n, m, t, version, kind)
     for data in (pw, salt, secret, assoc):
@@ -89,8 +95,7 @@ def argon2(kind, m, t, p, n, pw, salt, secret, assoc, version=0x13):
                         continue
                     before = memory[i][j - 1]
                     if kind == 1 or (kind == 2 and r == 0 and u < 2):
-                        given = [r, i, u, p * q, t, kind, k // 128 + 1] + [0] * 121
-                        word = compress(zero, compress(zero, given))[k % 128]
+                        word = address_block(r, i, u, p * q, t, kind, k // 128 + 1)[k % 128]
                     else:
                         word = before[0]
                     j1, j2 = word & 0xFFFFFFFF, word >> 32
@@ -127,6 +132,7 @@ def main():
     print("mixed", *mixed(1, 2, 3, 4))
     print("permuted", *permuted(range(16)))
     print("compress", *compress(range(128), [0] * 128))
+    print("address", address_block(0, 1, 1, 32, 3, 2, 1)[0])
 
 
 if __name__ == "__main__":

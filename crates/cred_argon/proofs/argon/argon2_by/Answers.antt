@@ -4,7 +4,7 @@ use Rattle.cred_blake.specs.Words.{bytes_of}
 use Rattle.cred_argon.specs.Parameters.{Parameters}
 use Rattle.cred_argon.specs.Slices.{MemoryHolds}
 use Rattle.cred_argon.specs.Argon.{first_hash, argon}
-use Rattle.cred_argon.proofs.argon.argon2.Goals as goal
+use Rattle.cred_argon.proofs.argon.argon2_by.Goals as goal
 
 pub returns-in-Ok-clause-ok : goal.returns-in-Ok-clause-ok
 unfolding argon

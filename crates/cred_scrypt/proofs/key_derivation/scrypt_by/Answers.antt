@@ -1,7 +1,7 @@
 use Rattle.std.proofs.Common.{◌≡◌, ◌*◌}
 use Rattle.cred_scrypt.specs.Pbkdf2.{pbkdf2}
 use Rattle.cred_scrypt.specs.Scrypt.{scrypt, mixed_pieces}
-use Rattle.cred_scrypt.proofs.key_derivation.scrypt.Goals as goal
+use Rattle.cred_scrypt.proofs.key_derivation.scrypt_by.Goals as goal
 
 pub returns-clause-ok : goal.returns-clause-ok
 unfolding scrypt
