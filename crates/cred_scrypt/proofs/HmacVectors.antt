@@ -1,6 +1,7 @@
 -- The definition of HMAC-SHA-256 gives the vectors of RFC 4231, sections 4.2, 4.3 and 4.7, and that
 -- of PBKDF2 the first vector of RFC 7914, section 11, and a key of two turns that OpenSSL made.
 use Rattle.std.proofs.Common.{◌≡◌, [], ◌∷◌, refl, replicate, codes}
+use Rattle.std.specs.List.{range_with_len}
 use Rattle.sha2.specs.Sha256.{sha256, digest_bytes, hash_after, compress, rounds, schedule, first_words}
 use Rattle.cred_scrypt.specs.Hmac.{hmac, key_block}
 use Rattle.cred_scrypt.specs.Pbkdf2.{pbkdf2, derived, turns, turn}
@@ -26,6 +27,22 @@ pub long_key_vector : hmac (replicate 131 0xaa) (codes "Test Using Larger Than B
     0x05 ∷ 0x46 ∷ 0x04 ∷ 0x0f ∷ 0x0e ∷ 0xe3 ∷ 0x7f ∷ 0x54 ∷ []
 unfolding hmac key_block sha256 digest_bytes hash_after compress rounds schedule first_words
 long_key_vector = refl
+
+-- keys of 64 and of 65 bytes, the longest that stays as it is and the shortest that is hashed, as
+-- Python's hmac has them
+pub longest_block_key_vector : hmac (range_with_len 0 64) (codes "abc") ≡
+    0x6a ∷ 0xb5 ∷ 0x41 ∷ 0xb4 ∷ 0x86 ∷ 0x9d ∷ 0xca ∷ 0x71 ∷ 0xc4 ∷ 0xca ∷ 0x11 ∷ 0xd8 ∷
+    0xbb ∷ 0x1b ∷ 0x02 ∷ 0x53 ∷ 0x3b ∷ 0x78 ∷ 0x9a ∷ 0x55 ∷ 0x75 ∷ 0x83 ∷ 0x16 ∷ 0x14 ∷
+    0x29 ∷ 0x29 ∷ 0x2c ∷ 0x74 ∷ 0x04 ∷ 0xbc ∷ 0x21 ∷ 0xf6 ∷ []
+unfolding hmac key_block sha256 digest_bytes hash_after compress rounds schedule first_words
+longest_block_key_vector = refl
+
+pub shortest_hashed_key_vector : hmac (range_with_len 0 65) (codes "abc") ≡
+    0xdf ∷ 0xbf ∷ 0xfe ∷ 0xe4 ∷ 0x67 ∷ 0x1b ∷ 0xad ∷ 0x00 ∷ 0xed ∷ 0x5d ∷ 0x1e ∷ 0x19 ∷
+    0x99 ∷ 0xd5 ∷ 0x5e ∷ 0xd3 ∷ 0xb0 ∷ 0xcc ∷ 0x77 ∷ 0x4a ∷ 0xc3 ∷ 0x57 ∷ 0xf9 ∷ 0xeb ∷
+    0xf6 ∷ 0x49 ∷ 0xc1 ∷ 0x61 ∷ 0x24 ∷ 0x14 ∷ 0xfc ∷ 0xec ∷ []
+unfolding hmac key_block sha256 digest_bytes hash_after compress rounds schedule first_words
+shortest_hashed_key_vector = refl
 
 pub one_turn_vector : pbkdf2 (codes "passwd") (codes "salt") 1 64 ≡
     0x55 ∷ 0xac ∷ 0x04 ∷ 0x6e ∷ 0x56 ∷ 0xe3 ∷ 0x08 ∷ 0x9f ∷ 0xec ∷ 0x16 ∷ 0x91 ∷ 0xc2 ∷
