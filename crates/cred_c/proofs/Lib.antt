@@ -1,0 +1,2 @@
+-- Parameters in their ranges have no fault.
+pub mod RawFaults

@@ -1,0 +1,42 @@
+-- What the exports answer: one table of numbers for all of them, and what each leaves behind.
+use Rattle.std.specs.Prelude.{◌≡◌, ℕ, ◌^◌, ◌<◌, ◌≤◌, ◌⊎◌, List, length, take}
+use Rattle.cred_argon.specs.declared.error.ArgonError.{ArgonError}
+use Rattle.cred_argon.specs.declared.error.ArgonError.TheVariants.{Lanes, Cost, Passes, TagLen, InputLen, Memory}
+use Rattle.cred_scrypt.specs.declared.error.ScryptError.{ScryptError}
+use Rattle.cred_scrypt.specs.declared.error.ScryptError.TheVariants.{Cost as ScryptCost, BlockSize, Blocks, Len, Memory as ScryptMemory}
+use Rattle.cred_phc.specs.Tags.{tag}
+use Rattle.cred_phc.specs.Values.{RecordValue}
+
+-- 1 to 9 are the faults of texts, and 8 is want of memory everywhere; 10 is another password, 11 too
+-- little room, 12 no kind and 13 no version
+abbrev pub argon_number : ArgonError → ℕ
+argon_number Lanes = 14
+argon_number Cost = 15
+argon_number Passes = 16
+argon_number TagLen = 17
+argon_number InputLen = 18
+argon_number Memory = 8
+
+abbrev pub scrypt_number : ScryptError → ℕ
+scrypt_number ScryptCost = 19
+scrypt_number BlockSize = 20
+scrypt_number Blocks = 21
+scrypt_number Len = 22
+scrypt_number ScryptMemory = 8
+
+-- the record is one of the password
+abbrev pub IsRight : RecordValue → List ℕ → Type 0
+IsRight v pw = v.tag ≡ tag v.setting (length v.tag) pw
+
+-- what is answered of a record and a password
+pub record IsVerdict (v : RecordValue) (pw : List ℕ) (answer : ℕ) : Type 0 where
+  pub long : 2 ^ 32 ≤ length pw → answer ≡ 18
+  pub other : length pw < 2 ^ 32 → (answer ≡ 0) ⊎ (answer ≡ 8) ⊎ (answer ≡ 10)
+  pub right : answer ≡ 0 → IsRight v pw
+  pub wrong : answer ≡ 10 → IsRight v pw → ⊥
+
+-- what is answered where a text is to be written over the front of a buffer, and left there
+pub record IsWritten (text : List ℕ) (answer : ℕ) (old new : List ℕ) (len : ℕ) : Type 0 where
+  pub one_of : (answer ≡ 0) ⊎ (answer ≡ 8) ⊎ (answer ≡ 11)
+  pub written : answer ≡ 0 → (len ≡ length text) × (take len new ≡ text)
+  pub room : answer ≡ 11 → length old < length text

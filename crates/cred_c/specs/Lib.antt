@@ -1,0 +1,4 @@
+-- Definitions that the contracts of the exports cite.
+pub mod Answers
+pub mod Inputs
+pub mod Parts

@@ -1,0 +1,120 @@
+//! What is wrong with a text, and what a record's text says of itself.
+ghost use Rattle.std.specs.Prelude.{◌≡◌, None, Some};
+ghost use Rattle.cred_c.specs.Parts.{parts_of, variant_number};
+ghost use Rattle.cred_phc.specs.Fault.{fault_number};
+ghost use Rattle.cred_phc.specs.Faults.{record_fault, setting_fault};
+ghost use Rattle.cred_phc.specs.Text.{IsRecordText};
+ghost use Rattle.cred_phc.specs.Values.{IsRecord, RecordValue};
+ghost use Rattle.cred_phc.specs.declared.error.PhcError.{PhcError};
+
+use crate::numbers::DONE;
+use cred_phc::{Record, Scheme, Variant, parse_record, parse_setting};
+
+/// The scheme of a record, its numbers, and the lengths of salt and tag in bytes.
+#[repr(C)]
+#[derive(Clone, Copy, Debug, PartialEq, Eq)]
+pub struct Parts {
+    /// 0, 1 or 2 for argon2d, argon2i and argon2id, 3 for scrypt.
+    pub scheme: u32,
+    /// 16 or 19; 0 for scrypt.
+    pub version: u32,
+    /// In KiB; for scrypt the logarithm of the cost.
+    pub memory: u32,
+    /// The passes; for scrypt the block size.
+    pub passes: u32,
+    /// The lanes; for scrypt the parallelization.
+    pub lanes: u32,
+    pub salt_len: u32,
+    pub tag_len: u32,
+}
+
+/// The number of the first fault of a setting's text, or 0 where it stands for one.
+#[unsafe(no_mangle)]
+pub extern "C" fn cred_setting_fault(text: &[u8]) -> u8
+    ensures fault { (e : PhcError) → setting_fault text.now ≡ Some e → result ≡ fault_number e }
+    ensures none { setting_fault text.now ≡ None → result ≡ 0 }
+{
+    match parse_setting(text) {
+        Ok(_) => DONE,
+        Err(fault) => fault.number(),
+    }
+}
+
+/// The number of the first fault of a record's text, or 0 where it stands for one.
+#[unsafe(no_mangle)]
+pub extern "C" fn cred_record_fault(text: &[u8]) -> u8
+    ensures fault { (e : PhcError) → record_fault text.now ≡ Some e → result ≡ fault_number e }
+    ensures none { record_fault text.now ≡ None → result ≡ 0 }
+{
+    match parse_record(text) {
+        Ok(_) => DONE,
+        Err(fault) => fault.number(),
+    }
+}
+
+/// Writes what a record's text says of itself into `parts`, so that the caller can see whether it
+/// should be made anew.
+///
+/// Answers 0, or the number of the text's fault.
+#[unsafe(no_mangle)]
+pub extern "C" fn cred_record_parts(text: &[u8], parts: &mut Parts) -> u8
+    ensures fault { (e : PhcError) → record_fault text.now ≡ Some e → result ≡ fault_number e }
+    ensures read { record_fault text.now ≡ None → (result ≡ 0) × ((v : RecordValue) × IsRecord v
+        × IsRecordText text.now v × (parts.new ≡ parts_of v)) }
+    ensures kept { (result ≡ 0 → ⊥) → parts.new ≡ parts.old }
+{
+    match parse_record(text) {
+        Ok(stored) => {
+            *parts = parts_of(&stored);
+            DONE
+        }
+        Err(fault) => fault.number(),
+    }
+}
+
+/// The parts of a record.
+fn parts_of(stored: &Record) -> Parts
+    ensures value { result ≡ parts_of stored.now }
+    ensures ranges { IsRecord stored.now }
+{
+    let setting = stored.setting();
+    let salt_len = setting.salt().len() as u32;
+    let tag_len = stored.tag().bytes().len() as u32;
+    match setting.scheme() {
+        Scheme::Argon2 {
+            version,
+            variant,
+            m,
+            t,
+            p,
+        } => Parts {
+            scheme: variant_number(variant),
+            version: version.number(),
+            memory: m,
+            passes: t,
+            lanes: u32::from(p),
+            salt_len,
+            tag_len,
+        },
+        Scheme::Scrypt { ln, r, p } => Parts {
+            scheme: 3,
+            version: 0,
+            memory: u32::from(ln),
+            passes: u32::from(r),
+            lanes: u32::from(p),
+            salt_len,
+            tag_len,
+        },
+    }
+}
+
+/// The number that stands for a variant.
+fn variant_number(variant: Variant) -> u32
+    ensures { result ≡ variant_number variant }
+{
+    match variant {
+        Variant::D => 0,
+        Variant::I => 1,
+        Variant::Id => 2,
+    }
+}
