@@ -5,13 +5,14 @@ ghost use Rattle.cred_phc.specs.Base64.{bytes_of};
 ghost use Rattle.cred_phc.specs.Values.{IsPassword, made_password};
 
 use crate::short_bytes::ShortBytes;
+use std::fmt;
 use std::marker::Model;
 
 /// How many bytes a password has at most, so that it has a fixed size.
 const MAX_PASSWORD: usize = 256;
 
-/// At most 256 bytes of any value.
-#[derive(Clone, Copy, Debug, PartialEq, Eq)]
+/// At most 256 bytes of any value, of which `{:?}` shows none.
+#[derive(Clone, Copy, PartialEq, Eq)]
 pub struct Password {
     bytes: ShortBytes<MAX_PASSWORD>,
 }
@@ -27,6 +28,17 @@ impl Model for Password {
     ghost invariant = { λ p. IsPassword p.bytes };
 
     ghost inverse = { λ v. record { bytes = v } };
+}
+
+impl fmt::Debug for Password {
+    ghost use Rattle.std.specs.Prelude.{codes, Some};
+
+    /// The same text for every password, so that none gets into a log.
+    ghost debug_output = { λ _. Some (codes "Password(..)") };
+
+    fn fmt<W: fmt::Write>(&self, f: &mut fmt::Formatter<W>) -> fmt::Result {
+        f.write_str("Password(..)")
+    }
 }
 
 impl Password {

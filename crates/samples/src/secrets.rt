@@ -1,0 +1,15 @@
+//! A password, and what of it may not be seen in a text.
+
+/// A password that is looked for.
+pub const SECRET: &str = "correct horse";
+
+/// Its bytes as `{:?}` shows a slice of them.
+const SECRET_NUMBERS: &str = "99, 111, 114, 114, 101, 99, 116, 32, 104, 111, 114, 115, 101";
+
+/// Its bytes in base64.
+const SECRET_LETTERS: &str = "Y29ycmVjdCBob3JzZQ";
+
+/// Whether the text has the password in it, in letters, in numbers or in base64.
+pub fn shows_secret(text: &str) -> bool {
+    text.contains(SECRET) || text.contains(SECRET_NUMBERS) || text.contains(SECRET_LETTERS)
+}
