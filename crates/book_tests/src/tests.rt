@@ -10,6 +10,7 @@ mod accounts;
 mod calls;
 mod copies;
 mod limits;
+mod lists;
 mod names;
 mod operations;
 mod refusals;

@@ -13,7 +13,7 @@ use Rattle.std.proofs.lemmas.Bool.{cases_eq}
 use Rattle.std.proofs.Common.{inl, inr}
 use Rattle.std.specs.Result.{MatchResult}
 use Rattle.cred_book.specs.Places.{IsPlaceOf, IsGapFor}
-use Rattle.std.specs.FinMap.{find, put, is_sorted, get, insert as map_insert, len, from_sorted, same_entries_map, entries-from_sorted, entries-insert, get-from_sorted, len-entries, empty, empty_of_len}
+use Rattle.std.specs.FinMap.{entries, find, put, is_sorted, get, insert as map_insert, len, from_sorted, same_entries_map, entries-from_sorted, entries-insert, get-from_sorted, len-entries, empty, empty_of_len}
 use Rattle.std.specs.FinMap.Entries.{is_sorted-put}
 use Rattle.std.specs.FinMap.Entries.{below_all}
 
@@ -133,6 +133,10 @@ module _ {K X : Type 0} (R : K → K → Ordering) (o : IsTotalOrder R) where
 
   pub insert_gap : (es : List (K × X)) → IsTrue (is_sorted R es) → (q : K) (v : X) (i : ℕ) → IsGapFor R es q i → from_sorted {R = R} (insert es i (q, v)) ≡ map_insert (from_sorted es) q v
   insert_gap es sorted q v i p = rw (← put_gap es q v i p) (from_sorted-put es sorted q v)
+
+-- sorted entries are those of their map
+pub entries_from : {K X : Type 0} (R : K → K → Ordering) (es : List (K × X)) → IsTrue (is_sorted R es) → entries (from_sorted {R = R} es) ≡ es
+entries_from R es sorted = entries-from_sorted R es (tested _ sorted)
 
 -- no entry makes the empty map
 pub from_sorted-none : {K X : Type 0} (R : K → K → Ordering) → from_sorted {X = X} {R = R} [] ≡ empty

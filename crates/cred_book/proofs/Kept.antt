@@ -10,7 +10,7 @@ use Rattle.cred_phc.specs.Values.{RecordValue}
 use Rattle.cred_book.specs.Accounts.{Accounts, IsKept, most_accounts, with_entry}
 use Rattle.cred_book.specs.Names.{name_cmp}
 use Rattle.cred_book.specs.Places.{IsPlaceOf, IsGapFor}
-use Rattle.cred_book.proofs.Entries.{get_place, get_gap, sorted_place, sorted_gap, set_place, insert_gap, len-from_sorted}
+use Rattle.cred_book.proofs.Entries.{get_place, get_gap, sorted_place, sorted_gap, set_place, insert_gap, len-from_sorted, entries_from}
 
 abbrev Entries : Type 0
 Entries = List (List ℕ × Option RecordValue)
@@ -27,6 +27,10 @@ is_full_at entries capacity kept book view =
     rw len (full_at (length entries) kept.few _ refl)
 
 module _ (entries : Entries) (capacity : ℕ) (kept : IsKept entries capacity) (book : Accounts) (view : map.from_sorted entries ≡ book) (name : List ℕ) where
+  -- the map's entries are those that are kept
+  pub entries-kept : map.entries book ≡ entries
+  entries-kept = rw (← view) (entries_from name_cmp entries kept.sorted)
+
   pub len-kept : map.len book ≡ length entries
   len-kept = rw (← view) (len-from_sorted name_cmp nat_list_cmp_total entries kept.sorted)
 

@@ -1,5 +1,8 @@
--- Lemmas: sorted entries and a book kept as such, equality of records, and commits.
+-- Lemmas: sorted entries and a book kept as such, equality of records, commits and what they change,
+-- and what a yes says.
+pub mod Changes
 pub mod Commitments
 pub mod Entries
 pub mod Equality
 pub mod Kept
+pub mod Passwords

@@ -2,6 +2,7 @@
 
 ghost use Rattle.std.specs.Prelude.{◌≡◌, ◌<◌, ◌≤◌, IfOk, IfErr, IsTrue, MatchBool, MatchResult, true};
 ghost use Rattle.std.specs.FinMap as map;
+ghost use Rattle.std.specs.Slice.Iter.{iter_rest};
 ghost use Rattle.cred_book.specs.Accounts.{most_accounts, with_entry};
 ghost use Rattle.cred_book.specs.Calls.{Admits, Loads, Shows};
 ghost use Rattle.cred_book.specs.Commits.{Begins, Sets, committed, judged};
@@ -18,6 +19,7 @@ use crate::ticket::{Ticket, Worked};
 use cred_phc::Record;
 use std::alloc::Global;
 use std::marker::Model;
+use std::slice;
 
 /// How many names a book has room for.
 const MOST_ACCOUNTS: usize = 4096;
@@ -85,6 +87,20 @@ impl Book {
             (map.len self.now < most_accounts) }
     {
         self.accounts.len() == MOST_ACCOUNTS
+    }
+
+    /// How many names there are, at most 4096.
+    pub fn len(&self) -> usize
+        ensures { result ≡ map.len self.now }
+    {
+        self.accounts.len()
+    }
+
+    /// The names with their records, in the order of the names.
+    pub fn iter(&self) -> slice::Iter<'_, (Name, Option<Record>)>
+        ensures { iter_rest result ≡ map.entries self.now }
+    {
+        self.accounts.iter()
     }
 
     /// Puts a record at a name, in the place of one that stands there.

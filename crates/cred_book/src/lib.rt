@@ -6,8 +6,10 @@
 #![tactic(auto)]
 
 mod book;
+mod change;
 mod error;
 mod keeper;
+mod laws;
 mod name;
 mod outcome;
 mod reply;
@@ -16,8 +18,10 @@ mod same;
 mod ticket;
 
 pub use book::Book;
+pub use change::Change;
 pub use error::BookError;
 pub use keeper::Keeper;
+pub use laws::{change_is_committed, yes_is_the_password};
 pub use name::Name;
 pub use outcome::Hashing;
 pub use reply::Reply;

@@ -2,8 +2,10 @@
 //! record, and then what it does at the copy.
 
 ghost use Rattle.std.specs.Prelude.{◌≡◌, IfErr, IfOk, true, false};
+ghost use Rattle.cred_book.specs.Changes.{change_of};
 ghost use Rattle.cred_book.specs.Works.{is_verify, whole};
 
+use crate::change::Change;
 use crate::outcome::Hashing;
 use crate::reply::Reply;
 use crate::request::Request;
@@ -125,6 +127,20 @@ impl Worked {
         ensures { result ≡ (whole self.now.0 self.now.1).1 }
     {
         self.after
+    }
+
+    /// What a commit of this work changes, where it makes a change at all: `None` where it makes none
+    /// even at the copied record. A commit that finds another record makes none.
+    #[tactic(auto, unfolding(crate::specs::Changes::change_of))]
+    pub fn change(&self) -> Option<Change>
+        ensures { result ≡ change_of self.now }
+    {
+        let (reply, after) = (self.reply(), self.after());
+        if !reply.makes_change() {
+            return None;
+        }
+        let name = self.request().name();
+        Some(Change { name, after, reply })
     }
 
     /// The same work, as that of a verify.

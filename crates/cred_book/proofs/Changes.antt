@@ -1,0 +1,113 @@
+-- What a commit changes: what its work told, or nothing.
+use Rattle.std.proofs.Common.{◌≡◌, ℕ, List, Bool, true, false, cond, Option, Some, None, MatchOption, if◌then◌else◌, not, refl, sym, ap, ◌∙◌}
+use Rattle.std.specs.FinMap as map
+use Rattle.std.specs.Ordering.{is_eq}
+use Rattle.std.specs.Cmp.Lexicographic.{nat_list_cmp_total}
+use Rattle.std.specs.declared.cmp.Ordering.{Ordering}
+use Rattle.std.specs.declared.cmp.Ordering.TheVariants.{Less, Equal, Greater}
+use Rattle.cred_phc.specs.Values.{RecordValue}
+use Rattle.cred_book.specs.Accounts.{Accounts}
+use Rattle.cred_book.specs.Changes.{change_with, change_of, judged_book}
+use Rattle.cred_book.specs.Commits.{committed, committed_at, committed_if, judged, judged_at, judged_if}
+use Rattle.cred_book.specs.Names.{name_cmp}
+use Rattle.cred_book.specs.Works.{Task, name_of, same, same_scheme, whole, makes_change, right}
+use Rattle.cred_book.specs.declared.reply.Reply.{Reply}
+use Rattle.cred_book.specs.declared.reply.Reply.TheVariants as reply
+use Rattle.cred_book.specs.declared.request.Request.{Request}
+use Rattle.cred_book.specs.declared.request.Request.TheVariants.{Enrol, Verify, Change as Replace, Upgrade, Remove}
+use Rattle.cred_book.proofs.Equality.{same-Decides}
+
+abbrev Outcome : Type 0
+Outcome = Reply × Option RecordValue
+
+abbrev IsStill : Option RecordValue → Outcome → Type 0
+IsStill now outcome = makes_change outcome.0 ≡ false → outcome.1 ≡ now
+
+-- of one of two outcomes, and of one of three
+two : (now : Option RecordValue) (r : Bool) (a b : Outcome) → IsStill now a → IsStill now b → IsStill now (if r then a else b)
+two now true a b first second = first
+two now false a b first second = second
+
+three : (now : Option RecordValue) (r s : Bool) (a b d : Outcome) → IsStill now a → IsStill now b → IsStill now d → IsStill now (if not r then a else if s then b else d)
+three now true true a b d first second third = second
+three now true false a b d first second third = third
+three now false s a b d first second third = first
+
+-- where an operation makes no change, it leaves what stood
+whole_stays : (request : Request) (now : Option RecordValue) → IsStill now (whole request now)
+whole_stays (Enrol name pw setting) None = λ stays. absurd cc
+whole_stays (Enrol name pw setting) (Some stored) = λ stays. refl
+whole_stays (Verify name pw) None = λ stays. refl
+whole_stays (Verify name pw) (Some stored) = λ stays. refl
+whole_stays (Replace name pw new setting) None = λ stays. refl
+whole_stays (Replace name pw new setting) (Some stored) = two (Some stored) (right stored pw) _ _ (λ h. absurd cc) (λ h. refl)
+whole_stays (Upgrade name pw setting) None = λ stays. refl
+whole_stays (Upgrade name pw setting) (Some stored) =
+    three (Some stored) (right stored pw) (same_scheme stored.setting.scheme setting.scheme) _ _ _ (λ h. refl) (λ h. refl) (λ h. absurd cc)
+whole_stays (Remove name pw) None = λ stays. refl
+whole_stays (Remove name pw) (Some stored) = two (Some stored) (right stored pw) _ _ (λ h. absurd cc) (λ h. refl)
+
+module _ (book : Accounts) (work : Task) where
+  -- the answer and the book after it are those of the change that was told
+  abbrev IsTold : Reply × Accounts → Option RecordValue → Type 0
+  IsTold committed copy = MatchOption (change_with (name_of work.0) (whole work.0 copy)) ⊥ (λ change. committed ≡ (change.reply, map.insert book change.name change.after))
+
+  told_outcome : (outcome : Outcome) → makes_change outcome.0 ≡ true
+      → MatchOption (change_with (name_of work.0) outcome) ⊥ (λ change. ◌≡◌ {A = Reply × Accounts} (outcome.0, map.insert book (name_of work.0) outcome.1) (change.reply, map.insert book change.name change.after))
+  told_outcome outcome is = rw is refl
+
+  told_if : (now : Option RecordValue) (fresh : Bool) → same now work.1 ≡ fresh → makes_change (committed_if book work now fresh).0 ≡ true → IsTold (committed_if book work now fresh) work.1
+  told_if now true is change = let copied = (same-Decides now work.1).0 is in rw copied (told_outcome (whole work.0 work.1) (rw copied at change))
+  told_if now false is change = absurd cc
+
+  told_at : (found : Option (Option RecordValue)) → makes_change (committed_at book work found).0 ≡ true → IsTold (committed_at book work found) work.1
+  told_at None change = absurd cc
+  told_at (Some now) change = told_if now (same now work.1) refl change
+
+  pub told : makes_change (committed book work).0 ≡ true
+      → MatchOption (change_of work) ⊥ (λ change. committed book work ≡ (change.reply, map.insert book change.name change.after))
+  unfolding committed change_of
+  told change = told_at (map.get book (name_of work.0)) change
+
+  module _ (now : Option RecordValue) (found : map.get book (name_of work.0) ≡ Some now) where
+    tied : (q : List ℕ) (r : Ordering) → name_cmp q (name_of work.0) ≡ r → cond (is_eq r) (Some now) (map.get book q) ≡ map.get book q
+    tied q Less is = refl
+    tied q Equal is = sym found ∙ map.get_tied nat_list_cmp_total book q (name_of work.0) is
+    tied q Greater is = refl
+
+    -- what stands at a name may be put there again
+    insert_again : map.insert book (name_of work.0) now ≡ book
+    insert_again = map.same_map nat_list_cmp_total (map.slice_cmp-IsAntisymmetric map.nat_cmp-IsAntisymmetric) _ _ (λ q. map.get-insert nat_list_cmp_total book (name_of work.0) now q ∙ tied q _ refl)
+
+    stays_whole : makes_change (whole work.0 now).0 ≡ false → map.insert book (name_of work.0) (whole work.0 now).1 ≡ book
+    stays_whole is = ap (map.insert book (name_of work.0)) (whole_stays work.0 now is) ∙ insert_again
+
+    stays_if : (fresh : Bool) → makes_change (committed_if book work now fresh).0 ≡ false → (committed_if book work now fresh).1 ≡ book
+    stays_if true is = stays_whole is
+    stays_if false is = refl
+
+    by_change : (change : Bool) → makes_change (whole work.0 now).0 ≡ change
+        → map.insert book (name_of work.0) (whole work.0 now).1 ≡ (if change then map.insert book (name_of work.0) (whole work.0 now).1 else book)
+    by_change true is = refl
+    by_change false is = stays_whole is
+
+    by_copy : (fresh : Bool) → committed_if book work now fresh ≡ ((judged_if work now fresh).0, judged_book book work (judged_if work now fresh))
+    by_copy true = ap (λ b. ((whole work.0 now).0, b)) (by_change (makes_change (whole work.0 now).0) refl)
+    by_copy false = refl
+
+  stays_at : (found : Option (Option RecordValue)) → map.get book (name_of work.0) ≡ found → makes_change (committed_at book work found).0 ≡ false → (committed_at book work found).1 ≡ book
+  stays_at None is = λ _. refl
+  stays_at (Some now) is = stays_if now is (same now work.1)
+
+  pub stays : makes_change (committed book work).0 ≡ false → (committed book work).1 ≡ book
+  unfolding committed
+  stays = stays_at (map.get book (name_of work.0)) refl
+
+  by_record : (found : Option (Option RecordValue)) → map.get book (name_of work.0) ≡ found
+      → committed_at book work found ≡ ((judged_at work found).0, judged_book book work (judged_at work found))
+  by_record None is = refl
+  by_record (Some now) is = by_copy now is (same now work.1)
+
+  pub committed_as_judged : committed book work ≡ ((judged book work).0, judged_book book work (judged book work))
+  unfolding committed judged
+  committed_as_judged = by_record (map.get book (name_of work.0)) refl
