@@ -12,7 +12,6 @@ use Rattle.cred_book.specs.Commits.{committed, committed_at, committed_if, judge
 use Rattle.cred_book.specs.Names.{name_cmp}
 use Rattle.cred_book.specs.Works.{Task, name_of, same, same_scheme, whole, makes_change, right}
 use Rattle.cred_book.specs.declared.reply.Reply.{Reply}
-use Rattle.cred_book.specs.declared.reply.Reply.TheVariants as reply
 use Rattle.cred_book.specs.declared.request.Request.{Request}
 use Rattle.cred_book.specs.declared.request.Request.TheVariants.{Enrol, Verify, Change as Replace, Upgrade, Remove}
 use Rattle.cred_book.proofs.Equality.{same-Decides}

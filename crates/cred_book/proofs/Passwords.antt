@@ -6,9 +6,9 @@ use Rattle.std.proofs.lemmas.Slice.Eq.{bytes_eq-Decides}
 use Rattle.cred_phc.specs.Tags.{tag}
 use Rattle.cred_phc.specs.Values.{RecordValue}
 use Rattle.cred_book.specs.Accounts.{Accounts}
-use Rattle.cred_book.specs.Commits.{committed, committed_at, committed_if, judged, judged_at, judged_if}
+use Rattle.cred_book.specs.Commits.{judged, judged_at, judged_if}
 use Rattle.cred_book.specs.Passwords.{IsPasswordAt, IsPasswordOf}
-use Rattle.cred_book.specs.Works.{name_of, right, same, whole}
+use Rattle.cred_book.specs.Works.{right, same, whole}
 use Rattle.cred_book.specs.declared.reply.Reply.TheVariants as reply
 use Rattle.cred_book.specs.declared.request.Request.TheVariants.{Verify}
 

@@ -1,5 +1,5 @@
 -- Whose password it is.
-use Rattle.std.specs.Prelude.{◌≡◌, ℕ, List, length, Option, Some}
+use Rattle.std.specs.Prelude.{◌≡◌, ℕ, List, length, Some}
 use Rattle.std.specs.FinMap as map
 use Rattle.cred_phc.specs.Tags.{tag}
 use Rattle.cred_phc.specs.Values.{RecordValue}

@@ -18,8 +18,8 @@ use crate::request::Request;
 pub fn change_is_committed()
     ensures change { (book : Accounts) (work : Task) → makes_change (committed book work).0 ≡ true
         → MatchOption (change_of work) ⊥
-            (λ change. committed book work
-                ≡ (change.reply, map.insert book change.name change.after)) }
+        (λ change. committed book work
+        ≡ (change.reply, map.insert book change.name change.after)) }
     ensures no_change { (book : Accounts) (work : Task)
         → makes_change (committed book work).0 ≡ false → (committed book work).1 ≡ book }
     ensures judgement { (book : Accounts) (work : Task)

@@ -31,7 +31,14 @@ fn work_says_what_it_changes(rt: HostRuntime) {
         None => None,
     };
     let after = Some(stored(&rt, A));
-    assert_eq!(rt; change, Some(Change { name: account.0, after, reply: Reply::Enrolled }));
+    assert_eq!(rt;
+        change,
+        Some(Change {
+            name: account.0,
+            after,
+            reply: Reply::Enrolled
+        })
+    );
 }
 
 #[test]
