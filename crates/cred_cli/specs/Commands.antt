@@ -1,5 +1,5 @@
 -- What the program does, by its words.
-use Rattle.std.specs.Prelude.{◌≡◌, ◌⊎◌, ℕ, ◌≤◌, Bool, true, if◌then◌else◌, Option, Some, None, IfSome, Result, Ok, List, [], ◌∷◌, ◌++◌, length, codes, MatchBool, MatchResult}
+use Rattle.std.specs.Prelude.{◌≡◌, ◌⊎◌, ℕ, ◌≤◌, Bool, true, false, if◌then◌else◌, Option, Some, None, IfSome, Result, Ok, List, [], ◌∷◌, ◌++◌, length, codes, MatchBool, MatchResult}
 use Rattle.std.specs.Option.{ok_or}
 use Rattle.std.specs.Str.{bytes_eq}
 use Rattle.std.specs.FinMap as map
@@ -88,6 +88,11 @@ Checks (Some stored) pw before now writer_failed status = MatchResult (to_check 
     (λ why. Ends 1 before now status)
 
 -- ---- all of it
+
+-- the words ask for a script to be run
+abbrev pub is_run : Option (Text × List Row) → Bool
+is_run None = false
+is_run (Some (word, rows)) = bytes_eq word (codes "run")
 
 -- by the subcommand and its values
 abbrev pub Acts : Option (Text × List Row) → Option (List ℕ) → Option (List ℕ) → Option (List ℕ) → Option (List ℕ) → Bool → Bool → ℕ → Type 0

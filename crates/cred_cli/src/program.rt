@@ -1,10 +1,10 @@
 //! The program behind `main`.
 
-ghost use Rattle.std.specs.Prelude.{◌≡◌, ◌⊎◌, [], map};
+ghost use Rattle.std.specs.Prelude.{◌≡◌, ◌⊎◌, [], false, map};
 ghost use Rattle.std.specs.Io.KnownBytes.{Keeps};
 ghost use Rattle.clap.specs.Words.{fault_of, subcommand_of, subcommand_rows_of};
 ghost use Rattle.cred_cli.specs.Arguments.{credbook};
-ghost use Rattle.cred_cli.specs.Commands.{Acts, Ends, Runs, status_of};
+ghost use Rattle.cred_cli.specs.Commands.{Acts, Ends, Runs, is_run, status_of};
 ghost use Rattle.cred_cli.specs.Watched.{IsNew, failed_of, inner_of};
 
 use crate::arguments::{matches_of, workers_of};
@@ -28,8 +28,8 @@ use std::thread::Threads;
 /// `run` runs a script on an empty book: 0 where it was answered whole, 2 after the faults `Read`,
 /// `Write` and `TooLong`. `hash` prints the record of a password: 0. `check` prints `yes`, 0, or
 /// `no`, 4. A bad setting, record or password, and words that don't parse, are 1; a failed write is
-/// 2; want of memory is 3. What ended it is named on `faults`, as `credbook: read`, or by `clap`'s
-/// text. Whether `faults` takes its text changes nothing.
+/// 2; want of memory is 3. Only `run` calls the reader. What ended it is named on `faults`, as
+/// `credbook: read`, or by `clap`'s text. Whether `faults` takes its text changes nothing.
 pub fn command<T: Threads + Wait + Sync, R: Read, W: Write, F: Write>(
     rt: &T,
     alloc: Global,
@@ -48,6 +48,8 @@ pub fn command<T: Threads + Wait + Sync, R: Read, W: Write, F: Write>(
     ensures refused { (fault_of credbook (map (λ s. s.now) words.entry.now) ≡ [] → ⊥) →
         Ends 1 (W.contents (inner_of writer.old)) (W.contents (inner_of writer.new)) result
         ⊎ Ends (status_of ScriptFault.Memory) (W.contents (inner_of writer.old)) (W.contents (inner_of writer.new)) result }
+    ensures unread { is_run (subcommand_of credbook (map (λ s. s.now) words.entry.now)) ≡ false → reader.new ≡ reader.old }
+    ensures unparsed { (fault_of credbook (map (λ s. s.now) words.entry.now) ≡ [] → ⊥) → reader.new ≡ reader.old }
 {
     match matches_of(alloc, words) {
         Ok(matches) => act(rt, alloc, &matches, reader, writer, faults),
@@ -71,9 +73,10 @@ fn act<T: Threads + Wait + Sync, R: Read, W: Write, F: Write>(
 ) -> u8
     requires new_reader { IsNew reader.old }
     requires new_writer { IsNew writer.old }
-    ensures { Acts (subcommand_rows_of matches.now)
+    ensures acts { Acts (subcommand_rows_of matches.now)
         (R.remaining (inner_of reader.old)) (R.remaining (inner_of reader.new)) (W.contents (inner_of writer.old)) (W.contents (inner_of writer.new))
         (failed_of reader.new) (failed_of writer.new) result }
+    ensures unread { is_run (subcommand_rows_of matches.now) ≡ false → reader.new ≡ reader.old }
 {
     let Some((word, values)) = matches.subcommand() else {
         return 1;
