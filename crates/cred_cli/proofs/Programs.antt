@@ -1,5 +1,5 @@
 -- How the program ends.
-use Rattle.std.proofs.Common.{◌≡◌, ℕ, List, Option, Some, None, Bool, IfSome, inr, sym, arith}
+use Rattle.std.proofs.Common.{◌≡◌, ℕ, List, Option, Some, None, Bool, IfSome, inr, refl, sym}
 use Rattle.std.specs.FinMap as map
 use Rattle.std.proofs.KnownBytes.{Appends-nil}
 use Rattle.cred_book.specs.Accounts.{Accounts}
@@ -20,12 +20,12 @@ nothing_done book bytes before = record {
 
 -- there was no memory to begin a script with
 pub script_unbegun : (known before : Option (List ℕ)) (book : Accounts) → IfSome known (λ bytes. ScriptFails book bytes known before before book Memory)
-script_unbegun known before book = if_known known (λ bytes. ScriptFails book bytes known before before book Memory) (λ bytes is. (0, omega arith, nothing_done book bytes before))
+script_unbegun known before book = if_known known (λ bytes. ScriptFails book bytes known before before book Memory) (λ bytes is. (0, inr refl, nothing_done book bytes before))
 
 -- there was no memory to begin with
 pub no_memory : (bytes left before : Option (List ℕ)) (reader writer : Bool) (status : ℕ) → status ≡ status_of Memory → Runs bytes left before before reader writer status
 no_memory bytes left before reader writer status is =
-    inr (Memory, is, record { stands = if_known bytes _ (λ bs known. (map.empty, (0, omega arith, nothing_done map.empty bs before))); cause = tt })
+    inr (Memory, is, record { stands = if_known bytes _ (λ bs known. (map.empty, (0, inr refl, nothing_done map.empty bs before))); cause = tt })
 
 -- the script met a fault
 pub run_fails : (book : Accounts) (bytes left before now : Option (List ℕ)) (reader writer : Bool) (accounts : Accounts) (fault : ScriptFault) (status : ℕ) →

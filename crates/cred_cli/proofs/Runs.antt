@@ -1,5 +1,5 @@
 -- A line that was done, or that met a fault.
-use Rattle.std.proofs.Common.{◌≡◌, ℕ, suc, ◌<◌, List, [], ◌++◌, length, Option, Some, Bool, false, Result, Ok, Err, OnOk, IfErr, MatchResult, refl, ap, ◌∙◌, arith, slice_get}
+use Rattle.std.proofs.Common.{◌≡◌, ℕ, suc, ◌<◌, List, [], ◌++◌, length, Option, Some, Bool, false, Result, Ok, Err, OnOk, IfErr, MatchResult, refl, ap, ◌∙◌, inl, slice_get}
 use Rattle.std.specs.Io.KnownBytes.{Appends}
 use Rattle.std.proofs.KnownBytes.{Appends-trans}
 use Rattle.cred_book.specs.Accounts.{Accounts}
@@ -70,7 +70,7 @@ pub fails_at : (book : Accounts) (all : List ℕ) (i : ℕ) (left before now : O
     LineFails book (events_of all) i before now accounts e → ScriptFails book all left before now accounts e
 fails_at book all i left before now accounts Read within fails = absurd fails
 fails_at book all i left before now accounts Write within fails = (i, within, fails)
-fails_at book all i left before now accounts Memory within fails = (i, omega (arith, within), fails)
+fails_at book all i left before now accounts Memory within fails = (i, inl within, fails)
 fails_at book all i left before now accounts TooLong within fails = absurd fails
 
 -- where the reader is in no fault, the writer may be

@@ -1,5 +1,5 @@
 -- How a script ends, and what stands then.
-use Rattle.std.specs.Prelude.{◌≡◌, ℕ, suc, ◌+◌, ◌<◌, ◌≤◌, Option, Some, Bool, true, List, ◌++◌, length, take}
+use Rattle.std.specs.Prelude.{◌≡◌, ◌⊎◌, ℕ, suc, ◌+◌, ◌<◌, Option, Some, Bool, true, List, ◌++◌, length, take}
 use Rattle.std.specs.Io.KnownBytes.{Appends, Consumes}
 use Rattle.cred_book.specs.Accounts.{Accounts}
 use Rattle.cred_cli.specs.declared.event.Event.{Event}
@@ -40,14 +40,15 @@ pub record StopsIn (book : Accounts) (events : List Event) (i : ℕ) (before now
       × Appends before now (answers_before book events i ++ take n (line_of (answer_at book events i)))
   pub accounts_are : accounts ≡ book_at book events (suc i)
 
--- what stands after a fault; left is what the reader has left
+-- what stands after a fault; left is what the reader has left. Memory was refused to the line behind
+-- those that are answered, or before the first line
 abbrev pub ScriptFails : Accounts → List ℕ → Option (List ℕ) → Option (List ℕ) → Option (List ℕ) → Accounts → ScriptFault → Type 0
 ScriptFails book bytes left before now accounts Read =
     (front : List ℕ) × Consumes (Some bytes) left front × StandsAfter book (events_of bytes) (line_ends front) before now accounts
 ScriptFails book bytes left before now accounts Write =
     (i : ℕ) × (i < length (events_of bytes)) × StopsIn book (events_of bytes) i before now accounts
 ScriptFails book bytes left before now accounts Memory =
-    (i : ℕ) × (i ≤ length (events_of bytes)) × StandsAfter book (events_of bytes) i before now accounts
+    (i : ℕ) × ((i < length (events_of bytes)) ⊎ (i ≡ 0)) × StandsAfter book (events_of bytes) i before now accounts
 ScriptFails book bytes left before now accounts TooLong =
     (longest_script < length bytes) × StandsAfter book (events_of bytes) (line_ends (take longest_script bytes)) before now accounts
 
