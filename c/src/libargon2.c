@@ -1,0 +1,383 @@
+/* The calls of argon2.h, as Debian's libargon2.so.1 has them, over those of rigzumal.h.
+ *
+ * Inputs are tried in the original's order and refused with its numbers and messages. What it takes
+ * and the proved code doesn't is refused by the nearest of them: over 2 GiB of memory, over 255
+ * lanes, a tag of over 64 bytes, a version that isn't 0x10 or 0x13; and in encoded strings a salt
+ * of over 48 bytes. All lanes are worked on the caller's thread; the callbacks for memory are tried
+ * and not called. */
+#define _GNU_SOURCE
+#include "rigzumal.h"
+
+#include <stdbool.h>
+#include <stdio.h>
+#include <string.h>
+
+/* The declarations of argon2.h, whose names and numbers these are. */
+
+enum argon2_error {
+    ARGON2_OK = 0,
+    ARGON2_OUTPUT_PTR_NULL = -1,
+    ARGON2_OUTPUT_TOO_SHORT = -2,
+    ARGON2_OUTPUT_TOO_LONG = -3,
+    ARGON2_PWD_TOO_LONG = -5,
+    ARGON2_SALT_TOO_SHORT = -6,
+    ARGON2_SALT_TOO_LONG = -7,
+    ARGON2_TIME_TOO_SMALL = -12,
+    ARGON2_MEMORY_TOO_LITTLE = -14,
+    ARGON2_MEMORY_TOO_MUCH = -15,
+    ARGON2_LANES_TOO_FEW = -16,
+    ARGON2_LANES_TOO_MANY = -17,
+    ARGON2_PWD_PTR_MISMATCH = -18,
+    ARGON2_SALT_PTR_MISMATCH = -19,
+    ARGON2_SECRET_PTR_MISMATCH = -20,
+    ARGON2_AD_PTR_MISMATCH = -21,
+    ARGON2_MEMORY_ALLOCATION_ERROR = -22,
+    ARGON2_FREE_MEMORY_CBK_NULL = -23,
+    ARGON2_ALLOCATE_MEMORY_CBK_NULL = -24,
+    ARGON2_INCORRECT_PARAMETER = -25,
+    ARGON2_INCORRECT_TYPE = -26,
+    ARGON2_THREADS_TOO_FEW = -28,
+    ARGON2_THREADS_TOO_MANY = -29,
+    ARGON2_ENCODING_FAIL = -31,
+    ARGON2_DECODING_FAIL = -32,
+    ARGON2_VERIFY_MISMATCH = -35
+};
+
+enum argon2_type { Argon2_d = 0, Argon2_i = 1, Argon2_id = 2 };
+typedef enum argon2_type argon2_type;
+
+enum { FLAG_CLEAR_PASSWORD = 1, FLAG_CLEAR_SECRET = 2 };
+
+typedef struct {
+    uint8_t *out;
+    uint32_t outlen;
+    uint8_t *pwd;
+    uint32_t pwdlen;
+    uint8_t *salt;
+    uint32_t saltlen;
+    uint8_t *secret;
+    uint32_t secretlen;
+    uint8_t *ad;
+    uint32_t adlen;
+    uint32_t t_cost;
+    uint32_t m_cost;
+    uint32_t lanes;
+    uint32_t threads;
+    uint32_t version;
+    int (*allocate_cbk)(uint8_t **memory, size_t size);
+    void (*free_cbk)(uint8_t *memory, size_t size);
+    uint32_t flags;
+} argon2_context;
+
+/* What the original takes and the proved code doesn't. */
+enum { MOST_LANES = 255, MOST_SALT = RIGZUMAL_SALT_SIZE_MAX, MOST_TAG = RIGZUMAL_TAG_SIZE_MAX };
+
+#define PUBLIC __attribute__((visibility("default")))
+
+PUBLIC const char *argon2_type2string(argon2_type type, int uppercase) {
+    switch (type) {
+    case Argon2_d:
+        return uppercase ? "Argon2d" : "argon2d";
+    case Argon2_i:
+        return uppercase ? "Argon2i" : "argon2i";
+    case Argon2_id:
+        return uppercase ? "Argon2id" : "argon2id";
+    }
+    return NULL;
+}
+
+PUBLIC const char *argon2_error_message(int number) {
+    static const char *const messages[] = {
+        "OK",
+        "Output pointer is NULL",
+        "Output is too short",
+        "Output is too long",
+        "Password is too short",
+        "Password is too long",
+        "Salt is too short",
+        "Salt is too long",
+        "Associated data is too short",
+        "Associated data is too long",
+        "Secret is too short",
+        "Secret is too long",
+        "Time cost is too small",
+        "Time cost is too large",
+        "Memory cost is too small",
+        "Memory cost is too large",
+        "Too few lanes",
+        "Too many lanes",
+        "Password pointer is NULL, but password length is not 0",
+        "Salt pointer is NULL, but salt length is not 0",
+        "Secret pointer is NULL, but secret length is not 0",
+        "Associated data pointer is NULL, but ad length is not 0",
+        "Memory allocation error",
+        "The free memory callback is NULL",
+        "The allocate memory callback is NULL",
+        "Argon2_Context context is NULL",
+        "There is no such version of Argon2",
+        "Output pointer mismatch",
+        "Not enough threads",
+        "Too many threads",
+        "Missing arguments",
+        "Encoding failed",
+        "Decoding failed",
+        "Threading failure",
+        "Some of encoded parameters are too long or too short",
+        "The password does not match the supplied hash",
+    };
+    int last = sizeof messages / sizeof messages[0] - 1;
+    return number > 0 || number < -last ? "Unknown error code" : messages[-number];
+}
+
+/* What the original finds wrong with its inputs, in its order. */
+static int fault_of(const argon2_context *context) {
+    enum { LEAST_OUT = 4, LEAST_SALT = 8, LEAST_MEMORY = 8, MOST_THREADS = 0xFFFFFF };
+    if (context == NULL)
+        return ARGON2_INCORRECT_PARAMETER;
+    if (context->out == NULL)
+        return ARGON2_OUTPUT_PTR_NULL;
+    if (context->outlen < LEAST_OUT)
+        return ARGON2_OUTPUT_TOO_SHORT;
+    if (context->pwd == NULL && context->pwdlen != 0)
+        return ARGON2_PWD_PTR_MISMATCH;
+    if (context->salt == NULL && context->saltlen != 0)
+        return ARGON2_SALT_PTR_MISMATCH;
+    if (context->saltlen < LEAST_SALT)
+        return ARGON2_SALT_TOO_SHORT;
+    if (context->secret == NULL && context->secretlen != 0)
+        return ARGON2_SECRET_PTR_MISMATCH;
+    if (context->ad == NULL && context->adlen != 0)
+        return ARGON2_AD_PTR_MISMATCH;
+    if (context->m_cost < LEAST_MEMORY || context->m_cost < 8 * context->lanes)
+        return ARGON2_MEMORY_TOO_LITTLE;
+    if (context->t_cost == 0)
+        return ARGON2_TIME_TOO_SMALL;
+    if (context->lanes == 0)
+        return ARGON2_LANES_TOO_FEW;
+    if (context->lanes > MOST_THREADS)
+        return ARGON2_LANES_TOO_MANY;
+    if (context->threads == 0)
+        return ARGON2_THREADS_TOO_FEW;
+    if (context->threads > MOST_THREADS)
+        return ARGON2_THREADS_TOO_MANY;
+    if (context->allocate_cbk != NULL && context->free_cbk == NULL)
+        return ARGON2_FREE_MEMORY_CBK_NULL;
+    if (context->allocate_cbk == NULL && context->free_cbk != NULL)
+        return ARGON2_ALLOCATE_MEMORY_CBK_NULL;
+    return ARGON2_OK;
+}
+
+/* The number of the original that is nearest to a refusal of the proved code. */
+static int number_of(int fault) {
+    switch (fault) {
+    case RIGZUMAL_OK:
+        return ARGON2_OK;
+    case RIGZUMAL_MISMATCH:
+        return ARGON2_VERIFY_MISMATCH;
+    case RIGZUMAL_MEMORY:
+        return ARGON2_MEMORY_ALLOCATION_ERROR;
+    case RIGZUMAL_LANES:
+        return ARGON2_LANES_TOO_MANY;
+    case RIGZUMAL_COST:
+        return ARGON2_MEMORY_TOO_MUCH;
+    case RIGZUMAL_TAG_SIZE_FAULT:
+        return ARGON2_OUTPUT_TOO_LONG;
+    default:
+        return ARGON2_INCORRECT_TYPE; /* whose message is of the version */
+    }
+}
+
+/* Clears what the caller wants to have cleared. */
+static void clear_inputs(argon2_context *context) {
+    if (context->flags & FLAG_CLEAR_PASSWORD) {
+        explicit_bzero(context->pwd, context->pwdlen);
+        context->pwdlen = 0;
+    }
+    if (context->flags & FLAG_CLEAR_SECRET) {
+        explicit_bzero(context->secret, context->secretlen);
+        context->secretlen = 0;
+    }
+}
+
+PUBLIC int argon2_ctx(argon2_context *context, argon2_type type) {
+    int number = fault_of(context);
+    if (number != ARGON2_OK)
+        return number;
+    if (argon2_type2string(type, 0) == NULL)
+        return ARGON2_INCORRECT_TYPE;
+    if (context->outlen > MOST_TAG)
+        return ARGON2_OUTPUT_TOO_LONG;
+    struct rigzumal_argon2 numbers = {(uint32_t)type, context->version, context->m_cost,
+                                      context->t_cost, context->lanes};
+    uint8_t tag[MOST_TAG]; /* as the caller's may overlap the inputs */
+    number = number_of(rigzumal_argon2(
+        tag, context->outlen, &numbers, context->pwd, context->pwdlen, context->salt,
+        context->saltlen, context->secret, context->secretlen, context->ad, context->adlen));
+    if (number == ARGON2_OK) {
+        clear_inputs(context);
+        memcpy(context->out, tag, context->outlen);
+    }
+    explicit_bzero(tag, sizeof tag);
+    return number;
+}
+
+/* Whether two tags are equal, in a time that doesn't depend on where they differ. */
+static bool are_equal(const uint8_t *one, const uint8_t *other, size_t size) {
+    uint8_t difference = 0;
+    for (size_t i = 0; i < size; i++)
+        difference |= one[i] ^ other[i];
+    return difference == 0;
+}
+
+PUBLIC int argon2_verify_ctx(argon2_context *context, const char *hash, argon2_type type) {
+    int number = argon2_ctx(context, type);
+    if (number != ARGON2_OK)
+        return number;
+    bool is_right = are_equal((const uint8_t *)hash, context->out, context->outlen);
+    return is_right ? ARGON2_OK : ARGON2_VERIFY_MISMATCH;
+}
+
+/* Writes the encoded string, or zeros all of its room where it doesn't fit. */
+static int encode(char *encoded, size_t size, const argon2_context *context, argon2_type type) {
+    struct rigzumal_argon2 numbers = {(uint32_t)type, context->version, context->m_cost,
+                                      context->t_cost, context->lanes};
+    int fault = rigzumal_argon2_write(encoded, size, &numbers, context->salt, context->saltlen,
+                                      context->out, context->outlen);
+    if (fault == RIGZUMAL_OK)
+        return ARGON2_OK;
+    explicit_bzero(encoded, size);
+    return fault == RIGZUMAL_MEMORY ? ARGON2_MEMORY_ALLOCATION_ERROR : ARGON2_ENCODING_FAIL;
+}
+
+PUBLIC int argon2_hash(uint32_t t_cost, uint32_t m_cost, uint32_t parallelism, const void *pwd,
+                       size_t pwdlen, const void *salt, size_t saltlen, void *hash, size_t hashlen,
+                       char *encoded, size_t encodedlen, argon2_type type, uint32_t version) {
+    bool is_encoded = encoded != NULL && encodedlen > 0;
+    if (pwdlen > UINT32_MAX)
+        return ARGON2_PWD_TOO_LONG;
+    if (saltlen > (is_encoded ? MOST_SALT : UINT32_MAX))
+        return ARGON2_SALT_TOO_LONG;
+    if (hashlen > MOST_TAG)
+        return ARGON2_OUTPUT_TOO_LONG;
+    uint8_t tag[MOST_TAG];
+    argon2_context context = {.out = tag,
+                              .outlen = (uint32_t)hashlen,
+                              .pwd = (uint8_t *)(uintptr_t)pwd,
+                              .pwdlen = (uint32_t)pwdlen,
+                              .salt = (uint8_t *)(uintptr_t)salt,
+                              .saltlen = (uint32_t)saltlen,
+                              .t_cost = t_cost,
+                              .m_cost = m_cost,
+                              .lanes = parallelism,
+                              .threads = parallelism,
+                              .version = version};
+    int number = argon2_ctx(&context, type);
+    if (number == ARGON2_OK && hash != NULL)
+        memcpy(hash, tag, hashlen);
+    if (number == ARGON2_OK && is_encoded)
+        number = encode(encoded, encodedlen, &context, type);
+    explicit_bzero(tag, sizeof tag);
+    return number;
+}
+
+/* The number by which the original refuses a string that the proved code refuses by this fault.
+ * Where the form is right and a value isn't, that depends on all the values. */
+static int refusal(const char *encoded, int fault) {
+    static const char digits[] = "ABCDEFGHIJKLMNOPQRSTUVWXYZabcdefghijklmnopqrstuvwxyz0123456789+/";
+    if (fault != RIGZUMAL_RANGE && fault != RIGZUMAL_SALT && fault != RIGZUMAL_TAG)
+        return ARGON2_DECODING_FAIL;
+    const char *numbers = strstr(encoded, "$m=");
+    unsigned long m_cost, t_cost, lanes;
+    int end = 0;
+    if (numbers == NULL ||
+        sscanf(numbers, "$m=%lu,t=%lu,p=%lu$%n", &m_cost, &t_cost, &lanes, &end) < 3 || end == 0 ||
+        m_cost > UINT32_MAX || t_cost > UINT32_MAX || lanes > UINT32_MAX)
+        return ARGON2_DECODING_FAIL;
+    const char *salt = numbers + end;
+    size_t salt_len = strspn(salt, digits);
+    if (salt[salt_len] != '$')
+        return ARGON2_DECODING_FAIL;
+    const char *tag = salt + salt_len + 1;
+    size_t tag_len = strspn(tag, digits);
+    if (tag[tag_len] != '\0')
+        return ARGON2_DECODING_FAIL;
+    uint8_t nothing[1];
+    argon2_context context = {.out = nothing,
+                              .outlen = (uint32_t)(tag_len * 3 / 4),
+                              .salt = nothing,
+                              .saltlen = (uint32_t)(salt_len * 3 / 4),
+                              .t_cost = (uint32_t)t_cost,
+                              .m_cost = (uint32_t)m_cost,
+                              .lanes = (uint32_t)lanes,
+                              .threads = (uint32_t)lanes};
+    int number = fault_of(&context);
+    if (number != ARGON2_OK)
+        return number;
+    if (fault == RIGZUMAL_RANGE)
+        return lanes > MOST_LANES ? ARGON2_LANES_TOO_MANY : ARGON2_MEMORY_TOO_MUCH;
+    if (context.saltlen > MOST_SALT)
+        return ARGON2_SALT_TOO_LONG;
+    return context.outlen > MOST_TAG ? ARGON2_OUTPUT_TOO_LONG : ARGON2_DECODING_FAIL;
+}
+
+/* Whether the string begins with the type's name between dollars. */
+static bool is_of_type(const char *encoded, const char *name) {
+    size_t size = strlen(name);
+    return encoded[0] == '$' && strncmp(encoded + 1, name, size) == 0 && encoded[1 + size] == '$';
+}
+
+PUBLIC int argon2_verify(const char *encoded, const void *pwd, size_t pwdlen, argon2_type type) {
+    if (pwdlen > UINT32_MAX)
+        return ARGON2_PWD_TOO_LONG;
+    if (encoded == NULL)
+        return ARGON2_DECODING_FAIL;
+    const char *name = argon2_type2string(type, 0);
+    if (name == NULL)
+        return ARGON2_INCORRECT_TYPE;
+    if (!is_of_type(encoded, name))
+        return ARGON2_DECODING_FAIL;
+    int fault = rigzumal_record_fault(encoded);
+    if (fault != RIGZUMAL_OK)
+        return refusal(encoded, fault);
+    if (pwd == NULL && pwdlen != 0)
+        return ARGON2_PWD_PTR_MISMATCH;
+    return number_of(rigzumal_check(encoded, pwd, pwdlen));
+}
+
+PUBLIC size_t argon2_encodedlen(uint32_t t_cost, uint32_t m_cost, uint32_t parallelism,
+                                uint32_t saltlen, uint32_t hashlen, argon2_type type) {
+    const char *name = argon2_type2string(type, 0);
+    int size = snprintf(NULL, 0, "$%s$v=19$m=%u,t=%u,p=%u$$", name == NULL ? "" : name, m_cost,
+                        t_cost, parallelism);
+    size_t salt_size = ((size_t)saltlen * 4 + 2) / 3;
+    size_t tag_size = ((size_t)hashlen * 4 + 2) / 3;
+    return (size_t)size + salt_size + tag_size + 1;
+}
+
+/* The calls above for each type. */
+#define CALLS_OF(name, type)                                                                       \
+    PUBLIC int name##_ctx(argon2_context *context) {                                               \
+        return argon2_ctx(context, type);                                                          \
+    }                                                                                              \
+    PUBLIC int name##_verify_ctx(argon2_context *context, const char *hash) {                      \
+        return argon2_verify_ctx(context, hash, type);                                             \
+    }                                                                                              \
+    PUBLIC int name##_verify(const char *encoded, const void *pwd, size_t pwdlen) {                \
+        return argon2_verify(encoded, pwd, pwdlen, type);                                          \
+    }                                                                                              \
+    PUBLIC int name##_hash_raw(uint32_t t_cost, uint32_t m_cost, uint32_t parallelism,             \
+                               const void *pwd, size_t pwdlen, const void *salt, size_t saltlen,   \
+                               void *hash, size_t hashlen) {                                       \
+        return argon2_hash(t_cost, m_cost, parallelism, pwd, pwdlen, salt, saltlen, hash, hashlen, \
+                           NULL, 0, type, RIGZUMAL_VERSION_13);                                    \
+    }                                                                                              \
+    PUBLIC int name##_hash_encoded(                                                                \
+        uint32_t t_cost, uint32_t m_cost, uint32_t parallelism, const void *pwd, size_t pwdlen,    \
+        const void *salt, size_t saltlen, size_t hashlen, char *encoded, size_t encodedlen) {      \
+        return argon2_hash(t_cost, m_cost, parallelism, pwd, pwdlen, salt, saltlen, NULL, hashlen, \
+                           encoded, encodedlen, type, RIGZUMAL_VERSION_13);                        \
+    }
+
+CALLS_OF(argon2d, Argon2_d)
+CALLS_OF(argon2i, Argon2_i)
+CALLS_OF(argon2id, Argon2_id)

@@ -1,0 +1,276 @@
+/* Each call of rigzumal.h: the standards' values, records of other programs, and bad input. */
+#include "check.h"
+#include "rigzumal.h"
+
+/* RFC 9106, section 5: the inputs of all three, and the tags of 5.1, 5.2 and 5.3. */
+static void test_argon2_vectors(void) {
+    static const unsigned char tags[3][32] = {
+        {0x51, 0x2b, 0x39, 0x1b, 0x6f, 0x11, 0x62, 0x97, 0x53, 0x71, 0xd3,
+         0x09, 0x19, 0x73, 0x42, 0x94, 0xf8, 0x68, 0xe3, 0xbe, 0x39, 0x84,
+         0xf3, 0xc1, 0xa1, 0x3a, 0x4d, 0xb9, 0xfa, 0xbe, 0x4a, 0xcb},
+        {0xc8, 0x14, 0xd9, 0xd1, 0xdc, 0x7f, 0x37, 0xaa, 0x13, 0xf0, 0xd7,
+         0x7f, 0x24, 0x94, 0xbd, 0xa1, 0xc8, 0xde, 0x6b, 0x01, 0x6d, 0xd3,
+         0x88, 0xd2, 0x99, 0x52, 0xa4, 0xc4, 0x67, 0x2b, 0x6c, 0xe8},
+        {0x0d, 0x64, 0x0d, 0xf5, 0x8d, 0x78, 0x76, 0x6c, 0x08, 0xc0, 0x37,
+         0xa3, 0x4a, 0x8b, 0x53, 0xc9, 0xd0, 0x1e, 0xf0, 0x45, 0x2d, 0x75,
+         0xb6, 0x5e, 0xb5, 0x25, 0x20, 0xe9, 0x6b, 0x01, 0xe6, 0x59},
+    };
+    unsigned char password[32], salt[16], secret[8], associated[12];
+    memset(password, 1, sizeof password);
+    memset(salt, 2, sizeof salt);
+    memset(secret, 3, sizeof secret);
+    memset(associated, 4, sizeof associated);
+    for (uint32_t kind = 0; kind < 3; kind++) {
+        struct rigzumal_argon2 numbers = {kind, RIGZUMAL_VERSION_13, 32, 3, 4};
+        unsigned char tag[32];
+        CHECK_NUMBER(rigzumal_argon2(tag, sizeof tag, &numbers, password, sizeof password, salt,
+                                     sizeof salt, secret, sizeof secret, associated,
+                                     sizeof associated),
+                     RIGZUMAL_OK);
+        CHECK(memcmp(tag, tags[kind], sizeof tag) == 0);
+    }
+}
+
+/* RFC 7914, section 12: the first and the third. */
+static void test_scrypt_vectors(void) {
+    static const unsigned char empty[64] = {
+        0x77, 0xd6, 0x57, 0x62, 0x38, 0x65, 0x7b, 0x20, 0x3b, 0x19, 0xca, 0x42, 0xc1,
+        0x8a, 0x04, 0x97, 0xf1, 0x6b, 0x48, 0x44, 0xe3, 0x07, 0x4a, 0xe8, 0xdf, 0xdf,
+        0xfa, 0x3f, 0xed, 0xe2, 0x14, 0x42, 0xfc, 0xd0, 0x06, 0x9d, 0xed, 0x09, 0x48,
+        0xf8, 0x32, 0x6a, 0x75, 0x3a, 0x0f, 0xc8, 0x1f, 0x17, 0xe8, 0xd3, 0xe0, 0xfb,
+        0x2e, 0x0d, 0x36, 0x28, 0xcf, 0x35, 0xe2, 0x0c, 0x38, 0xd1, 0x89, 0x06};
+    static const unsigned char large[64] = {
+        0x70, 0x23, 0xbd, 0xcb, 0x3a, 0xfd, 0x73, 0x48, 0x46, 0x1c, 0x06, 0xcd, 0x81,
+        0xfd, 0x38, 0xeb, 0xfd, 0xa8, 0xfb, 0xba, 0x90, 0x4f, 0x8e, 0x3e, 0xa9, 0xb5,
+        0x43, 0xf6, 0x54, 0x5d, 0xa1, 0xf2, 0xd5, 0x43, 0x29, 0x55, 0x61, 0x3f, 0x0f,
+        0xcf, 0x62, 0xd4, 0x97, 0x05, 0x24, 0x2a, 0x9a, 0xf9, 0xe6, 0x1e, 0x85, 0xdc,
+        0x0d, 0x65, 0x1e, 0x40, 0xdf, 0xcf, 0x01, 0x7b, 0x45, 0x57, 0x58, 0x87};
+    unsigned char key[64];
+    struct rigzumal_scrypt small_numbers = {4, 1, 1}, large_numbers = {14, 8, 1};
+    CHECK_NUMBER(rigzumal_scrypt(key, sizeof key, &small_numbers, NULL, 0, NULL, 0), RIGZUMAL_OK);
+    CHECK(memcmp(key, empty, sizeof key) == 0);
+    CHECK_NUMBER(
+        rigzumal_scrypt(key, sizeof key, &large_numbers, "pleaseletmein", 13, "SodiumChloride", 14),
+        RIGZUMAL_OK);
+    CHECK(memcmp(key, large, sizeof key) == 0);
+}
+
+/* Of the reference library's own tests, with version 0x10 too; the last is passlib's. */
+static const char *const records[] = {
+    "$argon2id$v=19$m=256,t=2,p=1$c29tZXNhbHQ$nf65EOgLrQMR/uIPnA4rEsF5h7TKyQwu9U1bMCHGi/4",
+    "$argon2i$v=19$m=256,t=2,p=1$c29tZXNhbHQ$iekCn0Y3spW+sCcFanM2xBT63UP2sghkUoHLIUpWRS8",
+    "$argon2i$m=256,t=2,p=1$c29tZXNhbHQ$/U3YPXYsSb3q9XxHvc0MLxur+GP960kN9j7emXX8zwY",
+    "$scrypt$ln=8,r=8,p=1$YmVucyBzYWx0$+KFelNIG2qBCL4ql+mf/Ah1wLJw+NsQMbjEE0WoA3TI",
+};
+
+static void test_checks(void) {
+    for (int i = 0; i < 3; i++) {
+        CHECK_NUMBER(rigzumal_check(records[i], "password", 8), RIGZUMAL_OK);
+        CHECK_NUMBER(rigzumal_check(records[i], "Password", 8), RIGZUMAL_MISMATCH);
+        CHECK_NUMBER(rigzumal_check(records[i], NULL, 0), RIGZUMAL_MISMATCH);
+        CHECK_NUMBER(rigzumal_record_fault(records[i]), RIGZUMAL_OK);
+    }
+    CHECK_NUMBER(rigzumal_check(records[3], "password", 8), RIGZUMAL_MISMATCH);
+}
+
+static void test_faults_of_texts(void) {
+    static const struct {
+        const char *text;
+        int fault;
+    } texts[] = {
+        {"", RIGZUMAL_SHAPE},
+        {"$argon2id$v=19$m=256,t=2,p=1$c29tZXNhbHQ", RIGZUMAL_SHAPE},
+        {"$argon2x$v=19$m=256,t=2,p=1$c29tZXNhbHQ$nf65EA", RIGZUMAL_SCHEME},
+        {"$argon2id$v=18$m=256,t=2,p=1$c29tZXNhbHQ$nf65EA", RIGZUMAL_VERSION},
+        {"$argon2id$v=19$m=0256,t=2,p=1$c29tZXNhbHQ$nf65EA", RIGZUMAL_PARAMS},
+        {"$argon2id$v=19$m=7,t=2,p=1$c29tZXNhbHQ$nf65EA", RIGZUMAL_RANGE},
+        {"$argon2id$v=19$m=256,t=2,p=1$c29t$nf65EA", RIGZUMAL_SALT},
+        {"$argon2id$v=19$m=256,t=2,p=1$c29tZXNhbHQ$nf65E", RIGZUMAL_TAG},
+    };
+    for (size_t i = 0; i < sizeof texts / sizeof texts[0]; i++) {
+        CHECK_NUMBER(rigzumal_record_fault(texts[i].text), texts[i].fault);
+        CHECK_NUMBER(rigzumal_check(texts[i].text, "password", 8), texts[i].fault);
+        struct rigzumal_parts parts;
+        memset(&parts, 0x5a, sizeof parts);
+        CHECK_NUMBER(rigzumal_parts(&parts, texts[i].text), texts[i].fault);
+        CHECK(is_all(&parts, 0x5a, sizeof parts));
+    }
+    char long_text[600];
+    memset(long_text, '$', sizeof long_text - 1);
+    long_text[sizeof long_text - 1] = '\0';
+    CHECK_NUMBER(rigzumal_record_fault(long_text), RIGZUMAL_TOO_LONG);
+    CHECK_NUMBER(rigzumal_setting_fault(records[0]), RIGZUMAL_SHAPE);
+    CHECK_NUMBER(rigzumal_setting_fault(RIGZUMAL_ARGON2_COSTS "$c29tZXNhbHQ"), RIGZUMAL_OK);
+    CHECK_NUMBER(rigzumal_setting_fault("$argon2id$v=16$m=64,t=1,p=1$c29tZXNhbHQ"),
+                 RIGZUMAL_VERSION);
+}
+
+static void test_parts(void) {
+    struct rigzumal_parts parts;
+    CHECK_NUMBER(rigzumal_parts(&parts, records[2]), RIGZUMAL_OK);
+    CHECK(parts.scheme == RIGZUMAL_ARGON2I && parts.version == RIGZUMAL_VERSION_10);
+    CHECK(parts.memory == 256 && parts.passes == 2 && parts.lanes == 1);
+    CHECK(parts.salt_size == 8 && parts.tag_size == 32);
+    CHECK_NUMBER(rigzumal_parts(&parts, records[3]), RIGZUMAL_OK);
+    CHECK(parts.scheme == RIGZUMAL_SCRYPT && parts.version == 0);
+    CHECK(parts.memory == 8 && parts.passes == 8 && parts.lanes == 1);
+    CHECK(parts.salt_size == 9 && parts.tag_size == 32);
+}
+
+/* A record into each room up to one that it fits into: nothing is written, and then all of it. */
+static void test_records_and_room(void) {
+    const char *wanted = records[0];
+    const char *costs = "$argon2id$v=19$m=256,t=2,p=1";
+    for (size_t size = 0; size <= strlen(wanted) + 2; size++) {
+        char text[RIGZUMAL_TEXT_SIZE];
+        memset(text, 0x5a, sizeof text);
+        int answer = rigzumal_record(text, size, 32, costs, "somesalt", 8, "password", 8);
+        if (size < strlen(wanted) + 1) {
+            CHECK_NUMBER(answer, RIGZUMAL_NO_ROOM);
+            CHECK(is_all(text, 0x5a, sizeof text));
+        } else {
+            CHECK_NUMBER(answer, RIGZUMAL_OK);
+            CHECK(strcmp(text, wanted) == 0);
+            size_t end = strlen(wanted) + 1;
+            CHECK(is_all(text + end, 0x5a, sizeof text - end));
+        }
+    }
+    CHECK_NUMBER(rigzumal_record(NULL, 0, 32, costs, "somesalt", 8, "password", 8),
+                 RIGZUMAL_NO_ROOM);
+    char text[RIGZUMAL_TEXT_SIZE];
+    CHECK_NUMBER(rigzumal_record(text, sizeof text, 32, "$argon2id$v=19$m=256,t=2,p=1$c29tZXNhbHQ",
+                                 NULL, 0, "password", 8),
+                 RIGZUMAL_OK);
+    CHECK(strcmp(text, wanted) == 0);
+}
+
+/* Salts of every size, through the base64 that is written here and read by the proved code. */
+static void test_salts(void) {
+    unsigned char salt[400];
+    for (size_t i = 0; i < sizeof salt; i++)
+        salt[i] = (unsigned char)(i * 73 + 251);
+    struct rigzumal_argon2 numbers = {RIGZUMAL_ARGON2ID, RIGZUMAL_VERSION_13, 8, 1, 1};
+    for (size_t size = 1; size <= sizeof salt; size++) {
+        char text[RIGZUMAL_TEXT_SIZE], other[RIGZUMAL_TEXT_SIZE];
+        memset(text, 0x5a, sizeof text);
+        int answer = rigzumal_record(text, sizeof text, 16, "$argon2id$v=19$m=8,t=1,p=1", salt,
+                                     size, "password", 8);
+        if (size < RIGZUMAL_SALT_SIZE_MIN || size > RIGZUMAL_SALT_SIZE_MAX) {
+            CHECK(answer == RIGZUMAL_SALT || (size > 300 && answer == RIGZUMAL_TOO_LONG));
+            CHECK(is_all(text, 0x5a, sizeof text));
+            continue;
+        }
+        CHECK_NUMBER(answer, RIGZUMAL_OK);
+        unsigned char tag[16];
+        CHECK_NUMBER(
+            rigzumal_argon2(tag, sizeof tag, &numbers, "password", 8, salt, size, NULL, 0, NULL, 0),
+            RIGZUMAL_OK);
+        CHECK_NUMBER(
+            rigzumal_argon2_write(other, sizeof other, &numbers, salt, size, tag, sizeof tag),
+            RIGZUMAL_OK);
+        CHECK(strcmp(text, other) == 0);
+    }
+}
+
+static int argon2_of(struct rigzumal_argon2 numbers, size_t tag_size) {
+    unsigned char tag[2000];
+    CHECK(tag_size <= sizeof tag);
+    memset(tag, 0x5a, sizeof tag);
+    int answer =
+        rigzumal_argon2(tag, tag_size, &numbers, "password", 8, "somesalt", 8, NULL, 0, NULL, 0);
+    if (answer != RIGZUMAL_OK)
+        CHECK(is_all(tag, 0x5a, sizeof tag));
+    CHECK(is_all(tag + tag_size, 0x5a, sizeof tag - tag_size));
+    return answer;
+}
+
+static void test_bad_numbers_of_argon2(void) {
+    typedef struct rigzumal_argon2 numbers;
+    CHECK_NUMBER(argon2_of((numbers){3, 19, 8, 1, 1}, 32), RIGZUMAL_NO_KIND);
+    CHECK_NUMBER(argon2_of((numbers){256, 19, 8, 1, 1}, 32), RIGZUMAL_NO_KIND);
+    CHECK_NUMBER(argon2_of((numbers){2, 18, 8, 1, 1}, 32), RIGZUMAL_NO_VERSION);
+    CHECK_NUMBER(argon2_of((numbers){2, 19, 8, 1, 0}, 32), RIGZUMAL_LANES);
+    CHECK_NUMBER(argon2_of((numbers){2, 19, 4096, 1, 256}, 32), RIGZUMAL_LANES);
+    CHECK_NUMBER(argon2_of((numbers){2, 19, 7, 1, 1}, 32), RIGZUMAL_COST);
+    CHECK_NUMBER(argon2_of((numbers){2, 19, 2097153, 1, 1}, 32), RIGZUMAL_COST);
+    CHECK_NUMBER(argon2_of((numbers){2, 19, 8, 0, 1}, 32), RIGZUMAL_PASSES);
+    CHECK_NUMBER(argon2_of((numbers){2, 19, 8, 1, 1}, 3), RIGZUMAL_TAG_SIZE_FAULT);
+    CHECK_NUMBER(argon2_of((numbers){2, 19, 8, 1, 1}, 0), RIGZUMAL_TAG_SIZE_FAULT);
+    for (size_t size = RIGZUMAL_TAG_SIZE_MIN; size <= RIGZUMAL_TAG_SIZE_MAX; size++)
+        CHECK_NUMBER(argon2_of((numbers){2, 19, 8, 1, 1}, size), RIGZUMAL_OK);
+}
+
+static int scrypt_of(struct rigzumal_scrypt numbers, size_t key_size) {
+    unsigned char key[100];
+    CHECK(key_size <= sizeof key);
+    memset(key, 0x5a, sizeof key);
+    int answer = rigzumal_scrypt(key, key_size, &numbers, "password", 8, "salt", 4);
+    if (answer != RIGZUMAL_OK)
+        CHECK(is_all(key, 0x5a, sizeof key));
+    CHECK(is_all(key + key_size, 0x5a, sizeof key - key_size));
+    return answer;
+}
+
+static void test_bad_numbers_of_scrypt(void) {
+    typedef struct rigzumal_scrypt numbers;
+    CHECK_NUMBER(scrypt_of((numbers){4, 1, 1}, 32), RIGZUMAL_OK);
+    CHECK_NUMBER(scrypt_of((numbers){4, 0, 1}, 32), RIGZUMAL_BLOCK_SIZE);
+    CHECK_NUMBER(scrypt_of((numbers){4, 256, 1}, 32), RIGZUMAL_BLOCK_SIZE);
+    CHECK_NUMBER(scrypt_of((numbers){4, 1, 0}, 32), RIGZUMAL_BLOCKS);
+    CHECK_NUMBER(scrypt_of((numbers){4, 1, 256}, 32), RIGZUMAL_BLOCKS);
+    CHECK_NUMBER(scrypt_of((numbers){0, 1, 1}, 32), RIGZUMAL_SCRYPT_COST);
+    CHECK_NUMBER(scrypt_of((numbers){16, 1, 1}, 32), RIGZUMAL_SCRYPT_COST);
+    CHECK_NUMBER(scrypt_of((numbers){256, 1, 1}, 32), RIGZUMAL_SCRYPT_COST);
+    CHECK_NUMBER(scrypt_of((numbers){4, 1, 1}, 3), RIGZUMAL_KEY_SIZE);
+}
+
+static void test_bad_parts_of_records(void) {
+    struct rigzumal_argon2 numbers = {RIGZUMAL_ARGON2ID, RIGZUMAL_VERSION_13, 256, 2, 1};
+    char text[RIGZUMAL_TEXT_SIZE];
+    memset(text, 0x5a, sizeof text);
+    static const char costs[] = "$argon2id$v=19$m=8,t=1,p=1";
+    CHECK_NUMBER(rigzumal_record(text, sizeof text, 3, costs, "somesalt", 8, "password", 8),
+                 RIGZUMAL_TAG);
+    CHECK_NUMBER(rigzumal_record(text, sizeof text, 65, costs, "somesalt", 8, "password", 8),
+                 RIGZUMAL_TAG);
+    CHECK_NUMBER(rigzumal_record(text, sizeof text, 32, costs, NULL, 0, "password", 8),
+                 RIGZUMAL_SHAPE);
+    size_t wide = (size_t)32 + (size_t)UINT32_MAX + 1;
+    CHECK_NUMBER(rigzumal_record(text, sizeof text, wide, costs, "somesalt", 8, "password", 8),
+                 RIGZUMAL_TAG);
+    CHECK_NUMBER(rigzumal_argon2_write(text, sizeof text, &numbers, "short", 5, "tags", 4),
+                 RIGZUMAL_SALT);
+    CHECK_NUMBER(rigzumal_argon2_write(text, sizeof text, &numbers, "somesalt", 8, "tag", 3),
+                 RIGZUMAL_TAG);
+    CHECK_NUMBER(rigzumal_argon2_write(text, 40, &numbers, "somesalt", 8, "tags", 4),
+                 RIGZUMAL_NO_ROOM);
+    numbers.passes = 0;
+    CHECK_NUMBER(rigzumal_argon2_write(text, sizeof text, &numbers, "somesalt", 8, "tags", 4),
+                 RIGZUMAL_RANGE);
+    CHECK(is_all(text, 0x5a, sizeof text));
+}
+
+static void test_words(void) {
+    CHECK(strcmp(rigzumal_word(RIGZUMAL_OK), "ok") == 0);
+    CHECK(strcmp(rigzumal_word(RIGZUMAL_KEY_SIZE), "keysize") == 0);
+    CHECK(strcmp(rigzumal_strerror(RIGZUMAL_MEMORY), "out of memory") == 0);
+    CHECK(strcmp(rigzumal_word(-1), "unknown") == 0);
+    CHECK(strcmp(rigzumal_strerror(23), "no such fault") == 0);
+    for (int fault = RIGZUMAL_OK; fault <= RIGZUMAL_KEY_SIZE; fault++)
+        CHECK(strcmp(rigzumal_word(fault), "unknown") != 0 && rigzumal_strerror(fault)[0] != '\0');
+}
+
+int main(void) {
+    test_argon2_vectors();
+    test_scrypt_vectors();
+    test_checks();
+    test_faults_of_texts();
+    test_parts();
+    test_records_and_room();
+    test_salts();
+    test_bad_numbers_of_argon2();
+    test_bad_numbers_of_scrypt();
+    test_bad_parts_of_records();
+    test_words();
+    return 0;
+}
