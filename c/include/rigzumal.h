@@ -45,7 +45,7 @@ extern "C" {
 #define RIGZUMAL_SALT_SIZE 16u
 #define RIGZUMAL_TAG_SIZE 32u
 
-/* The sizes that a record's salt and tag may have. scrypt's salt may be shorter: 1 byte. */
+/* The sizes that a record's salt and tag may have; a salt of scrypt may be as short as 1 byte. */
 #define RIGZUMAL_SALT_SIZE_MIN 8u
 #define RIGZUMAL_SALT_SIZE_MAX 48u
 #define RIGZUMAL_TAG_SIZE_MIN 4u
@@ -86,13 +86,13 @@ enum rigzumal_fault {
     RIGZUMAL_LANES = 14,          /* not 1 to 255 lanes */
     RIGZUMAL_COST = 15,           /* the memory isn't 8 KiB a lane to 2 GiB */
     RIGZUMAL_PASSES = 16,         /* there is no pass */
-    RIGZUMAL_TAG_SIZE_FAULT = 17, /* the tag's size is outside its range */
+    RIGZUMAL_TAG_SIZE_FAULT = 17, /* the tag hasn't 4 to 2^32 - 1 bytes */
     RIGZUMAL_INPUT_SIZE = 18,     /* an input has 2^32 bytes or more */
     /* Of the numbers of scrypt. */
     RIGZUMAL_SCRYPT_COST = 19, /* ln isn't 1 to 24 and below 16 r, or the table is over 2 GiB */
     RIGZUMAL_BLOCK_SIZE = 20,  /* r isn't 1 to 255 */
     RIGZUMAL_BLOCKS = 21,      /* p isn't 1 to 255 */
-    RIGZUMAL_KEY_SIZE = 22     /* the key's size is outside its range */
+    RIGZUMAL_KEY_SIZE = 22     /* the key hasn't 1 to 2^32 - 1 bytes */
 };
 
 /* What a fault means in words, and its name in one word, as "mismatch". Never null. */
@@ -140,7 +140,8 @@ struct rigzumal_argon2 {
     uint32_t lanes;   /* 1 to 255 */
 };
 
-/* Writes the tag over the tag_size bytes at tag. Most tags have no secret and no associated data.
+/* Writes the tag over the tag_size bytes at tag: 4 or more, below 2^32. Most tags have no secret
+ * and no associated data.
  * Faults: NO_KIND to INPUT_SIZE; MEMORY. */
 int rigzumal_argon2(void *tag, size_t tag_size, const struct rigzumal_argon2 *numbers,
                     const void *password, size_t password_size, const void *salt, size_t salt_size,
@@ -159,7 +160,7 @@ struct rigzumal_scrypt {
     uint32_t p;  /* the parallelization: 1 to 255 */
 };
 
-/* Writes the key over the key_size bytes at key.
+/* Writes the key over the key_size bytes at key: 1 or more, below 2^32.
  * Faults: SCRYPT_COST to KEY_SIZE; MEMORY. */
 int rigzumal_scrypt(void *key, size_t key_size, const struct rigzumal_scrypt *numbers,
                     const void *password, size_t password_size, const void *salt, size_t salt_size);

@@ -10,6 +10,7 @@
 
 #include <stdbool.h>
 #include <stdio.h>
+#include <stdlib.h>
 #include <string.h>
 
 /* The declarations of argon2.h, whose names and numbers these are. */
@@ -69,8 +70,8 @@ typedef struct {
     uint32_t flags;
 } argon2_context;
 
-/* What the original takes and the proved code doesn't. */
-enum { MOST_LANES = 255, MOST_SALT = RIGZUMAL_SALT_SIZE_MAX, MOST_TAG = RIGZUMAL_TAG_SIZE_MAX };
+/* The most that the proved code takes, where the original takes more. */
+enum { MOST_LANES = 255 };
 
 #define PUBLIC __attribute__((visibility("default")))
 
@@ -205,11 +206,11 @@ PUBLIC int argon2_ctx(argon2_context *context, argon2_type type) {
         return number;
     if (argon2_type2string(type, 0) == NULL)
         return ARGON2_INCORRECT_TYPE;
-    if (context->outlen > MOST_TAG)
-        return ARGON2_OUTPUT_TOO_LONG;
+    uint8_t *tag = malloc(context->outlen); /* as the caller's may overlap the inputs */
+    if (tag == NULL)
+        return ARGON2_MEMORY_ALLOCATION_ERROR;
     struct rigzumal_argon2 numbers = {(uint32_t)type, context->version, context->m_cost,
                                       context->t_cost, context->lanes};
-    uint8_t tag[MOST_TAG]; /* as the caller's may overlap the inputs */
     number = number_of(rigzumal_argon2(
         tag, context->outlen, &numbers, context->pwd, context->pwdlen, context->salt,
         context->saltlen, context->secret, context->secretlen, context->ad, context->adlen));
@@ -217,7 +218,8 @@ PUBLIC int argon2_ctx(argon2_context *context, argon2_type type) {
         clear_inputs(context);
         memcpy(context->out, tag, context->outlen);
     }
-    explicit_bzero(tag, sizeof tag);
+    explicit_bzero(tag, context->outlen);
+    free(tag);
     return number;
 }
 
@@ -255,11 +257,13 @@ PUBLIC int argon2_hash(uint32_t t_cost, uint32_t m_cost, uint32_t parallelism, c
     bool is_encoded = encoded != NULL && encodedlen > 0;
     if (pwdlen > UINT32_MAX)
         return ARGON2_PWD_TOO_LONG;
-    if (saltlen > (is_encoded ? MOST_SALT : UINT32_MAX))
+    if (saltlen > (is_encoded ? RIGZUMAL_SALT_SIZE_MAX : UINT32_MAX))
         return ARGON2_SALT_TOO_LONG;
-    if (hashlen > MOST_TAG)
+    if (hashlen > (is_encoded ? RIGZUMAL_TAG_SIZE_MAX : UINT32_MAX))
         return ARGON2_OUTPUT_TOO_LONG;
-    uint8_t tag[MOST_TAG];
+    uint8_t *tag = malloc(hashlen == 0 ? 1 : hashlen);
+    if (tag == NULL)
+        return ARGON2_MEMORY_ALLOCATION_ERROR;
     argon2_context context = {.out = tag,
                               .outlen = (uint32_t)hashlen,
                               .pwd = (uint8_t *)(uintptr_t)pwd,
@@ -276,54 +280,68 @@ PUBLIC int argon2_hash(uint32_t t_cost, uint32_t m_cost, uint32_t parallelism, c
         memcpy(hash, tag, hashlen);
     if (number == ARGON2_OK && is_encoded)
         number = encode(encoded, encodedlen, &context, type);
-    explicit_bzero(tag, sizeof tag);
+    explicit_bzero(tag, hashlen);
+    free(tag);
     return number;
 }
 
-/* The number by which the original refuses a string that the proved code refuses by this fault.
- * Where the form is right and a value isn't, that depends on all the values. */
-static int refusal(const char *encoded, int fault) {
-    static const char digits[] = "ABCDEFGHIJKLMNOPQRSTUVWXYZabcdefghijklmnopqrstuvwxyz0123456789+/";
-    if (fault != RIGZUMAL_RANGE && fault != RIGZUMAL_SALT && fault != RIGZUMAL_TAG)
-        return ARGON2_DECODING_FAIL;
-    const char *numbers = strstr(encoded, "$m=");
-    unsigned long m_cost, t_cost, lanes;
-    int end = 0;
-    if (numbers == NULL ||
-        sscanf(numbers, "$m=%lu,t=%lu,p=%lu$%n", &m_cost, &t_cost, &lanes, &end) < 3 || end == 0 ||
-        m_cost > UINT32_MAX || t_cost > UINT32_MAX || lanes > UINT32_MAX)
-        return ARGON2_DECODING_FAIL;
-    const char *salt = numbers + end;
-    size_t salt_len = strspn(salt, digits);
-    if (salt[salt_len] != '$')
-        return ARGON2_DECODING_FAIL;
-    const char *tag = salt + salt_len + 1;
-    size_t tag_len = strspn(tag, digits);
-    if (tag[tag_len] != '\0')
-        return ARGON2_DECODING_FAIL;
-    uint8_t nothing[1];
-    argon2_context context = {.out = nothing,
-                              .outlen = (uint32_t)(tag_len * 3 / 4),
-                              .salt = nothing,
-                              .saltlen = (uint32_t)(salt_len * 3 / 4),
-                              .t_cost = (uint32_t)t_cost,
-                              .m_cost = (uint32_t)m_cost,
-                              .lanes = (uint32_t)lanes,
-                              .threads = (uint32_t)lanes};
-    int number = fault_of(&context);
-    if (number != ARGON2_OK)
-        return number;
-    if (fault == RIGZUMAL_RANGE)
-        return lanes > MOST_LANES ? ARGON2_LANES_TOO_MANY : ARGON2_MEMORY_TOO_MUCH;
-    if (context.saltlen > MOST_SALT)
-        return ARGON2_SALT_TOO_LONG;
-    return context.outlen > MOST_TAG ? ARGON2_OUTPUT_TOO_LONG : ARGON2_DECODING_FAIL;
+/* What follows is for the number of a refusal alone: the original reads what it can of a string
+ * that isn't right, and answers by what it read. Each reads from *text on, and moves it, or answers
+ * false. */
+
+static bool read_word(const char **text, const char *word) {
+    size_t size = strlen(word);
+    bool is_there = strncmp(*text, word, size) == 0;
+    *text += is_there ? size : 0;
+    return is_there;
 }
 
-/* Whether the string begins with the type's name between dollars. */
-static bool is_of_type(const char *encoded, const char *name) {
-    size_t size = strlen(name);
-    return encoded[0] == '$' && strncmp(encoded + 1, name, size) == 0 && encoded[1 + size] == '$';
+static bool read_number(const char **text, uint32_t *number) {
+    static const char digits[] = "0123456789";
+    size_t size = strspn(*text, digits);
+    if (size == 0 || size > 10 || (**text == '0' && size > 1))
+        return false;
+    unsigned long long read = strtoull(*text, NULL, 10);
+    *number = (uint32_t)read;
+    *text += size;
+    return read <= UINT32_MAX;
+}
+
+/* Base64, of which bits that stand for no byte are zero: how many bytes it stands for. */
+static bool read_base64(const char **text, uint32_t *size) {
+    static const char digits[] = "ABCDEFGHIJKLMNOPQRSTUVWXYZabcdefghijklmnopqrstuvwxyz0123456789+/";
+    size_t length = strspn(*text, digits);
+    *size = (uint32_t)(length * 3 / 4);
+    *text += length;
+    if (length % 4 < 2)
+        return length % 4 == 0;
+    int unused_bits = length % 4 == 2 ? 0xf : 0x3;
+    return ((strchr(digits, (*text)[-1]) - digits) & unused_bits) == 0;
+}
+
+/* The number by which the original refuses a string that begins with its type's name, and that the
+ * proved code refuses by this fault. */
+static int refusal(const char *text, int fault) {
+    uint8_t nothing[1];
+    argon2_context read = {.out = nothing, .salt = nothing, .version = RIGZUMAL_VERSION_10};
+    if ((read_word(&text, "$v=") && !read_number(&text, &read.version)) ||
+        !read_word(&text, "$m=") || !read_number(&text, &read.m_cost) || !read_word(&text, ",t=") ||
+        !read_number(&text, &read.t_cost) || !read_word(&text, ",p=") ||
+        !read_number(&text, &read.lanes) || !read_word(&text, "$") ||
+        !read_base64(&text, &read.saltlen) || !read_word(&text, "$") ||
+        !read_base64(&text, &read.outlen))
+        return ARGON2_DECODING_FAIL;
+    read.threads = read.lanes;
+    int number = fault_of(&read);
+    if (number != ARGON2_OK)
+        return number;
+    if (*text != '\0')
+        return ARGON2_DECODING_FAIL;
+    if (fault == RIGZUMAL_RANGE)
+        return read.lanes > MOST_LANES ? ARGON2_LANES_TOO_MANY : ARGON2_MEMORY_TOO_MUCH;
+    if (fault == RIGZUMAL_SALT)
+        return ARGON2_SALT_TOO_LONG;
+    return fault == RIGZUMAL_TAG ? ARGON2_OUTPUT_TOO_LONG : ARGON2_INCORRECT_TYPE;
 }
 
 PUBLIC int argon2_verify(const char *encoded, const void *pwd, size_t pwdlen, argon2_type type) {
@@ -334,11 +352,12 @@ PUBLIC int argon2_verify(const char *encoded, const void *pwd, size_t pwdlen, ar
     const char *name = argon2_type2string(type, 0);
     if (name == NULL)
         return ARGON2_INCORRECT_TYPE;
-    if (!is_of_type(encoded, name))
+    const char *text = encoded;
+    if (!read_word(&text, "$") || !read_word(&text, name) || *text != '$')
         return ARGON2_DECODING_FAIL;
     int fault = rigzumal_record_fault(encoded);
     if (fault != RIGZUMAL_OK)
-        return refusal(encoded, fault);
+        return refusal(text, fault);
     if (pwd == NULL && pwdlen != 0)
         return ARGON2_PWD_PTR_MISMATCH;
     return number_of(rigzumal_check(encoded, pwd, pwdlen));

@@ -173,14 +173,14 @@ static const struct {
     [RIGZUMAL_LANES] = {"lanes", "the number of lanes is not 1 to 255"},
     [RIGZUMAL_COST] = {"cost", "the memory is not 8 KiB a lane to 2 GiB"},
     [RIGZUMAL_PASSES] = {"passes", "there is no pass"},
-    [RIGZUMAL_TAG_SIZE_FAULT] = {"tagsize", "the tag has a length outside its range"},
+    [RIGZUMAL_TAG_SIZE_FAULT] = {"tagsize", "the tag has not 4 to 2^32 - 1 bytes"},
     [RIGZUMAL_INPUT_SIZE] = {"inputsize", "an input has 2^32 bytes or more"},
     [RIGZUMAL_SCRYPT_COST] = {"scryptcost",
                               "the cost is out of range, or too high for the block "
                               "size or for a table of 2 GiB"},
     [RIGZUMAL_BLOCK_SIZE] = {"blocksize", "the block size is not 1 to 255"},
     [RIGZUMAL_BLOCKS] = {"blocks", "the parallelization is not 1 to 255"},
-    [RIGZUMAL_KEY_SIZE] = {"keysize", "the key has a length outside its range"},
+    [RIGZUMAL_KEY_SIZE] = {"keysize", "the key has not 1 to 2^32 - 1 bytes"},
 };
 
 enum { FAULTS = sizeof faults / sizeof faults[0] };
