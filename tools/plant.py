@@ -70,7 +70,7 @@ def place_of(crate, function):
             holder = line
         elif line.startswith("}"):
             holder = ""
-        is_it = re.match(rf"\s*(pub(\([a-z]+\))? )?(const )?fn {re.escape(name)}\b", line)
+        is_it = re.match(rf"\s*(pub(\([a-z]+\))? )?(const )?(extern .C. )?fn {re.escape(name)}\b", line)
         if is_it and bool(owner) == bool(holder) and all(re.search(rf"\b{re.escape(it)}\b", holder) for it in owner):
             found.append(i)
     if len(found) != 1:

@@ -10,7 +10,6 @@ mod numbers;
 mod parts;
 mod raw;
 mod records;
-mod texts;
-
 #[cfg(test)]
 mod tests;
+mod texts;
