@@ -213,7 +213,7 @@ class Comparison:
     def same(self, what, call):
         one, other = call(self.ours), call(self.theirs)
         if one != other:
-            sys.exit(f"{what}: ours {one}, theirs {other}")
+            sys.exit(f"{what:.600}\nours {one!s:.600}\ntheirs {other!s:.600}")
         answer = one[0] if isinstance(one, tuple) else one
         self.answers[answer] = self.answers.get(answer, 0) + 1
         return one

@@ -1,0 +1,32 @@
+"""Argon2 and scrypt for passwords, over the proved library librigzumal.so.
+
+>>> from rigzumal import PasswordHasher
+>>> hasher = PasswordHasher(memory_cost=256, time_cost=2, parallelism=1)
+>>> record = hasher.hash("correct horse")
+>>> hasher.verify(record, "correct horse")
+True
+
+`python3 -m rigzumal` tries it at the shell. Nothing here prints or keeps a password.
+"""
+
+from rigzumal._hashers import PasswordHasher, ScryptHasher, Type, argon2, scrypt
+from rigzumal._library import (
+    InvalidNumbersError,
+    InvalidRecordError,
+    OutOfMemoryError,
+    RigzumalError,
+    VerifyMismatchError,
+)
+
+__all__ = [
+    "InvalidNumbersError",
+    "InvalidRecordError",
+    "OutOfMemoryError",
+    "PasswordHasher",
+    "RigzumalError",
+    "ScryptHasher",
+    "Type",
+    "VerifyMismatchError",
+    "argon2",
+    "scrypt",
+]
