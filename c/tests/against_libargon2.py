@@ -1,6 +1,6 @@
 """Compares out/libargon2.so.1 with Debian's over random calls, good and bad.
 
-    /usr/bin/python3 tests/against_libargon2.py OURS THEIRS [SEED]
+    /usr/bin/python3 tests/against_libargon2.py OURS THEIRS SEED
 
 Each call is made on both. Their answers, and all bytes that they could write, are the same.
 What the original takes and ours refuses is listed in src/libargon2.c, and kept to that.
@@ -13,7 +13,7 @@ import re
 import sys
 
 KINDS = ("argon2d", "argon2i", "argon2id")
-TURNS = 1500
+TURNS = 500
 
 
 class Context(ctypes.Structure):
@@ -266,8 +266,7 @@ def compare(draw, comparison):
 
 def main():
     ours, theirs = map(library, sys.argv[1:3])
-    seed = int(sys.argv[3]) if len(sys.argv) > 3 else 1
-    draw = random.Random(seed)
+    draw = random.Random(int(sys.argv[3]))
     comparison = Comparison(ours, theirs)
     for number in range(2, -40, -1):
         comparison.same("argon2_error_message", lambda lib: lib.argon2_error_message(number))

@@ -196,8 +196,9 @@ static void test_bad_numbers_of_argon2(void) {
     CHECK_NUMBER(argon2_of((numbers){2, 19, 8, 0, 1}, 32), RIGZUMAL_PASSES);
     CHECK_NUMBER(argon2_of((numbers){2, 19, 8, 1, 1}, 3), RIGZUMAL_TAG_SIZE_FAULT);
     CHECK_NUMBER(argon2_of((numbers){2, 19, 8, 1, 1}, 0), RIGZUMAL_TAG_SIZE_FAULT);
-    for (size_t size = RIGZUMAL_TAG_SIZE_MIN; size <= RIGZUMAL_TAG_SIZE_MAX; size++)
+    for (size_t size = 4; size <= 200; size++)
         CHECK_NUMBER(argon2_of((numbers){2, 19, 8, 1, 1}, size), RIGZUMAL_OK);
+    CHECK_NUMBER(argon2_of((numbers){2, 19, 8, 1, 1}, 2000), RIGZUMAL_OK);
 }
 
 static int scrypt_of(struct rigzumal_scrypt numbers, size_t key_size) {
@@ -221,7 +222,9 @@ static void test_bad_numbers_of_scrypt(void) {
     CHECK_NUMBER(scrypt_of((numbers){0, 1, 1}, 32), RIGZUMAL_SCRYPT_COST);
     CHECK_NUMBER(scrypt_of((numbers){16, 1, 1}, 32), RIGZUMAL_SCRYPT_COST);
     CHECK_NUMBER(scrypt_of((numbers){256, 1, 1}, 32), RIGZUMAL_SCRYPT_COST);
-    CHECK_NUMBER(scrypt_of((numbers){4, 1, 1}, 3), RIGZUMAL_KEY_SIZE);
+    CHECK_NUMBER(scrypt_of((numbers){4, 1, 1}, 0), RIGZUMAL_KEY_SIZE);
+    for (size_t size = 1; size <= 100; size++)
+        CHECK_NUMBER(scrypt_of((numbers){1, 1, 1}, size), RIGZUMAL_OK);
 }
 
 static void test_bad_parts_of_records(void) {

@@ -71,7 +71,7 @@ def need_original():
 
 def built(name, flags, linked):
     """A test in C, built."""
-    program = ROOM / (name + "".join(flags[1:2]).replace("=", "-").replace(",", "-"))
+    program = ROOM / f"{name}-{len(list(ROOM.iterdir()))}"
     wraps = [f"-Wl,--wrap={call}" for call in MEMORY_CALLS.get(name, "").split()]
     compiler = os.environ.get("CC", "cc")
     run(compiler, *WARNINGS, *flags, *wraps, f"tests/{name}.c", *linked, "-o", program)
@@ -88,6 +88,11 @@ def test_layout():
 def test_calls():
     """Each call, under the sanitizers."""
     run(built("calls", SANITIZED, SOURCES))
+
+
+def test_calls_of_the_older_build():
+    """Each call as on a processor without the wider vectors."""
+    run(built("calls", SANITIZED + ["-D__builtin_cpu_supports(name)=0"], SOURCES))
 
 
 def test_calls_under_valgrind():
@@ -155,7 +160,19 @@ def test_symbols():
 def test_against_libargon2():
     """The original's answers over random calls, good and bad."""
     need_original()
-    return run(sys.executable, HERE / "against_libargon2.py", OUT / "libargon2.so.1", ORIGINAL)
+    return run(sys.executable, HERE / "against_libargon2.py", OUT / "libargon2.so.1", ORIGINAL, "1")
+
+
+def test_against_libargon2_sanitized():
+    """The same with our C under the sanitizers, over other calls."""
+    need_original()
+    compiler = os.environ.get("CC", "cc")
+    library = ROOM / "sanitized.so"
+    sources = ["src/libargon2.c", *SOURCES]
+    run(compiler, *WARNINGS, *SANITIZED, "-fPIC", "-shared", "-Wl,-Bsymbolic", *sources, "-o", library)
+    asan = run(compiler, "-print-file-name=libasan.so").strip()
+    env = {"LD_PRELOAD": asan, "ASAN_OPTIONS": "detect_leaks=0"}
+    return run(sys.executable, HERE / "against_libargon2.py", library, ORIGINAL, "2", env=env)
 
 
 def test_python_package():

@@ -31,7 +31,7 @@ class _Hasher:
         raise NotImplementedError
 
     def _scheme(self) -> tuple[int, ...]:
-        """The scheme, the version and the three numbers, as a record's parts have them."""
+        """The scheme, the version and the three numbers, as in a record's parts."""
         raise NotImplementedError
 
     def hash(self, password: Secret, *, salt: Optional[bytes] = None) -> str:
@@ -39,10 +39,10 @@ class _Hasher:
 
         Args:
             password: the password, of any length below 2^32 bytes.
-            salt: 8 to 48 bytes (of scrypt 1 to 48); drawn from the system if left out.
+            salt: 8 to 48 bytes (of scrypt 1 to 48); drawn if left out.
 
         Raises:
-            InvalidRecordError: a number or the salt's or the tag's size is out of range.
+            InvalidRecordError: a number or a size is outside its range.
             OutOfMemoryError: there was too little memory.
         """
         chosen = secrets.token_bytes(self.salt_len) if salt is None else bytes(salt)

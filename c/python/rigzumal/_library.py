@@ -122,7 +122,7 @@ class Parts(ctypes.Structure):
 
 
 def _path() -> str:
-    """Where the library is: RIGZUMAL_LIBRARY, else where make put it, else installed."""
+    """The file that RIGZUMAL_LIBRARY names, else make's, else the installed one."""
     named = os.environ.get("RIGZUMAL_LIBRARY")
     if named:
         return named
