@@ -7,8 +7,8 @@ use Rattle.cred_scrypt.specs.declared.error.ScryptError.TheVariants.{Cost as Scr
 use Rattle.cred_phc.specs.Tags.{tag}
 use Rattle.cred_phc.specs.Values.{RecordValue}
 
--- 1 to 9 are the faults of texts, and 8 is want of memory everywhere; 10 is another password, 11 too
--- little room, 12 no kind and 13 no version
+-- 1 to 9 are the faults of texts, and 8 is want of memory everywhere; 10 is another password, 11
+-- too little room, 12 no kind and 13 no version
 abbrev pub argon_number : ArgonError → ℕ
 argon_number Lanes = 14
 argon_number Cost = 15

@@ -20,8 +20,8 @@ use cred_pool::NoGate;
 use cred_scrypt::{ScryptError, ScryptParams, scrypt_alone};
 use std::alloc::Global;
 
-/// Writes the Argon2 tag (RFC 9106) of the inputs over `out`, which says the tag's length: 4 bytes or
-/// more. `kind` is 0, 1 or 2 for d, i and id; `version` is 16 or 19; `memory` is in KiB.
+/// Writes the Argon2 tag (RFC 9106) of the inputs over `out`, which says the tag's length: 4 bytes
+/// or more. `kind` is 0, 1 or 2 for d, i and id; `version` is 16 or 19; `memory` is in KiB.
 ///
 /// Answers 0, or 12 where there is no such kind, else 13 where there is no such version, else 17
 /// where `out` has 2^32 bytes or more, else by the first that is wrong of `lanes` (14), `memory`
@@ -81,12 +81,12 @@ pub extern "C" fn cred_argon2(
     }
 }
 
-/// Writes the scrypt key (RFC 7914) of the inputs over `out`, which says the key's length: 1 byte or
-/// more. N is 2 to the power of `ln`.
+/// Writes the scrypt key (RFC 7914) of the inputs over `out`, which says the key's length: 1 byte
+/// or more. N is 2 to the power of `ln`.
 ///
 /// Answers 0, or 22 where `out` has 2^32 bytes or more, else 20 where `r` isn't 1 to 255, else 21
-/// where `p` isn't, else 19 where the cost is out of its range or too high for `r` or for 2 GiB, else
-/// 22 where `out` is empty; else 8 where memory is short.
+/// where `p` isn't, else 19 where the cost is out of its range or too high for `r` or for 2 GiB,
+/// else 22 where `out` is empty; else 8 where memory is short.
 #[unsafe(no_mangle)]
 pub extern "C" fn cred_scrypt(
     alloc: Global,
@@ -132,7 +132,8 @@ fn scrypt_params(ln: u32, r: u32, p: u32, len: u32) -> Result<ScryptParams, Scry
     ensures len { (result ≡ Err ScryptError.Len)
         ↔ (IsSome r × IsSome p × (IsCostly ln r → ⊥) × (len ≡ 0)) }
     ensures memory { result ≡ Err ScryptError.Memory → ⊥ }
-    ensures ok { IfOk result (λ made. (made.ln ≡ ln) × (made.r ≡ r) × (made.p ≡ p) × (made.len ≡ len)) }
+    ensures ok { IfOk result (λ made. (made.ln ≡ ln) × (made.r ≡ r) × (made.p ≡ p)
+        × (made.len ≡ len)) }
 {
     ScryptParams::raw(byte_of(ln), byte_of(r), byte_of(p), len)
 }

@@ -57,8 +57,8 @@ fn check(alloc: Global, stored: &Record, pw: &[u8]) -> u8
 /// bytes, 4 to 64, and writes its text over the front of `out` and its length into `len`.
 ///
 /// Answers 0; or the number of the text's fault, 1 to 9; else 7 where `tag_len` is outside its
-/// range, else 18 where the password has 2^32 bytes or more, else 8 where memory is short or 11 where
-/// `out` has too little room.
+/// range, else 18 where the password has 2^32 bytes or more, else 8 where memory is short or 11
+/// where `out` has too little room.
 #[unsafe(no_mangle)]
 pub extern "C" fn cred_hash(
     alloc: Global,

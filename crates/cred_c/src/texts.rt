@@ -20,9 +20,9 @@ use std::alloc::Global;
 /// `len`. `kind` is 0, 1 or 2 for d, i and id; `version` is 16 or 19; `memory` is in KiB; the salt
 /// has 8 to 48 bytes and the tag 4 to 64. Nothing is hashed.
 ///
-/// Answers 0; or 12 where there is no such kind, else 13 where there is no such version, else 5 where
-/// another number is outside its range, else 6 where the salt is and 7 where the tag is; else 8 where
-/// memory is short or 11 where `out` has too little room.
+/// Answers 0; or 12 where there is no such kind, else 13 where there is no such version, else 5
+/// where another number is outside its range, else 6 where the salt is and 7 where the tag is; else
+/// 8 where memory is short or 11 where `out` has too little room.
 #[unsafe(no_mangle)]
 pub extern "C" fn cred_write(
     alloc: Global,

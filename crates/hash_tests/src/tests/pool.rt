@@ -1,5 +1,5 @@
-//! Of `cred_pool`: how often each part is worked and seen by the gate, that two workers work side by
-//! side and no third beside them, and that a part is worked while the gate has it inside.
+//! Of `cred_pool`: how often each part is worked and seen by the gate, that two workers work side
+//! by side and no third beside them, and that a part is worked while the gate has it inside.
 ghost use Rattle.std.specs.Prelude.{◌≤◌, ⊤};
 
 use cred_pool::{Gate, Part, run_parts};
