@@ -10,7 +10,8 @@ use std::process::Abort;
 use std::sync::Wait;
 use std::thread::Threads;
 
-/// Gives its bytes, so many a call, and then fails.
+/// Gives its bytes, so many a call and one at least, and then fails. What it has left is known, so
+/// that what a script's contract says of a failing reader says something of this one.
 #[derive(Drop)]
 pub(super) struct CutOff<'a> {
     pub(super) rest: &'a [u8],
@@ -19,14 +20,16 @@ pub(super) struct CutOff<'a> {
 }
 
 impl<'a> Read for CutOff<'a> {
+    ghost use Rattle.std.specs.Prelude.{Some};
+
+    ghost remaining = { λ r. Some r.rest.now };
+
     fn read(&mut self, buf: &mut [u8]) -> io::Result<usize> {
         if self.rest.is_empty() {
             return Err(io::Error::from(self.kind));
         }
-        let n = self.rest.len().min(buf.len()).min(self.most);
-        buf[..n].copy_from_slice(&self.rest[..n]);
-        self.rest = &self.rest[n..];
-        Ok(n)
+        let most = buf.len().min(self.most.max(1));
+        self.rest.read(&mut buf[..most])
     }
 }
 

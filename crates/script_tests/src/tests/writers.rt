@@ -11,7 +11,8 @@ use std::process::Abort;
 use std::sync::Wait;
 use std::thread::Threads;
 
-/// Takes one byte a call, so many times. After that it fails, or takes no byte.
+/// Takes one byte a call, so many times. After that it fails, or takes no byte. What it holds is
+/// known, so that what a script's contract says of a failing writer says something of this one.
 #[derive(Drop)]
 pub(super) struct Stingy {
     pub(super) taken: Vec<u8>,
@@ -20,6 +21,10 @@ pub(super) struct Stingy {
 }
 
 impl Write for Stingy {
+    ghost use Rattle.std.specs.Prelude.{Some};
+
+    ghost contents = { λ w. Some w.taken.items };
+
     fn write(&mut self, buf: &[u8]) -> io::Result<usize> {
         let Some(byte) = buf.first() else {
             return Ok(0);
