@@ -1,7 +1,6 @@
 -- What a begin and a commit do, step by step.
-use Rattle.std.proofs.Common.{◌≡◌, ℕ, zero, suc, ◌-◌, List, [], ◌∷◌, Option, Some, None, Result, Ok, Err, IfOk, true, false, is_some, set, get_or, refl, sym, ap, ◌∙◌}
+use Rattle.std.proofs.Common.{◌≡◌, ℕ, zero, suc, ◌-◌, List, [], ◌∷◌, Option, Some, None, Ok, true, false, is_some, set, get_or, refl, sym, ap, ◌∙◌}
 use Rattle.std.specs.FinMap as map
-use Rattle.std.specs.declared.alloc.AllocError.{AllocError}
 use Rattle.cred_phc.specs.Values.{RecordValue}
 use Rattle.cred_book.specs.Accounts.{Accounts}
 use Rattle.cred_book.specs.Commits.{Begins, Commits, committed}
@@ -18,10 +17,9 @@ use Rattle.cred_cli.specs.Texts.{line_of}
 use Rattle.cred_cli.proofs.Simulation.{begun-at, committing-at}
 
 -- an answer that leaves all as it is
-pub stays_done : (result : Result AnswerLine AllocError) (step : Step) (answer : Answer) (book : Accounts) (slots : List (Option Task)) → step ≡ stay answer book slots →
-    IfOk result (λ line. line_bytes line ≡ line_of answer) → IfOk result (IsDone step book slots)
-stays_done (Ok line) step answer book slots is said = rw is (said, refl, refl)
-stays_done (Err e) step answer book slots is said = tt
+pub stays_done : (line : AnswerLine) (step : Step) (answer : Answer) (book : Accounts) (slots : List (Option Task)) → step ≡ stay answer book slots →
+    line_bytes line ≡ line_of answer → IsDone step book slots line
+stays_done line step answer book slots is said = rw is (said, refl, refl)
 
 opened : (task : Option Task) → is_some task ≡ true → (book : Accounts) (slots : List (Option Task)) (key : ℕ) (request : Request) (entry : Option (Option RecordValue)) →
     begun_at book slots key request task entry ≡ stay (Refused Busy) book slots

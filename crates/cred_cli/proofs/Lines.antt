@@ -7,7 +7,7 @@ use Rattle.std.proofs.lemmas.List.{length-take, take_all}
 use Rattle.cred_phc.specs.Pieces.{pieces}
 use Rattle.cred_cli.specs.declared.event.Event.TheVariants.{Bad}
 use Rattle.cred_cli.specs.declared.refusal.Refusal.TheVariants.{Long}
-use Rattle.cred_cli.specs.Events.{event_of, asked, or_bad, longest_line, most_kept}
+use Rattle.cred_cli.specs.Events.{event_of, event_of_pieces, or_bad, longest_line, most_kept}
 use Rattle.cred_cli.specs.Feeding.{unfinished_from}
 use Rattle.cred_cli.specs.Script.{lines_of, onto_first, line_ends}
 
@@ -104,7 +104,7 @@ longer line long = grind (arith, nat_tests)
 -- a line that is too long is refused whatever it says
 too_long : (line : List ℕ) → longest_line < length line → event_of line ≡ Bad Long
 unfolding event_of
-too_long line long = ap (λ test. if test then Bad Long else or_bad (asked (pieces 32 line))) (longer line long)
+too_long line long = ap (λ test. if test then Bad Long else or_bad (event_of_pieces (pieces 32 line))) (longer line long)
 
 -- so no more of it is kept than shows that
 pub event_of-kept : (line : List ℕ) → event_of (take most_kept line) ≡ event_of line

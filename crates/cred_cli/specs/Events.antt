@@ -16,6 +16,8 @@ use Rattle.cred_book.specs.declared.request.Request.{Request}
 use Rattle.cred_book.specs.declared.request.Request.TheVariants.{Enrol, Verify, Change, Upgrade, Remove}
 use Rattle.cred_cli.specs.declared.event.Event.{Event}
 use Rattle.cred_cli.specs.declared.event.Event.TheVariants.{Account, Load, Show, Begin, Commit, Bad}
+use Rattle.cred_cli.specs.declared.event.Operation.{Operation}
+use Rattle.cred_cli.specs.declared.event.Operation.TheVariants as operation
 use Rattle.cred_cli.specs.declared.refusal.Refusal.{Refusal}
 use Rattle.cred_cli.specs.declared.refusal.Refusal.TheVariants.{Long, Line, Key, Password, Text, Book}
 
@@ -56,68 +58,75 @@ setting_field text = by_text (read_setting text)
 abbrev pub record_field : List ℕ → Result RecordValue Refusal
 record_field text = by_text (read_record text)
 
--- ---- the lines, by the number of their pieces
+-- ---- the lines, by their first words and the fields behind them
 
--- `account NAME`, `show NAME` and `commit K`
-abbrev pub two_pieces : List ℕ → List ℕ → Result Event Refusal
-two_pieces word x =
-    if bytes_eq word (codes "account") then (name_field x >>= λ name. Ok (Account name))
-    else if bytes_eq word (codes "show") then (name_field x >>= λ name. Ok (Show name))
-    else if bytes_eq word (codes "commit") then (key_field x >>= λ key. Ok (Commit key))
-    else Err Line
+-- `account NAME`
+abbrev pub account_event : List (List ℕ) → Result Event Refusal
+account_event (x ∷ []) = name_field x >>= λ name. Ok (Account name)
+account_event _ = Err Line
 
 -- `load NAME RECORD`
-abbrev pub three_pieces : List ℕ → List ℕ → List ℕ → Result Event Refusal
-three_pieces word x y =
-    if bytes_eq word (codes "load") then (name_field x >>= λ name. record_field y >>= λ stored. Ok (Load name stored))
+abbrev pub load_event : List (List ℕ) → Result Event Refusal
+load_event (x ∷ text ∷ []) = name_field x >>= λ name. record_field text >>= λ stored. Ok (Load name stored)
+load_event _ = Err Line
+
+-- `show NAME`
+abbrev pub show_event : List (List ℕ) → Result Event Refusal
+show_event (x ∷ []) = name_field x >>= λ name. Ok (Show name)
+show_event _ = Err Line
+
+-- `commit K`
+abbrev pub commit_event : List (List ℕ) → Result Event Refusal
+commit_event (k ∷ []) = key_field k >>= λ key. Ok (Commit key)
+commit_event _ = Err Line
+
+-- the operation of this word, if it has so many fields of its own behind the password
+abbrev pub operation_of : List ℕ → List (List ℕ) → Result Operation Refusal
+operation_of word [] =
+    if bytes_eq word (codes "verify") then Ok operation.Verify
+    else if bytes_eq word (codes "remove") then Ok operation.Remove
     else Err Line
-
--- a request of a name and a password
-abbrev pub plain : (List ℕ → List ℕ → Request) → List ℕ → List ℕ → List ℕ → Result Event Refusal
-plain make k x pw = key_field k >>= λ key. name_field x >>= λ name. password_field pw >>= λ password. Ok (Begin key (make name password))
-
--- one that may make a record of the same password
-abbrev pub with_setting : (List ℕ → List ℕ → SettingValue → Request) → List ℕ → List ℕ → List ℕ → List ℕ → Result Event Refusal
-with_setting make k x pw s =
-    key_field k >>= λ key. name_field x >>= λ name. password_field pw >>= λ password. setting_field s >>= λ setting. Ok (Begin key (make name password setting))
-
--- `K change NAME PW PW SETTING`, behind `begin`
-abbrev pub changing : List ℕ → List ℕ → List ℕ → List ℕ → List ℕ → Result Event Refusal
-changing k x pw new s =
-    key_field k >>= λ key. name_field x >>= λ name. password_field pw >>= λ password. password_field new >>= λ next.
-    setting_field s >>= λ setting. Ok (Begin key (Change name password next setting))
-
--- `begin K verify NAME PW` and `begin K remove NAME PW`
-abbrev pub five_pieces : List ℕ → List ℕ → List ℕ → List ℕ → List ℕ → Result Event Refusal
-five_pieces word k operation x pw =
-    if bytes_eq word (codes "begin") then
-    (if bytes_eq operation (codes "verify") then plain Verify k x pw
-    else if bytes_eq operation (codes "remove") then plain Remove k x pw
-    else Err Line)
+operation_of word (x ∷ []) =
+    if bytes_eq word (codes "enrol") then Ok operation.Enrol
+    else if bytes_eq word (codes "upgrade") then Ok operation.Upgrade
     else Err Line
+operation_of word (x ∷ y ∷ []) = if bytes_eq word (codes "change") then Ok operation.Change else Err Line
+operation_of word _ = Err Line
 
--- `begin K enrol NAME PW SETTING` and `begin K upgrade NAME PW SETTING`
-abbrev pub six_pieces : List ℕ → List ℕ → List ℕ → List ℕ → List ℕ → List ℕ → Result Event Refusal
-six_pieces word k operation x pw s =
-    if bytes_eq word (codes "begin") then
-    (if bytes_eq operation (codes "enrol") then with_setting Enrol k x pw s
-    else if bytes_eq operation (codes "upgrade") then with_setting Upgrade k x pw s
-    else Err Line)
+abbrev pub own_setting : List (List ℕ) → Result SettingValue Refusal
+own_setting (text ∷ []) = setting_field text
+own_setting _ = Err Line
+
+abbrev pub change_request : List ℕ → List ℕ → List (List ℕ) → Result Request Refusal
+change_request name pw (p ∷ own) = password_field p >>= λ new. own_setting own >>= λ setting. Ok (Change name pw new setting)
+change_request name pw [] = Err Line
+
+-- the request with the fields that are the operation's own
+abbrev pub request_of : Operation → List ℕ → List ℕ → List (List ℕ) → Result Request Refusal
+request_of operation.Verify name pw own = Ok (Verify name pw)
+request_of operation.Remove name pw own = Ok (Remove name pw)
+request_of operation.Enrol name pw own = own_setting own >>= λ setting. Ok (Enrol name pw setting)
+request_of operation.Upgrade name pw own = own_setting own >>= λ setting. Ok (Upgrade name pw setting)
+request_of operation.Change name pw own = change_request name pw own
+
+-- `begin K verify NAME PW`, `begin K remove NAME PW`, `begin K enrol NAME PW SETTING`,
+-- `begin K upgrade NAME PW SETTING` and `begin K change NAME PW PW SETTING`
+abbrev pub begin_event : List (List ℕ) → Result Event Refusal
+begin_event (k ∷ word ∷ x ∷ p ∷ own) =
+    operation_of word own >>= λ operation.
+    key_field k >>= λ key. name_field x >>= λ name. password_field p >>= λ pw.
+    request_of operation name pw own >>= λ request. Ok (Begin key request)
+begin_event _ = Err Line
+
+abbrev pub event_of_pieces : List (List ℕ) → Result Event Refusal
+event_of_pieces [] = Err Line
+event_of_pieces (word ∷ fields) =
+    if bytes_eq word (codes "account") then account_event fields
+    else if bytes_eq word (codes "load") then load_event fields
+    else if bytes_eq word (codes "show") then show_event fields
+    else if bytes_eq word (codes "begin") then begin_event fields
+    else if bytes_eq word (codes "commit") then commit_event fields
     else Err Line
-
--- `begin K change NAME PW PW SETTING`
-abbrev pub seven_pieces : List ℕ → List ℕ → List ℕ → List ℕ → List ℕ → List ℕ → List ℕ → Result Event Refusal
-seven_pieces word k operation x pw new s =
-    if bytes_eq word (codes "begin") then (if bytes_eq operation (codes "change") then changing k x pw new s else Err Line)
-    else Err Line
-
-abbrev pub asked : List (List ℕ) → Result Event Refusal
-asked (a ∷ b ∷ []) = two_pieces a b
-asked (a ∷ b ∷ c ∷ []) = three_pieces a b c
-asked (a ∷ b ∷ c ∷ d ∷ e ∷ []) = five_pieces a b c d e
-asked (a ∷ b ∷ c ∷ d ∷ e ∷ f ∷ []) = six_pieces a b c d e f
-asked (a ∷ b ∷ c ∷ d ∷ e ∷ f ∷ g ∷ []) = seven_pieces a b c d e f g
-asked _ = Err Line
 
 -- ---- any line
 
@@ -134,9 +143,13 @@ longest_line = 1024
 abbrev pub most_kept : ℕ
 most_kept = longest_line + 1
 
+-- how many pieces are looked at: one more than a line may have
+abbrev pub most_pieces : ℕ
+most_pieces = 8
+
 -- a line is cut at every space
 unfoldable pub event_of : List ℕ → Event
-event_of line = if nat_lt longest_line (length line) then Bad Long else or_bad (asked (pieces 32 line))
+event_of line = if nat_lt longest_line (length line) then Bad Long else or_bad (event_of_pieces (pieces 32 line))
 
 -- a line's number is one of 1 to 64, and its setting isn't of the version of old records
 abbrev pub IsSound : Event → Type 0

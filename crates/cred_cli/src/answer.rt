@@ -26,8 +26,8 @@ use std::io::Write;
 use std::sync::Wait;
 use std::thread::Threads;
 
-/// The bytes of an answer with its line end. One that follows a change is a fixed text, so that it
-/// can't be refused memory.
+/// The bytes of an answer with its line end. Only a record's text is made; all others are fixed, so
+/// that no change that was made and no line that is refused can want memory for its answer.
 #[derive(Drop)]
 pub(crate) enum AnswerLine {
     Fixed(&'static [u8]),
@@ -62,42 +62,36 @@ pub(crate) fn do_event<T: Threads + Wait + Sync, K: Keeper>(
     match event {
         Event::Account(name) => match keeper.admit(resources.rt, name) {
             Ok(()) => Ok(AnswerLine::Fixed(b"ok\n")),
-            Err(refusal) => refused(resources.alloc, refusal),
+            Err(refusal) => refused(refusal),
         },
         Event::Load(name, stored) => match keeper.load(resources.rt, &name, stored) {
             Ok(()) => Ok(AnswerLine::Fixed(b"ok\n")),
-            Err(refusal) => refused(resources.alloc, refusal),
+            Err(refusal) => refused(refusal),
         },
         Event::Show(name) => match keeper.show(&name) {
             Ok(None) => Ok(AnswerLine::Fixed(b"none\n")),
             Ok(Some(stored)) => shown(resources.alloc, &stored),
-            Err(refusal) => refused(resources.alloc, refusal),
+            Err(refusal) => refused(refusal),
         },
-        Event::Begin(key, request) => begin(resources.alloc, keeper, tickets, key, request),
+        Event::Begin(key, request) => Ok(begin(keeper, tickets, key, request)),
         Event::Commit(key) => commit(resources, keeper, tickets, key),
-        Event::Bad(why) => bad(resources.alloc, why),
+        Event::Bad(why) => Ok(bad(why)),
     }
 }
 
-fn begin<K: Keeper>(
-    alloc: Global,
-    keeper: &K,
-    tickets: &mut Tickets,
-    key: Key,
-    request: Request,
-) -> Result<AnswerLine, AllocError>
+fn begin<K: Keeper>(keeper: &K, tickets: &mut Tickets, key: Key, request: Request) -> AnswerLine
     requires { is_for_current request ≡ true }
-    ensures { IfOk result (IsDone (begun (K.book keeper.now) tickets.old key request) (K.book keeper.now) tickets.new) }
+    ensures { IsDone (begun (K.book keeper.now) tickets.old key request) (K.book keeper.now) tickets.new result }
 {
     if tickets.is_open(key) {
-        return bad(alloc, Refusal::Busy);
+        return bad(Refusal::Busy);
     }
     match keeper.begin(request) {
         Ok(ticket) => {
             tickets.open(key, ticket);
-            Ok(AnswerLine::Fixed(b"begun\n"))
+            AnswerLine::Fixed(b"begun\n")
         }
-        Err((_, refusal)) => refused(alloc, refusal),
+        Err((_, refusal)) => bad(Refusal::Book(refusal)),
     }
 }
 
@@ -111,7 +105,7 @@ fn commit<T: Threads + Wait + Sync, K: Keeper>(
     ensures refused { OnErr result (K.book keeper.new ≡ K.book keeper.old) }
 {
     let Some(ticket) = tickets.close(key) else {
-        return bad(resources.alloc, Refusal::Idle);
+        return Ok(bad(Refusal::Idle));
     };
     let Ok(worked) = ticket.work(resources.rt, resources.alloc, resources.workers, &NoGate) else {
         return Err(AllocError);
@@ -141,21 +135,20 @@ fn reply_line(reply: &Reply) -> &'static [u8]
     }
 }
 
-fn refused(alloc: Global, refusal: BookError) -> Result<AnswerLine, AllocError>
+fn refused(refusal: BookError) -> Result<AnswerLine, AllocError>
     ensures answer { IfOk result (λ line. line_bytes line ≡ line_of (Refused (Refusal.Book refusal))) }
     ensures memory { refusal ≡ BookError.Memory → OnOk result ⊥ }
 {
     match refusal {
         BookError::Memory => Err(AllocError),
-        _ => bad(alloc, Refusal::Book(refusal)),
+        _ => Ok(bad(Refusal::Book(refusal))),
     }
 }
 
-fn bad(alloc: Global, why: Refusal) -> Result<AnswerLine, AllocError>
-    ensures { IfOk result (λ line. line_bytes line ≡ line_of (Refused why)) }
+fn bad(why: Refusal) -> AnswerLine
+    ensures { line_bytes result ≡ line_of (Refused why) }
 {
-    let text = format!(in alloc; "bad {} {}\n", why.number(), why.word())?;
-    Ok(AnswerLine::Made(text.into_bytes()))
+    AnswerLine::Fixed(why.line())
 }
 
 fn shown(alloc: Global, stored: &Record) -> Result<AnswerLine, AllocError>

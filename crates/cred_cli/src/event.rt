@@ -1,16 +1,23 @@
 //! What a line of a script asks for.
 
-ghost use Rattle.std.specs.Prelude.{◌≡◌, IfOk, length, nat_lt};
-ghost use Rattle.cred_cli.specs.Events.{IsSound, asked, changing, event_of, five_pieces, longest_line, plain, seven_pieces, six_pieces, three_pieces, two_pieces, with_setting};
+ghost use Rattle.std.specs.Prelude.{◌≡◌, IfOk, length, map, nat_lt, take, true};
+ghost use Rattle.cred_phc.specs.Pieces.{pieces};
+ghost use Rattle.cred_phc.specs.Ranges.{is_current};
+ghost use Rattle.cred_book.specs.Works.{is_for_current};
+ghost use Rattle.cred_cli.specs.Events.{IsSound, account_event, begin_event, change_request, commit_event, event_of, event_of_pieces, load_event, longest_line, most_pieces, operation_of, own_setting, request_of, show_event};
 
 use crate::fields;
 use crate::key::Key;
 use crate::refusal::Refusal;
+use arrayvec::ArrayVec;
 use cred_book::{Name, Request};
-use cred_phc::{Pieces, Record};
+use cred_phc::{Password, Pieces, Record, Setting};
 
 /// The longest line in bytes, its end not counted.
 pub(crate) const LONGEST_LINE: usize = 1024;
+
+/// How many pieces of a line are looked at: one more than any may have.
+const MOST_PIECES: usize = 8;
 
 /// An operation with its fields, or why the line asks for none.
 #[derive(Clone, Copy)]
@@ -23,6 +30,16 @@ pub(crate) enum Event {
     Bad(Refusal),
 }
 
+/// What `begin` may begin.
+#[derive(Clone, Copy)]
+enum Operation {
+    Enrol,
+    Verify,
+    Change,
+    Upgrade,
+    Remove,
+}
+
 impl Event {
     /// What the line asks for.
     #[tactic(auto, unfolding(crate::specs::Events::event_of))]
@@ -33,36 +50,9 @@ impl Event {
         if is_too_long(line) {
             return Event::Bad(Refusal::Long);
         }
-        match Event::of_pieces(Pieces::new(line, b' ')) {
+        match event_of_pieces(&first_pieces(line)) {
             Ok(event) => event,
             Err(why) => Event::Bad(why),
-        }
-    }
-
-    fn of_pieces(mut pieces: Pieces<'_>) -> Result<Event, Refusal>
-        ensures event { result ≡ asked pieces.entry }
-        ensures sound { IfOk result IsSound }
-    {
-        match (
-            pieces.next(),
-            pieces.next(),
-            pieces.next(),
-            pieces.next(),
-            pieces.next(),
-            pieces.next(),
-            pieces.next(),
-            pieces.next(),
-        ) {
-            (Some(a), Some(b), None, _, _, _, _, _) => two(a, b),
-            (Some(a), Some(b), Some(c), None, _, _, _, _) => three(a, b, c),
-            (Some(a), Some(b), Some(c), Some(d), Some(e), None, _, _) => five(a, b, c, d, e),
-            (Some(a), Some(b), Some(c), Some(d), Some(e), Some(f), None, _) => six(
-                a, b, c, d, e, f,
-            ),
-            (Some(a), Some(b), Some(c), Some(d), Some(e), Some(f), Some(g), None) => seven(
-                a, b, c, d, e, f, g,
-            ),
-            _ => Err(Refusal::Line),
         }
     }
 }
@@ -73,156 +63,163 @@ fn is_too_long(line: &[u8]) -> bool
     line.len() > LONGEST_LINE
 }
 
-fn two(word: &[u8], field: &[u8]) -> Result<Event, Refusal>
-    ensures event { result ≡ two_pieces word.now field.now }
-    ensures sound { IfOk result IsSound }
+fn first_pieces(line: &[u8]) -> ArrayVec<&[u8], MOST_PIECES>
+    ensures { map (λ s. s.now) result.items ≡ take most_pieces (pieces 32 line.now) }
 {
-    if word == b"account".as_slice() {
-        Ok(Event::Account(fields::name(field)?))
-    } else if word == b"show".as_slice() {
-        Ok(Event::Show(fields::name(field)?))
-    } else if word == b"commit".as_slice() {
-        Ok(Event::Commit(fields::key(field)?))
-    } else {
-        Err(Refusal::Line)
+    let mut rest = Pieces::new(line, b' ');
+    let mut first = ArrayVec::new();
+    for _i in 0..MOST_PIECES {
+        match rest.next() {
+            Some(piece) => first.push(piece),
+            None => return first,
+        }
     }
+    first
 }
 
-fn three(word: &[u8], name: &[u8], stored: &[u8]) -> Result<Event, Refusal>
-    ensures event { result ≡ three_pieces word.now name.now stored.now }
+fn event_of_pieces(line: &[&[u8]]) -> Result<Event, Refusal>
+    ensures event { result ≡ event_of_pieces (map (λ s. s.now) line.now) }
     ensures sound { IfOk result IsSound }
 {
-    if word == b"load".as_slice() {
-        let name = fields::name(name)?;
-        let stored = fields::stored(stored)?;
-        Ok(Event::Load(name, stored))
-    } else {
-        Err(Refusal::Line)
-    }
-}
-
-fn five(word: &[u8], key: &[u8], operation: &[u8], name: &[u8], pw: &[u8]) -> Result<Event, Refusal>
-    ensures event { result ≡ five_pieces word.now key.now operation.now name.now pw.now }
-    ensures sound { IfOk result IsSound }
-{
-    if word != b"begin".as_slice() {
+    let [word, fields @ ..] = line else {
         return Err(Refusal::Line);
-    }
-    if operation == b"verify".as_slice() {
-        verify(key, name, pw)
-    } else if operation == b"remove".as_slice() {
-        remove(key, name, pw)
+    };
+    if *word == b"account".as_slice() {
+        account_event(fields)
+    } else if *word == b"load".as_slice() {
+        load_event(fields)
+    } else if *word == b"show".as_slice() {
+        show_event(fields)
+    } else if *word == b"begin".as_slice() {
+        begin_event(fields)
+    } else if *word == b"commit".as_slice() {
+        commit_event(fields)
     } else {
         Err(Refusal::Line)
     }
 }
 
-fn six(
-    word: &[u8],
-    key: &[u8],
-    operation: &[u8],
-    name: &[u8],
-    pw: &[u8],
-    setting: &[u8],
-) -> Result<Event, Refusal>
-    ensures event { result ≡ six_pieces word.now key.now operation.now name.now pw.now setting.now }
+fn account_event(fields: &[&[u8]]) -> Result<Event, Refusal>
+    ensures event { result ≡ account_event (map (λ s. s.now) fields.now) }
     ensures sound { IfOk result IsSound }
 {
-    if word != b"begin".as_slice() {
+    match fields {
+        [name] => Ok(Event::Account(fields::name(name)?)),
+        _ => Err(Refusal::Line),
+    }
+}
+
+fn load_event(fields: &[&[u8]]) -> Result<Event, Refusal>
+    ensures event { result ≡ load_event (map (λ s. s.now) fields.now) }
+    ensures sound { IfOk result IsSound }
+{
+    match fields {
+        [name, stored] => {
+            let name = fields::name(name)?;
+            let stored = fields::stored(stored)?;
+            Ok(Event::Load(name, stored))
+        }
+        _ => Err(Refusal::Line),
+    }
+}
+
+fn show_event(fields: &[&[u8]]) -> Result<Event, Refusal>
+    ensures event { result ≡ show_event (map (λ s. s.now) fields.now) }
+    ensures sound { IfOk result IsSound }
+{
+    match fields {
+        [name] => Ok(Event::Show(fields::name(name)?)),
+        _ => Err(Refusal::Line),
+    }
+}
+
+fn commit_event(fields: &[&[u8]]) -> Result<Event, Refusal>
+    ensures event { result ≡ commit_event (map (λ s. s.now) fields.now) }
+    ensures sound { IfOk result IsSound }
+{
+    match fields {
+        [key] => Ok(Event::Commit(fields::key(key)?)),
+        _ => Err(Refusal::Line),
+    }
+}
+
+fn begin_event(fields: &[&[u8]]) -> Result<Event, Refusal>
+    ensures event { result ≡ begin_event (map (λ s. s.now) fields.now) }
+    ensures sound { IfOk result IsSound }
+{
+    let [key, word, name, pw, own @ ..] = fields else {
         return Err(Refusal::Line);
-    }
-    if operation == b"enrol".as_slice() {
-        enrol(key, name, pw, setting)
-    } else if operation == b"upgrade".as_slice() {
-        upgrade(key, name, pw, setting)
-    } else {
-        Err(Refusal::Line)
-    }
+    };
+    let operation = operation_of(word, own)?;
+    let key = fields::key(key)?;
+    let name = fields::name(name)?;
+    let pw = fields::password(pw)?;
+    let request = request_of(operation, name, pw, own)?;
+    Ok(Event::Begin(key, request))
 }
 
-fn seven(
-    word: &[u8],
-    key: &[u8],
-    operation: &[u8],
-    name: &[u8],
-    pw: &[u8],
-    new_pw: &[u8],
-    setting: &[u8],
-) -> Result<Event, Refusal>
-    ensures event { result ≡ seven_pieces word.now key.now operation.now name.now pw.now new_pw.now setting.now }
-    ensures sound { IfOk result IsSound }
+/// The operation of this word, if it has so many fields of its own behind the password.
+fn operation_of(word: &[u8], own: &[&[u8]]) -> Result<Operation, Refusal>
+    ensures { result ≡ operation_of word.now (map (λ s. s.now) own.now) }
 {
-    if word == b"begin".as_slice() && operation == b"change".as_slice() {
-        change(key, name, pw, new_pw, setting)
-    } else {
-        Err(Refusal::Line)
+    match own {
+        [] if word == b"verify".as_slice() => Ok(Operation::Verify),
+        [] if word == b"remove".as_slice() => Ok(Operation::Remove),
+        [_] if word == b"enrol".as_slice() => Ok(Operation::Enrol),
+        [_] if word == b"upgrade".as_slice() => Ok(Operation::Upgrade),
+        [_, _] if word == b"change".as_slice() => Ok(Operation::Change),
+        _ => Err(Refusal::Line),
     }
 }
 
-fn verify(key: &[u8], name: &[u8], pw: &[u8]) -> Result<Event, Refusal>
-    ensures event { result ≡ plain Request.Verify key.now name.now pw.now }
-    ensures sound { IfOk result IsSound }
+/// The request with the fields that are the operation's own.
+fn request_of(
+    operation: Operation,
+    name: Name,
+    pw: Password,
+    own: &[&[u8]],
+) -> Result<Request, Refusal>
+    ensures request { result ≡ request_of operation name pw (map (λ s. s.now) own.now) }
+    ensures current { IfOk result (λ request. is_for_current request ≡ true) }
 {
-    let key = fields::key(key)?;
-    let name = fields::name(name)?;
-    let pw = fields::password(pw)?;
-    Ok(Event::Begin(key, Request::Verify { name, pw }))
+    match operation {
+        Operation::Verify => Ok(Request::Verify { name, pw }),
+        Operation::Remove => Ok(Request::Remove { name, pw }),
+        Operation::Enrol => {
+            let setting = own_setting(own)?;
+            Ok(Request::Enrol { name, pw, setting })
+        }
+        Operation::Upgrade => {
+            let setting = own_setting(own)?;
+            Ok(Request::Upgrade { name, pw, setting })
+        }
+        Operation::Change => change_request(name, pw, own),
+    }
 }
 
-fn remove(key: &[u8], name: &[u8], pw: &[u8]) -> Result<Event, Refusal>
-    ensures event { result ≡ plain Request.Remove key.now name.now pw.now }
-    ensures sound { IfOk result IsSound }
+fn own_setting(own: &[&[u8]]) -> Result<Setting, Refusal>
+    ensures value { result ≡ own_setting (map (λ s. s.now) own.now) }
+    ensures current { IfOk result (λ setting. is_current setting.scheme ≡ true) }
 {
-    let key = fields::key(key)?;
-    let name = fields::name(name)?;
-    let pw = fields::password(pw)?;
-    Ok(Event::Begin(key, Request::Remove { name, pw }))
+    match own {
+        [setting] => fields::setting(setting),
+        _ => Err(Refusal::Line),
+    }
 }
 
-fn enrol(key: &[u8], name: &[u8], pw: &[u8], setting: &[u8]) -> Result<Event, Refusal>
-    ensures event { result ≡ with_setting Request.Enrol key.now name.now pw.now setting.now }
-    ensures sound { IfOk result IsSound }
+fn change_request(name: Name, pw: Password, own: &[&[u8]]) -> Result<Request, Refusal>
+    ensures request { result ≡ change_request name pw (map (λ s. s.now) own.now) }
+    ensures current { IfOk result (λ request. is_for_current request ≡ true) }
 {
-    let key = fields::key(key)?;
-    let name = fields::name(name)?;
-    let pw = fields::password(pw)?;
-    let setting = fields::setting(setting)?;
-    Ok(Event::Begin(key, Request::Enrol { name, pw, setting }))
-}
-
-fn upgrade(key: &[u8], name: &[u8], pw: &[u8], setting: &[u8]) -> Result<Event, Refusal>
-    ensures event { result ≡ with_setting Request.Upgrade key.now name.now pw.now setting.now }
-    ensures sound { IfOk result IsSound }
-{
-    let key = fields::key(key)?;
-    let name = fields::name(name)?;
-    let pw = fields::password(pw)?;
-    let setting = fields::setting(setting)?;
-    Ok(Event::Begin(key, Request::Upgrade { name, pw, setting }))
-}
-
-fn change(
-    key: &[u8],
-    name: &[u8],
-    pw: &[u8],
-    new_pw: &[u8],
-    setting: &[u8],
-) -> Result<Event, Refusal>
-    ensures event { result ≡ changing key.now name.now pw.now new_pw.now setting.now }
-    ensures sound { IfOk result IsSound }
-{
-    let key = fields::key(key)?;
-    let name = fields::name(name)?;
-    let pw = fields::password(pw)?;
+    let [new_pw, rest @ ..] = own else {
+        return Err(Refusal::Line);
+    };
     let new_pw = fields::password(new_pw)?;
-    let setting = fields::setting(setting)?;
-    Ok(Event::Begin(
-        key,
-        Request::Change {
-            name,
-            pw,
-            new_pw,
-            setting,
-        },
-    ))
+    let setting = own_setting(rest)?;
+    Ok(Request::Change {
+        name,
+        pw,
+        new_pw,
+        setting,
+    })
 }

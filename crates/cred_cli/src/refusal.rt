@@ -1,12 +1,13 @@
 //! Why a line is refused.
 
-ghost use Rattle.std.specs.Prelude.{◌≡◌, ◌^◌, ◌<◌, IfOk};
+ghost use Rattle.std.specs.Prelude.{◌≡◌};
 ghost use Rattle.cred_cli.specs.Faults.{number_of, word_of};
-ghost use Rattle.cred_cli.specs.Texts.{refusal_text};
+ghost use Rattle.cred_cli.specs.History.{Refused};
+ghost use Rattle.cred_cli.specs.Texts.{line_of};
+ghost use Rattle.cred_cli.specs.declared.refusal.Refusal.TheVariants.{Book, Text};
 
 use cred_book::BookError;
 use cred_phc::PhcError;
-use std::alloc::{AllocError, Global};
 
 /// Why a line changes nothing; its answer is `bad N WORD`.
 #[derive(Clone, Copy, Debug, PartialEq, Eq)]
@@ -58,5 +59,49 @@ impl Refusal {
             Refusal::Text(fault) => fault.word(),
             Refusal::Book(refusal) => refusal.word(),
         }
+    }
+
+    /// Its answer with the line end. It stands ready, so that a refused line takes no memory.
+    pub(crate) fn line(self) -> &'static [u8]
+        ensures { result.now ≡ line_of (Refused self) }
+    {
+        match self {
+            Refusal::Long => b"bad 16 long\n",
+            Refusal::Line => b"bad 11 line\n",
+            Refusal::Key => b"bad 12 key\n",
+            Refusal::Password => b"bad 13 password\n",
+            Refusal::Busy => b"bad 14 busy\n",
+            Refusal::Idle => b"bad 15 idle\n",
+            Refusal::Text(fault) => text_line(fault),
+            Refusal::Book(refusal) => book_line(refusal),
+        }
+    }
+}
+
+fn text_line(fault: PhcError) -> &'static [u8]
+    ensures { result.now ≡ line_of (Refused (Text fault)) }
+{
+    match fault {
+        PhcError::Shape => b"bad 1 shape\n",
+        PhcError::Scheme => b"bad 2 scheme\n",
+        PhcError::Version => b"bad 3 version\n",
+        PhcError::Params => b"bad 4 params\n",
+        PhcError::Range => b"bad 5 range\n",
+        PhcError::Salt => b"bad 6 salt\n",
+        PhcError::Tag => b"bad 7 tag\n",
+        PhcError::Memory => b"bad 8 memory\n",
+        PhcError::TooLong => b"bad 9 toolong\n",
+    }
+}
+
+fn book_line(refusal: BookError) -> &'static [u8]
+    ensures { result.now ≡ line_of (Refused (Book refusal)) }
+{
+    match refusal {
+        BookError::Exists => b"bad 1 exists\n",
+        BookError::Full => b"bad 2 full\n",
+        BookError::Name => b"bad 3 name\n",
+        BookError::Memory => b"bad 4 memory\n",
+        BookError::NoAccount => b"bad 5 noaccount\n",
     }
 }

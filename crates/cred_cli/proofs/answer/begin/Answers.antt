@@ -4,7 +4,7 @@ use Rattle.cred_cli.proofs.Doing.{stays_done, begun_busy, begun_absent, begun_fr
 use Rattle.cred_cli.proofs.answer.begin.Goals as goal
 
 pub returns-then-is_open : goal.returns-then-is_open
-returns-then-is_open g c = stays_done _ _ _ _ _ (begun_busy _ _ _ _ (sym c.if-is_open.ensures)) c.bad.ensures
+returns-then-is_open g c = stays_done c.bad.result _ _ _ _ (begun_busy _ _ _ _ (sym c.if-is_open.ensures)) c.bad.ensures
 
 pub returns-in-Ok : goal.returns-in-Ok
 returns-in-Ok g c = rw (begun_fresh _ _ _ _ _ (sym c.if-is_open.ensures) c.in-Ok.ensures) (refl, refl, c.open.ensures)
@@ -12,4 +12,4 @@ returns-in-Ok g c = rw (begun_fresh _ _ _ _ _ (sym c.if-is_open.ensures) c.in-Ok
 pub returns-in-Err : goal.returns-in-Err
 returns-in-Err g c =
     let absent : c.in-Err.refusal ≡ NoAccount = refused_with _ _ _ _ c.in-Err.ensures.0 in
-    stays_done _ _ _ _ _ (begun_absent _ _ _ _ (sym c.if-is_open.ensures) c.in-Err.ensures.1) (rw absent at c.refused.ensures.answer)
+    stays_done c.bad-in-Err.result _ _ _ _ (begun_absent _ _ _ _ (sym c.if-is_open.ensures) c.in-Err.ensures.1) (rw absent at c.bad-in-Err.ensures)

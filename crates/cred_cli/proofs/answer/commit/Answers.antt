@@ -3,7 +3,7 @@ use Rattle.cred_cli.proofs.Doing.{stays_done, commits_idle, commits_done}
 use Rattle.cred_cli.proofs.answer.commit.Goals as goal
 
 pub returns-in_default-clause-done : goal.returns-in_default-clause-done
-returns-in_default-clause-done g c = stays_done _ _ _ _ _ (commits_idle _ _ _ _ c.in_default.ensures.ticket c.close.ensures.closed) c.bad.ensures
+returns-in_default-clause-done g c = stays_done c.bad.result _ _ _ _ (commits_idle _ _ _ _ c.in_default.ensures.ticket c.close.ensures.closed) c.bad.ensures
 
 pub returns-clause-done : goal.returns-clause-done
 returns-clause-done g c =

@@ -8,12 +8,12 @@ use Rattle.cred_cli.specs.Script.{events_of}
 use Rattle.cred_cli.proofs.Feeds.{ended_event, take-kept, take_front}
 use Rattle.cred_cli.proofs.Lines.{line_ends-end, line_ends-more, unfinished_from-end, unfinished_from-more}
 use Rattle.cred_cli.proofs.Runs.{fails_at}
-use Rattle.cred_cli.proofs.feeding.take_byte.Goals as goal
+use Rattle.cred_cli.proofs.session.Session.take_byte.Goals as goal
 
 -- a byte too many
-pub returns-then-progress-eq-LONGEST_SCRIPT-clause-fed : goal.returns-then-progress-eq-LONGEST_SCRIPT-clause-fed
-returns-then-progress-eq-LONGEST_SCRIPT-clause-fed g c = λ book all front rest before cut at left.
-    let size : length front ≡ longest_script = omega (arith, at.taken_is, c.if-progress-eq-LONGEST_SCRIPT.true) in (
+pub returns-then-self-eq-LONGEST_SCRIPT-clause-fed : goal.returns-then-self-eq-LONGEST_SCRIPT-clause-fed
+returns-then-self-eq-LONGEST_SCRIPT-clause-fed g c = λ book all front rest before cut at left.
+    let size : length front ≡ longest_script = omega (arith, at.taken_is, c.if-self-eq-LONGEST_SCRIPT.true) in (
       omega (arith, size, ap length cut, length-append front (c.args.byte ∷ rest)),
       rw (take_front all front (c.args.byte ∷ rest) longest_script cut size, ← at.lines_are) at.stands,
     )
@@ -32,8 +32,8 @@ returns-then-byte-ne10-clause-fed g c = λ book all front rest before cut at. re
 pub returns-clause-fed : goal.returns-clause-fed
 returns-clause-fed g c = λ book all front rest before cut at.
     let here = rw c.if-byte-ne10.false at cut in
-    let event : slice_get (events_of all) c.args.progress.now.lines ≡ Some (event_of c.bytes.result.now) = rw (c.bytes.ensures, at.lines_are, at.start_is) (ended_event all front rest here) in
-    let done = c.in_ok-answer_line.ensures.answered book (events_of all) c.args.progress.now.lines before at.stands at.tickets event in
+    let event : slice_get (events_of all) c.args.self.now.progress.lines ≡ Some (event_of c.bytes.result.now) = rw (c.bytes.ensures, at.lines_are, at.start_is) (ended_event all front rest here) in
+    let done = c.in_ok-answer_line.ensures.answered book (events_of all) c.args.self.now.progress.lines before at.stands at.tickets event in
     record {
       stands = rw add-one done.0;
       tickets = rw add-one done.1;
@@ -46,5 +46,5 @@ returns-clause-fed g c = λ book all front rest before cut at.
 pub returns-in_err-answer_line-clause-fed : goal.returns-in_err-answer_line-clause-fed
 returns-in_err-answer_line-clause-fed g c = λ book all front rest before cut at.
     let here = rw c.if-byte-ne10.false at cut in
-    let event : slice_get (events_of all) c.args.progress.now.lines ≡ Some (event_of c.bytes.result.now) = rw (c.bytes.ensures, at.lines_are, at.start_is) (ended_event all front rest here) in
-    let told = err_from_is_err_and c.from_residual.result c.from_residual.ensures.1 in rw (told.1, told.2) (λ left. fails_at book all c.args.progress.now.lines left before _ _ _ (slice_get_within _ _ _ event) (c.in_err-answer_line.ensures.answered book (events_of all) c.args.progress.now.lines before at.stands at.tickets event))
+    let event : slice_get (events_of all) c.args.self.now.progress.lines ≡ Some (event_of c.bytes.result.now) = rw (c.bytes.ensures, at.lines_are, at.start_is) (ended_event all front rest here) in
+    let told = err_from_is_err_and c.from_residual.result c.from_residual.ensures.1 in rw (told.1, told.2) (λ left. fails_at book all c.args.self.now.progress.lines left before _ _ _ (slice_get_within _ _ _ event) (c.in_err-answer_line.ensures.answered book (events_of all) c.args.self.now.progress.lines before at.stands at.tickets event))

@@ -2,7 +2,7 @@ use Rattle.std.proofs.Common.{arith, sym, ◌++◌, append-nil, take}
 use Rattle.std.proofs.lemmas.List.{take_all}
 use Rattle.std.proofs.lemmas.Result.{err_from_is_err_and}
 use Rattle.cred_cli.proofs.Feeds.{cut_at, front_more}
-use Rattle.cred_cli.proofs.feeding.take_bytes.Goals as goal
+use Rattle.cred_cli.proofs.session.Session.take_bytes.Goals as goal
 
 pub loop-byte-init : goal.loop-byte-init
 loop-byte-init g c = record { fed = λ book all front rest before cut at. rw append-nil at; taken = omega arith }

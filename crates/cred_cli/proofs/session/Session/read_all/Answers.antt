@@ -2,7 +2,7 @@ use Rattle.std.proofs.Common.{rules, ◌≡◌, ◌++◌, arith, sym, ap, ◌∙
 use Rattle.std.proofs.Math.Nat.{min-eq_left}
 use Rattle.std.proofs.lemmas.Result.{err_from_is_err_and}
 use Rattle.cred_cli.proofs.Readings.{came, came_to_end, cut_behind}
-use Rattle.cred_cli.proofs.script.read_all.Goals as goal
+use Rattle.cred_cli.proofs.session.Session.read_all.Goals as goal
 
 pub returns-in-Ok-eq0-clause-ended : goal.returns-in-Ok-eq0-clause-ended
 returns-in-Ok-eq0-clause-ended g c = λ book all before known at.
@@ -10,7 +10,7 @@ returns-in-Ok-eq0-clause-ended g c = λ book all before known at.
     let none = came_to_end _ _ rest _ _ c.in-Ok-eq0.field-0-test left c.in-Ok-eq0.ensures.bytes.0 (c.in-Ok-eq0.ensures.bytes.1 c.in-Ok-eq0.field-0-test (omega (arith, c.loop-call.invariant.size))) in
     let whole : front ≡ all = sym (rw (none, append-nil) at cut) in
     let done = rw whole at fed in
-    (c.in_ok-lines-in-Ok-eq0.ensures.answered book all before done, omega (arith, done.taken_is, c.loop-call.progress.not_too_long))
+    (c.in_ok-lines-in-Ok-eq0.ensures.answered book all before done, omega (arith, done.taken_is, c.loop-call.self.progress.not_too_long))
 
 pub returns-in_err-lines-in-Ok-eq0-clause-ended : goal.returns-in_err-lines-in-Ok-eq0-clause-ended
 returns-in_err-lines-in-Ok-eq0-clause-ended g c = λ book all before known at.

@@ -6,13 +6,13 @@ use Rattle.cred_cli.specs.Events.{event_of}
 use Rattle.cred_cli.specs.Script.{events_of}
 use Rattle.cred_cli.proofs.Feeds.{count-ended, has_last, none_kept, some_kept}
 use Rattle.cred_cli.proofs.Runs.{fails_at}
-use Rattle.cred_cli.proofs.feeding.finish.Goals as goal
+use Rattle.cred_cli.proofs.session.Session.finish.Goals as goal
 
 -- every line has its end
 pub returns-then-is_empty-clause-answered : goal.returns-then-is_empty-clause-answered
 returns-then-is_empty-clause-answered g c = λ book all before at.
     let none : length c.bytes.result.now ≡ 0 = grind (arith, nat_tests) in
-    let count : length (events_of all) ≡ c.args.progress.now.lines = count-ended all (none_kept _ _ (c.bytes.ensures ∙ at.start_is) none) ∙ sym at.lines_are in
+    let count : length (events_of all) ≡ c.args.self.now.progress.lines = count-ended all (none_kept _ _ (c.bytes.ensures ∙ at.start_is) none) ∙ sym at.lines_are in
     record { written = rw count at.stands.written; accounts_are = rw count at.stands.accounts_are; lines_are = sym count }
 
 -- the last line has none
@@ -20,14 +20,14 @@ pub returns-clause-answered : goal.returns-clause-answered
 returns-clause-answered g c = λ book all before at.
     let some : 0 < length c.bytes.result.now = grind (arith, nat_tests) in
     let last = has_last all (some_kept _ _ (c.bytes.ensures ∙ at.start_is) some) in
-    let event : slice_get (events_of all) c.args.progress.now.lines ≡ Some (event_of c.bytes-2.result.now) = rw (c.bytes-2.ensures, at.lines_are, at.start_is) last.event in
-    let count : length (events_of all) ≡ suc c.args.progress.now.lines = rw at.lines_are last.count in
-    let done = c.in_ok-answer_line.ensures.answered book (events_of all) c.args.progress.now.lines before at.stands at.tickets event in
+    let event : slice_get (events_of all) c.args.self.now.progress.lines ≡ Some (event_of c.bytes-2.result.now) = rw (c.bytes-2.ensures, at.lines_are, at.start_is) last.event in
+    let count : length (events_of all) ≡ suc c.args.self.now.progress.lines = rw at.lines_are last.count in
+    let done = c.in_ok-answer_line.ensures.answered book (events_of all) c.args.self.now.progress.lines before at.stands at.tickets event in
     record { written = rw count done.0.written; accounts_are = rw count done.0.accounts_are; lines_are = rw (count, add-one) refl }
 
 pub returns-in_err-answer_line-clause-answered : goal.returns-in_err-answer_line-clause-answered
 returns-in_err-answer_line-clause-answered g c = λ book all before at.
     let some : 0 < length c.bytes.result.now = grind (arith, nat_tests) in
     let last = has_last all (some_kept _ _ (c.bytes.ensures ∙ at.start_is) some) in
-    let event : slice_get (events_of all) c.args.progress.now.lines ≡ Some (event_of c.bytes-2.result.now) = rw (c.bytes-2.ensures, at.lines_are, at.start_is) last.event in
-    let told = err_from_is_err_and c.from_residual.result c.from_residual.ensures.1 in rw (told.1, told.2) (λ left. fails_at book all c.args.progress.now.lines left before _ _ _ (slice_get_within _ _ _ event) (c.in_err-answer_line.ensures.answered book (events_of all) c.args.progress.now.lines before at.stands at.tickets event))
+    let event : slice_get (events_of all) c.args.self.now.progress.lines ≡ Some (event_of c.bytes-2.result.now) = rw (c.bytes-2.ensures, at.lines_are, at.start_is) last.event in
+    let told = err_from_is_err_and c.from_residual.result c.from_residual.ensures.1 in rw (told.1, told.2) (λ left. fails_at book all c.args.self.now.progress.lines left before _ _ _ (slice_get_within _ _ _ event) (c.in_err-answer_line.ensures.answered book (events_of all) c.args.self.now.progress.lines before at.stands at.tickets event))

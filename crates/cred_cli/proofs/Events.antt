@@ -1,0 +1,31 @@
+-- A line of more pieces than any may have asks for nothing, whatever they are.
+use Rattle.std.proofs.Common.{◌≡◌, ℕ, List, [], ◌∷◌, ◌++◌, length, take, false, nat_lt, if◌then◌else◌, Result, arith, refl, ap, ◌∙◌}
+use Rattle.std.proofs.lemmas.List.{take-append-le, take_all}
+use Rattle.cred_phc.specs.Pieces.{pieces}
+use Rattle.cred_cli.specs.declared.event.Event.{Event}
+use Rattle.cred_cli.specs.declared.event.Event.TheVariants.{Bad}
+use Rattle.cred_cli.specs.declared.refusal.Refusal.{Refusal}
+use Rattle.cred_cli.specs.declared.refusal.Refusal.TheVariants.{Long}
+use Rattle.cred_cli.specs.Events.{event_of, event_of_pieces, longest_line, most_pieces, or_bad}
+
+first_pieces_tell : (line : List (List ℕ)) → event_of_pieces (take most_pieces line) ≡ event_of_pieces line
+first_pieces_tell [] = refl
+first_pieces_tell (a ∷ []) = refl
+first_pieces_tell (a ∷ b ∷ []) = refl
+first_pieces_tell (a ∷ b ∷ c ∷ []) = refl
+first_pieces_tell (a ∷ b ∷ c ∷ d ∷ []) = refl
+first_pieces_tell (a ∷ b ∷ c ∷ d ∷ e ∷ []) = refl
+first_pieces_tell (a ∷ b ∷ c ∷ d ∷ e ∷ f ∷ []) = refl
+first_pieces_tell (a ∷ b ∷ c ∷ d ∷ e ∷ f ∷ g ∷ []) = refl
+first_pieces_tell (a ∷ b ∷ c ∷ d ∷ e ∷ f ∷ g ∷ h ∷ more) = refl
+
+-- what the first pieces ask for is what the line asks for
+pub line_read : (line : List ℕ) (kept : List (List ℕ)) (read : Result Event Refusal) → false ≡ nat_lt longest_line (length line) → kept ≡ take most_pieces (pieces 32 line) →
+    read ≡ event_of_pieces kept → or_bad read ≡ event_of line
+unfolding event_of
+line_read line kept read short first is =
+    ap or_bad (is ∙ ap event_of_pieces first ∙ first_pieces_tell (pieces 32 line)) ∙ ap (λ test. if test then Bad Long else or_bad (event_of_pieces (pieces 32 line))) short
+
+-- what was taken before more were left
+pub first_taken : (line taken rest : List (List ℕ)) → line ≡ taken ++ rest → length taken ≡ most_pieces → taken ≡ take most_pieces line
+first_taken line taken rest cut full = rw (cut, take-append-le most_pieces taken rest (omega (arith, full)), take_all most_pieces taken (omega (arith, full))) refl

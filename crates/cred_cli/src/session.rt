@@ -1,0 +1,153 @@
+//! A script that is being run: its bytes are read and taken in turn, and each whole line is answered.
+
+ghost use Rattle.std.specs.Prelude.{◌≡◌, ◌+◌, ◌≤◌, ℕ, false, List, [], ◌∷◌, ◌++◌, length, Option, Some, IfErr, OnOk, MatchResult};
+ghost use Rattle.cred_book.specs.Accounts.{Accounts};
+ghost use Rattle.cred_cli.specs.Feeding.{IsAt};
+ghost use Rattle.cred_cli.specs.Outcome.{HasCause, IsAnswered, ScriptFails, longest_script, most_calls};
+ghost use Rattle.cred_cli.specs.Watched.{calls_of, failed_of, inner_of};
+
+use crate::fault::ScriptFault;
+use crate::line::answer_line;
+use crate::progress::{LONGEST_SCRIPT, Progress};
+use crate::resources::Resources;
+use crate::script::End;
+use crate::tickets::Tickets;
+use crate::watched::Watched;
+use cred_book::Keeper;
+use std::io::{Read, Write};
+use std::sync::Wait;
+use std::thread::Threads;
+
+/// How many bytes are asked for at once.
+const CHUNK: usize = 4096;
+
+/// How often the reader is called at most: once for each byte, once more for a byte too many or the
+/// end, and once behind that.
+const MOST_CALLS: u64 = LONGEST_SCRIPT + 2;
+
+/// The open tickets of a script, and how far it has been read.
+#[derive(Drop)]
+pub(crate) struct Session {
+    pub(crate) tickets: Tickets,
+    pub(crate) progress: Progress,
+}
+
+impl Session {
+    /// Takes one byte more. At a line end the line is answered.
+    pub(crate) fn take_byte<T: Threads + Wait + Sync, K: Keeper, W: Write>(
+        &mut self,
+        resources: &Resources<'_, T>,
+        keeper: &mut K,
+        writer: &mut Watched<W>,
+        byte: u8,
+    ) -> Result<(), ScriptFault>
+        ensures fed { (book : Accounts) (all front rest : List ℕ) (before : Option (List ℕ)) → all ≡ front ++ byte ∷ rest →
+            IsAt book all front before (W.contents (inner_of writer.old)) (K.book keeper.old) self.old.tickets self.old.progress →
+            MatchResult result
+            (λ _. IsAt book all (front ++ byte ∷ []) before (W.contents (inner_of writer.new)) (K.book keeper.new) self.new.tickets self.new.progress)
+            (λ e. (left : Option (List ℕ)) → ScriptFails book all left before (W.contents (inner_of writer.new)) (K.book keeper.new) e) }
+        ensures taken { OnOk result (self.new.progress.taken ≡ self.old.progress.taken + 1) }
+        ensures cause { IfErr result (HasCause false (failed_of writer.new)) }
+    {
+        if self.progress.taken == LONGEST_SCRIPT {
+            return Err(ScriptFault::TooLong);
+        }
+        if byte != b'\n' {
+            self.progress.start.push(byte);
+            self.progress.taken += 1;
+            return Ok(());
+        }
+        answer_line(
+            resources,
+            keeper,
+            &mut self.tickets,
+            writer,
+            self.progress.start.bytes(),
+        )?;
+        self.progress.start.clear();
+        self.progress.taken += 1;
+        self.progress.lines += 1;
+        Ok(())
+    }
+
+    /// Takes the bytes in turn.
+    pub(crate) fn take_bytes<T: Threads + Wait + Sync, K: Keeper, W: Write>(
+        &mut self,
+        resources: &Resources<'_, T>,
+        keeper: &mut K,
+        writer: &mut Watched<W>,
+        bytes: &[u8],
+    ) -> Result<(), ScriptFault>
+        ensures fed { (book : Accounts) (all front rest : List ℕ) (before : Option (List ℕ)) → all ≡ front ++ bytes.now ++ rest →
+            IsAt book all front before (W.contents (inner_of writer.old)) (K.book keeper.old) self.old.tickets self.old.progress →
+            MatchResult result
+            (λ _. IsAt book all (front ++ bytes.now) before (W.contents (inner_of writer.new)) (K.book keeper.new) self.new.tickets self.new.progress)
+            (λ e. (left : Option (List ℕ)) → ScriptFails book all left before (W.contents (inner_of writer.new)) (K.book keeper.new) e) }
+        ensures taken { OnOk result (self.new.progress.taken ≡ self.old.progress.taken + length bytes.now) }
+        ensures cause { IfErr result (HasCause false (failed_of writer.new)) }
+    {
+        for byte in bytes {
+            self.take_byte(resources, keeper, writer, *byte)?;
+        }
+        Ok(())
+    }
+
+    /// Answers what is left where the script has no further byte, and counts the lines.
+    pub(crate) fn finish<T: Threads + Wait + Sync, K: Keeper, W: Write>(
+        &mut self,
+        resources: &Resources<'_, T>,
+        keeper: &mut K,
+        writer: &mut Watched<W>,
+    ) -> Result<u64, ScriptFault>
+        ensures answered { (book : Accounts) (all : List ℕ) (before : Option (List ℕ)) →
+            IsAt book all all before (W.contents (inner_of writer.old)) (K.book keeper.old) self.old.tickets self.old.progress →
+            MatchResult result
+            (λ lines. IsAnswered book all before (W.contents (inner_of writer.new)) (K.book keeper.new) lines)
+            (λ e. (left : Option (List ℕ)) → ScriptFails book all left before (W.contents (inner_of writer.new)) (K.book keeper.new) e) }
+        ensures cause { IfErr result (HasCause false (failed_of writer.new)) }
+    {
+        if self.progress.start.bytes().is_empty() {
+            return Ok(self.progress.lines);
+        }
+        answer_line(
+            resources,
+            keeper,
+            &mut self.tickets,
+            writer,
+            self.progress.start.bytes(),
+        )?;
+        Ok(self.progress.lines + 1)
+    }
+
+    /// Reads the script to its end.
+    pub(crate) fn read_all<T: Threads + Wait + Sync, K: Keeper, R: Read, W: Write>(
+        &mut self,
+        resources: &Resources<'_, T>,
+        keeper: &mut K,
+        reader: &mut Watched<R>,
+        writer: &mut Watched<W>,
+    ) -> Result<End, ScriptFault>
+        requires new_reader { calls_of reader.old ≡ 0 }
+        requires new_progress { self.old.progress.taken ≡ 0 }
+        ensures ended { (book : Accounts) (all : List ℕ) (before : Option (List ℕ)) → R.remaining (inner_of reader.old) ≡ Some all →
+            IsAt book all [] before (W.contents (inner_of writer.old)) (K.book keeper.old) self.old.tickets self.old.progress →
+            MatchResult result
+            (λ end. IsAnswered book all before (W.contents (inner_of writer.new)) (K.book keeper.new) end.lines × (length all ≤ longest_script))
+            (ScriptFails book all (R.remaining (inner_of reader.new)) before (W.contents (inner_of writer.new)) (K.book keeper.new)) }
+        ensures cause { IfErr result (HasCause (failed_of reader.new) (failed_of writer.new)) }
+        ensures calls { calls_of reader.new ≤ most_calls }
+    {
+        let mut buffer = [0; CHUNK];
+        for _call in 0..MOST_CALLS {
+            match reader.read(&mut buffer) {
+                Ok(0) => {
+                    let lines = self.finish(resources, keeper, writer)?;
+                    return Ok(End { lines });
+                }
+                Ok(n) => self.take_bytes(resources, keeper, writer, &buffer[..n])?,
+                Err(_) => return Err(ScriptFault::Read),
+            }
+        }
+        unreachable!()
+    }
+}
