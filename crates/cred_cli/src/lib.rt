@@ -13,6 +13,7 @@ mod key;
 mod laws;
 mod line;
 mod printing;
+mod process;
 mod program;
 mod progress;
 mod refusal;
@@ -26,6 +27,7 @@ mod writing;
 
 pub use fault::ScriptFault;
 pub use laws::{history_is_a_front, names_are_the_books};
+pub use process::run_program;
 pub use program::command;
 pub use script::{End, run_script};
 pub use watched::Watched;

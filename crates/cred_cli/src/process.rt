@@ -1,0 +1,59 @@
+//! The program as its process runs it: on the words that it was started with, and with a status that
+//! the shell sees.
+
+ghost use Rattle.std.specs.Prelude.{◌≡◌, ◌⊎◌, MatchResult};
+ghost use Rattle.std.specs.Process.{exit_status};
+
+use crate::program::command;
+use crate::watched::Watched;
+use std::env::Env;
+use std::io::{ErrorKind, Read, Write};
+use std::process::ExitCode;
+use std::sync::Wait;
+use std::thread::Threads;
+use std::{env, io};
+
+/// Runs [`command`] on the words that the process was started with, and gives its status to the
+/// shell. A word that isn't UTF-8 is named on `faults`, and is 1; want of memory for the words is 3.
+pub fn run_program<R, I, O, F>(rt: &R, input: I, output: O, faults: &mut F) -> ExitCode
+where
+    R: Env + AllocGlobal + Threads + Wait + Sync,
+    I: Read + Drop,
+    O: Write + Drop,
+    F: Write,
+{
+    let ended = run_words(rt, input, output, faults);
+    if let Err(error) = &ended {
+        let what = match error.kind() {
+            ErrorKind::OutOfMemory => "memory",
+            _ => "a word is not UTF-8",
+        };
+        let _ = writeln!(faults, "credbook: {what}");
+    }
+    exit_code(&ended)
+}
+
+/// The status of the command, where there was memory for its words and they are UTF-8.
+fn exit_code(ended: &io::Result<u8>) -> ExitCode
+    ensures { MatchResult ended.now (λ status. exit_status result ≡ status) (λ _. (exit_status result ≡ 1) ⊎ (exit_status result ≡ 3)) }
+{
+    match ended {
+        Ok(status) => ExitCode::from(*status),
+        Err(error) if error.kind() == ErrorKind::OutOfMemory => ExitCode::from(3),
+        Err(_) => ExitCode::from(1),
+    }
+}
+
+fn run_words<R, I, O, F>(rt: &R, input: I, output: O, faults: &mut F) -> io::Result<u8>
+where
+    R: Env + AllocGlobal + Threads + Wait + Sync,
+    I: Read + Drop,
+    O: Write + Drop,
+    F: Write,
+{
+    let args: Vec<String> = env::args(rt)?.skip(1).collect(rt.alloc())?;
+    let words: Vec<&str> = args.iter().map(|word| word.as_str()).collect(rt.alloc())?;
+    let mut reader = Watched::new(input);
+    let mut writer = Watched::new(output);
+    Ok(command(rt, rt.alloc(), &words, &mut reader, &mut writer, faults))
+}
