@@ -1,8 +1,8 @@
 -- Beginnings of one list, and books after entries.
-use Rattle.std.proofs.Common.{◌≡◌, ℕ, ◌+◌, ◌<◌, ◌≤◌, List, [], ◌∷◌, ◌++◌, length, Bool, true, false, MatchBool, Option, Some, None, inl, inr, is_some, refl, ap, subst, arith, length-append, get_or}
+use Rattle.std.proofs.Common.{◌≡◌, ℕ, ◌+◌, ◌<◌, ◌≤◌, List, [], ◌∷◌, ◌++◌, length, Bool, true, false, MatchBool, Option, Some, None, inl, inr, is_some, refl, ap, subst, arith, length-append, get_or, sym, ◌∙◌}
 use Rattle.std.proofs.lemmas.Bool.Decides.{nat_tests}
 use Rattle.std.proofs.lemmas.Bool.{cases_eq}
-use Rattle.std.proofs.lemmas.List.{get_or_read}
+use Rattle.std.proofs.lemmas.List.{get_or_read, append_assoc}
 use lib.Dec.{leb}
 use mathlib.Core.List.{IsPrefix}
 use Rattle.std.specs.FinMap as map
@@ -41,6 +41,10 @@ prefix_whole (x ∷ xs) [] p le = absurd (cc (p.1))
 prefix_whole (x ∷ xs) (y ∷ ys) p le =
     let rest = prefix_whole xs ys (p.0, cc (p.1)) (omega arith) in cc (p.1, rest)
 
+-- a beginning is no longer than the whole
+pub prefix_length : (xs ys : List Entry) → IsPrefix xs ys → length xs ≤ length ys
+prefix_length xs ys p = omega (arith, ap length (p.1), length-append xs p.0)
+
 -- the book after one entry more
 pub after_snoc : (book : Accounts) (list : List Entry) (entry : Entry) → after book (list ++ entry ∷ []) ≡ put (after book list) entry
 after_snoc book [] entry = refl
@@ -66,6 +70,11 @@ with_allowed true book entry (inr (inr loaded)) = with_known book entry.name ent
 pub length_list_after : (list : List Entry) (change : Option Entry) → length (list_after list change) ≡ length list + weight change
 length_list_after list None = omega arith
 length_list_after list (Some entry) = length-append list (entry ∷ [])
+
+-- and begins with what stood
+pub begins_list_after : (known list : List Entry) (change : Option Entry) → IsPrefix known list → IsPrefix known (list_after list change)
+begins_list_after known list None p = p
+begins_list_after known list (Some entry) p = (p.0 ++ entry ∷ [], sym (append_assoc known p.0 (entry ∷ [])) ∙ ap (λ l. l ++ entry ∷ []) p.1)
 
 -- what holds of the elements before a place, and of the one there
 pub all_more : {A : Type 0} (P : A → Type 0) (xs : List A) (i : ℕ) (x : A) → i < length xs → x ≡ get_or xs i x → P x → ((k : ℕ) (d : A) → k < i → P (get_or xs k d)) → (k : ℕ) (d : A) → k < i + 1 → P (get_or xs k d)

@@ -1,5 +1,5 @@
 -- What a clause sees of a session, and what its calls do.
-use Rattle.std.specs.Prelude.{◌≡◌, ◌≢◌, ◌+◌, ℕ, List, All, length, Option, Some, None, Result, Ok, Err}
+use Rattle.std.specs.Prelude.{◌≡◌, ◌≢◌, ◌+◌, ℕ, List, length, Some, None, Result, Ok, Err}
 use mathlib.Core.List.{IsPrefix}
 use Rattle.std.specs.FinMap as map
 use Rattle.cred_book.specs.Accounts.{Accounts}
@@ -36,31 +36,29 @@ ClosesAt book old new work (Err (back, error.Sessions)) = ⊥
 ClosesAt book old new work (Err (back, error.Session)) = ⊥
 ClosesAt book old new work (Err (back, error.NoAccount)) = ⊥
 
--- why a work isn't settled: a change found no memory, or the session wasn't behind the list
-abbrev pub IsUnsettled : DeskError → Type 0 → Option Entry → Type 0
-IsUnsettled error.Memory behind change = behind × (change ≢ None)
-IsUnsettled error.Reader behind change = behind → ⊥
-IsUnsettled error.Sessions behind change = ⊥
-IsUnsettled error.Session behind change = ⊥
-IsUnsettled error.NoAccount behind change = ⊥
-
 -- a settle is a commit at a legal list that begins with the known one, and is counted if it is a
--- change
+-- change. Where a change that was due there found no memory, the session knows that list, and
+-- nothing is counted
 abbrev pub Settles : Accounts → Standing → Standing → Task → Result (Reply × List Entry) (Task × DeskError) → Type 0
 Settles opening old new work (Ok (answer, told)) =
     (list : List Entry) × IsLegal opening list × IsPrefix old.known list
     × (answer ≡ reply_of (after opening list) work)
     × (told ≡ list_after list (entry_of (after opening list) work))
-    × IsPrefix told new.known
+    × (new.known ≡ told)
     × (new.count ≡ old.count + weight (entry_of (after opening list) work))
-Settles opening old new work (Err (back, e)) =
-    (back ≡ work) × (new ≡ old)
-    × ((list : List Entry) × IsLegal opening list × IsUnsettled e (IsPrefix old.known list) (entry_of (after opening list) work))
+Settles opening old new work (Err (back, error.Memory)) =
+    (back ≡ work) × IsPrefix old.known new.known × IsLegal opening new.known
+    × (entry_of (after opening new.known) work ≢ None)
+    × (new.count ≡ old.count)
+Settles opening old new work (Err (back, error.Sessions)) = ⊥
+Settles opening old new work (Err (back, error.Session)) = ⊥
+Settles opening old new work (Err (back, error.Reader)) = ⊥
+Settles opening old new work (Err (back, error.NoAccount)) = ⊥
 
--- why a desk isn't closed, by how many sessions it has and those handed in: some are missing, or one knows more than the journal
-abbrev pub IsMissed : Accounts → ℕ → List Standing → DeskError → Type 0
-IsMissed opening all given error.Session = length given ≢ all
-IsMissed opening all given error.Reader = (length given ≡ all) × ((list : List Entry) × IsLegal opening list × (All (λ s. IsPrefix s.known list) given → ⊥))
-IsMissed opening all given error.Memory = ⊥
-IsMissed opening all given error.Sessions = ⊥
-IsMissed opening all given error.NoAccount = ⊥
+-- why a desk isn't closed, by how many sessions it has and those handed in: some are missing
+abbrev pub IsMissed : ℕ → List Standing → DeskError → Type 0
+IsMissed all given error.Session = length given ≢ all
+IsMissed all given error.Memory = ⊥
+IsMissed all given error.Sessions = ⊥
+IsMissed all given error.Reader = ⊥
+IsMissed all given error.NoAccount = ⊥

@@ -5,14 +5,14 @@ ghost use Rattle.std.specs.Prelude.{◌≡◌, ◌≢◌, ◌+◌, ◌≤◌, []
 ghost use mathlib.Core.List.{IsPrefix};
 ghost use Rattle.cred_desk.specs.Commits.{entry_of, list_after, reply_of, weight};
 ghost use Rattle.cred_desk.specs.Histories.{IsLegal, after};
-ghost use Rattle.cred_desk.specs.Standing.{IsMissed, IsUnsettled};
+ghost use Rattle.cred_desk.specs.Standing.{IsMissed};
 ghost use Rattle.cred_desk.specs.declared.error.DeskError.TheVariants as error;
 
 use crate::closed::Closed;
 use crate::entry::Entry;
 use crate::error::DeskError;
 use crate::naming::Naming;
-use crate::published::{Published, Shown, Step};
+use crate::published::{Published, Shown};
 use crate::publisher::Publisher;
 use crate::session::Session;
 use crate::told::Told;
@@ -26,7 +26,7 @@ use std::sync::ledger::{Book as Total, Share};
 /// Settles one work after another, and counts the changes. Contracts see it as its list.
 pub(crate) struct Clerk<J: Naming>
 where
-    Shown<J>: Absorb<Step<J>, State = (Book, [Entry; 0])>,
+    Shown<J>: Absorb<(), State = ()>,
     Published<J>: Protocol<Shown<J>, ()>,
 {
     publisher: Publisher<J>,
@@ -40,7 +40,7 @@ where
 
 impl<J: Naming> Model for Clerk<J>
 where
-    Shown<J>: Absorb<Step<J>, State = (Book, [Entry; 0])>,
+    Shown<J>: Absorb<(), State = ()>,
     Published<J>: Protocol<Shown<J>, ()>,
 {
     ghost use Rattle.std.specs.Prelude.{◌≡◌, ◌≤◌, List, [], false, length, vec_capacity};
@@ -79,9 +79,9 @@ impl<J: Naming> Clerk<J> {
 
     /// Commits the work for the session, which knows the list after it from then on.
     ///
-    /// Errors: `Memory` where a change finds none; `Reader` where the session knew more than the
-    /// list. Nothing changes then, and the work comes back.
-    #[tactic(auto, using(crate::proofs::Lists::length_list_after, crate::proofs::Lists::longer_ends))]
+    /// Errors: `Memory` where a change finds none. The list stays then, the session knows it, and
+    /// the work comes back.
+    #[tactic(auto, using(crate::proofs::Lists::length_list_after))]
     pub(crate) fn settle<R: Wait>(
         &mut self,
         rt: &R,
@@ -89,44 +89,41 @@ impl<J: Naming> Clerk<J> {
         work: Worked,
     ) -> Result<(Reply, Told<J>), (Worked, DeskError)>
         ensures legal { IsLegal J.opening self.old }
-        ensures behind { IfOk result (λ _. IsPrefix session.old.known self.old) }
+        ensures behind { IsPrefix session.old.known self.old }
         ensures reply { IfOk result (λ r. r.0 ≡ reply_of (after J.opening self.old) work) }
         ensures list { IfOk result (λ _. self.new ≡ list_after self.old (entry_of (after J.opening self.old) work)) }
         ensures told { IfOk result (λ r. r.1 ≡ self.new) }
-        ensures learns { IfOk result (λ _. IsPrefix self.new session.new.known) }
+        ensures learns { session.new.known ≡ self.new }
         ensures known { IsPrefix session.old.known session.new.known }
         ensures count { IfOk result (λ _. session.new.count ≡ session.old.count + weight (entry_of (after J.opening self.old) work)) }
-        ensures refused { IfErr result (λ e. (e.0 ≡ work) × (self.new ≡ self.old) × (session.new ≡ session.old)) }
-        ensures causes { IfErr result (λ e. IsUnsettled e.1 (IsPrefix session.old.known self.old) (entry_of (after J.opening self.old) work)) }
+        ensures refused { IfErr result (λ e. (e.0 ≡ work) × (e.1 ≡ error.Memory) × (self.new ≡ self.old) × (session.new.count ≡ session.old.count)) }
+        ensures due { IfErr result (λ _. entry_of (after J.opening self.old) work ≢ None) }
     {
-        let list = self.publisher.front();
-        let before = list.len();
-        if !session.is_behind(list) {
-            return Err((work, DeskError::Reader));
-        }
-        let reply = self.publisher.commit(rt, work)?;
+        self.publisher.covers(session.known());
+        let before = self.publisher.front().len();
+        let settled = self.publisher.commit(rt, work);
         let changes = self.publisher.front().len() - before;
         session.count_changes(&mut self.total, changes);
         let told = self.publisher.told();
         session.learn(&told);
-        Ok((reply, told))
+        match settled {
+            Ok(reply) => Ok((reply, told)),
+            Err(refused) => Err(refused),
+        }
     }
 
-    /// Looks whether these are all sessions of the desk, and none knows more than the journal.
+    /// Looks whether these are all sessions of the desk. None knows more than the journal.
     ///
-    /// Errors: `Session` where some are missing; `Reader` where one knows more.
-    pub(crate) fn look(&self, sessions: &[Session<J>]) -> Result<(), DeskError>
-        ensures all { MatchResult result (λ _. length sessions.now ≡ J.parts) (IsMissed J.opening J.parts sessions.now) }
-        ensures known { IfOk result (λ _. All (λ s. IsPrefix s.known self.now) sessions.now) }
+    /// Errors: `Session` where some are missing.
+    pub(crate) fn look(&mut self, sessions: &[Session<J>]) -> Result<(), DeskError>
+        ensures same { self.new ≡ self.old }
+        ensures all { MatchResult result (λ _. length sessions.now ≡ J.parts) (IsMissed J.parts sessions.now) }
+        ensures known { IfOk result (λ _. All (λ s. IsPrefix s.known self.new) sessions.now) }
     {
         if sessions.len() != usize::from(self.sessions) {
             return Err(DeskError::Session);
         }
-        for session in sessions {
-            if !session.is_behind(self.publisher.front()) {
-                return Err(DeskError::Reader);
-            }
-        }
+        cover_all(&mut self.publisher, sessions);
         Ok(())
     }
 
@@ -167,6 +164,16 @@ impl<J: Naming> Clerk<J> {
             counts: _,
         } = self;
         publisher.finish(rt);
+    }
+}
+
+/// Finds that no session knows more than the publisher's list.
+fn cover_all<J: Naming>(publisher: &mut Publisher<J>, sessions: &[Session<J>])
+    ensures same { publisher.new ≡ publisher.old }
+    ensures known { All (λ s. IsPrefix s.known publisher.new) sessions.now }
+{
+    for session in sessions {
+        publisher.covers(session.known());
     }
 }
 

@@ -12,7 +12,7 @@ use crate::entry::Entry;
 use crate::error::DeskError;
 use crate::making::{MOST_SESSIONS, Made, make};
 use crate::naming::{Naming, Opened};
-use crate::published::{Published, Shown, Step};
+use crate::published::{Published, Shown};
 use crate::publisher::Publisher;
 use crate::session::Session;
 use crate::told::Told;
@@ -29,7 +29,7 @@ use std::sync::Wait;
 /// Contracts see it as the list of entries that it has published.
 pub struct Committer<J: Naming>
 where
-    Shown<J>: Absorb<Step<J>, State = (Book, [Entry; 0])>,
+    Shown<J>: Absorb<(), State = ()>,
     Published<J>: Protocol<Shown<J>, ()>,
 {
     publisher: Publisher<J>,
@@ -37,7 +37,7 @@ where
 
 impl<J: Naming> Model for Committer<J>
 where
-    Shown<J>: Absorb<Step<J>, State = (Book, [Entry; 0])>,
+    Shown<J>: Absorb<(), State = ()>,
     Published<J>: Protocol<Shown<J>, ()>,
 {
     ghost use Rattle.std.specs.Prelude.{◌≡◌, List, true};
@@ -55,7 +55,7 @@ impl<J: Naming> Committer<J> {
     /// Copies the book, and shows it to so many sessions, 0 to 32 of them.
     ///
     /// Errors: `Sessions` for another number, which is judged first; `Memory` where there is none;
-    /// `Reader` where a session gets no place to read.
+    /// `Reader` where a session gets no place to read, which isn't met.
     pub fn new<R: Wait>(
         rt: &R,
         alloc: Global,

@@ -12,7 +12,7 @@ use crate::entry::Entry;
 use crate::error::DeskError;
 use crate::making::{MOST_SESSIONS, Made, make};
 use crate::naming::{Naming, Opened};
-use crate::published::{Published, Shown, Step};
+use crate::published::{Published, Shown};
 use crate::session::Session;
 use crate::told::Told;
 use cred_book::{Book, Reply, Worked};
@@ -25,7 +25,7 @@ use std::sync::{Mutex, MutexGuard, Wait};
 /// `Drop`: end it by `close` or `end`.
 pub struct Desk<J: Naming>
 where
-    Shown<J>: Absorb<Step<J>, State = (Book, [Entry; 0])>,
+    Shown<J>: Absorb<(), State = ()>,
     Published<J>: Protocol<Shown<J>, ()>,
 {
     clerk: Mutex<Clerk<J>>,
@@ -36,7 +36,7 @@ impl<J: Naming> Desk<J> {
     /// the book from then on.
     ///
     /// Errors: `Sessions` for another number, which is judged first; `Memory` where there is none;
-    /// `Reader` where a session gets no place to read.
+    /// `Reader` where a session gets no place to read, which isn't met.
     pub fn new<R: Wait>(
         rt: &R,
         alloc: Global,
@@ -65,10 +65,11 @@ impl<J: Naming> Desk<J> {
     }
 
     /// Waits for the lock, and does the whole operation, if the record is the one that was copied,
-    /// and else nothing. The session knows the list after it from then on, and counts a change.
+    /// and else nothing. The session knows the list after it from then on, and counts a change. The
+    /// ticket may be of another session, or of another desk: a copy of a record is all that it has.
     ///
-    /// Errors: `Memory` where a change finds none; `Reader` where the session knew more than the
-    /// journal, which isn't met. Nothing changes then, and the work comes back.
+    /// Errors: `Memory` where a change finds none. Nothing changes then but that the session knows
+    /// the list at which the change was due, and the work comes back.
     pub fn settle<R: Wait>(
         &self,
         rt: &R,
@@ -88,8 +89,7 @@ impl<J: Naming> Desk<J> {
     /// Gives the book, the journal and the counts, where all sessions of the desk are handed in, in
     /// any order. It waits for those that read the book.
     ///
-    /// Errors: `Session` where some are missing; `Reader` where one knew more than the journal,
-    /// which isn't met. The desk and the sessions come back.
+    /// Errors: `Session` where some are missing. The desk and the sessions come back.
     pub fn close<R: Wait>(
         self,
         rt: &R,
@@ -100,11 +100,11 @@ impl<J: Naming> Desk<J> {
         ensures known { IfOk result (λ closed. All (λ s. IsPrefix s.known closed.journal.items) sessions.items) }
         ensures counts { IfOk result (λ closed. closed.counts.items ≡ map (λ s. s.count) sessions.items) }
         ensures total { IfOk result (λ closed. sum closed.counts.items ≡ length closed.journal.items) }
-        ensures all { MatchResult result (λ _. vec_len sessions ≡ J.parts) (λ e. IsMissed J.opening J.parts sessions.items e.2) }
+        ensures all { MatchResult result (λ _. vec_len sessions ≡ J.parts) (λ e. IsMissed J.parts sessions.items e.2) }
         ensures back { IfErr result (λ e. e.1.items ≡ sessions.items) }
     {
         let Desk { clerk } = self;
-        let clerk = clerk.into_inner();
+        let mut clerk = clerk.into_inner();
         match clerk.look(&sessions) {
             Ok(()) => Ok(clerk.close(rt, sessions)),
             Err(error) => {

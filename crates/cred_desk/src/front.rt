@@ -1,34 +1,15 @@
 //! Beginnings of the list of entries, as tokens that any thread may hold and copy.
 
-ghost use Rattle.std.specs.Prelude.{◌≡◌, ◌+◌, ◌<◌, ◌^◌, ◌++◌, ◌∷◌, [], length, MatchBool, IfSome};
+ghost use Rattle.std.specs.Prelude.{◌≡◌, [], length, MatchBool};
 ghost use mathlib.Core.List.{IsPrefix};
-ghost use Rattle.cred_desk.specs.Histories.{Allowed, IsListed, after};
-ghost use Rattle.cred_desk.specs.Rules.{IsLonger, head_of};
+ghost use Rattle.cred_desk.specs.Histories.{IsListed};
+ghost use Rattle.cred_desk.specs.Rules.{IsLonger};
 
 use crate::entry::Entry;
 use crate::naming::Naming;
-use crate::rule::{Add, Law, Nothing};
-use logbook::{Offer, Seen, Word};
+use crate::rule::Law;
+use logbook::Seen;
 use std::marker::{Model, PhantomData};
-
-/// The word that counts the list.
-#[derive(Drop)]
-pub(crate) struct Head<J: Naming> {
-    word: Word<Entry, u64, Law>,
-    of: PhantomData<J>,
-    ghost is_head: { word ≡ head_of J.book },
-}
-
-impl<J: Naming> Head<J> {
-    pub(crate) fn new(word: Word<Entry, u64, Law>) -> Head<J>
-        requires { word ≡ head_of J.book }
-    {
-        Head {
-            word,
-            of: PhantomData,
-        }
-    }
-}
 
 /// A beginning of the list, which contracts see as its entries.
 #[derive(Drop)]
@@ -51,17 +32,26 @@ impl<J: Naming> Model for Front<J> {
 }
 
 impl<J: Naming> Front<J> {
-    /// The beginning with no entry.
-    pub(crate) fn first(seen: Seen<Entry, u64, Law>) -> Front<J>
+    /// The beginning that was seen so far, which has so many entries.
+    pub(crate) fn of(seen: Seen<Entry, u64, Law>, entries: u64) -> Front<J>
         requires book { seen.book ≡ J.book }
-        requires empty { seen.log ≡ [] }
-        ensures { result ≡ [] }
+        requires length { entries ≡ length seen.log }
+        requires listed { IsListed J.loads J.opening seen.log }
+        ensures { result ≡ seen.log }
     {
         Front {
-            entries: 0,
+            entries,
             seen,
             of: PhantomData,
         }
+    }
+
+    /// What was seen.
+    pub(crate) fn seen(&self) -> Seen<Entry, u64, Law>
+        ensures seen { (result.log ≡ self.now) × (result.book ≡ J.book) }
+        ensures listed { IsListed J.loads J.opening self.now }
+    {
+        self.seen.again()
     }
 
     /// How many entries it has.
@@ -93,34 +83,5 @@ impl<J: Naming> Front<J> {
         let mut both = self.seen.again();
         both.learn(&other.seen);
         self.entries <= other.entries
-    }
-
-    /// The list with one entry more, if nobody has added one.
-    pub(crate) fn add(&self, head: &Head<J>, new: &Entry) -> Option<Front<J>>
-        requires room { length self.now + 1 < 2 ^ 64 }
-        requires allowed { Allowed J.loads (after J.opening self.now) new.now }
-        ensures { IfSome result (λ front. front ≡ self.now ++ new.entry.now ∷ []) }
-    {
-        let mut seen = self.seen.again();
-        let mut offer: Offer<Entry, u64, Law, Nothing> = seen.plain::<Nothing, Entry, Add>(new);
-        let mut pen = seen.no_pen();
-        let entries = self.entries;
-        let found = head
-            .word
-            .compare_exchange::<Add, Nothing>(
-                entries,
-                entries + 1,
-                &mut seen,
-                &mut offer,
-                &mut pen,
-            );
-        if found != entries {
-            return None;
-        }
-        Some(Front {
-            entries: entries + 1,
-            seen,
-            of: PhantomData,
-        })
     }
 }

@@ -14,6 +14,7 @@ mod desk;
 mod entry;
 mod error;
 mod front;
+mod history;
 mod making;
 mod naming;
 mod published;

@@ -1,14 +1,13 @@
 //! How a publisher and its sessions are made of a book.
 
-ghost use Rattle.std.specs.Prelude.{◌≡◌, ◌≤◌, [], All, IfErr, IfOk, IsTrue, drop, false, true, vec_len, length};
+ghost use Rattle.std.specs.Prelude.{◌≡◌, [], All, IfErr, IfOk, true, vec_len};
 ghost use Rattle.cred_desk.specs.Refusals.{IsRefusedToMake};
 
-use crate::entry::Entry;
 use crate::error::DeskError;
-use crate::front::{Front, Head};
+use crate::front::Front;
 use crate::naming::{Naming, Opened};
-use crate::published::{BookWriter, Published, Shown, Step};
-use crate::publisher::{Publisher, show};
+use crate::published::{BookWriter, Published, Shown, show_copy};
+use crate::publisher::Publisher;
 use crate::session::Session;
 use cred_book::Book;
 use crossbeam_utils::rule::Protocol;
@@ -23,7 +22,7 @@ pub(crate) const MOST_SESSIONS: u8 = 32;
 /// A publisher with its sessions, and the tokens that count what they do.
 pub(crate) struct Made<J: Naming>
 where
-    Shown<J>: Absorb<Step<J>, State = (Book, [Entry; 0])>,
+    Shown<J>: Absorb<(), State = ()>,
     Published<J>: Protocol<Shown<J>, ()>,
 {
     pub(crate) publisher: Publisher<J>,
@@ -50,16 +49,15 @@ pub(crate) fn make<J: Naming, R: Wait>(
     ensures count { IfOk result (λ made. (made.total.total ≡ 0) × (made.spare.parts ≡ 0) × (made.spare.amount ≡ 0)) }
     ensures refused { IfErr result (λ e. IsRefusedToMake true e) }
 {
-    let (head, front, blank) = opened.named::<J>();
-    let (total, mut spare) = blank.open::<J>();
-    let mut writer = open_writer(alloc, &front, book, sessions)?;
-    let seats = match warm(&mut writer, rt, &front) {
-        Ok(()) => seats(alloc, &writer, &front, &mut spare, sessions),
-        Err(AllocError) => Err(DeskError::Memory),
+    let (history, blank) = opened.named::<J>();
+    let Some(history) = history else {
+        return Err(DeskError::Memory);
     };
-    match seats {
+    let (total, mut spare) = blank.open::<J>();
+    let writer = open_writer(alloc, rt, history.front(), book, sessions)?;
+    match seats(alloc, &writer, history.front(), &mut spare, sessions) {
         Ok(sessions) => Ok(Made {
-            publisher: Publisher::new(alloc, writer, head, front),
+            publisher: Publisher::new(alloc, writer, history),
             sessions,
             total,
             spare,
@@ -72,35 +70,26 @@ pub(crate) fn make<J: Naming, R: Wait>(
 }
 
 /// Two copies of the book, of which readers see one.
-fn open_writer<J: Naming>(
+fn open_writer<J: Naming, R: Wait>(
     alloc: Global,
+    rt: &R,
     front: &Front<J>,
     book: &Book,
     sessions: u8,
 ) -> Result<BookWriter<J>, AllocError>
     requires empty { front.now ≡ [] }
     requires opening { book.now ≡ J.opening }
-    ensures shown { IfOk result (λ w. (w.desk.shown.value.front ≡ []) × (w.desk.shown.value.book ≡ J.opening) × (drop w.behind w.log.items ≡ [])) }
+    ensures shown { IfOk result (λ w. (w.desk.shown.value.front ≡ []) × (w.desk.shown.value.book ≡ J.opening)) }
+    ensures spare { IfOk result (λ w. w.desk.spare.value.book ≡ J.opening) }
 {
     let first = Shown::of(book, front)?;
     let second = Shown::of(book, front)?;
+    // What the maker makes of its second copy, its contract doesn't say.
+    let unsaid = Shown::of(book, front)?;
     let readers = usize::from(sessions.max(1));
-    BookWriter::<J>::new(alloc, first, second, readers)
-}
-
-/// Publishes the same book twice, so that there is room for two steps from then on, and no later
-/// change needs more.
-fn warm<J: Naming, R: Wait>(
-    writer: &mut BookWriter<J>,
-    rt: &R,
-    front: &Front<J>,
-) -> Result<(), AllocError>
-    requires empty { front.now ≡ [] }
-    requires shown { (writer.old.desk.shown.value.front ≡ []) × (writer.old.desk.shown.value.book ≡ J.opening) × (drop writer.old.behind writer.old.log.items ≡ []) }
-    ensures shown { (writer.new.desk.shown.value.front ≡ []) × (writer.new.desk.shown.value.book ≡ J.opening) × (drop writer.new.behind writer.new.log.items ≡ []) }
-{
-    show(writer, rt, Step::staying(front))?;
-    show(writer, rt, Step::staying(front))
+    let mut writer = BookWriter::<J>::new(alloc, first, unsaid, readers)?;
+    show_copy(&mut writer, rt, second);
+    Ok(writer)
 }
 
 /// So many sessions, each with a part of the share.

@@ -1,10 +1,10 @@
 //! Which list of entries it is, and from which book it starts.
 
-ghost use Rattle.std.specs.Prelude.{◌≡◌, []};
+ghost use Rattle.std.specs.Prelude.{◌≡◌, [], IfSome};
 ghost use Rattle.cred_desk.specs.Rules.{head_of};
 
 use crate::entry::Entry;
-use crate::front::{Front, Head};
+use crate::history::History;
 use crate::rule::Law;
 use logbook::{Seen, Start, Word};
 use std::marker::Brand;
@@ -61,13 +61,13 @@ impl Opened {
         }
     }
 
-    /// The list under a name: its word, and its beginning.
-    pub(crate) fn named<J: Naming>(self) -> (Head<J>, Front<J>, Blank)
+    /// The list under a name, if nobody holds it yet.
+    pub(crate) fn named<J: Naming>(self) -> (Option<History<J>>, Blank)
         requires { self.seen.book ≡ J.book }
-        ensures front { result.1 ≡ [] }
-        ensures blank { result.2 ≡ self.blank }
+        ensures list { IfSome result.0 (λ list. list ≡ []) }
+        ensures blank { result.1 ≡ self.blank }
     {
         let Opened { head, seen, blank } = self;
-        (Head::new(head), Front::first(seen), blank)
+        (History::open(head, seen), blank)
     }
 }

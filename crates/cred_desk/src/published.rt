@@ -1,10 +1,13 @@
 //! What readers see: the book, beside the list of entries that led to it.
 
-ghost use Rattle.std.specs.Prelude.{◌≡◌, IfOk, Some, None};
+ghost use Rattle.std.specs.Prelude.{◌≡◌, IfOk, Some};
+ghost use Rattle.cred_desk.specs.Histories.{after};
+ghost use Rattle.cred_desk.specs.Published.{with_step};
 
 use crate::entry::Entry;
 use crate::front::Front;
 use crate::naming::Naming;
+use core::mem::replace_with;
 use cred_book::Book;
 use crossbeam_utils::rule::{Outcome, Protocol};
 use left_right::Absorb;
@@ -12,6 +15,7 @@ use left_right::reader::Reader;
 use left_right::writer::Writer;
 use std::alloc::AllocError;
 use std::marker::PhantomData;
+use std::sync::Wait;
 
 /// A book and the list that it is the book of.
 #[derive(Drop)]
@@ -33,54 +37,41 @@ impl<J: Naming> Shown<J> {
     }
 }
 
-/// What is shown next: the book with one entry more or the same book, and the list then.
+/// What readers are shown next: the book with one entry more, and the list then.
 #[derive(Drop)]
 pub(crate) struct Step<J: Naming> {
-    pub(crate) entry: Option<Entry>,
+    /// The one before, which the spare copy lacks.
+    pub(crate) last: Option<Entry>,
+    pub(crate) entry: Entry,
     pub(crate) front: Front<J>,
 }
 
-impl<J: Naming> Step<J> {
-    /// To the list that has this entry more.
-    pub(crate) fn adding(new: &Entry, front: &Front<J>) -> Step<J>
-        ensures entry { result.entry ≡ Some new.entry.now }
-        ensures front { result.front ≡ front.now }
+impl<J: Naming> Shown<J> {
+    /// Becomes what is shown next.
+    fn advance(&mut self, step: &Step<J>)
+        ensures book { self.new.book ≡ with_step (with_step self.old.book step.now.last) (Some step.now.entry) }
+        ensures front { self.new.front ≡ step.now.front }
     {
-        Step {
-            entry: Some(*new),
-            front: front.again(),
+        if let Some(last) = &step.last {
+            self.book.put(&last.name, last.now);
         }
-    }
-
-    /// To this list, which is there already.
-    pub(crate) fn staying(front: &Front<J>) -> Step<J>
-        ensures entry { result.entry ≡ None }
-        ensures front { result.front ≡ front.now }
-    {
-        Step {
-            entry: None,
-            front: front.again(),
-        }
+        self.book.put(&step.entry.name, step.entry.now);
+        self.front = step.front.again();
     }
 }
 
-impl<J: Naming> Absorb<Step<J>> for Shown<J> {
-    ghost use Rattle.cred_desk.specs.Published.{with_step};
+/// The writer's own operations, which take memory, stay unused: the copies are changed where they
+/// lie.
+impl<J: Naming> Absorb<()> for Shown<J> {
+    type State = ();
 
-    // A clause reads an array as a list.
-    type State = (Book, [Entry; 0]);
+    ghost state = { λ s. tt };
 
-    ghost state = { λ s. (s.book, s.front) };
-
-    ghost applied = { λ s step. (with_step s.0 step.entry, step.front) };
+    ghost applied = { λ s step. s };
 
     ghost never_fails = { Unit {0} };
 
-    fn absorb_first(&mut self, operation: &Step<J>, _other: &Shown<J>) -> Result<(), AllocError> {
-        if let Some(entry) = &operation.entry {
-            self.book.put(&entry.name, entry.now);
-        }
-        self.front = operation.front.again();
+    fn absorb_first(&mut self, _operation: &(), _other: &Shown<J>) -> Result<(), AllocError> {
         Ok(())
     }
 }
@@ -113,4 +104,44 @@ impl<J: Naming> Outcome<Shown<J>, ()> for Sees<J> {
 
 pub(crate) type BookReader<J> = Reader<Shown<J>, (), Published<J>>;
 
-pub(crate) type BookWriter<J> = Writer<Shown<J>, Step<J>, (), Published<J>>;
+pub(crate) type BookWriter<J> = Writer<Shown<J>, (), (), Published<J>>;
+
+/// Shows readers the book with the step's entry, and its list. It waits for those that still read
+/// the copy from before, and takes no memory.
+pub(crate) fn show<J: Naming, R: Wait>(writer: &mut BookWriter<J>, rt: &R, step: Step<J>)
+    requires { with_step (with_step writer.old.desk.spare.value.book step.last) (Some step.entry) ≡ after J.opening step.front }
+    ensures front { writer.new.desk.shown.value.front ≡ step.front }
+    ensures book { writer.new.desk.shown.value.book ≡ after J.opening step.front }
+    ensures spare { writer.new.desk.spare.value.book ≡ writer.old.desk.shown.value.book }
+{
+    replace_with(
+        &mut writer.desk,
+        (rt, step),
+        |desk, (rt, step)|
+            requires { with_step (with_step desk.spare.value.book step.last) (Some step.entry) ≡ after J.opening step.front }
+        {
+            let (open, mut spare) = desk.open(rt);
+            spare.advance(&step);
+            (open.show_as::<Sees<J>>(spare), ())
+        },
+    );
+}
+
+/// Shows readers this copy, and keeps the one that they had.
+pub(crate) fn show_copy<J: Naming, R: Wait>(writer: &mut BookWriter<J>, rt: &R, next: Shown<J>)
+    requires { next.book ≡ after J.opening next.front }
+    ensures shown { writer.new.desk.shown.value ≡ next }
+    ensures spare { writer.new.desk.spare.value ≡ writer.old.desk.shown.value }
+{
+    replace_with(
+        &mut writer.desk,
+        (rt, next),
+        |desk, (rt, next)|
+            requires { next.book ≡ after J.opening next.front }
+        {
+            let (open, mut spare) = desk.open(rt);
+            *spare = next;
+            (open.show_as::<Sees<J>>(spare), ())
+        },
+    );
+}

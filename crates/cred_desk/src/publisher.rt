@@ -1,86 +1,68 @@
 //! The one who changes the published book, and keeps a journal of it.
 
-ghost use Rattle.std.specs.Prelude.{◌≡◌, ◌+◌, ◌<◌, ◌^◌, ◌++◌, ◌∷◌, [], drop, length, Some, None, IfErr, IfOk, IsOk, IsTrue, MatchResult};
+ghost use Rattle.std.specs.Prelude.{◌≡◌, ◌++◌, ◌∷◌, [], None, IfErr, IfOk, IsOk};
+ghost use mathlib.Core.List.{IsPrefix};
 ghost use Rattle.cred_desk.specs.Commits.{entry_of, list_after, reply_of};
 ghost use Rattle.cred_desk.specs.Histories.{Allowed, IsListed, after};
-ghost use Rattle.cred_desk.specs.Published.{with_step};
 ghost use Rattle.cred_desk.specs.declared.error.DeskError.TheVariants as error;
 
 use crate::change::judge;
 use crate::entry::Entry;
 use crate::error::DeskError;
-use crate::front::{Front, Head};
+use crate::front::Front;
+use crate::history::History;
 use crate::naming::Naming;
-use crate::published::{BookWriter, Published, Sees, Shown, Step};
+use crate::published::{BookWriter, Published, Shown, Step, show};
 use crate::told::Told;
-use core::mem::replace_with;
 use cred_book::{Book, Reply, Worked};
 use crossbeam_utils::rule::Protocol;
 use left_right::Absorb;
-use std::alloc::{AllocError, Global};
+use std::alloc::Global;
 use std::marker::Model;
 use std::sync::Wait;
 
 /// Contracts see it as its list.
 pub(crate) struct Publisher<J: Naming>
 where
-    Shown<J>: Absorb<Step<J>, State = (Book, [Entry; 0])>,
+    Shown<J>: Absorb<(), State = ()>,
     Published<J>: Protocol<Shown<J>, ()>,
 {
     writer: BookWriter<J>,
-    head: Head<J>,
-    front: Front<J>,
+    /// The entry that the spare copy lacks.
+    last: Option<Entry>,
+    history: History<J>,
     journal: Vec<Entry>,
 }
 
 impl<J: Naming> Model for Publisher<J>
 where
-    Shown<J>: Absorb<Step<J>, State = (Book, [Entry; 0])>,
+    Shown<J>: Absorb<(), State = ()>,
     Published<J>: Protocol<Shown<J>, ()>,
 {
-    ghost use Rattle.std.specs.Prelude.{◌≡◌, List, [], drop};
+    ghost use Rattle.std.specs.Prelude.{◌≡◌, List};
     ghost use Rattle.cred_desk.specs.declared.entry.Entry.{Entry};
     ghost use Rattle.cred_desk.specs.Histories.{IsListed, after};
+    ghost use Rattle.cred_desk.specs.Published.{with_step};
 
     ghost Value = { List Entry };
 
-    ghost view = { λ p. p.front };
+    ghost view = { λ p. p.history };
 
-    ghost invariant = { λ p. (p.journal.items ≡ p.front) × (drop p.writer.behind p.writer.log.items ≡ []) × (p.writer.desk.shown.value.front ≡ p.front) × (p.writer.desk.shown.value.book ≡ after J.opening p.front) × IsListed J.loads J.opening p.front };
-}
-
-/// Shows readers this list, and the book with the entry. Where there is no memory they see what
-/// they saw.
-pub(crate) fn show<J: Naming, R: Wait>(
-    writer: &mut BookWriter<J>,
-    rt: &R,
-    step: Step<J>,
-) -> Result<(), AllocError>
-    requires book { with_step writer.old.desk.shown.value.book step.entry ≡ after J.opening step.front }
-    requires done { drop writer.old.behind writer.old.log.items ≡ [] }
-    ensures shown { MatchResult result (λ _. (writer.new.desk.shown.value.front ≡ step.front) × (writer.new.desk.shown.value.book ≡ after J.opening step.front)) (λ _. (writer.new.desk.shown.value.front ≡ writer.old.desk.shown.value.front) × (writer.new.desk.shown.value.book ≡ writer.old.desk.shown.value.book)) }
-    ensures done { drop writer.new.behind writer.new.log.items ≡ [] }
-{
-    writer.append(step).map_err(|_| AllocError)?;
-    replace_with(writer, rt, |writer, rt| writer.publish_as::<Sees<J>, R>(rt))
+    ghost invariant = { λ p. (p.journal.items ≡ p.history) × (p.writer.desk.shown.value.front ≡ p.history) × (p.writer.desk.shown.value.book ≡ after J.opening p.history) × (with_step p.writer.desk.spare.value.book p.last ≡ after J.opening p.history) × IsListed J.loads J.opening p.history };
 }
 
 impl<J: Naming> Publisher<J> {
     /// One with no entry yet.
-    pub(crate) fn new(
-        alloc: Global,
-        writer: BookWriter<J>,
-        head: Head<J>,
-        front: Front<J>,
-    ) -> Publisher<J>
-        requires empty { front ≡ [] }
-        requires shown { (writer.desk.shown.value.front ≡ []) × (writer.desk.shown.value.book ≡ J.opening) × (drop writer.behind writer.log.items ≡ []) }
+    pub(crate) fn new(alloc: Global, writer: BookWriter<J>, history: History<J>) -> Publisher<J>
+        requires empty { history ≡ [] }
+        requires shown { (writer.desk.shown.value.front ≡ []) × (writer.desk.shown.value.book ≡ J.opening) }
+        requires spare { writer.desk.spare.value.book ≡ J.opening }
         ensures { result ≡ [] }
     {
         Publisher {
             writer,
-            head,
-            front,
+            last: None,
+            history,
             journal: Vec::new(alloc),
         }
     }
@@ -97,7 +79,15 @@ impl<J: Naming> Publisher<J> {
     pub(crate) fn front(&self) -> &Front<J>
         ensures { result.now ≡ self.now }
     {
-        &self.front
+        self.history.front()
+    }
+
+    /// Finds that a list that somebody knows is a beginning of the present one.
+    pub(crate) fn covers(&mut self, known: &Front<J>)
+        ensures begins { IsPrefix known.now self.new }
+        ensures same { self.new ≡ self.old }
+    {
+        self.history.covers(known);
     }
 
     /// The present list, for sessions to learn.
@@ -105,7 +95,7 @@ impl<J: Naming> Publisher<J> {
         ensures told { result ≡ self.now }
         ensures listed { IsListed J.loads J.opening self.now }
     {
-        Told::new(self.front.again())
+        Told::new(self.front().again())
     }
 
     /// Adds an entry to the list, the journal and the published book.
@@ -118,12 +108,17 @@ impl<J: Naming> Publisher<J> {
         ensures listed { IsListed J.loads J.opening self.new }
     {
         self.journal.reserve(1)?;
-        let Some(front) = self.front.add(&self.head, &entry) else {
+        if !self.history.add(&entry) {
             return Err(DeskError::Memory);
+        }
+        let step = Step {
+            last: self.last,
+            entry,
+            front: self.history.front().again(),
         };
-        show(&mut self.writer, rt, Step::adding(&entry, &front))?;
+        show(&mut self.writer, rt, step);
+        self.last = Some(entry);
         self.journal.push_reserved(entry);
-        self.front = front;
         Ok(())
     }
 
@@ -158,8 +153,8 @@ impl<J: Naming> Publisher<J> {
     {
         let Publisher {
             writer,
-            head: _,
-            front: _,
+            last: _,
+            history: _,
             journal,
         } = self;
         let Shown { book, front: _ } = Box::into_inner(writer.take(rt));

@@ -67,12 +67,11 @@ impl<J: Naming> Session<J> {
         }
     }
 
-    /// Whether this list begins with the one that it knows. Else that one goes on after it.
-    pub(crate) fn is_behind(&self, list: &Front<J>) -> bool
-        ensures behind { MatchBool result (IsPrefix self.now.known list.now) (IsLonger list.now self.now.known) }
-        ensures listed { IsListed J.loads J.opening list.now }
+    /// The list that it knows.
+    pub(crate) fn known(&self) -> &Front<J>
+        ensures { result.now ≡ self.now.known }
     {
-        self.known.begins(list)
+        &self.known
     }
 
     /// Counts so many changes that it made.
@@ -114,6 +113,11 @@ impl<J: Naming> Session<J> {
     ///
     /// Errors: `NoAccount` where the name isn't there; `Reader` where there is no book to read, as
     /// may be once its desk or committer was ended, and nothing changes. The request comes back.
+    /// It would be `Reader` too where the book that was read is older than what is known, which
+    /// isn't met: a book is shown before anybody is told of it.
+    ///
+    /// The ticket doesn't name the session. Where its work is closed at another one that knows
+    /// less, the answer may be `Changed` with an older record than the ticket's.
     pub fn begin(&mut self, request: Request) -> Result<Ticket, (Request, DeskError)>
         requires { is_for_current request ≡ true }
         ensures known { IsPrefix self.old.known self.new.known }
@@ -138,8 +142,11 @@ impl<J: Naming> Session<J> {
     /// What the commit of the verify answers at the published book, whose list is known from then
     /// on.
     ///
+    /// Work of another session's ticket is judged like any other, at what this one reads.
+    ///
     /// Errors: `Reader` where there is no book to read, as may be once its desk or committer was
-    /// ended. Nothing changes then, and the work comes back.
+    /// ended. Nothing changes then, and the work comes back. It would be `Reader` too where the
+    /// book that was read is older than what is known, which isn't met.
     pub fn close_verify(&mut self, work: VerifyWorked) -> Result<Reply, (VerifyWorked, DeskError)>
         ensures known { IsPrefix self.old.known self.new.known }
         ensures listed { IsListed J.loads J.opening self.new.known }
@@ -161,9 +168,11 @@ impl<J: Naming> Session<J> {
     }
 
     /// Knows what was told from then on, beside what it knew.
+    #[tactic(auto, using(crate::proofs::Lists::longer_ends))]
     pub fn learn(&mut self, told: &Told<J>)
         ensures mine { IsPrefix self.old.known self.new.known }
         ensures told { IsPrefix told.now self.new.known }
+        ensures whole { IsPrefix self.old.known told.now → self.new.known ≡ told.now }
         ensures count { self.new.count ≡ self.old.count }
     {
         self.know(told.front().again());

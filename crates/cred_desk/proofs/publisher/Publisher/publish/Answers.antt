@@ -1,16 +1,24 @@
-use Rattle.std.proofs.Common.{rules, ◌∙◌, sym}
-use Rattle.cred_desk.specs.Histories.{Allowed, after}
+use Rattle.std.proofs.Common.{◌≡◌, ◌∷◌, ◌++◌, [], ap, subst, sym, ◌∙◌}
+use Rattle.cred_desk.specs.Histories.{Allowed, IsListed, after}
 use Rattle.cred_desk.proofs.Lists.{after_snoc, with_allowed}
 use Rattle.cred_desk.proofs.publisher.Publisher.publish.Goals as goal
 
-pub show-requires-clause-book : goal.show-requires-clause-book
-show-requires-clause-book g c =
-    let list = c.self.inside.front in
+pub show-requires : goal.show-requires
+show-requires g c =
+    let list = c.self.inside.history in
     let allowed : Allowed g.J.Naming.loads (after g.J.Naming.opening list) c.args.entry = rw c.self.view_is c.requires in
-    rw (c.adding.ensures.entry, c.adding.ensures.front, c.in-Some.ensures, c.self.invariant.3) (with_allowed _ _ _ allowed ∙ sym (after_snoc _ list c.args.entry))
-
-pub returns-clause-done : goal.returns-clause-done
-returns-clause-done g c = search rules
+    let grown : c.again.result ≡ list ++ c.args.entry ∷ [] = c.again.ensures.same ∙ (c.front.ensures ∙ c.if-not-add.ensures.list) in
+    rw (grown, c.self.invariant.3) (with_allowed _ _ _ allowed ∙ sym (after_snoc _ list c.args.entry))
 
 pub invariant_of-self-2 : goal.invariant_of-self-2
-invariant_of-self-2 g c = search rules
+invariant_of-self-2 g c =
+    let list = c.self.inside.history in
+    let allowed : Allowed g.J.Naming.loads (after g.J.Naming.opening list) c.args.entry = rw c.self.view_is c.requires in
+    let grown : c.add.new.self ≡ list ++ c.args.entry ∷ [] = c.if-not-add.ensures.list in
+    let front : c.again.result ≡ c.add.new.self = c.again.ensures.same ∙ c.front.ensures in (
+      cc (c.push_reserved.ensures.items, c.in_ok-reserve.ensures.items, c.self.invariant.0, grown),
+      c.show.ensures.front ∙ front,
+      c.show.ensures.book ∙ ap (after g.J.Naming.opening) front,
+      rw (c.show.ensures.spare, c.self.invariant.2, grown) (with_allowed _ _ _ allowed ∙ sym (after_snoc _ list c.args.entry)),
+      subst (IsListed g.J.Naming.loads g.J.Naming.opening) c.front.ensures c.again.ensures.listed,
+    )
