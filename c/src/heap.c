@@ -32,7 +32,7 @@ static size_t rounded_up(size_t size, size_t unit) {
 static _Atomic(unsigned char *) kept_areas[KEPT_AREAS];
 
 static unsigned char *map_area(size_t size) {
-    if (size > PTRDIFF_MAX - AREA)
+    if (size > PTRDIFF_MAX - 2 * AREA)
         return NULL;
     unsigned char *mapping =
         mmap(NULL, size + AREA, PROT_READ | PROT_WRITE, MAP_PRIVATE | MAP_ANONYMOUS, -1, 0);
@@ -178,7 +178,7 @@ void rattle_dealloc(void *start);
 
 struct tried rattle_alloc(size_t size, size_t align) {
     static char refused;
-    if (align <= LEAST_ALIGN && has_room_for_block()) {
+    if (size <= PTRDIFF_MAX && align <= LEAST_ALIGN && has_room_for_block()) {
         struct block block = new_block(size == 0 ? align : size);
         if (block.start != NULL) {
             taken.blocks[taken.count++] = block;

@@ -24,7 +24,11 @@ WARNINGS = "-std=c11 -g -Wall -Wextra -Wpedantic -Werror -Iinclude".split()
 SANITIZED = ["-O1", "-fsanitize=address,undefined", "-fno-sanitize-recover=all"]
 SOURCES = ["src/rigzumal.c", "src/heap.c", "out/v2.o", "out/v3.o"]
 ARCHIVE = ["out/librigzumal.a"]
-MEMORY_CALLS = {"refused": "posix_memalign realloc mmap", "cleared": "posix_memalign free mmap munmap"}
+MEMORY_CALLS = {
+    "heap": "posix_memalign mmap munmap",
+    "refused": "posix_memalign realloc mmap",
+    "cleared": "posix_memalign free mmap munmap",
+}
 
 
 class Skipped(Exception):
@@ -99,6 +103,11 @@ def test_calls_under_valgrind():
     need("valgrind")
     valgrind = "valgrind -q --error-exitcode=9 --leak-check=full --errors-for-leak-kinds=all"
     run(*valgrind.split(), built("calls", ["-O2"], ARCHIVE))
+
+
+def test_heap():
+    """The memory by itself, under the sanitizers."""
+    run(built("heap", SANITIZED, ["src/heap.c"]))
 
 
 def test_refused_memory():
