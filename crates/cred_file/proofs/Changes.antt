@@ -1,0 +1,166 @@
+-- What the statements that change an account do to the table, at Ok and over a crash.
+use Rattle.std.proofs.Common.{◌≡◌, ◌⊎◌, inl, inr, ℕ, ℤ, pos, negsuc, List, [], ◌∷◌, ◌++◌, append-nil, map, filter, flat_map, codes, slice_get, Bool, true, false, not, cond, ◌&&◌, ◌||◌, drop, Some, None, Option, Ok, Err, Result, IfOk, OnOk, refl, sym, ap, subst, subst₂, ◌∙◌}
+use Rattle.std.specs.List.{list_any, list_all}
+use Rattle.std.specs.List.Sorted.{IsPermutation}
+use Rattle.std.specs.Ordering.{is_eq, eq_by_cmp}
+use Rattle.std.specs.Cmp.{eq_by_cmp_equiv}
+use Rattle.std.specs.Cmp.Lexicographic.{nat_list_cmp_total}
+use Rattle.std.specs.FinMap as fin
+use Rattle.std.specs.FinMap.{get-from_entries}
+use Rattle.std.specs.FinMap.Entries.{is_some-find}
+use Rattle.std.proofs.Common.{is_some}
+use Rattle.sqlite.specs.declared.types.Value.{Value}
+use Rattle.sqlite.specs.declared.types.Value.TheVariants.{Null, Int, Text}
+use Rattle.sqlite.specs.Order.{Row, column, value_cmp}
+use Rattle.sqlite.specs.Term.{Term, lit, col, Env, holds}
+use Rattle.sqlite_sql.specs.Ops.{unary, binary, is_true, from_truth}
+use Rattle.sqlite.specs.Query.{Query, IsAnswer, output, page, Output}
+use Rattle.sqlite.specs.Program.{overlay}
+use Rattle.sqlite.specs.Kind.TheVariants.{Integer}
+use Rattle.sqlite.specs.Source.TheVariants.{Values}
+use Rattle.sqlite.specs.Command.TheVariants.{Insert, Update}
+use Rattle.sqlite.specs.declared.run.Mode.{Mode}
+use Rattle.sqlite.specs.Edit.{Edit, edit_of, edited}
+use Rattle.sqlite_rules.specs.Edit.{put_all, next_rowid, is_taken, are_fresh}
+use Rattle.sqlite.specs.Cast.{cast}
+use Rattle.sqlite_rules.specs.Cast.{cast_row}
+use Rattle.sqlite_rules.specs.Calls.{ids_of}
+use Rattle.sqlite.specs.Rowids.TheVariants.{Chosen, Given}
+use Rattle.sqlite.specs.Does.{Tally, Does}
+use Rattle.sqlite.specs.Rows.{Written}
+use Rattle.sqlite.specs.Tree.{Trees}
+use Rattle.sqlite_trees.specs.Tree.{has_rowid, put_row, without_rowid}
+use Rattle.sqlite.specs.Effect.{Database}
+use Rattle.sqlite.proofs.Callers.{one_step, one_permutation}
+use Rattle.cred_phc.specs.Values.{RecordValue}
+use Rattle.cred_book.specs.Accounts.{Accounts}
+use Rattle.cred_book.specs.Names.{name_cmp}
+use Rattle.cred_file.specs.Schema.{account, account_schema}
+use Rattle.cred_file.specs.Table.{Line, Says, Tells, has_name, StandsFor}
+use Rattle.cred_file.proofs.TableLemmas.{stands_put, stands_without, row_of, IsRowOf, insert_again, absent_now, named_in}
+use Rattle.cred_file.proofs.Texts.{matched, terms}
+
+either : (b : Bool) (x : Value) → cond b x x ≡ x
+either true x = refl
+either false x = refl
+
+cast_null : cast Integer Null ≡ Null
+unfolding unary
+cast_null = either _ Null
+
+cast_int : (n : ℤ) → cast Integer (Int n) ≡ Int n
+unfolding unary
+cast_int n = either _ (Int n)
+
+cast_told : (value : Value) (v : Option RecordValue) → Tells value v → cast Rattle.sqlite.specs.Kind.TheVariants.Text value ≡ value
+cast_told Null v tells = refl
+cast_told (Text t) v tells = refl
+cast_told (Int n) v tells = absurd tells
+cast_told (Rattle.sqlite.specs.declared.types.Value.TheVariants.Real x) v tells = absurd tells
+cast_told (Rattle.sqlite.specs.declared.types.Value.TheVariants.Blob b) v tells = absurd tells
+
+-- a part that gave a value did not stop on the way
+went : {B E R : Type 0} {b : B} {Stops : E → Type 0} → ((stop : E) × Stops stop × (Ok b ≡ Err stop)) ⊎ R → R
+went (inl stopped) = absurd (let e = stopped.2 in cc)
+went (inr on) = on
+
+same_value : {B E : Type 0} {a b : B} → ◌≡◌ {A = Result B E} (Ok a) (Ok b) → a ≡ b
+same_value e = cc
+
+fresh_is : (rows : List Row) (new : Row) → are_fresh rows (new ∷ []) ≡ true → is_taken rows new ≡ false
+fresh_is rows new e = elim (is_taken rows new) as (λ b. (not b && true) ≡ true → b ≡ false) [ true ↦ λ e. absurd cc | false ↦ λ _. refl ] e
+
+abbrev given : List ℕ → Value → Row
+given name v = Text name ∷ v ∷ []
+
+truth_back : (b : Bool) → (is_true (from_truth (Some b)) && true) ≡ b
+unfolding binary
+truth_back true = refl
+truth_back false = refl
+
+-- how WHERE judges the name of a row
+abbrev judges : List ℕ → Value → Value → Bool
+judges name v x = list_all (holds (given name v ∷ (Null ∷ x ∷ []) ∷ [])) matched.filter
+
+judges_name : (name : List ℕ) (v : Value) (other : List ℕ) → judges name v (Text other) ≡ eq_by_cmp name_cmp name other
+unfolding binary value_cmp lib.Ieee.is_nan lib.Ieee.lt
+judges_name name v other = truth_back (is_eq (name_cmp other name)) ∙ (eq_by_cmp_equiv nat_list_cmp_total).symm other name
+
+abbrev passes : Row → Row → Bool
+passes params r = list_all (holds (params ∷ r ∷ [])) matched.filter
+
+finds : (name : List ℕ) (v : Value) (r : Row) (l : Line) → Says r l → passes (given name v) r ≡ has_name name l
+finds name v r l says = ap (judges name v) says.name ∙ judges_name name v l.name
+
+abbrev matching : Row → Row → List Env
+matching params r = cond (passes params r) ((params ∷ r ∷ []) ∷ []) []
+
+-- WHERE keeps the rows that pass
+matched_rows : (params : Row) (rows : List Row) → flat_map (matching params) rows ≡ map (λ r. params ∷ r ∷ []) (filter (passes params) rows)
+matched_rows params [] = refl
+matched_rows params (r ∷ rs) = elim (passes params r) as (λ b. cond b ((params ∷ r ∷ []) ∷ []) [] ++ flat_map (matching params) rs ≡ map (λ x. params ∷ x ∷ []) (cond b (r ∷ filter (passes params) rs) (filter (passes params) rs))) [
+  | true ↦ ap (λ es. (params ∷ r ∷ []) ∷ es) (matched_rows params rs)
+  | false ↦ matched_rows params rs
+]
+
+none_left : (id : ℤ) (rows : List Row) → list_any (has_rowid id) (without_rowid id rows) ≡ false
+none_left id [] = refl
+none_left id (r ∷ rs) = elim (has_rowid id r) as (λ b. has_rowid id r ≡ b → list_any (has_rowid id) (cond (not b) (r ∷ without_rowid id rs) (without_rowid id rs)) ≡ false) [
+  | true ↦ λ p. none_left id rs
+  | false ↦ λ p. ap (λ b. b || list_any (has_rowid id) (without_rowid id rs)) p ∙ none_left id rs
+] refl
+
+pub does_update : (limit : Option ℕ) (mode : Mode) (name : List ℕ) (value : Value) (v : Option RecordValue) (db after : Database) (text : List ℕ) (tally : Tally) (book : Accounts)
+    → Tells value v → db.schema ≡ account_schema → StandsFor (db.trees 0) book → fin.contains_key book name ≡ true
+    → Does limit mode (Text name ∷ value ∷ []) db text None (Update 0 (record { lets = []; body = matched })) (Ok (tally, after))
+    → (after.schema ≡ account_schema) × StandsFor (after.trees 0) (fin.insert book name v)
+does_update limit mode name value v db after text tally book tells has stands there does =
+    let params = Text name ∷ value ∷ [] in
+    let found = row_of (passes params) name (finds name value) (db.trees 0) stands.lines stands.each stands.apart (named_in name (db.trees 0) book stands there) in
+    let r = found.0 in
+    let l = found.1 in
+    let it = found.2 in
+    let trees = db.trees in
+    let done = went (subst (λ s. Does limit mode params (record db { schema = s }) text None (Update 0 (record { lets = []; body = matched })) (Ok (tally, after))) has does) in
+    let now = ap (λ (p : Tally × Database). p.1) (same_value (went (went done.2).2).2) in
+    let asked = went done.1 in
+    let a : IsAnswer matched (overlay trees []) params asked.0 = asked.1.answer Null in
+    let staged : a.staged ≡ (params ∷ r ∷ []) ∷ [] = a.grouped ∙ matched_rows params (trees 0) ∙ ap (map (λ x. params ∷ x ∷ [])) it.alone in
+    let o : Output = ([], column r 0 ∷ column r 0 ∷ column r 1 ∷ value ∷ []) in
+    let kept : a.kept ≡ o ∷ [] = a.distinct ∙ ap (map (output matched)) staged in
+    let ordered = one_permutation o a.ordered (subst (λ k. IsPermutation k a.ordered) kept a.same) in
+    let is : o.1 ≡ Int l.id ∷ Int l.id ∷ Text l.name ∷ value ∷ [] = (λ i. it.says.id i ∷ it.says.id i ∷ it.says.name i ∷ value ∷ []) in
+    let rows : asked.0 ≡ (Int l.id ∷ Int l.id ∷ Text l.name ∷ value ∷ []) ∷ [] = a.shown ∙ ap (λ xs. page matched params (map (λ (p : Output). p.1) xs)) ordered ∙ ap (λ (x : Row). x ∷ []) is in
+    let written = went asked.2 in
+    let step = one_step account_schema _ trees written.0 (edit_of trees account (ids_of asked.0) Given 1 asked.0) refl written.1 in
+    let line : Line = record { id = l.id; name = name; stored = v } in
+    let row : Row = Int l.id ∷ Text name ∷ value ∷ [] in
+    let news : cast_row account (Int l.id ∷ Text l.name ∷ value ∷ []) ≡ row = (λ i. cast_int l.id i ∷ Text (it.named i) ∷ cast_told value v tells i ∷ []) in
+    let changed : edited trees (edit_of trees account (ids_of asked.0) Given 1 asked.0) ≡ put_row row (without_rowid l.id (trees 0)) =
+        ap (λ all. edited trees (edit_of trees account (ids_of all) Given 1 all)) rows ∙ ap (λ r. put_row r (without_rowid l.id (trees 0))) news in
+    let made = stands_put (without_rowid l.id (trees 0)) (fin.remove book name) row line (record { id = refl; name = refl; stored = tells })
+        (stands_without (passes params) (trees 0) book name stands r l it) (none_left l.id (trees 0)) (absent_now book name) in
+    let is : after.trees 0 ≡ put_row row (without_rowid l.id (trees 0)) = ap (λ (d : Database). d.trees 0) now ∙ ap (λ (w : Written). w.trees 0) (same_value written.2) ∙ step.rows ∙ changed in
+    (ap (λ (d : Database). d.schema) now, subst₂ StandsFor (sym is) (insert_again book name v) made)
+
+pub does_insert : (limit : Option ℕ) (mode : Mode) (name : List ℕ) (db after : Database) (text : List ℕ) (tally : Tally) (book : Accounts)
+    → db.schema ≡ account_schema → StandsFor (db.trees 0) book → fin.contains_key book name ≡ false
+    → Does limit mode (Text name ∷ []) db text None (Insert 0 (Values terms 3)) (Ok (tally, after))
+    → (after.schema ≡ account_schema) × StandsFor (after.trees 0) (fin.insert book name None)
+does_insert limit mode name db after text tally book has stands absent does =
+    let params = Text name ∷ [] in
+    let trees = db.trees in
+    let done = went (subst (λ s. Does limit mode params (record db { schema = s }) text None (Insert 0 (Values terms 3)) (Ok (tally, after))) has does) in
+    let now = ap (λ (p : Tally × Database). p.1) (same_value (went (went done.2).2).2) in
+    let asked = went done.1 in
+    let written = went (went asked.2).2 in
+    let counted = went written.2 in
+    let step = one_step account_schema _ trees written.0 (edit_of trees account [] Chosen 0 asked.0) refl written.1 in
+    let line : Line = record { id = next_rowid (trees 0); name = name; stored = None } in
+    let row : Row = Int line.id ∷ Text name ∷ Null ∷ [] in
+    let news : (edit_of trees account [] Chosen 0 asked.0).news ≡ row ∷ [] = ap (λ all. (edit_of trees account [] Chosen 0 all).news) asked.1.1 ∙ rw cast_null in
+    let free = fresh_is (trees 0) row (subst (λ n. are_fresh (trees 0) n ≡ true) news step.fresh) in
+    let made = stands_put (trees 0) book row line (record { id = refl; name = refl; stored = tt }) stands free absent in
+    let is : after.trees 0 ≡ put_row row (trees 0) = ap (λ (d : Database). d.trees 0) now ∙ ap (λ (w : Written). w.trees 0) (same_value counted.2) ∙ ap (λ (t : Trees). t 0) (same_value counted.1)
+        ∙ step.rows ∙ ap (put_all (trees 0)) news in
+    (ap (λ (d : Database). d.schema) now, subst (λ rows. StandsFor rows (fin.insert book name None)) (sym is) made)

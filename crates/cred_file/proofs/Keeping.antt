@@ -1,0 +1,178 @@
+-- What the statements do to a connection that keeps a book.
+use Rattle.std.proofs.Common.{is_ok, is_err, is_some, arith, ◌≤◌, ◌≡◌, ◌⊎◌, inl, inr, ℕ, List, [], ◌∷◌, append-nil, Bool, true, false, cond, if◌then◌else◌, Some, None, Option, Ok, Err, Result, IsTrue, OnOk, refl, sym, ap, subst, subst₂, ◌∙◌}
+use Rattle.std.specs.FinMap as fin
+use Rattle.sqlite.specs.declared.types.Value.{Value}
+use Rattle.sqlite.specs.declared.types.Value.TheVariants.{Null, Int, Real, Text, Blob}
+use Rattle.sqlite.specs.Values.{bound_value}
+use Rattle.sqlite.specs.Order.{Row}
+use Rattle.sqlite.specs.Tree.{Trees}
+use Rattle.sqlite.specs.Schema.{Schema}
+use Rattle.sqlite_schema.specs.declared.command.Command.{Command}
+use Rattle.sqlite.specs.Command.TheVariants.{Insert, Update}
+use Rattle.sqlite.specs.Source.TheVariants.{Values}
+use Rattle.sqlite.specs.declared.error.Error.{Error}
+use Rattle.sqlite.specs.Effect.{Database}
+use Rattle.sqlite.specs.Listing.{understood}
+use Rattle.sqlite.specs.State.{State, HasCleanDisk, Survives, Executes, CommitsBy, MayCommit, MayWrite, Writes, Runs, mode_of}
+use Rattle.sqlite.specs.declared.run.Mode.{Mode}
+use Rattle.sqlite.specs.Does.{Does, Tally}
+use Rattle.sqlite.proofs.Callers.{IsPlain, command_of, statement_of, runs_as}
+use Rattle.cred_phc.specs.Values.{IsRecord, RecordValue}
+use Rattle.cred_phc.specs.Text.{record_text}
+use Rattle.cred_phc.specs.Reading.{read_record}
+use Rattle.cred_phc.proofs.RecordLaws.{read_back}
+use Rattle.std.proofs.Common.{nat_lt, ◌<◌}
+use Rattle.std.proofs.lemmas.Bool.{lt-ltb}
+use Rattle.cred_book.specs.Accounts.{Accounts, with_entry, most_accounts}
+use Rattle.sqlite_catalog.specs.Listing.{IsSound}
+use Rattle.cred_file.specs.Schema.{account_schema}
+use Rattle.cred_file.specs.Table.{StandsFor, Tells}
+use Rattle.cred_file.specs.Keeps.{HoldsBook, IsTableOf, LeavesOnly, Keeps, IsOrWith}
+use Rattle.cred_file.specs.declared.fault.Lost.{Lost}
+use Rattle.sqlite.specs.Held.{Held, state}
+use Rattle.sqlite.specs.Store.{Ghosts}
+use Rattle.sqlite_trees.specs.View.{doubt}
+use Rattle.cred_book.specs.Calls.{Shows}
+use Rattle.cred_book.specs.declared.error.BookError.{BookError}
+use Rattle.cred_book.specs.declared.error.BookError.TheVariants as error
+use Rattle.cred_file.proofs.Texts.{insert_text, update_text, insert_is, update_is, insert_plain, update_plain, matched, terms}
+use Rattle.cred_file.proofs.Changes.{does_insert, does_update}
+
+-- while the store is open, a crash leaves the last commit
+abbrev pub IsSettled : State → Type 0
+IsSettled s = (db : Trees) → IsTrue s.is_open → s.may_leave db → db ≡ s.committed.trees
+
+-- the trees of a sound database
+pub holds : (db : Trees) (book : Accounts) (of : Database) → of.schema ≡ account_schema → IsSound of.schema of.trees → StandsFor (of.trees 0) book → db ≡ of.trees → HoldsBook db book
+holds db book of schema sound stands is = record {
+  sound = subst₂ IsSound schema (sym is) sound;
+  stands = subst (λ (t : Trees). StandsFor (t 0) book) (sym is) stands;
+}
+
+module _ (sql : List ℕ) (params : Row) (schema : Schema) (command : Command) (is : command_of (understood schema sql) ≡ command) (plain : IsPlain (understood schema sql)) where
+  commits_as : (s : State) → s.now.schema ≡ schema → (db : Trees) → CommitsBy sql params s db → MayCommit s None command (statement_of sql (understood schema sql)) params db
+  unfolding CommitsBy
+  commits_as s has db h =
+      let known = sym h.1.is ∙ ap (λ s. understood s sql) has in
+      let bare = subst IsPlain (sym known) plain in
+      subst₂ (λ k t. MayCommit s None k t params db) (ap command_of known ∙ is) (ap (statement_of sql) known) (rw (bare.0, bare.1, append-nil params) at h.2)
+
+  -- from what the statement does to a database
+  module _ (from to : Accounts)
+      (step : (limit : Option ℕ) (mode : Mode) (db after : Database) (text : List ℕ) (tally : Tally) → db.schema ≡ schema → StandsFor (db.trees 0) from → Does limit mode params db text None command (Ok (tally, after))
+          → (after.schema ≡ schema) × StandsFor (after.trees 0) to)
+      (run : (old new : State) (text : List ℕ) (count : ℕ) → Runs old new None command text params count → Writes old new None command text params count)
+      (may_write : (s : State) (text : List ℕ) (db : Trees) → MayCommit s None command text params db → MayWrite s None command text params db)
+      (same : schema ≡ account_schema) where
+    pub done : (old new : State) (count : ℕ) → IsSettled new → IsTableOf old from → Executes sql params old new (Ok count) → IsTableOf new to
+    done old new count settled was h =
+        let has = was.schema ∙ sym same in
+        let w = run old new _ count (runs_as sql params old new schema has command is plain count h) in
+        let made = step old.step_limit (mode_of old) old.now new.now (statement_of sql (understood schema sql)) w.tally has was.stands w.changed in
+        let committed : new.committed ≡ new.now = w.shown.committed_is ∙ ap (λ b. if b then old.committed else new.now) was.autocommit in
+        record {
+          schema = made.0 ∙ same;
+          stands = made.1;
+          autocommit = w.shown.mode ∙ was.autocommit;
+          left = λ db may. (to, refl, holds db to new.now (made.0 ∙ same) w.sound made.1 (settled db w.shown.is_open may ∙ ap (λ (d : Database). d.trees) committed));
+        }
+
+    pub crash : (old new : State) → HasCleanDisk new → Survives old new (CommitsBy sql params old) → IsTableOf old from → LeavesOnly new (λ b. (b ≡ from) ⊎ (b ≡ to))
+    crash old new clean s was db may =
+        let has = was.schema ∙ sym same in
+        elim (s.crash clean db may) [
+          | inl before ↦ let l = was.left db before in (l.0, inl l.1, l.2)
+          | inr commits ↦
+              let m = may_write old _ db (commits_as old has db commits) in
+              let made = step old.step_limit (mode_of old) old.now m.2 (statement_of sql (understood schema sql)) m.1 has was.stands m.3 in
+              (to, inr refl, holds db to m.2 (made.0 ∙ same) m.4 made.1 m.5)
+        ]
+
+module _ (book : Accounts) (name : List ℕ) (absent : fin.contains_key book name ≡ false) (old new : State) where
+  insert_may : (s : State) (text : List ℕ) (db : Trees) → MayCommit s None (Insert 0 (Values terms 3)) text (Text name ∷ []) db → MayWrite s None (Insert 0 (Values terms 3)) text (Text name ∷ []) db
+  insert_may s text db (inl h) = absurd (elim h.0 [ inl e ↦ cc | inr e ↦ let e = e.2 in cc ])
+  insert_may s text db (inr h) = h
+
+  insert_does : (limit : Option ℕ) (mode : Mode) (db after : Database) (text : List ℕ) (tally : Tally) → db.schema ≡ account_schema → StandsFor (db.trees 0) book
+      → Does limit mode (Text name ∷ []) db text None (Insert 0 (Values terms 3)) (Ok (tally, after)) → (after.schema ≡ account_schema) × StandsFor (after.trees 0) (fin.insert book name None)
+  insert_does limit mode db after text tally has stands d = does_insert limit mode name db after text tally book has stands absent d
+
+  pub inserted : (count : ℕ) → IsSettled new → IsTableOf old book → Executes insert_text (Text name ∷ []) old new (Ok count) → IsTableOf new (fin.insert book name None)
+  inserted = done insert_text (Text name ∷ []) account_schema (Insert 0 (Values terms 3)) insert_is insert_plain book (fin.insert book name None) insert_does (λ o n t c h. h) insert_may refl old new
+
+  pub insert_left : HasCleanDisk new → Survives old new (CommitsBy insert_text (Text name ∷ []) old) → IsTableOf old book → LeavesOnly new (λ b. (b ≡ book) ⊎ (b ≡ fin.insert book name None))
+  insert_left = crash insert_text (Text name ∷ []) account_schema (Insert 0 (Values terms 3)) insert_is insert_plain book (fin.insert book name None) insert_does (λ o n t c h. h) insert_may refl old new
+
+-- a record that is written is told by its text
+pub record_told : (t : List ℕ) (v : RecordValue) → t ≡ record_text v → IsRecord v → Tells (Text t) (Some v)
+record_told t v is ranges = ap read_record is ∙ read_back v ranges
+
+-- what is bound for such a value is the value
+pub bound_told : (value : Value) (v : Option RecordValue) → Tells value v → bound_value value ≡ value
+bound_told Null v tells = refl
+bound_told (Text t) v tells = refl
+bound_told (Int n) v tells = absurd tells
+bound_told (Real x) v tells = absurd tells
+bound_told (Blob b) v tells = absurd tells
+
+module _ (book : Accounts) (name : List ℕ) (value : Value) (v : Option RecordValue) (tells : Tells value v) (there : fin.contains_key book name ≡ true) (old new : State) where
+  abbrev given : Row
+  given = Text name ∷ value ∷ []
+
+  abbrev command : Command
+  command = Update 0 (record { lets = []; body = matched })
+
+  update_may : (s : State) (text : List ℕ) (db : Trees) → MayCommit s None command text given db → MayWrite s None command text given db
+  update_may s text db (inl h) = absurd (elim h.0 [ inl e ↦ cc | inr e ↦ let e = e.2 in cc ])
+  update_may s text db (inr h) = h
+
+  update_does : (limit : Option ℕ) (mode : Mode) (db after : Database) (text : List ℕ) (tally : Tally) → db.schema ≡ account_schema → StandsFor (db.trees 0) book
+      → Does limit mode given db text None command (Ok (tally, after)) → (after.schema ≡ account_schema) × StandsFor (after.trees 0) (fin.insert book name v)
+  update_does limit mode db after text tally has stands d = does_update limit mode name value v db after text tally book tells has stands there d
+
+  pub updated : (count : ℕ) → IsSettled new → IsTableOf old book → Executes update_text given old new (Ok count) → IsTableOf new (fin.insert book name v)
+  updated = done update_text given account_schema command update_is update_plain book (fin.insert book name v) update_does (λ o n t c h. h) update_may refl old new
+
+  pub update_left : HasCleanDisk new → Survives old new (CommitsBy update_text given old) → IsTableOf old book → LeavesOnly new (λ b. (b ≡ book) ⊎ (b ≡ fin.insert book name v))
+  update_left = crash update_text given account_schema command update_is update_plain book (fin.insert book name v) update_does (λ o n t c h. h) update_may refl old new
+
+-- ---- what a book in a database keeps true
+
+module _ {S : Type 0} (g : Ghosts S) (old new : Held S) (book : Accounts) (lost : Option Lost) (keeps : Keeps g old book lost) (none : lost ≡ None)
+    (clean : doubt (state g old).is_clean ≤ doubt (state g new).is_clean) where
+  early : HasCleanDisk (state g new) → HasCleanDisk (state g old)
+  early now = omega (arith, clean)
+
+  pub keeps_done : (after : Accounts) → (HasCleanDisk (state g new) → IsTableOf (state g old) book → IsTableOf (state g new) after) → Keeps g new after lost
+  keeps_done after does = record {
+    table = λ now _. does now (keeps.table (early now) none);
+    left = λ now. subst (λ l. LeavesOnly (state g new) (IsOrWith after l)) (sym none) (does now (keeps.table (early now) none)).left;
+  }
+
+  pub keeps_lost : (l : Lost) → (HasCleanDisk (state g new) → IsTableOf (state g old) book → LeavesOnly (state g new) (λ b. (b ≡ book) ⊎ (b ≡ fin.insert book l.name l.stored))) → Keeps g new book (Some l)
+  keeps_lost l does = record {
+    table = λ now e. absurd cc;
+    left = λ now. does now (keeps.table (early now) none);
+  }
+
+pub no_some : {X : Type 0} (o : Option X) → is_some o ≡ false → o ≡ None
+no_some None e = refl
+no_some (Some x) e = absurd cc
+
+pub shown_absent : (book : Accounts) (name : List ℕ) (r : Result (Option RecordValue) BookError) → Shows book name r → is_ok r ≡ false → fin.contains_key book name ≡ false
+shown_absent book name (Ok v) h e = absurd cc
+shown_absent book name (Err error.NoAccount) h e = ap is_some h
+shown_absent book name (Err error.Memory) h e = absurd h
+shown_absent book name (Err error.Name) h e = absurd h
+shown_absent book name (Err error.Exists) h e = absurd h
+shown_absent book name (Err error.Full) h e = absurd h
+
+pub shown_there : (book : Accounts) (name : List ℕ) (r : Result (Option RecordValue) BookError) → Shows book name r → is_err r ≡ false → fin.contains_key book name ≡ true
+shown_there book name (Ok v) h e = ap is_some h
+shown_there book name (Err x) h e = absurd cc
+
+pub entry_new : (book : Accounts) (name : List ℕ) (v : Option RecordValue) → fin.contains_key book name ≡ false → fin.len book < most_accounts → with_entry book name v ≡ fin.insert book name v
+entry_new book name v absent room = let low : nat_lt (fin.len book) most_accounts ≡ true = lt-ltb (fin.len book) most_accounts room in rw (absent, low) refl
+
+pub entry_old : (book : Accounts) (name : List ℕ) (v : Option RecordValue) → fin.contains_key book name ≡ true → with_entry book name v ≡ fin.insert book name v
+entry_old book name v there = rw there refl

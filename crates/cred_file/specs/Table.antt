@@ -1,0 +1,50 @@
+-- When the rows of the table stand for a book.
+use Rattle.std.specs.Prelude.{◌≡◌, ℕ, ℤ, Bool, false, List, [], ◌∷◌, map, Option, Some, None, Ok, ⊤}
+use Rattle.std.specs.List.{AllZip, list_any}
+use Rattle.std.specs.Ordering.{is_eq, eq_by_cmp}
+use Rattle.std.specs.FinMap as fin
+use Rattle.sqlite.specs.declared.types.Value.{Value}
+use Rattle.sqlite.specs.declared.types.Value.TheVariants.{Null, Int, Text}
+use Rattle.sqlite.specs.Order.{Row, column, value_cmp}
+use Rattle.cred_phc.specs.Values.{RecordValue}
+use Rattle.cred_phc.specs.Reading.{read_record}
+use Rattle.cred_book.specs.Accounts.{Accounts}
+use Rattle.cred_book.specs.Names.{name_cmp}
+
+-- what a row says: its rowid, a name, and the record that stands there, if one does
+pub record Line : Type 0 where
+  pub id : ℤ
+  pub name : List ℕ
+  pub stored : Option RecordValue
+
+-- NULL is no record, and a text is the record that it is read as
+abbrev pub Tells : Value → Option RecordValue → Type 0
+Tells Null None = ⊤
+Tells (Text t) (Some v) = read_record t ≡ Ok v
+Tells _ _ = ⊥
+
+pub record Says (row : Row) (l : Line) : Type 0 where
+  pub id : column row 0 ≡ Int l.id
+  pub name : column row 1 ≡ Text l.name
+  pub stored : Tells (column row 2) l.stored
+
+abbrev pub entry_of : Line → List ℕ × Option RecordValue
+entry_of l = (l.name, l.stored)
+
+abbrev pub has_id : ℤ → Line → Bool
+has_id id l = is_eq (value_cmp (Int l.id) (Int id))
+
+abbrev pub has_name : List ℕ → Line → Bool
+has_name name l = eq_by_cmp name_cmp name l.name
+
+-- no rowid and no name comes twice
+abbrev pub AreApart : List Line → Type 0
+AreApart [] = ⊤
+AreApart (l ∷ ls) = (list_any (has_id l.id) ls ≡ false) × (list_any (has_name l.name) ls ≡ false) × AreApart ls
+
+-- each row says a line, no two lines have one name, and their entries are the book
+pub record StandsFor (rows : List Row) (book : Accounts) : Type 0 where
+  pub lines : List Line
+  pub each : AllZip Says rows lines
+  pub apart : AreApart lines
+  pub book_is : fin.from_entries (map entry_of lines) ≡ book

@@ -1,0 +1,9 @@
+//! A book that is kept in a database of one table, which the program sqlite3 reads.
+#![tactic(auto)]
+
+mod fault;
+mod file_book;
+mod statements;
+
+pub use fault::Lost;
+pub use file_book::FileBook;
