@@ -137,9 +137,9 @@ does_update limit mode name value v db after text tally book tells has stands th
     let row : Row = Int l.id ∷ Text name ∷ value ∷ [] in
     let news : cast_row account (Int l.id ∷ Text l.name ∷ value ∷ []) ≡ row = (λ i. cast_int l.id i ∷ Text (it.named i) ∷ cast_told value v tells i ∷ []) in
     let changed : edited trees (edit_of trees account (ids_of asked.0) Given 1 asked.0) ≡ put_row row (without_rowid l.id (trees 0)) =
-        ap (λ all. edited trees (edit_of trees account (ids_of all) Given 1 all)) rows ∙ ap (λ r. put_row r (without_rowid l.id (trees 0))) news in
+    ap (λ all. edited trees (edit_of trees account (ids_of all) Given 1 all)) rows ∙ ap (λ r. put_row r (without_rowid l.id (trees 0))) news in
     let made = stands_put (without_rowid l.id (trees 0)) (fin.remove book name) row line (record { id = refl; name = refl; stored = tells })
-        (stands_without (passes params) (trees 0) book name stands r l it) (none_left l.id (trees 0)) (absent_now book name) in
+    (stands_without (passes params) (trees 0) book name stands r l it) (none_left l.id (trees 0)) (absent_now book name) in
     let is : after.trees 0 ≡ put_row row (without_rowid l.id (trees 0)) = ap (λ (d : Database). d.trees 0) now ∙ ap (λ (w : Written). w.trees 0) (same_value written.2) ∙ step.rows ∙ changed in
     (ap (λ (d : Database). d.schema) now, subst₂ StandsFor (sym is) (insert_again book name v) made)
 
@@ -162,5 +162,5 @@ does_insert limit mode name db after text tally book has stands absent does =
     let free = fresh_is (trees 0) row (subst (λ n. are_fresh (trees 0) n ≡ true) news step.fresh) in
     let made = stands_put (trees 0) book row line (record { id = refl; name = refl; stored = tt }) stands free absent in
     let is : after.trees 0 ≡ put_row row (trees 0) = ap (λ (d : Database). d.trees 0) now ∙ ap (λ (w : Written). w.trees 0) (same_value counted.2) ∙ ap (λ (t : Trees). t 0) (same_value counted.1)
-        ∙ step.rows ∙ ap (put_all (trees 0)) news in
+    ∙ step.rows ∙ ap (put_all (trees 0)) news in
     (ap (λ (d : Database). d.schema) now, subst (λ rows. StandsFor rows (fin.insert book name None)) (sym is) made)

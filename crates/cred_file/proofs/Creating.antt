@@ -1,18 +1,19 @@
 -- What CREATE TABLE does to an empty database.
-use Rattle.std.proofs.Common.{◌≡◌, ◌⊎◌, inl, inr, ℕ, List, [], ◌∷◌, Bool, true, false, if◌then◌else◌, Some, None, Ok, Err, Result, refl, sym, ap, subst, ◌∙◌}
+use Rattle.std.proofs.Common.{◌≡◌, ◌⊎◌, inl, inr, ℕ, List, [], ◌∷◌, Bool, true, false, if◌then◌else◌, Option, Some, None, Ok, Err, Result, refl, sym, ap, subst, ◌∙◌}
 use Rattle.std.specs.FinMap as fin
 use Rattle.sqlite.specs.Command.TheVariants.{CreateTable}
 use Rattle.sqlite.specs.Change.{created, next_tree}
 use Rattle.sqlite.specs.Does.{Tally, Does, lacks_sequence}
 use Rattle.sqlite.specs.Effect.{Database}
-use Rattle.sqlite.specs.State.{State, Writes, Executes}
+use Rattle.sqlite.specs.State.{State, HasCleanDisk, Survives, CommitsBy, MayCommit, MayWrite, Writes, Executes, mode_of}
+use Rattle.sqlite.specs.declared.run.Mode.{Mode}
 use Rattle.sqlite.specs.Tree.{Trees}
 use Rattle.sqlite.specs.Listing.{understood}
 use Rattle.sqlite.proofs.Callers.{runs_as, statement_of, IsPlain}
 use Rattle.cred_file.specs.Schema.{account, account_schema, create_text, no_schema}
 use Rattle.cred_file.specs.Table.{StandsFor}
-use Rattle.cred_file.specs.Keeps.{IsTableOf}
-use Rattle.cred_file.proofs.Keeping.{IsSettled, holds}
+use Rattle.cred_file.specs.Keeps.{HoldsBook, IsTableOf}
+use Rattle.cred_file.proofs.Keeping.{IsSettled, holds, commits_as}
 use Rattle.cred_file.proofs.Texts.{create_is, create_plain}
 
 went : {B E R : Type 0} {b : B} {Stops : E → Type 0} → ((stop : E) × Stops stop × (Ok b ≡ Err stop)) ⊎ R → R
@@ -22,23 +23,43 @@ went (inr on) = on
 same_value : {B E : Type 0} {a b : B} → ◌≡◌ {A = Result B E} (Ok a) (Ok b) → a ≡ b
 same_value e = cc
 
-pub creates : (old new : State) (count : ℕ) → IsSettled new → old.now.schema ≡ no_schema → old.in_transaction ≡ false → Executes create_text [] old new (Ok count) → IsTableOf new fin.empty
-creates old new count settled has autocommit h =
-    let w = subst (λ t. Writes old new None CreateTable t [] count) create_is.1 (runs_as create_text [] old new no_schema has CreateTable create_is.0 create_plain count h) in
-    let all = went w.changed in
+-- it makes the table, with no row
+does_create : (limit : Option ℕ) (mode : Mode) (db after : Database) (tally : Tally) → db.schema ≡ no_schema
+    → Does limit mode [] db create_text None CreateTable (Ok (tally, after)) → (after.schema ≡ account_schema) × StandsFor (after.trees 0) fin.empty
+does_create limit mode db after tally has does =
+    let all = went does in
     let first = went all.1 in
     let made = first.1 in
     let both : Ok made.table ≡ Ok account = sym made.defined ∙ create_is.2 in
     let same : made.table ≡ account = cc in
     let schema : first.0.schema ≡ account_schema = made.is ∙ ap (λ s. created s made.table) has ∙ ap (created no_schema) same in
     let plain : lacks_sequence first.0.schema ≡ false = ap lacks_sequence schema in
-    let now : new.now ≡ first.0 = ap (λ (p : Tally × Database). p.1) (same_value all.2) ∙ same_value (rw plain at first.2) in
-    let empty : new.now.trees 0 ≡ [] = ap (λ (d : Database). d.trees 0) now ∙ subst (λ s. first.0.trees (next_tree s) ≡ []) has made.empty in
-    let stands : StandsFor (new.now.trees 0) fin.empty = subst (λ rows. StandsFor rows fin.empty) (sym empty) (record { lines = []; each = tt; apart = tt; book_is = refl }) in
+    let now : after ≡ first.0 = ap (λ (p : Tally × Database). p.1) (same_value all.2) ∙ same_value (rw plain at first.2) in
+    let empty : after.trees 0 ≡ [] = ap (λ (d : Database). d.trees 0) now ∙ subst (λ s. first.0.trees (next_tree s) ≡ []) has made.empty in
+    (ap (λ (d : Database). d.schema) now ∙ schema, subst (λ rows. StandsFor rows fin.empty) (sym empty) (record { lines = []; each = tt; apart = tt; book_is = refl }))
+
+pub creates : (old new : State) (count : ℕ) → IsSettled new → old.now.schema ≡ no_schema → old.in_transaction ≡ false → Executes create_text [] old new (Ok count) → IsTableOf new fin.empty
+creates old new count settled has autocommit h =
+    let w = subst (λ t. Writes old new None CreateTable t [] count) create_is.1 (runs_as create_text [] old new no_schema has CreateTable create_is.0 create_plain count h) in
+    let made = does_create old.step_limit (mode_of old) old.now new.now w.tally has w.changed in
     let committed : new.committed ≡ new.now = w.shown.committed_is ∙ ap (λ b. if b then old.committed else new.now) autocommit in
     record {
-      schema = ap (λ (d : Database). d.schema) now ∙ schema;
-      stands = stands;
+      schema = made.0;
+      stands = made.1;
       autocommit = w.shown.mode ∙ autocommit;
-      left = λ db may. (fin.empty, refl, holds db fin.empty new.now (ap (λ (d : Database). d.schema) now ∙ schema) w.sound stands (settled db w.shown.is_open may ∙ ap (λ (d : Database). d.trees) committed));
+      left = λ db may. (fin.empty, refl, holds db fin.empty new.now made.0 w.sound made.1 (settled db w.shown.is_open may ∙ ap (λ (d : Database). d.trees) committed));
     }
+
+create_may : (s : State) (text : List ℕ) (db : Trees) → MayCommit s None CreateTable text [] db → MayWrite s None CreateTable text [] db
+create_may s text db (inl h) = absurd (elim h.0 [ inl e ↦ cc | inr e ↦ let e = e.2 in cc ])
+create_may s text db (inr h) = h
+
+pub create_left : (old new : State) → HasCleanDisk new → old.now.schema ≡ no_schema → Survives old new (CommitsBy create_text [] old) → (db : Trees) → new.may_leave db
+    → old.may_leave db ⊎ HoldsBook db fin.empty
+create_left old new clean has s db may = elim (s.crash clean db may) [
+  | inl before ↦ inl before
+  | inr commits ↦
+      let m = subst (λ t. MayWrite old None CreateTable t [] db) create_is.1 (create_may old _ db (commits_as create_text [] no_schema CreateTable create_is.0 create_plain old has db commits)) in
+      let made = does_create old.step_limit (mode_of old) old.now m.2 m.1 has m.3 in
+      inr (holds db fin.empty m.2 made.0 m.4 made.1 m.5)
+]

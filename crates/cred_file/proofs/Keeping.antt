@@ -50,7 +50,7 @@ holds db book of schema sound stands is = record {
 }
 
 module _ (sql : List ℕ) (params : Row) (schema : Schema) (command : Command) (is : command_of (understood schema sql) ≡ command) (plain : IsPlain (understood schema sql)) where
-  commits_as : (s : State) → s.now.schema ≡ schema → (db : Trees) → CommitsBy sql params s db → MayCommit s None command (statement_of sql (understood schema sql)) params db
+  pub commits_as : (s : State) → s.now.schema ≡ schema → (db : Trees) → CommitsBy sql params s db → MayCommit s None command (statement_of sql (understood schema sql)) params db
   unfolding CommitsBy
   commits_as s has db h =
       let known = sym h.1.is ∙ ap (λ s. understood s sql) has in
@@ -60,7 +60,7 @@ module _ (sql : List ℕ) (params : Row) (schema : Schema) (command : Command) (
   -- from what the statement does to a database
   module _ (from to : Accounts)
       (step : (limit : Option ℕ) (mode : Mode) (db after : Database) (text : List ℕ) (tally : Tally) → db.schema ≡ schema → StandsFor (db.trees 0) from → Does limit mode params db text None command (Ok (tally, after))
-          → (after.schema ≡ schema) × StandsFor (after.trees 0) to)
+      → (after.schema ≡ schema) × StandsFor (after.trees 0) to)
       (run : (old new : State) (text : List ℕ) (count : ℕ) → Runs old new None command text params count → Writes old new None command text params count)
       (may_write : (s : State) (text : List ℕ) (db : Trees) → MayCommit s None command text params db → MayWrite s None command text params db)
       (same : schema ≡ account_schema) where

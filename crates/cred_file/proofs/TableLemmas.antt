@@ -123,7 +123,7 @@ find_put new (l ∷ ls) q free named =
     let names = or_false _ _ named in
     let rest = find_put new ls q ids.1 names.1 in
     elim (value_cmp (Int l.id) (Int new.id)) as (λ o. is_eq o ≡ false → fin.find name_cmp q (map entry_of (match_ordering o (l ∷ put_line new ls) (new ∷ ls) (new ∷ l ∷ ls)))
-        ≡ cond (eq_by_cmp name_cmp q new.name) (Some new.stored) (cond (eq_by_cmp name_cmp q l.name) (Some l.stored) (fin.find name_cmp q (map entry_of ls)))) [
+    ≡ cond (eq_by_cmp name_cmp q new.name) (Some new.stored) (cond (eq_by_cmp name_cmp q l.name) (Some l.stored) (fin.find name_cmp q (map entry_of ls)))) [
       | Less ↦ λ e. ap (cond (eq_by_cmp name_cmp q l.name) (Some l.stored)) rest ∙ over q l.name new.name names.0 _ _ _ (eq_by_cmp name_cmp q l.name) refl (eq_by_cmp name_cmp q new.name) refl
       | Equal ↦ λ e. absurd cc
       | Greater ↦ λ e. refl
@@ -134,7 +134,7 @@ pub stands_put : (rows : List Row) (book : Accounts) (row : Row) (new : Line) �
 stands_put rows book row new says s free absent =
     let ids : list_any (has_id new.id) s.lines ≡ false = sym (any_rows new.id rows s.lines s.each) ∙ free in
     let names : list_any (has_name new.name) s.lines ≡ false = any_names new.name s.lines ∙ sym (is_some-find name_cmp new.name (map entry_of s.lines)) ∙ ap is_some (sym (get-from_entries nat_list_cmp_total (map entry_of s.lines) new.name))
-        ∙ ap (λ b. fin.contains_key b new.name) s.book_is ∙ absent in
+    ∙ ap (λ b. fin.contains_key b new.name) s.book_is ∙ absent in
     record {
       lines = put_line new s.lines;
       each = each_put row new says rows s.lines s.each;
@@ -226,30 +226,36 @@ module _ (test : Row → Bool) (name : List ℕ) (finds : (r : Row) (l : Line) �
   row_of (r ∷ rows) (l ∷ ls) all apart e = elim (has_name name l) as (λ b. has_name name l ≡ b → (x : Row) × (y : Line) × IsRowOf test name (r ∷ rows) (l ∷ ls) x y) [
     | true ↦ λ p.
         let same = same_name name l.name p in
-        let none : list_any (has_name name) ls ≡ false = subst (λ n. list_any (has_name n) ls ≡ false) (sym same) apart.1 in
-        (r, l, record {
-          says = all.0;
-          named = sym same;
-          alone = ap (λ b. cond b (r ∷ filter test rows) (filter test rows)) (finds r l all.0 ∙ p) ∙ ap (λ rs. r ∷ rs) (no_hit rows ls all.1 none);
-          other = λ id free. (or_false (has_id id l) (list_any (has_id id) ls) free).0;
-          dropped = subst₂ (AllZip Says)
-              (sym (ap (λ b. cond (not b) (r ∷ without_rowid l.id rows) (without_rowid l.id rows)) (ap (λ v. is_eq (value_cmp v (Int l.id))) all.0.id ∙ (eq_by_cmp_equiv value_cmp_total).refl (Int l.id)) ∙ none_dropped l.id rows ls all.1 apart.0))
-              (sym (ap (λ b. cond (not b) (l ∷ without name ls) (without name ls)) p ∙ none_less name ls none)) all.1;
-        })
+        let none : list_any (has_name name) ls ≡ false = subst (λ n. list_any (has_name n) ls ≡ false) (sym same) apart.1 in (
+          r,
+          l,
+          record {
+            says = all.0;
+            named = sym same;
+            alone = ap (λ b. cond b (r ∷ filter test rows) (filter test rows)) (finds r l all.0 ∙ p) ∙ ap (λ rs. r ∷ rs) (no_hit rows ls all.1 none);
+            other = λ id free. (or_false (has_id id l) (list_any (has_id id) ls) free).0;
+            dropped = subst₂ (AllZip Says)
+                (sym (ap (λ b. cond (not b) (r ∷ without_rowid l.id rows) (without_rowid l.id rows)) (ap (λ v. is_eq (value_cmp v (Int l.id))) all.0.id ∙ (eq_by_cmp_equiv value_cmp_total).refl (Int l.id)) ∙ none_dropped l.id rows ls all.1 apart.0))
+                (sym (ap (λ b. cond (not b) (l ∷ without name ls) (without name ls)) p ∙ none_less name ls none)) all.1;
+          },
+        )
     | false ↦ λ p.
         let rest = row_of rows ls all.1 apart.2 (sym (ap (λ b. b || list_any (has_name name) ls) p) ∙ e) in
         let x = rest.1 in
         let it = rest.2 in
-        let other : has_id x.id l ≡ false = id_symm l.id x.id ∙ it.other l.id apart.0 in
-        (rest.0, x, record {
-          says = it.says;
-          named = it.named;
-          alone = ap (λ b. cond b (r ∷ filter test rows) (filter test rows)) (finds r l all.0 ∙ p) ∙ it.alone;
-          other = λ id free. it.other id (or_false (has_id id l) (list_any (has_id id) ls) free).1;
-          dropped = subst₂ (AllZip Says)
-              (sym (ap (λ b. cond (not b) (r ∷ without_rowid x.id rows) (without_rowid x.id rows)) (ap (λ v. is_eq (value_cmp v (Int x.id))) all.0.id ∙ other)))
-              (sym (ap (λ b. cond (not b) (l ∷ without name ls) (without name ls)) p)) (all.0, it.dropped);
-        })
+        let other : has_id x.id l ≡ false = id_symm l.id x.id ∙ it.other l.id apart.0 in (
+          rest.0,
+          x,
+          record {
+            says = it.says;
+            named = it.named;
+            alone = ap (λ b. cond b (r ∷ filter test rows) (filter test rows)) (finds r l all.0 ∙ p) ∙ it.alone;
+            other = λ id free. it.other id (or_false (has_id id l) (list_any (has_id id) ls) free).1;
+            dropped = subst₂ (AllZip Says)
+                (sym (ap (λ b. cond (not b) (r ∷ without_rowid x.id rows) (without_rowid x.id rows)) (ap (λ v. is_eq (value_cmp v (Int x.id))) all.0.id ∙ other)))
+                (sym (ap (λ b. cond (not b) (l ∷ without name ls) (without name ls)) p)) (all.0, it.dropped);
+          },
+        )
   ] refl
 
 pub stands_without : (test : Row → Bool) (rows : List Row) (book : Accounts) (name : List ℕ) (s : StandsFor rows book) (r : Row) (l : Line) → IsRowOf test name rows s.lines r l

@@ -1,11 +1,12 @@
 -- When a connection keeps a book, and what a crash leaves of it.
-use Rattle.std.specs.Prelude.{◌≡◌, ◌⊎◌, false, Option, Some, None}
+use Rattle.std.specs.Prelude.{◌≡◌, ◌⊎◌, ℕ, List, true, false, Option, Some, None}
 use Rattle.std.specs.FinMap as fin
 use Rattle.sqlite.specs.Tree.{Trees}
 use Rattle.sqlite.specs.State.{State, HasCleanDisk}
 use Rattle.sqlite.specs.Held.{Held, state}
 use Rattle.sqlite.specs.Store.{Ghosts}
 use Rattle.sqlite_catalog.specs.Listing.{IsSound}
+use Rattle.cred_phc.specs.Values.{RecordValue}
 use Rattle.cred_book.specs.Accounts.{Accounts}
 use Rattle.cred_file.specs.declared.fault.Lost.{Lost}
 use Rattle.cred_file.specs.Schema.{account_schema}
@@ -18,7 +19,8 @@ pub record HoldsBook (db : Trees) (book : Accounts) : Type 0 where
 
 -- whatever a crash leaves is a database of one of these books
 abbrev pub LeavesOnly : State → (Accounts → Type 0) → Type 0
-LeavesOnly s P = (db : Trees) → s.may_leave db → (book : Accounts) × P book × HoldsBook db book
+LeavesOnly s P =
+    (db : Trees) → s.may_leave db → (book : Accounts) × P book × HoldsBook db book
 
 -- the table stands for the book, outside a transaction, and so does what a crash leaves
 pub record IsTableOf (s : State) (book : Accounts) : Type 0 where
@@ -27,6 +29,28 @@ pub record IsTableOf (s : State) (book : Accounts) : Type 0 where
   pub autocommit : s.in_transaction ≡ false
   pub left : LeavesOnly s (λ b. b ≡ book)
 
+-- whichever book of this kind the old table stands for, the new one stands for it with this entry
+abbrev pub Puts : State → State → (Accounts → Type 0) → List ℕ → Option RecordValue → Type 0
+Puts old new Fits name stored =
+    (book : Accounts) → Fits book → IsTableOf old book → IsTableOf new (fin.insert book name stored)
+
+-- likewise a crash leaves the book as it was, or with this entry
+abbrev pub MayPut : State → State → (Accounts → Type 0) → List ℕ → Option RecordValue → Type 0
+MayPut old new Fits name stored =
+    (book : Accounts) → Fits book → IsTableOf old book
+    → LeavesOnly new (λ b. (b ≡ book) ⊎ (b ≡ fin.insert book name stored))
+
+-- the name is not there, and is there
+abbrev pub Lacks : List ℕ → Accounts → Type 0
+Lacks name book = fin.contains_key book name ≡ false
+
+abbrev pub Has : List ℕ → Accounts → Type 0
+Has name book = fin.contains_key book name ≡ true
+
+-- a crash leaves what it could leave before, or an empty book
+abbrev pub MayBegin : State → State → Type 0
+MayBegin old new = (db : Trees) → new.may_leave db → old.may_leave db ⊎ HoldsBook db fin.empty
+
 -- the book, or with the change that was under way as the database failed
 abbrev pub IsOrWith : Accounts → Option Lost → Accounts → Type 0
 IsOrWith book None b = b ≡ book
@@ -34,6 +58,7 @@ IsOrWith book (Some l) b = (b ≡ book) ⊎ (b ≡ fin.insert book l.name l.stor
 
 -- Where the disk has returned what was written: the table is the book's until a change is lost, and
 -- a crash leaves the book, or the book with the lost change.
-pub record Keeps {S : Type 0} (g : Ghosts S) (conn : Held S) (book : Accounts) (lost : Option Lost) : Type 0 where
+pub record Keeps {S : Type 0} (g : Ghosts S) (conn : Held S) (book : Accounts)
+    (lost : Option Lost) : Type 0 where
   pub table : HasCleanDisk (state g conn) → lost ≡ None → IsTableOf (state g conn) book
   pub left : HasCleanDisk (state g conn) → LeavesOnly (state g conn) (IsOrWith book lost)

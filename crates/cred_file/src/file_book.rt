@@ -1,27 +1,33 @@
-//! A book whose table stands for it.
+//! A book that is kept in the table of a database, which is changed before the book is.
 
 ghost use Rattle.sqlite.specs.Held.{state};
 ghost use Rattle.cred_file.specs.Schema.{no_schema};
-ghost use Rattle.cred_file.specs.Keeps.{Keeps};
+ghost use Rattle.cred_file.specs.Keeps.{Keeps, MayBegin};
 ghost use Rattle.cred_file.specs.Table.{Tells};
 ghost use Rattle.sqlite_value.specs.Value.{owned};
-ghost use Rattle.std.specs.Prelude.{OnOk, option_map, ◌≡◌, true, false, IfOk, IfErr, Option, None, MatchResult};
+ghost use Rattle.std.specs.Prelude.{◌≡◌, true, false, IfErr, IfOk, IfSome, MatchBool, None, OnOk, Some, option_map};
 ghost use Rattle.std.specs.FinMap as fin;
 ghost use Rattle.cred_book.specs.Calls.{Admits, Loads, Shows};
 ghost use Rattle.cred_book.specs.Commits.{Begins, Commits};
-ghost use Rattle.cred_book.specs.Works.{is_for_current};
+ghost use Rattle.cred_book.specs.Works.{is_for_current, makes_change};
+ghost use Rattle.sqlite.specs.State.{HasCleanDisk};
 
-use crate::fault::Lost;
+use crate::fault::{Lost, OpenFault};
 use crate::statements::{add_name, create_table, set_stored};
 use cred_book::{Book, BookError, Keeper, Name, Reply, Request, Ticket, Worked};
 use cred_phc::{Record, write_record};
 use sqlite::types::ValueRef;
-use sqlite::{Alter, Connection, Error};
+use sqlite::{Alter, Connection};
+use sqlite_schema::schema::Schema;
 use std::alloc::Global;
 use std::marker::Model;
 use std::sync::Wait;
 
-/// A book whose table stands for it.
+/// A book whose table stands for it, in a database that a crash leaves with this book or with the
+/// one before a call, and with nothing else.
+///
+/// Where the database fails, the change that was under way is lost: it may be kept or not. From
+/// then on each change is refused as for want of memory, and `lost` tells of it.
 #[derive(Drop)]
 pub struct FileBook<S: Alter> {
     alloc: Global,
@@ -42,7 +48,8 @@ impl<S: Alter> Model for FileBook<S> {
 
     ghost Value = { Accounts × (Option Lost × Held S) };
 
-    ghost coded = { coded× kept.the_row.coded (coded× (coded_option loss.the_row.coded) (held_code S.code)) };
+    ghost coded = { coded× kept.the_row.coded
+        (coded× (coded_option loss.the_row.coded) (held_code S.code)) };
 
     ghost view = { λ b. (b.book, (b.lost, b.conn)) };
 
@@ -50,21 +57,26 @@ impl<S: Alter> Model for FileBook<S> {
 }
 
 impl<S: Alter> FileBook<S> {
-    /// The change that was under way as the database failed, if it did. No change is made from then on.
-    pub fn lost(&self) -> Option<&Lost>
-        ensures { option_map (λ l. l.now) result ≡ self.now.1.0 }
-    {
-        self.lost.as_ref()
-    }
-
-    /// An empty book in an empty database.
-    pub fn create(alloc: Global, mut conn: Connection<S>) -> Result<FileBook<S>, (Option<Error>, Connection<S>)>
-        requires schema { (state S.Store conn).now.schema ≡ no_schema }
+    /// Begins an empty book in an empty database.
+    ///
+    /// Errors: `NotEmpty` where there is a table already; `Memory` where there is none for 4096
+    /// accounts; `Database`. The connection comes back.
+    pub fn create(
+        alloc: Global,
+        mut conn: Connection<S>,
+    ) -> Result<FileBook<S>, (OpenFault, Connection<S>)>
         requires autocommit { conn.in_transaction ≡ false }
         ensures empty { IfOk result (λ b. (b.0 ≡ fin.empty) × (b.1.0 ≡ None)) }
+        ensures taken { IfErr result (λ e. e.0 ≡ OpenFault.NotEmpty
+            → ((state S.Store conn).now.schema ≡ no_schema → ⊥) × (e.1 ≡ conn)) }
+        ensures left { IfErr result (λ e. HasCleanDisk (state S.Store e.1)
+            → MayBegin (state S.Store conn) (state S.Store e.1)) }
     {
+        if !is_empty(conn.schema()) {
+            return Err((OpenFault::NotEmpty, conn));
+        }
         let Ok(book) = Book::new(alloc) else {
-            return Err((None, conn));
+            return Err((OpenFault::Memory, conn));
         };
         match create_table(&mut conn) {
             Ok(()) => Ok(FileBook {
@@ -73,21 +85,46 @@ impl<S: Alter> FileBook<S> {
                 book,
                 lost: None,
             }),
-            Err(error) => Err((Some(error), conn)),
+            Err(error) => Err((OpenFault::Database(error), conn)),
         }
     }
 
-    /// What a crash leaves, and that the table stands for the book until a change is lost.
+    /// The book, as the answers so far have told it.
+    pub fn book(&self) -> &Book
+        ensures { result.now ≡ self.now.0 }
+    {
+        &self.book
+    }
+
+    /// The change that was under way as the database failed, if it did.
+    pub fn lost(&self) -> Option<&Lost>
+        ensures { option_map (λ l. l.now) result ≡ self.now.1.0 }
+    {
+        self.lost.as_ref()
+    }
+
+    /// Tells what is kept: the table is the book's until a change is lost, and a crash leaves the
+    /// book, or the book with the lost change.
     pub fn keeps(&self)
         ensures { Keeps S.Store self.now.1.1 self.now.0 self.now.1.0 }
     {
         let _ = &self.lost;
     }
 
+    /// Gives the connection back, which keeps the book.
+    pub fn close(self) -> Connection<S>
+        ensures same { result ≡ self.1.1 }
+        ensures kept { Keeps S.Store result self.0 self.1.0 }
+    {
+        self.conn
+    }
+
     fn put_stored(&mut self, name: &Name, stored: Option<Record>) -> Result<(), BookError>
         requires { fin.contains_key self.old.0 name.now ≡ true }
         ensures done { OnOk result (self.new.0 ≡ fin.insert self.old.0 name.now stored) }
         ensures memory { IfErr result (λ e. (e ≡ BookError.Memory) × (self.new.0 ≡ self.old.0)) }
+        ensures written { OnOk result ((self.old.1.0 ≡ None) × (self.new.1.0 ≡ None)) }
+        ensures remembered { IfSome self.old.1.0 (λ l. self.new.1.0 ≡ Some l) }
     {
         if self.lost.is_some() {
             return Err(BookError::Memory);
@@ -103,6 +140,7 @@ impl<S: Alter> FileBook<S> {
         }
     }
 
+    /// Puts a record at a name in the table, and then in the book.
     fn put_value(
         &mut self,
         name: &Name,
@@ -114,6 +152,7 @@ impl<S: Alter> FileBook<S> {
         requires value { Tells (owned value) stored }
         ensures done { OnOk result (self.new.0 ≡ fin.insert self.old.0 name.now stored) }
         ensures memory { IfErr result (λ e. (e ≡ BookError.Memory) × (self.new.0 ≡ self.old.0)) }
+        ensures written { OnOk result (self.new.1.0 ≡ None) }
     {
         match set_stored(&mut self.conn, name, value) {
             Ok(()) => {
@@ -132,10 +171,26 @@ impl<S: Alter> FileBook<S> {
     }
 }
 
+/// Whether a database has no table, no index and no view.
+fn is_empty(schema: &Schema) -> bool
+    ensures { MatchBool result (schema.now ≡ no_schema) (schema.now ≡ no_schema → ⊥) }
+{
+    schema.tables.is_empty() && schema.indexes.is_empty() && schema.views.is_empty()
+}
+
 impl<S: Alter> Keeper for FileBook<S> {
+    ghost use Rattle.std.specs.Prelude.{◌≡◌, OnOk, IfOk, IfSome, Some, None, true};
+    ghost use Rattle.cred_book.specs.Calls.{Admits, Loads};
+    ghost use Rattle.cred_book.specs.Commits.{Commits};
+    ghost use Rattle.cred_book.specs.Works.{makes_change};
+
     ghost book = { λ b. b.0 };
 
-    fn admit<R: Wait>(&mut self, _rt: &R, name: Name) -> Result<(), BookError> {
+    fn admit<R: Wait>(&mut self, _rt: &R, name: Name) -> Result<(), BookError>
+        ensures done { Admits self.old.0 self.new.0 name result }
+        ensures written { OnOk result ((self.old.1.0 ≡ None) × (self.new.1.0 ≡ None)) }
+        ensures remembered { IfSome self.old.1.0 (λ l. self.new.1.0 ≡ Some l) }
+    {
         if self.book.show(&name).is_ok() {
             return Err(BookError::Exists);
         }
@@ -162,7 +217,11 @@ impl<S: Alter> Keeper for FileBook<S> {
     }
 
     #[tactic(auto, using(crate::proofs::Keeping::shown_there))]
-    fn load<R: Wait>(&mut self, _rt: &R, name: &Name, stored: Record) -> Result<(), BookError> {
+    fn load<R: Wait>(&mut self, _rt: &R, name: &Name, stored: Record) -> Result<(), BookError>
+        ensures done { Loads self.old.0 self.new.0 name.now stored result }
+        ensures written { OnOk result ((self.old.1.0 ≡ None) × (self.new.1.0 ≡ None)) }
+        ensures remembered { IfSome self.old.1.0 (λ l. self.new.1.0 ≡ Some l) }
+    {
         if self.book.show(name).is_err() {
             return Err(BookError::NoAccount);
         }
@@ -178,7 +237,11 @@ impl<S: Alter> Keeper for FileBook<S> {
     }
 
     #[tactic(auto, using(crate::proofs::Judged::judged_change, crate::proofs::Judged::judged_still, crate::proofs::Judged::judged_there))]
-    fn commit<R: Wait>(&mut self, _rt: &R, worked: Worked) -> Result<Reply, (Worked, BookError)> {
+    fn commit<R: Wait>(&mut self, _rt: &R, worked: Worked) -> Result<Reply, (Worked, BookError)>
+        ensures done { Commits self.old.0 self.new.0 worked result }
+        ensures written { OnOk result (self.new.1.0 ≡ self.old.1.0) }
+        ensures remembered { IfSome self.old.1.0 (λ l. self.new.1.0 ≡ Some l) }
+    {
         let (reply, after, changes) = self.book.judge(&worked);
         if !changes {
             return Ok(reply);

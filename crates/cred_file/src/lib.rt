@@ -5,5 +5,5 @@ mod fault;
 mod file_book;
 mod statements;
 
-pub use fault::Lost;
+pub use fault::{Lost, OpenFault};
 pub use file_book::FileBook;

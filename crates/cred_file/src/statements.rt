@@ -1,11 +1,10 @@
 //! The statements that change the table of accounts.
 
-ghost use Rattle.std.specs.Prelude.{◌≡◌, ◌≤◌, ◌⊎◌, true, false, Option, None, OnOk};
+ghost use Rattle.std.specs.Prelude.{◌≡◌, ◌≤◌, false, Option, None, OnOk};
 ghost use Rattle.std.specs.FinMap as fin;
-ghost use Rattle.cred_book.specs.Accounts.{Accounts};
 ghost use Rattle.cred_phc.specs.Values.{RecordValue};
 ghost use Rattle.cred_file.specs.Schema.{no_schema};
-ghost use Rattle.cred_file.specs.Keeps.{IsTableOf, LeavesOnly};
+ghost use Rattle.cred_file.specs.Keeps.{Has, IsTableOf, Lacks, MayBegin, MayPut, Puts};
 ghost use Rattle.cred_file.specs.Table.{Tells};
 ghost use Rattle.sqlite.specs.State.{HasCleanDisk};
 ghost use Rattle.sqlite.specs.Held.{state};
@@ -16,25 +15,36 @@ use cred_book::Name;
 use sqlite::types::ValueRef;
 use sqlite::{Alter, Connection, Error};
 
-/// Adds the row of a name, with no record.
+/// Adds the row of a name that isn't there, with no record.
 pub(crate) fn add_name<S: Alter>(conn: &mut Connection<S>, name: &Name) -> Result<(), Error>
-    ensures added { HasCleanDisk (state S.Store conn.new) → OnOk result ((book : Accounts) → fin.contains_key book name.now ≡ false → IsTableOf (state S.Store conn.old) book
-        → IsTableOf (state S.Store conn.new) (fin.insert book name.now None)) }
-    ensures left { HasCleanDisk (state S.Store conn.new) → (book : Accounts) → fin.contains_key book name.now ≡ false → IsTableOf (state S.Store conn.old) book
-        → LeavesOnly (state S.Store conn.new) (λ b. (b ≡ book) ⊎ (b ≡ fin.insert book name.now None)) }
-    ensures clean { doubt (state S.Store conn.old).is_clean ≤ doubt (state S.Store conn.new).is_clean }
+    ensures added { HasCleanDisk (state S.Store conn.new) → OnOk result
+        (Puts (state S.Store conn.old) (state S.Store conn.new) (Lacks name.now) name.now None) }
+    ensures left { HasCleanDisk (state S.Store conn.new)
+        → MayPut (state S.Store conn.old) (state S.Store conn.new) (Lacks name.now) name.now None }
+    ensures clean { doubt (state S.Store conn.old).is_clean
+        ≤ doubt (state S.Store conn.new).is_clean }
 {
-    conn.execute("INSERT INTO account (name) VALUES (?1)", &[ValueRef::Text(name.bytes())])?;
+    conn.execute(
+        "INSERT INTO account (name) VALUES (?1)",
+        &[ValueRef::Text(name.bytes())],
+    )?;
     Ok(())
 }
 
-/// Puts a record's text, or NULL, at a name.
-pub(crate) fn set_stored<S: Alter>(conn: &mut Connection<S>, name: &Name, value: ValueRef<'_>) -> Result<(), Error>
-    ensures set { HasCleanDisk (state S.Store conn.new) → OnOk result ((book : Accounts) (v : Option RecordValue) → Tells (owned value.entry) v → fin.contains_key book name.now ≡ true
-        → IsTableOf (state S.Store conn.old) book → IsTableOf (state S.Store conn.new) (fin.insert book name.now v)) }
-    ensures left { HasCleanDisk (state S.Store conn.new) → (book : Accounts) (v : Option RecordValue) → Tells (owned value.entry) v → fin.contains_key book name.now ≡ true
-        → IsTableOf (state S.Store conn.old) book → LeavesOnly (state S.Store conn.new) (λ b. (b ≡ book) ⊎ (b ≡ fin.insert book name.now v)) }
-    ensures clean { doubt (state S.Store conn.old).is_clean ≤ doubt (state S.Store conn.new).is_clean }
+/// Puts a record's text, or NULL, at a name that is there.
+pub(crate) fn set_stored<S: Alter>(
+    conn: &mut Connection<S>,
+    name: &Name,
+    value: ValueRef<'_>,
+) -> Result<(), Error>
+    ensures set { HasCleanDisk (state S.Store conn.new) → OnOk result
+        ((v : Option RecordValue) → Tells (owned value.entry) v
+        → Puts (state S.Store conn.old) (state S.Store conn.new) (Has name.now) name.now v) }
+    ensures left { HasCleanDisk (state S.Store conn.new)
+        → (v : Option RecordValue) → Tells (owned value.entry) v
+        → MayPut (state S.Store conn.old) (state S.Store conn.new) (Has name.now) name.now v }
+    ensures clean { doubt (state S.Store conn.old).is_clean
+        ≤ doubt (state S.Store conn.new).is_clean }
 {
     conn.execute(
         "UPDATE account SET record = ?2 WHERE name = ?1",
@@ -47,8 +57,14 @@ pub(crate) fn set_stored<S: Alter>(conn: &mut Connection<S>, name: &Name, value:
 pub(crate) fn create_table<S: Alter>(conn: &mut Connection<S>) -> Result<(), Error>
     requires schema { (state S.Store conn.old).now.schema ≡ no_schema }
     requires autocommit { conn.old.in_transaction ≡ false }
-    ensures { HasCleanDisk (state S.Store conn.new) → OnOk result (IsTableOf (state S.Store conn.new) fin.empty) }
+    ensures made { HasCleanDisk (state S.Store conn.new)
+        → OnOk result (IsTableOf (state S.Store conn.new) fin.empty) }
+    ensures left { HasCleanDisk (state S.Store conn.new)
+        → MayBegin (state S.Store conn.old) (state S.Store conn.new) }
 {
-    conn.execute("CREATE TABLE account (name TEXT NOT NULL PRIMARY KEY, record TEXT) STRICT", &[])?;
+    conn.execute(
+        "CREATE TABLE account (name TEXT NOT NULL PRIMARY KEY, record TEXT) STRICT",
+        &[],
+    )?;
     Ok(())
 }

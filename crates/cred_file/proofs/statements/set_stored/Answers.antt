@@ -3,14 +3,14 @@ use Rattle.cred_file.proofs.Keeping.{bound_told, updated, update_left}
 use Rattle.cred_file.proofs.statements.set_stored.Goals as goal
 
 pub returns-in_err-execute-clause-left : goal.returns-in_err-execute-clause-left
-returns-in_err-execute-clause-left g c clean book v tells there was =
+returns-in_err-execute-clause-left g c clean v tells book there was =
     update_left book c.args.name.now _ v tells there (state g.S.Store c.args.conn.now) (state g.S.Store c.execute.new.self) clean (rw (c.bytes.ensures.value, bound_told _ v tells) at c.execute.ensures.survives) was
 
 pub returns-clause-set : goal.returns-clause-set
-returns-clause-set g c clean book v tells there was =
+returns-clause-set g c clean v tells book there was =
     updated book c.args.name.now _ v tells there (state g.S.Store c.args.conn.now) (state g.S.Store c.execute.new.self) c.in_ok-execute.field-0
-        (g.met.S.Store.settled c.execute.new.self.store) was (rw (c.bytes.ensures.value, bound_told _ v tells) at (c.in_ok-execute.ensures.runs clean))
+    (g.met.S.Store.settled c.execute.new.self.store) was (rw (c.bytes.ensures.value, bound_told _ v tells) at (c.in_ok-execute.ensures.runs clean))
 
 pub returns-clause-left : goal.returns-clause-left
-returns-clause-left g c clean book v tells there was =
+returns-clause-left g c clean v tells book there was =
     update_left book c.args.name.now _ v tells there (state g.S.Store c.args.conn.now) (state g.S.Store c.execute.new.self) clean (rw (c.bytes.ensures.value, bound_told _ v tells) at c.execute.ensures.survives) was
