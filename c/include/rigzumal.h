@@ -18,7 +18,8 @@
  * All sizes are in bytes but those of a memory cost. Strings end with a zero byte.
  *
  * Any number of threads may call at the same time, and each call works on its own thread alone.
- * Nothing stays behind a call but up to 32 MiB of cleared memory, which the next call takes again.
+ * Nothing stays behind a call but up to 32 MiB of cleared memory, which the next call takes again
+ * and the system may take back.
  * Memory is cleared as it is given back, and the stack after each call. Where the memory is large
  * it has huge pages, and where the processor has wider vectors they are used.
  *

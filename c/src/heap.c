@@ -56,7 +56,9 @@ static unsigned char *take_area(void) {
     return map_area(AREA);
 }
 
+/* Keeps a cleared area, whose pages the system may take back: they read as zero either way. */
 static void give_area(unsigned char *area) {
+    madvise(area, AREA, MADV_FREE);
     for (int i = 0; i < KEPT_AREAS; i++) {
         unsigned char *none = NULL;
         if (atomic_compare_exchange_strong(&kept_areas[i], &none, area))
