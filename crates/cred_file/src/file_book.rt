@@ -23,11 +23,11 @@ use std::alloc::Global;
 use std::marker::Model;
 use std::sync::Wait;
 
-/// A book whose table stands for it, in a database that a crash leaves with this book or with the
-/// one before a call, and with nothing else.
+/// A book whose table stands for it. As long as the disk returns what was written, a crash between
+/// calls leaves this book.
 ///
 /// Where the database fails, the change that was under way is lost: it may be kept or not. From
-/// then on each change is refused as for want of memory, and `lost` tells of it.
+/// then on no other change is made, and `lost` tells of it.
 #[derive(Drop)]
 pub struct FileBook<S: Alter> {
     alloc: Global,

@@ -17,8 +17,8 @@ use std::thread::Threads;
 
 /// Runs a script on a kept book, as `run_script` does.
 ///
-/// Each answer is written after its change is in the database. A crash leaves the book after the
-/// lines that were done, or that with the change that was under way as the database failed.
+/// A crash behind it leaves the book after the lines that were done, perhaps with the change that
+/// was under way as the database failed.
 pub fn run_on_file<T: Threads + Wait + Sync, S: Alter, R: Read, W: Write>(
     rt: &T,
     alloc: Global,
