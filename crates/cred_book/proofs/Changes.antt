@@ -75,7 +75,7 @@ module _ (book : Accounts) (work : Task) where
     tied q Greater is = refl
 
     -- what stands at a name may be put there again
-    insert_again : map.insert book (name_of work.0) now ≡ book
+    pub insert_again : map.insert book (name_of work.0) now ≡ book
     insert_again = map.same_map nat_list_cmp_total (map.slice_cmp-IsAntisymmetric map.nat_cmp-IsAntisymmetric) _ _ (λ q. map.get-insert nat_list_cmp_total book (name_of work.0) now q ∙ tied q _ refl)
 
     stays_whole : makes_change (whole work.0 now).0 ≡ false → map.insert book (name_of work.0) (whole work.0 now).1 ≡ book

@@ -1,57 +1,55 @@
--- A commit, by what stands at the name.
-use Rattle.std.proofs.Common.{◌≡◌, ℕ, List, Bool, true, false, Option, Some, None, Err, refl, sym, ap, ◌∙◌}
+-- A commit and a judgement, by what stands at the name.
+use Rattle.std.proofs.Common.{◌≡◌, ℕ, List, Bool, true, false, Option, Some, None, Result, Ok, Err, is_some, refl, sym, ap, ◌∙◌}
 use Rattle.std.specs.FinMap as map
+use Rattle.std.specs.Result.{is_ok}
 use Rattle.cred_phc.specs.Values.{RecordValue}
 use Rattle.cred_book.specs.Accounts.{Accounts}
-use Rattle.cred_book.specs.Calls.{Shows}
+use Rattle.cred_book.specs.Calls.{Loads, Shows}
 use Rattle.cred_book.specs.declared.error.BookError.{BookError}
 use Rattle.cred_book.specs.declared.error.BookError.TheVariants as error
-use Rattle.cred_book.specs.Commits.{committed, committed_at, judged, judged_at}
+use Rattle.cred_book.specs.Commits.{Sets, committed, committed_at, committed_if, judged, judged_at, judged_if}
 use Rattle.cred_book.specs.Works.{Task, name_of, same, whole, makes_change}
 use Rattle.cred_book.specs.declared.reply.Reply.{Reply}
 use Rattle.cred_book.specs.declared.reply.Reply.TheVariants as reply
+use Rattle.cred_book.proofs.Changes.{insert_again}
 use Rattle.cred_book.proofs.Equality.{same-Decides}
 
--- the definition, once it is known what stands at the name
-pub committed-at : (book : Accounts) (work : Task) (name : List ℕ) (entry : Option (Option RecordValue)) → name ≡ name_of work.0 → map.get book name ≡ entry → committed book work ≡ committed_at book work entry
-unfolding committed
-committed-at book work name entry is found = ap (λ n. committed_at book work (map.get book n)) (sym is) ∙ ap (committed_at book work) found
+-- the answer at a record, by the test whether it is the copied one
+module _ (work : Task) (now : Option RecordValue) where
+  pub judges_changed : same now work.1 ≡ false → (reply.Changed now, now, false) ≡ judged_at work (Some now)
+  judges_changed stale = rw stale refl
 
-judged-at : (book : Accounts) (work : Task) (name : List ℕ) (entry : Option (Option RecordValue)) → name ≡ name_of work.0 → map.get book name ≡ entry → judged book work ≡ judged_at work entry
-unfolding judged
-judged-at book work name entry is found = ap (λ n. judged_at work (map.get book n)) (sym is) ∙ ap (judged_at work) found
+  pub judges_whole : same now work.1 ≡ true → (answer : Reply) (after : Option RecordValue) → answer ≡ (whole work.0 work.1).0 → after ≡ (whole work.0 work.1).1 → (change : Bool) → change ≡ makes_change answer
+      → (answer, after, change) ≡ judged_at work (Some now)
+  judges_whole fresh answer after said made change is_change =
+      let copied = (same-Decides now work.1).0 fresh in
+      sym (rw (fresh, copied, ← said, ← made, ← is_change) refl)
 
 module _ (book : Accounts) (work : Task) (name : List ℕ) (is : name ≡ name_of work.0) where
-  -- the name isn't there
+  -- the definitions, once it is known what stands at the name
+  committed_found : (entry : Option (Option RecordValue)) → map.get book name ≡ entry → committed book work ≡ committed_at book work entry
+  unfolding committed
+  committed_found entry found = ap (λ n. committed_at book work (map.get book n)) (sym is) ∙ ap (committed_at book work) found
+
+  pub judged_found : (entry : Option (Option RecordValue)) → map.get book name ≡ entry → judged_at work entry ≡ judged book work
+  unfolding judged
+  judged_found entry found = sym (ap (λ n. judged_at work (map.get book n)) (sym is) ∙ ap (judged_at work) found)
+
   pub commits_nothing : map.get book name ≡ None → (reply.NoAccount, book) ≡ committed book work
-  commits_nothing found = sym (committed-at book work name None is found)
+  commits_nothing found = sym (committed_found None found)
 
-  pub judges_nothing : map.get book name ≡ None → (reply.NoAccount, None, false) ≡ judged book work
-  judges_nothing found = sym (judged-at book work name None is found)
+  by_test : (now : Option RecordValue) → map.get book (name_of work.0) ≡ Some now → (fresh : Bool)
+      → committed_if book work now fresh ≡ ((judged_if work now fresh).0, map.insert book (name_of work.0) (judged_if work now fresh).1)
+  by_test now found true = refl
+  by_test now found false = ap (λ b. (reply.Changed now, b)) (sym (insert_again book work now found))
 
-  module _ (now : Option RecordValue) (found : map.get book name ≡ Some now) where
-    -- the record isn't the one that was copied
-    module _ (stale : same now work.1 ≡ false) where
-      pub commits_changed : (reply.Changed now, book) ≡ committed book work
-      commits_changed = sym (committed-at book work name (Some now) is found ∙ rw stale refl)
-
-      pub judges_changed : (reply.Changed now, now, false) ≡ judged book work
-      judges_changed = sym (judged-at book work name (Some now) is found ∙ rw stale refl)
-
-    -- it is
-    module _ (fresh : same now work.1 ≡ true) where
-      copied : now ≡ work.1
-      copied = (same-Decides now work.1).0 fresh
-
-      pub commits_whole : (answer : Reply) (after : Option RecordValue) (later : Accounts) → answer ≡ (whole work.0 work.1).0 → after ≡ (whole work.0 work.1).1 → later ≡ map.insert book name after →
-          (answer, later) ≡ committed book work
-      commits_whole answer after later said made put =
-          sym (committed-at book work name (Some now) is found ∙ rw (fresh, copied, ← is, ← said, ← made, ← put) refl)
-
-      pub judges_whole : (answer : Reply) (after : Option RecordValue) → answer ≡ (whole work.0 work.1).0 → after ≡ (whole work.0 work.1).1 → (change : Bool) → change ≡ makes_change answer →
-          (answer, after, change) ≡ judged book work
-      judges_whole answer after said made change is_change =
-          sym (judged-at book work name (Some now) is found ∙ rw (fresh, copied, ← said, ← made, ← is_change) refl)
+  -- what was judged is put at the name, which changes nothing where the judgement is no change
+  pub commits_judged : (now : Option RecordValue) → map.get book name ≡ Some now → (judgement : Reply × Option RecordValue × Bool) → judgement ≡ judged_at work (Some now)
+      → (later : Accounts) → later ≡ map.insert book name judgement.1 → (judgement.0, later) ≡ committed book work
+  commits_judged now found judgement judges later put =
+      let there = ap (map.get book) (sym is) ∙ found in
+      let whole_commit = committed_found (Some now) found ∙ by_test now there (same now work.1) in
+      sym (whole_commit ∙ rw (← judges, ← is, ← put) refl)
 
 -- what isn't shown isn't there
 pub not_shown : (book : Accounts) (name : List ℕ) (e : BookError) → Shows book name (Err e) → map.get book name ≡ None
@@ -60,3 +58,30 @@ not_shown book name error.Exists h = absurd h
 not_shown book name error.Full h = absurd h
 not_shown book name error.Name h = absurd h
 not_shown book name error.Memory h = absurd h
+
+-- whether a name is there, by whether it is shown
+pub shown_there : (book : Accounts) (name : List ℕ) (r : Result (Option RecordValue) BookError) → Shows book name r → is_ok r ≡ true → map.contains_key book name ≡ true
+shown_there book name (Ok stored) h is = ap is_some h
+shown_there book name (Err e) h is = absurd cc
+
+pub shown_absent : (book : Accounts) (name : List ℕ) (r : Result (Option RecordValue) BookError) → Shows book name r → is_ok r ≡ false → map.contains_key book name ≡ false
+shown_absent book name (Ok stored) h is = absurd cc
+shown_absent book name (Err e) h is = ap is_some (not_shown book name e h)
+
+-- putting a record at a name loads it
+module _ (old new : Accounts) (name : List ℕ) (stored : RecordValue) where
+  pub set_loads : (r : Result (Unit {0}) BookError) → Sets old new name (Some stored) r → Loads old new name stored r
+  set_loads (Ok x) h = h
+  set_loads (Err error.NoAccount) h = h
+  set_loads (Err error.Memory) h = absurd h
+  set_loads (Err error.Name) h = absurd h
+  set_loads (Err error.Exists) h = absurd h
+  set_loads (Err error.Full) h = absurd h
+
+  pub set_granted : (r : Result (Unit {0}) BookError) → Sets old new name (Some stored) r → r ≡ Err error.Memory → ⊥
+  set_granted (Ok x) h is = cc is
+  set_granted (Err error.NoAccount) h is = cc is
+  set_granted (Err error.Memory) h is = h
+  set_granted (Err error.Name) h is = h
+  set_granted (Err error.Exists) h is = h
+  set_granted (Err error.Full) h is = h

@@ -14,7 +14,6 @@ use crate::error::BookError;
 use crate::name::Name;
 use crate::reply::Reply;
 use crate::request::Request;
-use crate::same::is_same;
 use crate::ticket::{Ticket, Worked};
 use cred_phc::Record;
 use std::alloc::Global;
@@ -67,18 +66,14 @@ impl Book {
         ensures done { Admits self.old self.new name result }
         ensures granted { result ≡ Err BookError.Memory → ⊥ }
     {
-        match place_of(&self.accounts, &name) {
-            Ok(_) => Err(BookError::Exists),
-            Err(place) => {
-                if self.is_full() {
-                    return Err(BookError::Full);
-                }
-                match self.accounts.insert(place, (name, None)) {
-                    Ok(()) => Ok(()),
-                    Err(_) => unreachable!(),
-                }
-            }
+        if self.show(&name).is_ok() {
+            return Err(BookError::Exists);
         }
+        if self.is_full() {
+            return Err(BookError::Full);
+        }
+        self.put(&name, None);
+        Ok(())
     }
 
     /// Whether there is no room for another name.
@@ -110,13 +105,7 @@ impl Book {
         ensures done { Loads self.old self.new name.now stored result }
         ensures granted { result ≡ Err BookError.Memory → ⊥ }
     {
-        match place_of(&self.accounts, name) {
-            Ok(place) => {
-                self.accounts[place].1 = Some(stored);
-                Ok(())
-            }
-            Err(_) => Err(BookError::NoAccount),
-        }
+        self.set(name, Some(stored))
     }
 
     /// The record that stands at a name, if one does.
@@ -151,12 +140,9 @@ impl Book {
     {
         match place_of(&self.accounts, &worked.request().name()) {
             Ok(place) => {
-                let now = self.accounts[place].1;
-                if !is_same(&now, &worked.copy()) {
-                    return Reply::Changed { now };
-                }
-                self.accounts[place].1 = worked.after();
-                worked.reply()
+                let (reply, after, _) = worked.judged_at(self.accounts[place].1);
+                self.accounts[place].1 = after;
+                reply
             }
             Err(_) => Reply::NoAccount,
         }
@@ -168,13 +154,7 @@ impl Book {
         ensures { result ≡ judged self.now worked.now }
     {
         match self.show(&worked.request().name()) {
-            Ok(now) => {
-                if !is_same(&now, &worked.copy()) {
-                    return (Reply::Changed { now }, now, false);
-                }
-                let reply = worked.reply();
-                (reply, worked.after(), reply.makes_change())
-            }
+            Ok(now) => worked.judged_at(now),
             Err(_) => (Reply::NoAccount, None, false),
         }
     }

@@ -3,12 +3,14 @@
 
 ghost use Rattle.std.specs.Prelude.{◌≡◌, IfErr, IfOk, true, false};
 ghost use Rattle.cred_book.specs.Changes.{change_of};
+ghost use Rattle.cred_book.specs.Commits.{judged_at};
 ghost use Rattle.cred_book.specs.Works.{is_verify, whole};
 
 use crate::change::Change;
 use crate::outcome::Hashing;
 use crate::reply::Reply;
 use crate::request::Request;
+use crate::same::is_same;
 use cred_phc::Record;
 use cred_pool::Gate;
 use std::alloc::Global;
@@ -127,6 +129,17 @@ impl Worked {
         ensures { result ≡ (whole self.now.0 self.now.1).1 }
     {
         self.after
+    }
+
+    /// What a commit answers where `now` stands, the record after it, and whether that is a change.
+    pub(crate) fn judged_at(&self, now: Option<Record>) -> (Reply, Option<Record>, bool)
+        ensures { result ≡ judged_at self.now (Some now) }
+    {
+        if !is_same(&now, &self.copy()) {
+            return (Reply::Changed { now }, now, false);
+        }
+        let reply = self.reply();
+        (reply, self.after(), reply.makes_change())
     }
 
     /// What a commit of this work changes, where it makes a change at all: `None` where it makes none

@@ -1,25 +1,19 @@
 use Rattle.std.proofs.Common.{ap, sym, ◌∙◌, Some}
 use Rattle.cred_book.specs.Works.{name_of}
-use Rattle.cred_book.proofs.Commitments.{commits_nothing, commits_changed, commits_whole}
+use Rattle.cred_book.proofs.Commitments.{commits_nothing, commits_judged}
 use Rattle.cred_book.proofs.Kept.{get_there, get_absent, kept_set, set_there}
 use Rattle.cred_book.proofs.book.Book.commit.Goals as goal
-
-pub returns-then-not-is_same : goal.returns-then-not-is_same
-returns-then-not-is_same c =
-    let place = rw c.deref.ensures.value at c.in-Ok.ensures in
-    let found = get_there _ _ c.self.invariant _ c.self.view_is _ _ place c.index.result.now ∙ ap (λ entry. Some entry.1) (sym c.index.ensures) in
-    commits_changed c.args.self.now c.args.worked _ (c.name.ensures ∙ ap name_of c.request.ensures) _ found (sym (rw c.copy.ensures at c.if-not-is_same.ensures))
 
 pub invariant_of-self : goal.invariant_of-self
 invariant_of-self c =
     let place = rw c.deref.ensures.value at c.in-Ok.ensures in
     rw c.index_mut.ensures.value (kept_set _ _ c.self.invariant _ c.self.view_is _ _ place c.index_mut.result.now _)
 
-pub returns-else-not-is_same : goal.returns-else-not-is_same
-returns-else-not-is_same c =
+pub returns-in-Ok : goal.returns-in-Ok
+returns-in-Ok c =
     let place = rw c.deref.ensures.value at c.in-Ok.ensures in
     let found = get_there _ _ c.self.invariant _ c.self.view_is _ _ place c.index.result.now ∙ ap (λ entry. Some entry.1) (sym c.index.ensures) in
-    commits_whole c.args.self.now c.args.worked _ (c.name.ensures ∙ ap name_of c.request.ensures) _ found (sym (rw c.copy.ensures at c.if-not-is_same.ensures)) _ _ _ c.reply.ensures c.after.ensures
+    commits_judged c.args.self.now c.args.worked _ (c.name.ensures ∙ ap name_of c.request.ensures) _ found _ c.judged_at-reply.ensures _
     (rw c.index_mut.ensures.value (set_there _ _ c.self.invariant _ c.self.view_is _ _ place c.index_mut.result.now _))
 
 pub returns-in-Err : goal.returns-in-Err

@@ -1,18 +1,8 @@
-use Rattle.std.proofs.Common.{refl}
-use Rattle.cred_book.proofs.Kept.{is_there, set_there, kept_set, is_absent}
+use Rattle.cred_book.proofs.Commitments.{set_granted, set_loads}
 use Rattle.cred_book.proofs.book.Book.load.Goals as goal
 
-pub invariant_of-self : goal.invariant_of-self
-invariant_of-self c =
-    let place = rw c.deref.ensures.value at c.in-Ok.ensures in
-    rw c.index_mut.ensures.value (kept_set _ _ c.self.invariant _ c.self.view_is _ _ place c.index_mut.result.now _)
+pub returns-clause-done : goal.returns-clause-done
+returns-clause-done c = set_loads _ _ _ _ _ c.set.ensures
 
-pub returns-in-Ok-clause-done : goal.returns-in-Ok-clause-done
-returns-in-Ok-clause-done c =
-    let place = rw c.deref.ensures.value at c.in-Ok.ensures in (
-      is_there _ _ c.self.invariant _ c.self.view_is _ _ place c.index_mut.result.now,
-      rw c.index_mut.ensures.value (set_there _ _ c.self.invariant _ c.self.view_is _ _ place c.index_mut.result.now _),
-    )
-
-pub returns-in-Err-clause-done : goal.returns-in-Err-clause-done
-returns-in-Err-clause-done c = (is_absent _ _ c.self.invariant _ c.self.view_is _ _ (rw c.deref.ensures.value at c.in-Err.ensures), refl)
+pub returns-clause-granted : goal.returns-clause-granted
+returns-clause-granted c = set_granted _ _ _ _ _ c.set.ensures
