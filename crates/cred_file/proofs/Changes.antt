@@ -1,14 +1,11 @@
 -- What the statements that change an account do to the table, at Ok and over a crash.
-use Rattle.std.proofs.Common.{◌≡◌, ◌⊎◌, inl, inr, ℕ, ℤ, pos, negsuc, List, [], ◌∷◌, ◌++◌, append-nil, map, filter, flat_map, codes, slice_get, Bool, true, false, not, cond, ◌&&◌, ◌||◌, drop, Some, None, Option, Ok, Err, Result, IfOk, OnOk, refl, sym, ap, subst, subst₂, ◌∙◌}
+use Rattle.std.proofs.Common.{◌≡◌, ◌⊎◌, inl, inr, ℕ, ℤ, List, [], ◌∷◌, ◌++◌, map, filter, flat_map, Bool, true, false, not, cond, ◌&&◌, ◌||◌, Some, None, Option, Ok, Err, Result, refl, sym, ap, subst, subst₂, ◌∙◌}
 use Rattle.std.specs.List.{list_any, list_all}
 use Rattle.std.specs.List.Sorted.{IsPermutation}
 use Rattle.std.specs.Ordering.{is_eq, eq_by_cmp}
 use Rattle.std.specs.Cmp.{eq_by_cmp_equiv}
 use Rattle.std.specs.Cmp.Lexicographic.{nat_list_cmp_total}
 use Rattle.std.specs.FinMap as fin
-use Rattle.std.specs.FinMap.{get-from_entries}
-use Rattle.std.specs.FinMap.Entries.{is_some-find}
-use Rattle.std.proofs.Common.{is_some}
 use Rattle.sqlite.specs.declared.types.Value.{Value}
 use Rattle.sqlite.specs.declared.types.Value.TheVariants.{Null, Int, Text}
 use Rattle.sqlite.specs.Order.{Row, column, value_cmp}
@@ -37,7 +34,7 @@ use Rattle.cred_book.specs.Accounts.{Accounts}
 use Rattle.cred_book.specs.Names.{name_cmp}
 use Rattle.cred_file.specs.Schema.{account, account_schema}
 use Rattle.cred_file.specs.Table.{Line, Says, Tells, has_name, StandsFor}
-use Rattle.cred_file.proofs.TableLemmas.{stands_put, stands_without, row_of, IsRowOf, insert_again, absent_now, named_in}
+use Rattle.cred_file.proofs.TableLemmas.{stands_put, stands_without, row_of, insert_again, absent_now, named_in}
 use Rattle.cred_file.proofs.Texts.{matched, terms}
 
 either : (b : Bool) (x : Value) → cond b x x ≡ x

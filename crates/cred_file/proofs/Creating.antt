@@ -1,5 +1,5 @@
 -- What CREATE TABLE does to an empty database.
-use Rattle.std.proofs.Common.{◌≡◌, ◌⊎◌, inl, inr, ℕ, List, [], ◌∷◌, Bool, true, false, if◌then◌else◌, Option, Some, None, Ok, Err, Result, refl, sym, ap, subst, ◌∙◌}
+use Rattle.std.proofs.Common.{◌≡◌, ◌⊎◌, inl, inr, ℕ, List, [], false, if◌then◌else◌, Option, None, Ok, Err, Result, refl, sym, ap, subst, ◌∙◌}
 use Rattle.std.specs.FinMap as fin
 use Rattle.sqlite.specs.Command.TheVariants.{CreateTable}
 use Rattle.sqlite.specs.Change.{created, next_tree}
@@ -8,8 +8,7 @@ use Rattle.sqlite.specs.Effect.{Database}
 use Rattle.sqlite.specs.State.{State, HasCleanDisk, Survives, CommitsBy, MayCommit, MayWrite, Writes, Executes, mode_of}
 use Rattle.sqlite.specs.declared.run.Mode.{Mode}
 use Rattle.sqlite.specs.Tree.{Trees}
-use Rattle.sqlite.specs.Listing.{understood}
-use Rattle.sqlite.proofs.Callers.{runs_as, statement_of, IsPlain}
+use Rattle.sqlite.proofs.Callers.{runs_as}
 use Rattle.cred_file.specs.Schema.{account, account_schema, create_text, no_schema}
 use Rattle.cred_file.specs.Table.{StandsFor}
 use Rattle.cred_file.specs.Keeps.{HoldsBook, IsTableOf}
