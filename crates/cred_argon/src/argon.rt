@@ -51,7 +51,15 @@ pub fn argon2<R: Threads + Sync, G: Gate + Sync>(
         ensures { (i : ℕ) (d : Segment) → i < length parts.entry.now
             → Works shared.entry.now (slice_index_or parts.entry.now i d) (slice_index_or parts.exit.now i d) }
     { run_parts(rt, workers, gate, shared, parts) };
-    argon2_by(&CrewFn { work_each }, alloc, params, pw, salt, secret, assoc)
+    argon2_by(
+        &CrewFn { work_each },
+        alloc,
+        params,
+        pw,
+        salt,
+        secret,
+        assoc,
+    )
 }
 
 /// The same with all the work done on the caller's thread, so that it needs no runtime: each lane of
