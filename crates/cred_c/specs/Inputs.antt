@@ -1,5 +1,5 @@
 -- What numbers stand for.
-use Rattle.std.specs.Prelude.{◌≡◌, ℕ, ◌<◌, ◌≤◌, ◌⊎◌, List, Result, Ok, Err}
+use Rattle.std.specs.Prelude.{◌≡◌, ℕ, ◌≤◌, ◌⊎◌, List, Result, Ok, Err}
 use Rattle.cred_phc.specs.declared.error.PhcError.{PhcError}
 use Rattle.cred_phc.specs.declared.scheme.Scheme.{Scheme}
 use Rattle.cred_phc.specs.Values.{RecordValue, SettingValue, made_setting, made_record}
