@@ -1,12 +1,55 @@
 //! The command line of `credbook`.
 
-ghost use Rattle.std.specs.Prelude.{◌≡◌, IfOk, false, map, option_map};
+ghost use Rattle.std.specs.Prelude.{◌≡◌, IfOk, codes, false, map, option_map};
 ghost use Rattle.clap.specs.Words.{FailsBy, app_of, fault_of, first_of, found_of, rows_of, rule_of, subcommand_of, subcommand_rows_of, with_rule, with_subcommand};
 ghost use Rattle.clap.specs.declared.builder.command.Command.TheViews.{out-Command};
 ghost use Rattle.cred_cli.specs.Arguments.{credbook, needed_rule, one_app, password_rule, run_app, running, workers_rule};
 
 use clap::{Arg, ArgMatches, Command, Error};
 use std::alloc::{AllocError, Global};
+
+const ABOUT: &str = "Password records, proved: scripts on a book of accounts, hashes and checks";
+
+const RUN_ABOUT: &str =
+    "Runs a script from standard input on an empty book, and answers each line on standard output";
+
+/// What help says of a subcommand.
+struct HelpTexts {
+    about: &'static str,
+    usage: &'static str,
+}
+
+static HASH: HelpTexts = HelpTexts {
+    about: "Prints the record of a password under a setting",
+    usage: "credbook hash [OPTIONS] <SETTING> [PASSWORD]",
+};
+
+static CHECK: HelpTexts = HelpTexts {
+    about: "Says whether a password is the record's: yes, or no with status 4",
+    usage: "credbook check [OPTIONS] <RECORD> [PASSWORD]",
+};
+
+const AFTER_HELP: &str = "\
+Examples:
+  printf 'account a\\nshow a\\n' | credbook run
+  credbook hash '$argon2id$v=19$m=19456,t=2,p=1$c29tZXNhbHQ' c2VjcmV0
+  credbook check \"$record\" c2VjcmV0
+A password stands in base64: printf %s secret | base64 -w0 | tr -d =
+
+Exit statuses:
+  0  done; `check` said yes
+  1  a word, a setting, a record or a password was refused, or help was asked for
+  2  reading or writing failed, or the script has over 1048576 bytes
+  3  out of memory
+  4  `check` said no
+
+Commonest causes of a refusal:
+  line      a blank line, a comment, a capital letter, or two spaces in a row
+  shape     something stands before the first '$', as in 'argon2$argon2id$..'
+  version   a setting is not of v=19
+  tag       a carriage return or a NUL trails the record
+  password  base64 with '=', or plain text
+docs/ERRORS.md has them all, by word.";
 
 /// What the words say; `clap`'s error where they don't parse.
 pub(crate) fn matches_of<'a>(alloc: Global, words: &'a [&'a str]) -> Result<ArgMatches<'a>, Error>
@@ -32,22 +75,19 @@ fn credbook<'a>(alloc: Global) -> Result<Command<'a>, AllocError>
     ensures app { IfOk result (λ c. app_of c ≡ credbook) }
     ensures local { IfOk result (λ c. (out-Command c).has_globals ≡ false) }
 {
-    let command = with_one(alloc, running(alloc)?, "hash", "setting")?;
-    with_one(alloc, command, "check", "record")
+    let hash = of_one(alloc, "hash", &HASH, setting(alloc))?;
+    let check = of_one(alloc, "check", &CHECK, stored(alloc))?;
+    let command = with_command(running(alloc)?, hash)?;
+    with_command(command, check)
 }
 
-/// The same with a subcommand on one setting or record.
-fn with_one<'a>(
-    alloc: Global,
-    command: Command<'a>,
-    word: &'a str,
-    what: &'a str,
-) -> Result<Command<'a>, AllocError>
-    requires local { (out-Command command).has_globals ≡ false }
-    ensures app { IfOk result (λ c. app_of c ≡ with_subcommand (app_of command.entry) (one_app word.entry.now what.entry.now).top) }
+/// The same with a subcommand of its own.
+fn with_command<'a>(command: Command<'a>, below: Command<'a>) -> Result<Command<'a>, AllocError>
+    requires local { ((out-Command command).has_globals ≡ false) × ((out-Command below).has_globals ≡ false) }
+    ensures app { IfOk result (λ c. app_of c ≡ with_subcommand (app_of command.entry) (app_of below.entry).top) }
     ensures local { IfOk result (λ c. (out-Command c).has_globals ≡ false) }
 {
-    command.subcommand(of_one(alloc, word, what)?)
+    command.subcommand(below)
 }
 
 fn running<'a>(alloc: Global) -> Result<Command<'a>, AllocError>
@@ -56,6 +96,9 @@ fn running<'a>(alloc: Global) -> Result<Command<'a>, AllocError>
 {
     let run = run(alloc)?;
     Command::new(alloc, "credbook")
+        .version("0.1.0")
+        .about(ABOUT)
+        .after_help(AFTER_HELP)
         .no_binary_name(true)
         .subcommand_required(true)
         .subcommand(run)
@@ -65,15 +108,29 @@ fn run<'a>(alloc: Global) -> Result<Command<'a>, AllocError>
     ensures app { IfOk result (λ c. app_of c ≡ run_app) }
     ensures local { IfOk result (λ c. (out-Command c).has_globals ≡ false) }
 {
-    Command::new(alloc, "run").arg(workers(alloc))
+    Command::new(alloc, "run")
+        .about(RUN_ABOUT)
+        .override_usage("credbook run [OPTIONS]")
+        .arg(workers(alloc))
 }
 
 /// A subcommand on one setting or record, and a password.
-fn of_one<'a>(alloc: Global, word: &'a str, what: &'a str) -> Result<Command<'a>, AllocError>
-    ensures app { IfOk result (λ c. app_of c ≡ one_app word.entry.now what.entry.now) }
+fn of_one<'a>(
+    alloc: Global,
+    word: &'a str,
+    texts: &'a HelpTexts,
+    what: Arg<'a>,
+) -> Result<Command<'a>, AllocError>
+    requires local { what.global ≡ false }
+    ensures app { IfOk result (λ c. app_of c ≡ one_app word.entry.now (rule_of what.entry)) }
     ensures local { IfOk result (λ c. (out-Command c).has_globals ≡ false) }
 {
-    let command = with_arg(Command::new(alloc, word), needed(alloc, what))?;
+    let command = with_arg(
+        Command::new(alloc, word)
+            .about(texts.about)
+            .override_usage(texts.usage),
+        what,
+    )?;
     let command = with_arg(command, password(alloc))?;
     with_arg(command, workers(alloc))
 }
@@ -87,18 +144,33 @@ fn with_arg<'a>(command: Command<'a>, arg: Arg<'a>) -> Result<Command<'a>, Alloc
     command.arg(arg)
 }
 
-fn needed<'a>(alloc: Global, what: &'a str) -> Arg<'a>
-    ensures rule { rule_of result ≡ needed_rule what.entry.now }
+fn setting<'a>(alloc: Global) -> Arg<'a>
+    ensures rule { rule_of result ≡ needed_rule (codes "setting") }
     ensures local { result.global ≡ false }
 {
-    Arg::new(alloc, what).required(true)
+    Arg::new(alloc, "setting")
+        .value_name("SETTING")
+        .help("A scheme, its numbers and a salt, as $argon2id$v=19$m=256,t=2,p=1$c29tZXNhbHQ")
+        .required(true)
+}
+
+fn stored<'a>(alloc: Global) -> Arg<'a>
+    ensures rule { rule_of result ≡ needed_rule (codes "record") }
+    ensures local { result.global ≡ false }
+{
+    Arg::new(alloc, "record")
+        .value_name("RECORD")
+        .help("A setting with a tag behind it, as `hash` prints it")
+        .required(true)
 }
 
 fn password<'a>(alloc: Global) -> Arg<'a>
     ensures rule { rule_of result ≡ password_rule }
     ensures local { result.global ≡ false }
 {
-    Arg::new(alloc, "password")
+    Arg::new(alloc, "password").value_name("PASSWORD").help(
+        "The password in base64 without '='; the empty one if it is left away",
+    )
 }
 
 fn workers<'a>(alloc: Global) -> Arg<'a>
@@ -107,6 +179,8 @@ fn workers<'a>(alloc: Global) -> Arg<'a>
 {
     Arg::new(alloc, "workers")
         .long("workers")
+        .value_name("N")
+        .help("How many threads may hash at once, from 1 to 64")
         .value_parser(clap::value_parser!(u8).range(1..=64))
         .default_value("1")
 }

@@ -252,25 +252,22 @@ static UNREAD: [(&[&str], &str); 6] = [
         &[],
         "error: 'credbook' requires a subcommand but one was not provided\n  [subcommands: run, hash, check, help]\n\nUsage: credbook <COMMAND>\n\nFor more information, try '--help'.\n",
     ),
-    (
-        &["--help"],
-        "Usage: credbook <COMMAND>\n\nCommands:\n  run    \n  hash   \n  check  \n  help   Print this message or the help of the given subcommand(s)\n\nOptions:\n  -h, --help  Print help\n",
-    ),
+    (&["--version"], "credbook 0.1.0\n"),
     (
         &["walk"],
         "error: unrecognized subcommand 'walk'\n\nUsage: credbook <COMMAND>\n\nFor more information, try '--help'.\n",
     ),
     (
         &["run", "x"],
-        "error: unexpected argument 'x' found\n\nUsage: run [OPTIONS]\n\nFor more information, try '--help'.\n",
+        "error: unexpected argument 'x' found\n\nUsage: credbook run [OPTIONS]\n\nFor more information, try '--help'.\n",
     ),
     (
         &["run", "--quiet"],
-        "error: unexpected argument '--quiet' found\n\nUsage: run [OPTIONS]\n\nFor more information, try '--help'.\n",
+        "error: unexpected argument '--quiet' found\n\nUsage: credbook run [OPTIONS]\n\nFor more information, try '--help'.\n",
     ),
     (
         &["run", "--help"],
-        "Usage: run [OPTIONS]\n\nOptions:\n      --workers <workers>  [default: 1]\n  -h, --help               Print help\n",
+        "Runs a script from standard input on an empty book, and answers each line on standard output\n\nUsage: credbook run [OPTIONS]\n\nOptions:\n      --workers <N>  How many threads may hash at once, from 1 to 64 [default: 1]\n  -h, --help         Print help\n",
     ),
 ];
 
@@ -279,5 +276,41 @@ fn words_that_do_not_parse(rt: HostRuntime) {
     for (words, text) in &UNREAD {
         let input = b"account a\n".as_slice();
         judge_words(&rt, rt.alloc(), words, input, (1, "", text));
+    }
+}
+
+/// Words that ask for help, and lines that have to stand in it.
+static HELPED: [(&[&str], &str); 7] = [
+    (&["--help"], "\nUsage: credbook <COMMAND>\n"),
+    (&["--help"], "\nExit statuses:\n"),
+    (&["--help"], "\ndocs/ERRORS.md has them all, by word.\n"),
+    (
+        &["hash", "--help"],
+        "\nUsage: credbook hash [OPTIONS] <SETTING> [PASSWORD]\n",
+    ),
+    (
+        &["check", "--help"],
+        "\nUsage: credbook check [OPTIONS] <RECORD> [PASSWORD]\n",
+    ),
+    (
+        &["help", "check"],
+        "\nUsage: credbook check [OPTIONS] <RECORD> [PASSWORD]\n",
+    ),
+    (&["hash"], "\n  <SETTING>\n"),
+];
+
+fn judge_help<R: Threads + Wait + Sync + Abort>(rt: &R, alloc: Global, words: &[&str], line: &str) {
+    let ran = run_words(rt, alloc, words, b"".as_slice(), Vec::new(alloc));
+    let text = ran.faults.as_slice();
+    let holds = text.windows(line.len()).any(|part| part == line.as_bytes());
+    assert!(rt; holds, "{line}");
+    hold_bytes(rt, 0, &ran.output, "");
+    hold(rt, 0, ran.status == 1);
+}
+
+#[test]
+fn help_says_what_is_needed(rt: HostRuntime) {
+    for (words, line) in &HELPED {
+        judge_help(&rt, rt.alloc(), words, line);
     }
 }
