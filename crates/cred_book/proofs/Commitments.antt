@@ -27,7 +27,7 @@ module _ (work : Task) (now : Option RecordValue) where
 
 module _ (book : Accounts) (work : Task) (name : List ℕ) (is : name ≡ name_of work.0) where
   -- the definitions, once it is known what stands at the name
-  committed_found : (entry : Option (Option RecordValue)) → map.get book name ≡ entry → committed book work ≡ committed_at book work entry
+  pub committed_found : (entry : Option (Option RecordValue)) → map.get book name ≡ entry → committed book work ≡ committed_at book work entry
   unfolding committed
   committed_found entry found = ap (λ n. committed_at book work (map.get book n)) (sym is) ∙ ap (committed_at book work) found
 

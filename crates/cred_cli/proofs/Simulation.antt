@@ -16,7 +16,7 @@ use Rattle.cred_book.specs.declared.reply.Reply.{Reply}
 use Rattle.cred_book.specs.declared.reply.Reply.TheVariants as reply
 use Rattle.cred_book.specs.declared.request.Request.{Request}
 use Rattle.cred_book.specs.declared.request.Request.TheVariants as request
-use Rattle.cred_book.proofs.Commitments.{committed-at}
+use Rattle.cred_book.proofs.Commitments.{committed_found}
 use Rattle.cred_cli.specs.declared.event.Event.{Event}
 use Rattle.cred_cli.specs.declared.event.Event.TheVariants.{Account, Load, Show, Begin, Commit, Bad}
 use Rattle.cred_cli.specs.declared.refusal.Refusal.TheVariants.{Book, Busy, Idle}
@@ -234,7 +234,7 @@ module _ (book : Accounts) (events : List Event) (i : ℕ) (slots : List (Option
     stale = stale-at book (done book events i) opened now task.1 found began
 
     commits : committed (book_at book events i) task ≡ committed_at (book_at book events i) task (Some now)
-    commits = committed-at (book_at book events i) task (name_of opened.request) (Some now) (sym (ap name_of asked)) found
+    commits = committed_found (book_at book events i) task (name_of opened.request) (sym (ap name_of asked)) (Some now) found
 
     told : answer_of book events i (Some (Commit key)) ≡ closed book (done book events i) (Some opened)
     told = ap (closed book (done book events i)) is
