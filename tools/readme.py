@@ -4,8 +4,9 @@
     python3 tools/readme.py [FILE..]
 
 A session is a block marked `sh`; the block marked `text` that follows is what it has to print. All sessions of a page run in one
-empty folder, in their order, by bash, with `credbook` and the other built programs of crates/*/out in their path (`rt run` in
-crates/credbook builds it). A block with no text below it is named and not run. The status is 1 where one prints something else.
+folder, in their order, by bash, with `credbook` and the other built programs of crates/*/out in their path (`rt run` in
+crates/credbook builds it). The folder holds links to crates/ and c/ and nothing else. A block with no text below it is named and not
+run. The status is 1 where one prints something else.
 """
 
 import difflib
@@ -32,8 +33,8 @@ def differs(script, wanted, room):
     """The lines in which what a session prints differs from what it has to print."""
     programs = [str(it) for it in TOP.glob("crates/*/out") if it.is_dir()]
     path = os.pathsep.join([*programs, os.environ["PATH"]])
-    done = subprocess.run(["bash", "-c", script], cwd=room, env={**os.environ, "PATH": path, "RIGZUMAL": str(TOP)},
-                          stdout=subprocess.PIPE, text=True, timeout=300)
+    done = subprocess.run(["bash", "-c", script], cwd=room, env={**os.environ, "PATH": path}, stdout=subprocess.PIPE, text=True,
+                          timeout=300)
     return list(difflib.unified_diff(wanted.splitlines(), done.stdout.splitlines(), "page", "printed", lineterm="", n=0))
 
 
@@ -41,6 +42,8 @@ def main():
     passed = failed = 0
     for name in sys.argv[1:] or ["README.md"]:
         with tempfile.TemporaryDirectory(prefix="readme-") as room:
+            for folder in ("crates", "c"):
+                (pathlib.Path(room) / folder).symlink_to(TOP / folder)
             for line, script, wanted in sessions_of((TOP / name).read_text()):
                 if wanted is None:
                     print(f"{name}:{line}: not run: {script.splitlines()[0]}")
