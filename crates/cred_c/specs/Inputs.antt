@@ -13,8 +13,8 @@ abbrev pub IsVersion : ℕ → Type 0
 IsVersion version = (version ≡ 16) ⊎ (version ≡ 19)
 
 -- at least one, and no more than a byte holds
-abbrev pub IsSome : ℕ → Type 0
-IsSome n = (1 ≤ n) × (n ≤ 255)
+abbrev pub IsPositiveByte : ℕ → Type 0
+IsPositiveByte n = (1 ≤ n) × (n ≤ 255)
 
 abbrev pub made_in : Result SettingValue PhcError → List ℕ → Result RecordValue PhcError
 made_in (Err e) tag = Err e

@@ -8,7 +8,7 @@ ghost use Rattle.cred_argon.specs.declared.error.ArgonError.{ArgonError};
 ghost use Rattle.cred_argon.specs.declared.kind.Kind.{Kind};
 ghost use Rattle.cred_argon.specs.declared.kind.Version.{Version};
 ghost use Rattle.cred_c.specs.Answers.{argon_number};
-ghost use Rattle.cred_c.specs.Inputs.{IsKind, IsSome, IsVersion};
+ghost use Rattle.cred_c.specs.Inputs.{IsKind, IsPositiveByte, IsVersion};
 ghost use Rattle.cred_scrypt.specs.Params.{IsCostly};
 ghost use Rattle.cred_scrypt.specs.Scrypt.{scrypt};
 
@@ -100,13 +100,13 @@ pub extern "C" fn cred_scrypt(
     ensures made { result ≡ 0 → out.new ≡ scrypt ln r p (length out.old) pw.now salt.now }
     ensures kept { (result ≡ 0 → ⊥) → out.new ≡ out.old }
     ensures long { 2 ^ 32 ≤ length out.old → result ≡ 22 }
-    ensures block_size { length out.old < 2 ^ 32 → (result ≡ 20) ↔ (IsSome r → ⊥) }
-    ensures blocks { length out.old < 2 ^ 32 → (result ≡ 21) ↔ (IsSome r × (IsSome p → ⊥)) }
+    ensures block_size { length out.old < 2 ^ 32 → (result ≡ 20) ↔ (IsPositiveByte r → ⊥) }
+    ensures blocks { length out.old < 2 ^ 32 → (result ≡ 21) ↔ (IsPositiveByte r × (IsPositiveByte p → ⊥)) }
     ensures cost { length out.old < 2 ^ 32
-        → (result ≡ 19) ↔ (IsSome r × IsSome p × IsCostly ln r) }
+        → (result ≡ 19) ↔ (IsPositiveByte r × IsPositiveByte p × IsCostly ln r) }
     ensures empty { length out.old < 2 ^ 32
-        → (result ≡ 22) ↔ (IsSome r × IsSome p × (IsCostly ln r → ⊥) × (length out.old ≡ 0)) }
-    ensures fine { IsSome r → IsSome p → (IsCostly ln r → ⊥)
+        → (result ≡ 22) ↔ (IsPositiveByte r × IsPositiveByte p × (IsCostly ln r → ⊥) × (length out.old ≡ 0)) }
+    ensures fine { IsPositiveByte r → IsPositiveByte p → (IsCostly ln r → ⊥)
         → 1 ≤ length out.old → length out.old < 2 ^ 32 → (result ≡ 0) ⊎ (result ≡ 8) }
 {
     let Ok(len) = u32::try_from(out.len()) else {
@@ -126,11 +126,11 @@ pub extern "C" fn cred_scrypt(
 
 /// scrypt's numbers, each of which has to be one of a byte.
 fn scrypt_params(ln: u32, r: u32, p: u32, len: u32) -> Result<ScryptParams, ScryptError>
-    ensures block_size { (result ≡ Err ScryptError.BlockSize) ↔ (IsSome r → ⊥) }
-    ensures blocks { (result ≡ Err ScryptError.Blocks) ↔ (IsSome r × (IsSome p → ⊥)) }
-    ensures cost { (result ≡ Err ScryptError.Cost) ↔ (IsSome r × IsSome p × IsCostly ln r) }
+    ensures block_size { (result ≡ Err ScryptError.BlockSize) ↔ (IsPositiveByte r → ⊥) }
+    ensures blocks { (result ≡ Err ScryptError.Blocks) ↔ (IsPositiveByte r × (IsPositiveByte p → ⊥)) }
+    ensures cost { (result ≡ Err ScryptError.Cost) ↔ (IsPositiveByte r × IsPositiveByte p × IsCostly ln r) }
     ensures len { (result ≡ Err ScryptError.Len)
-        ↔ (IsSome r × IsSome p × (IsCostly ln r → ⊥) × (len ≡ 0)) }
+        ↔ (IsPositiveByte r × IsPositiveByte p × (IsCostly ln r → ⊥) × (len ≡ 0)) }
     ensures memory { result ≡ Err ScryptError.Memory → ⊥ }
     ensures ok { IfOk result (λ made. (made.ln ≡ ln) × (made.r ≡ r) × (made.p ≡ p)
         × (made.len ≡ len)) }
