@@ -301,8 +301,10 @@ static HELPED: [(&[&str], &str); 7] = [
 
 fn judge_help<R: Threads + Wait + Sync + Abort>(rt: &R, alloc: Global, words: &[&str], line: &str) {
     let ran = run_words(rt, alloc, words, b"".as_slice(), Vec::new(alloc));
-    let text = ran.faults.as_slice();
-    let holds = text.windows(line.len()).any(|part| part == line.as_bytes());
+    let holds = match str::from_utf8(&ran.faults) {
+        Ok(text) => text.contains(line),
+        Err(_) => false,
+    };
     assert!(rt; holds, "{line}");
     hold_bytes(rt, 0, &ran.output, "");
     hold(rt, 0, ran.status == 1);
