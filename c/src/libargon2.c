@@ -2,8 +2,8 @@
  *
  * Inputs are tried in the original's order and refused with its numbers and messages. What it takes
  * and the proved code doesn't is refused by the nearest of them: over 2 GiB of memory, over 255
- * lanes, a tag of over 64 bytes, a version that isn't 0x10 or 0x13; and in encoded strings a salt
- * of over 48 bytes. All lanes are worked on the caller's thread; the callbacks for memory are tried
+ * lanes, a version that isn't 0x10 or 0x13; and in encoded strings a salt of over 48 bytes and a
+ * tag of over 64. All lanes are worked on the caller's thread; the callbacks for memory are tried
  * and not called. */
 #define _GNU_SOURCE
 #include "rigzumal.h"
