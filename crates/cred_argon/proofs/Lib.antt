@@ -5,10 +5,10 @@ pub mod Ranges
 pub mod Sets
 pub mod Picks
 pub mod CellLaw
-pub mod Slots
+pub mod Distances
 pub mod Steps
 pub mod Working
-pub mod Turns
+pub mod SliceWork
 pub mod Filling
 pub mod FirstCells
 pub mod LastBlocks

@@ -1,11 +1,12 @@
 -- The place that two words name, in time.
 use Rattle.std.proofs.Common.{◌≡◌, ℕ, zero, suc, ◌<◌, ◌≤◌, ◌+◌, ◌-◌, ◌*◌, ◌/◌, ◌%◌, Bool, true, false, min, ◌==◌, ◌||◌, if◌then◌else◌, refl, sym, arith, zero-mul}
 use Rattle.std.proofs.Math.Nat.{div-add-mod, mod-add-mod, mod-lt, mul-le-mul_right, mul-lt-mul_of_pos_right, mod-eq_of_lt}
-use Rattle.std.proofs.lemmas.Nat.{mod-mul-add}
+use Rattle.std.proofs.lemmas.Nat.{div-mul-add, mod-mul-add, div_below}
 use Rattle.std.proofs.lemmas.Bool.Decides.{nat_tests}
 use Rattle.std.proofs.lemmas.List.FromFn.{length-map-range_with_len, get_or-map-range_with_len}
 use Rattle.cred_argon.specs.declared.place.Place.{Place}
-use Rattle.cred_argon.specs.Places.{segment_of, IsComputed, reference_lane, pick, reference_place}
+use Rattle.cred_argon.specs.declared.position.Position.{Position}
+use Rattle.cred_argon.specs.Places.{place_of, segment_of, IsComputed, reference_lane, pick, reference_place}
 use Rattle.cred_argon.specs.Times.{time_of, reference_count, IsBefore}
 use Rattle.cred_argon.proofs.Sets.{at_time, first_of, count_of, set_is, time_is, three_segments}
 
@@ -116,12 +117,12 @@ spread a b s = omega arith
 
 pub start_later : (r u s : ℕ) → 0 < r → 0 < s → (u + 1) % 4 * s ≡ (4 * r + u - 3) * s % (4 * s)
 start_later r u s later some =
-    let turn : 4 * r + u - 3 ≡ 4 * (r - 1 + (u + 1) / 4) + (u + 1) % 4 = omega arith in
+    let segments : 4 * r + u - 3 ≡ 4 * (r - 1 + (u + 1) / 4) + (u + 1) % 4 = omega arith in
     let part : (u + 1) % 4 * s < 4 * s = mul-lt-mul_of_pos_right (omega arith) some in
-    rw (turn, spread (r - 1 + (u + 1) / 4) ((u + 1) % 4) s) (sym (mod-mul-add (r - 1 + (u + 1) / 4) (4 * s) ((u + 1) % 4 * s) part))
+    rw (segments, spread (r - 1 + (u + 1) / 4) ((u + 1) % 4) s) (sym (mod-mul-add (r - 1 + (u + 1) / 4) (4 * s) ((u + 1) % 4 * s) part))
 
 -- lane and column of the place that the words name, where slice and offset stand for the column
-pub column_is : (s lanes : ℕ) (p : Place) (j1 j2 slice offset : ℕ) → 2 ≤ s → IsComputed s lanes p
+column_is : (s lanes : ℕ) (p : Place) (j1 j2 slice offset : ℕ) → 2 ≤ s → IsComputed s lanes p
     → slice ≡ p.column / s → offset ≡ p.column % s
     → let l = if 4 * p.pass + slice == 0 then p.lane else j2 % lanes in
     (((4 * p.pass + slice - 3) * s % (4 * s) + pick (reference_count s (4 * p.pass + slice) offset (l == p.lane)) j1) % (4 * s)
@@ -131,3 +132,18 @@ column_is s lanes p j1 j2 slice offset some computed slice_is offset_is =
     let l = reference_lane s lanes p j2 in
     rw (slice_is, offset_is, reference_is s lanes p j1 j2 some computed)
     (mod-add-mod (first_of s p) (4 * s) (pick (count_of s p (l == p.lane)) j1), refl)
+
+-- the same for a position
+pub column_of : (s lanes : ℕ) (at : Position) (j1 j2 : ℕ) → 2 ≤ s → IsComputed s lanes (place_of s at) → at.offset < s
+    → let l = if 4 * at.pass + at.slice == 0 then at.lane else j2 % lanes in
+    (((4 * at.pass + at.slice - 3) * s % (4 * s) + pick (reference_count s (4 * at.pass + at.slice) at.offset (l == at.lane)) j1) % (4 * s)
+    ≡ (reference_place s lanes (place_of s at) j1 j2).column)
+    × (l ≡ (reference_place s lanes (place_of s at) j1 j2).lane)
+column_of s lanes at j1 j2 some computed inside =
+    column_is s lanes (place_of s at) j1 j2 at.slice at.offset some computed (sym (div-mul-add at.slice s at.offset inside))
+    (sym (mod-mul-add at.slice s at.offset inside))
+
+-- the slice of a position in the memory
+pub slice_below : (s lanes : ℕ) (at : Position) → 0 < s → IsComputed s lanes (place_of s at) → at.offset < s → at.slice < 4
+slice_below s lanes at some computed inside =
+    rw (div-mul-add at.slice s at.offset inside) at (div_below (at.slice * s + at.offset) s 4 some computed.column_inside)

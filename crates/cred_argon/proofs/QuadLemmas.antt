@@ -1,4 +1,4 @@
--- What holds of each lane of a vector of four words.
+-- What holds of each slot of a vector of four words.
 use Rattle.std.proofs.Common.{◌≡◌, ℕ, zero, suc, ◌<◌, ◌+◌, ◌-◌, ◌*◌, ◌/◌, ◌%◌, ◌^◌, List, [], ◌∷◌, length, slice_index, bit_and, bit_or, arith, refl, subst}
 use Rattle.std.proofs.lemmas.Nat.{and_mask}
 use Rattle.std.specs.Simd.Lanes.{zip2}
@@ -13,13 +13,13 @@ below_four P p0 p1 p2 p3 (suc (suc (suc zero))) h = p3
 below_four P p0 p1 p2 p3 (suc (suc (suc (suc n)))) h = absurd (omega arith)
 
 -- what holds of each list of four elements
-four_lanes : (P : List ℕ → Type 0) → ((a b c d : ℕ) → P (a ∷ b ∷ c ∷ d ∷ [])) → (xs : List ℕ) → length xs ≡ 4 → P xs
-four_lanes P p (a ∷ b ∷ c ∷ d ∷ []) h = p a b c d
-four_lanes P p [] h = absurd (omega arith)
-four_lanes P p (a ∷ []) h = absurd (omega arith)
-four_lanes P p (a ∷ b ∷ []) h = absurd (omega arith)
-four_lanes P p (a ∷ b ∷ c ∷ []) h = absurd (omega arith)
-four_lanes P p (a ∷ b ∷ c ∷ d ∷ e ∷ xs) h = absurd (omega arith)
+four_slots : (P : List ℕ → Type 0) → ((a b c d : ℕ) → P (a ∷ b ∷ c ∷ d ∷ [])) → (xs : List ℕ) → length xs ≡ 4 → P xs
+four_slots P p (a ∷ b ∷ c ∷ d ∷ []) h = p a b c d
+four_slots P p [] h = absurd (omega arith)
+four_slots P p (a ∷ []) h = absurd (omega arith)
+four_slots P p (a ∷ b ∷ []) h = absurd (omega arith)
+four_slots P p (a ∷ b ∷ c ∷ []) h = absurd (omega arith)
+four_slots P p (a ∷ b ∷ c ∷ d ∷ e ∷ xs) h = absurd (omega arith)
 
 abbrev sum64 : List ℕ → List ℕ → List ℕ
 sum64 = zip2 (λ a b. (a + b) % 2 ^ 64)
@@ -42,25 +42,25 @@ add_one a b = rw (and_mask a 32, and_mask b 32) (sums (a + b) (a % 2 ^ 32 * (b %
     sums : (s q : ℕ) → ((s % 2 ^ 64 + q % 2 ^ 64) % 2 ^ 64 + q % 2 ^ 64) % 2 ^ 64 ≡ (s + 2 * q) % 2 ^ 64
     sums s q = omega arith
 
-pub lanes_add : (x : List ℕ) → length x ≡ 4 → (y : List ℕ) → length y ≡ 4 → AddsProduct x y
-lanes_add =
-    four_lanes (λ x. (y : List ℕ) → length y ≡ 4 → AddsProduct x y) (λ a0 a1 a2 a3.
-    four_lanes (AddsProduct (a0 ∷ a1 ∷ a2 ∷ a3 ∷ [])) (λ b0 b1 b2 b3.
+pub slots_add : (x : List ℕ) → length x ≡ 4 → (y : List ℕ) → length y ≡ 4 → AddsProduct x y
+slots_add =
+    four_slots (λ x. (y : List ℕ) → length y ≡ 4 → AddsProduct x y) (λ a0 a1 a2 a3.
+    four_slots (AddsProduct (a0 ∷ a1 ∷ a2 ∷ a3 ∷ [])) (λ b0 b1 b2 b3.
     below_four _ (add_one a0 b0) (add_one a1 b1) (add_one a2 b2) (add_one a3 b3)))
 
--- two shifts of each lane and an or are a rotation
-abbrev Turns : ℕ → List ℕ → Type 0
-Turns k x = (j : ℕ) → j < 4
+-- two shifts of each slot and an or are a rotation
+abbrev Rotates : ℕ → List ℕ → Type 0
+Rotates k x = (j : ℕ) → j < 4
     → slice_index (zip2 bit_or
     (zip2 (λ a n. a / 2 ^ n) x (k ∷ k ∷ k ∷ k ∷ []))
     (zip2 (λ a n. a * 2 ^ n % 2 ^ 64) x ((64 - k) ∷ (64 - k) ∷ (64 - k) ∷ (64 - k) ∷ []))) j
     ≡ rotate_right w64 (slice_index x j) k
 
-pub lanes_turn : (k : ℕ) → 0 < k → k < 64 → (x : List ℕ) → length x ≡ 4 → Turns k x
-lanes_turn k low high =
+pub slots_rotate : (k : ℕ) → 0 < k → k < 64 → (x : List ℕ) → length x ≡ 4 → Rotates k x
+slots_rotate k low high =
     let right : k % 64 ≡ k = omega arith in
     let left : (64 - k) % 64 ≡ 64 - k = omega arith in
-    four_lanes (Turns k) (λ a0 a1 a2 a3.
+    four_slots (Rotates k) (λ a0 a1 a2 a3.
     below_four _ (rw (right, left) refl) (rw (right, left) refl) (rw (right, left) refl) (rw (right, left) refl))
 
 -- what holds of each of sixteen places

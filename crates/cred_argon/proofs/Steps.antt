@@ -1,5 +1,5 @@
 -- One block of a segment: what is made of the block before and the reference is the cell.
-use Rattle.std.proofs.Common.{◌≡◌, ◌≢◌, ℕ, ◌<◌, ◌≤◌, ◌+◌, ◌-◌, ◌*◌, ◌/◌, ◌%◌, ◌^◌, List, ◌++◌, length, slice_index_or, slice_set, Bool, true, false, not, if◌then◌else◌, slice_index, refl, ap, ap₂, sym, ◌∙◌, inl, inr, arith}
+use Rattle.std.proofs.Common.{◌≡◌, ◌≢◌, ℕ, ◌<◌, ◌≤◌, ◌+◌, ◌-◌, ◌*◌, ◌/◌, ◌%◌, ◌^◌, List, ◌++◌, length, slice_index_or, slice_set, Bool, true, false, Option, Some, None, if◌then◌else◌, slice_index, refl, ap, ap₂, sym, ◌∙◌, inl, inr, arith}
 use Rattle.std.proofs.lemmas.Nat.{div-mul-add, mod-mul-add}
 use Rattle.std.proofs.lemmas.Bool.{cases_eq}
 use Rattle.std.proofs.lemmas.Bool.Decides.{nat_tests}
@@ -7,11 +7,16 @@ use Rattle.std.proofs.lemmas.List.{get_or_append_left, get_or-append_right, set-
 use Rattle.cred_argon.specs.declared.block.Block.{Block}
 use Rattle.cred_argon.specs.declared.place.Place.{Place}
 use Rattle.cred_argon.specs.declared.segment.Shared.{Shared}
+use Rattle.cred_argon.specs.declared.position.Reference.{Reference}
+use Rattle.cred_argon.specs.Times.{IsBefore}
 use Rattle.cred_argon.specs.Parameters.{Parameters, segment_len}
 use Rattle.cred_argon.specs.Compress.{compress, xor_words}
 use Rattle.cred_argon.specs.Places.{IsComputed, reference_place}
 use Rattle.cred_argon.specs.Cells.{is_dependent, address_block, previous, older, word_by, mixed_by, is_first, is_fresh, cell_by, cell}
 use Rattle.cred_argon.specs.Segments.{place_in, DoneHolds, OwnHolds}
+use Rattle.cred_argon.specs.declared.address.AddressBlock.{AddressBlock}
+use Rattle.cred_argon.specs.Addresses.{ServesOffset, word_from}
+use Rattle.cred_argon.proofs.Picks.{reference_before}
 use Rattle.cred_argon.proofs.CellLaw.{cell_is, later_pass}
 
 not_first : (s lanes : ℕ) (p : Place) → IsComputed s lanes p → is_first p ≡ false
@@ -29,22 +34,20 @@ equation a h p some computed fresh same =
     ∙ rw (not_first (segment_len a) a.lanes p computed, same) refl
 
 -- the word that the code reads is the one that names the reference
-pub word_is : (c : Shared) (h before addresses : List ℕ) (l k : ℕ) → k < segment_len c.params
-    → before ≡ cell c.params h (previous (segment_len c.params) (place_in c l k))
-    → (is_dependent c.params.kind c.pass c.slice ≡ false → addresses ≡ address_block c.params c.pass l c.slice (k / 128 + 1))
-    → (if is_dependent c.params.kind c.pass c.slice then slice_index before 0 else slice_index addresses (k % 128))
-    ≡ word_by c.params (cell c.params h) (place_in c l k)
-word_is c h before addresses l k inside before_is addresses_are =
+pub word_is : (c : Shared) (h before : List ℕ) (addresses : Option AddressBlock) (l k : ℕ) → k < segment_len c.params
+    → before ≡ cell c.params h (previous (segment_len c.params) (place_in c l k)) → ServesOffset c l k addresses
+    → word_from addresses before (k % 128) ≡ word_by c.params (cell c.params h) (place_in c l k)
+word_is c h before addresses l k inside before_is serves =
     let slice : (c.slice * segment_len c.params + k) / segment_len c.params ≡ c.slice = div-mul-add c.slice (segment_len c.params) k inside in
     let offset : (c.slice * segment_len c.params + k) % segment_len c.params ≡ k = mod-mul-add c.slice (segment_len c.params) k inside in
-    rw (slice, offset) (go (is_dependent c.params.kind c.pass c.slice) refl)
+    rw (slice, offset) (go addresses serves)
   where
-    go : (b : Bool) → is_dependent c.params.kind c.pass c.slice ≡ b
-        → (if b then slice_index before 0 else slice_index addresses (k % 128))
-        ≡ (if b then slice_index (cell c.params h (previous (segment_len c.params) (place_in c l k))) 0
+    go : (kept : Option AddressBlock) → ServesOffset c l k kept
+        → word_from kept before (k % 128)
+        ≡ (if is_dependent c.params.kind c.pass c.slice then slice_index (cell c.params h (previous (segment_len c.params) (place_in c l k))) 0
         else slice_index (address_block c.params c.pass l c.slice (k / 128 + 1)) (k % 128))
-    go true same = ap (λ (x : List ℕ). slice_index x 0) before_is
-    go false same = ap (λ (x : List ℕ). slice_index x (k % 128)) (addresses_are same)
+    go None same = rw same (ap (λ (x : List ℕ). slice_index x 0) before_is)
+    go (Some kept) same = rw same.0 (ap (λ (x : List ℕ). slice_index x (k % 128)) same.1)
 
 -- G of the block before and the reference
 pub mixed_is : (a : Parameters) (h before other : List ℕ) (p : Place) (w : ℕ)
@@ -54,13 +57,35 @@ pub mixed_is : (a : Parameters) (h before other : List ℕ) (p : Place) (w : ℕ
 mixed_is a h before other p w before_is word other_is =
     ap₂ compress before_is (other_is ∙ ap (λ (v : ℕ). cell a h (reference_place (segment_len a) a.lanes p (v % 2 ^ 32) (v / 2 ^ 32))) word)
 
+-- the same of what the code computes at an offset: its blocks, its word and its reference
+pub offset_mixed_is : (c : Shared) (h before other : List ℕ) (addresses : Option AddressBlock) (l k w : ℕ) (there : Reference)
+    → 2 ≤ segment_len c.params → IsComputed (segment_len c.params) c.params.lanes (place_in c l k) → k < segment_len c.params
+    → before ≡ cell c.params h (previous (segment_len c.params) (place_in c l k)) → ServesOffset c l k addresses
+    → w ≡ word_from addresses before (k % 128)
+    → there.lane ≡ (reference_place (segment_len c.params) c.params.lanes (place_in c l k) (w % 2 ^ 32) (w / 2 ^ 32)).lane
+    → there.column ≡ (reference_place (segment_len c.params) c.params.lanes (place_in c l k) (w % 2 ^ 32) (w / 2 ^ 32)).column
+    → ((p : Place) → IsBefore (segment_len c.params) c.params.lanes (place_in c l k) p → p.lane ≡ there.lane → p.column ≡ there.column
+    → other ≡ cell c.params h p)
+    → compress before other ≡ mixed_by c.params (cell c.params h) (place_in c l k)
+offset_mixed_is c h before other addresses l k w there some computed inside before_is serves w_is lane column at =
+    let a = c.params in
+    let s = segment_len a in
+    let p = place_in c l k in
+    let word = w_is ∙ word_is c h before addresses l k inside before_is serves in
+    mixed_is a h before other p w before_is word
+    (at (reference_place s a.lanes p (w % 2 ^ 32) (w / 2 ^ 32)) (reference_before s a.lanes p (w % 2 ^ 32) (w / 2 ^ 32) some computed)
+    (sym lane) (sym column))
+
 -- what replaces a block, or is added to it, makes the cell
-pub made_is : (a : Parameters) (h old mixed out : List ℕ) (p : Place) (fresh : Bool) → 2 ≤ segment_len a → IsComputed (segment_len a) a.lanes p
-    → is_fresh a.version p.pass ≡ fresh → (0 < p.pass → old ≡ cell a h (older p)) → mixed ≡ mixed_by a (cell a h) p
-    → out ≡ (if not fresh then xor_words old mixed else mixed) → out ≡ cell a h p
-made_is a h old mixed out p true some computed same old_is mixed_is made = made ∙ mixed_is ∙ sym (equation a h p some computed true same)
-made_is a h old mixed out p false some computed same old_is mixed_is made =
-    made ∙ ap₂ xor_words (old_is (later_pass a.version p.pass same)) mixed_is ∙ sym (equation a h p some computed false same)
+pub replaced_is : (a : Parameters) (h mixed out : List ℕ) (p : Place) → 2 ≤ segment_len a → IsComputed (segment_len a) a.lanes p
+    → is_fresh a.version p.pass ≡ true → mixed ≡ mixed_by a (cell a h) p → out ≡ mixed → out ≡ cell a h p
+replaced_is a h mixed out p some computed fresh mixed_is made = made ∙ mixed_is ∙ sym (equation a h p some computed true fresh)
+
+pub added_is : (a : Parameters) (h old mixed out : List ℕ) (p : Place) → 2 ≤ segment_len a → IsComputed (segment_len a) a.lanes p
+    → is_fresh a.version p.pass ≡ false → (0 < p.pass → old ≡ cell a h (older p)) → mixed ≡ mixed_by a (cell a h) p
+    → out ≡ xor_words old mixed → out ≡ cell a h p
+added_is a h old mixed out p some computed later old_is mixed_is made =
+    made ∙ ap₂ xor_words (old_is (later_pass a.version p.pass later)) mixed_is ∙ sym (equation a h p some computed false later)
 
 -- a segment whose blocks before k are done, once the block at k is made of them
 pub own_step : (h : List ℕ) (c : Shared) (l k : ℕ) (done rest : List Block) (made d : Block) → length done ≡ k → 0 < length rest

@@ -4,7 +4,7 @@ use Rattle.std.proofs.lemmas.Bool.{cases_lt}
 use Rattle.std.specs.List.{range_with_len}
 use Rattle.std.proofs.lemmas.List.FromFn.{fill_by_all, get_or-map-range_with_len}
 use Rattle.cred_argon.specs.Compress.{permuted, row, column, rows, columns, xor_words, compress}
-use Rattle.cred_argon.specs.Quads.{lane_at, row_list, column_list, put_word, half_word}
+use Rattle.cred_argon.specs.Quads.{slot_at, row_list, column_list, half_word, IsRows, IsHalf}
 use Rattle.cred_argon.proofs.QuadLemmas.{below_sixteen}
 
 xor_words_at : (x y : List ℕ) (n : ℕ) → n < 128 → slice_index (xor_words x y) n ≡ bit_xor (slice_index x n) (slice_index y n)
@@ -21,18 +21,18 @@ unfolding columns
 columns_at v n h =
     get_or-map-range_with_len (λ (k : ℕ). slice_index (permuted (column v (k % 16 / 2))) (2 * (k / 16) + k % 2)) 0 128 n n 0 h (omega arith)
 
-row_list_at : (j : ℕ) (x : List (List ℕ)) (k : ℕ) → k < 16 → slice_index (row_list j x) k ≡ lane_at x (4 * j + k / 4) (k % 4)
+row_list_at : (j : ℕ) (x : List (List ℕ)) (k : ℕ) → k < 16 → slice_index (row_list j x) k ≡ slot_at x (4 * j + k / 4) (k % 4)
 row_list_at j x = below_sixteen _ refl refl refl refl refl refl refl refl refl refl refl refl refl refl refl refl
 
 column_list_at : (j : ℕ) (x : List (List ℕ)) (k : ℕ) → k < 16
-    → slice_index (column_list j x) k ≡ lane_at x (2 * (k / 2) + j % 2) (2 * (j / 2) + k % 2)
+    → slice_index (column_list j x) k ≡ slot_at x (2 * (k / 2) + j % 2) (2 * (j / 2) + k % 2)
 column_list_at j x = below_sixteen _ refl refl refl refl refl refl refl refl refl refl refl refl refl refl refl refl
 
 -- the words of four rows under P, from those of the rows
 pub rows_words : (r : List ℕ) (x z : List (List ℕ)) (first : ℕ) → first + 4 ≤ 8
-    → ((m : ℕ) → m < 16 → (e : ℕ) → e < 4 → lane_at x m e ≡ slice_index r (16 * first + 4 * m + e))
+    → ((m : ℕ) → m < 16 → (e : ℕ) → e < 4 → slot_at x m e ≡ slice_index r (16 * first + 4 * m + e))
     → ((j : ℕ) → j < 4 → row_list j z ≡ permuted (row_list j x))
-    → (m : ℕ) → m < 16 → (e : ℕ) → e < 4 → lane_at z m e ≡ slice_index (rows r) (16 * first + 4 * m + e)
+    → IsRows (rows r) first z
 rows_words r x z first four held by_row m hm e he =
     let j = m / 4 in
     let k = 4 * (m % 4) + e in
@@ -45,16 +45,16 @@ rows_words r x z first four held by_row m hm e he =
     let at_e : k % 4 ≡ e = omega arith in
     let at_row : n / 16 ≡ first + j = omega arith in
     let at_place : n % 16 ≡ k = omega arith in
-    ap₂ (λ (a b : ℕ). lane_at z a b) (sym at_m) (sym at_e)
+    ap₂ (λ (a b : ℕ). slot_at z a b) (sym at_m) (sym at_e)
     ∙ sym (row_list_at j z k (omega arith))
     ∙ ap (λ (v : List ℕ). slice_index v k) (by_row j below ∙ ap permuted row_is)
     ∙ rw (rows_at r n (omega arith), at_row, at_place) refl
 
 -- the words of four columns under P, from those of the columns: half h has two vectors of each row
 pub columns_words : (v : List ℕ) (x q : List (List ℕ)) (h : ℕ) → h < 2
-    → ((m : ℕ) → m < 16 → (e : ℕ) → e < 4 → lane_at x m e ≡ slice_index v (16 * (m / 2) + 8 * h + 4 * (m % 2) + e))
+    → ((m : ℕ) → m < 16 → (e : ℕ) → e < 4 → slot_at x m e ≡ slice_index v (16 * (m / 2) + 8 * h + 4 * (m % 2) + e))
     → ((j : ℕ) → j < 4 → column_list j q ≡ permuted (column_list j x))
-    → (i : ℕ) → i < 8 → (e : ℕ) → e < 8 → lane_at q (2 * i + e / 4) (e % 4) ≡ slice_index (columns v) (16 * i + 8 * h + e)
+    → (i : ℕ) → i < 8 → (e : ℕ) → e < 8 → slot_at q (2 * i + e / 4) (e % 4) ≡ slice_index (columns v) (16 * i + 8 * h + e)
 columns_words v x q h two held by_column i hi e he =
     let j = 2 * (e % 4 / 2) + e / 4 in
     let k = 2 * i + e % 2 in
@@ -68,7 +68,7 @@ columns_words v x q h two held by_column i hi e he =
     let at_e : 2 * (j / 2) + k % 2 ≡ e % 4 = omega arith in
     let at_column : n % 16 / 2 ≡ c = omega arith in
     let at_place : 2 * (n / 16) + n % 2 ≡ k = omega arith in
-    ap₂ (λ (a b : ℕ). lane_at q a b) (sym at_m) (sym at_e)
+    ap₂ (λ (a b : ℕ). slot_at q a b) (sym at_m) (sym at_e)
     ∙ sym (column_list_at j q k (omega arith))
     ∙ ap (λ (u : List ℕ). slice_index u k) (by_column j below ∙ ap permuted column_is)
     ∙ rw (columns_at v n (omega arith), at_column, at_place) refl
@@ -79,7 +79,7 @@ both_words x y n h = sym (xor_words_at x y n h)
 
 -- a word of G, from those of the columns
 pub half_words : (x y : List ℕ) (q : List (List ℕ)) (h i e : ℕ) → h < 2 → i < 8 → e < 8
-    → lane_at q (2 * i + e / 4) (e % 4) ≡ slice_index (columns (rows (xor_words x y))) (16 * i + 8 * h + e)
+    → slot_at q (2 * i + e / 4) (e % 4) ≡ slice_index (columns (rows (xor_words x y))) (16 * i + 8 * h + e)
     → half_word x y q (8 * h) i e ≡ slice_index (compress x y) (16 * i + 8 * h + e)
 unfolding compress
 half_words x y q h i e hh hi he word =
@@ -100,22 +100,16 @@ pub xor_words_is : (x y out : List ℕ) → length out ≡ 128 → ((n : ℕ) �
 unfolding xor_words
 xor_words_is x y out len same = fill_by_all (λ n. bit_xor (slice_index x n) (slice_index y n)) out 128 0 len same
 
-pub put_is : (onto : Bool) (old x y out : List ℕ) → length out ≡ 128
-    → ((n : ℕ) → n < 128 → slice_index out n ≡ put_word onto (slice_index old n) (slice_index (compress x y) n))
-    → out ≡ (if onto then xor_words old (compress x y) else compress x y)
-put_is true old x y out len same = xor_words_is old (compress x y) out len same
-put_is false old x y out len same = compress_is x y out len same
-
 -- both halves of each row, one put after the other
-pub halves_put : (onto : Bool) (x y old mid out : List ℕ) (left right : List (List ℕ))
-    → ((i : ℕ) → i < 8 → (e : ℕ) → e < 8 → slice_index mid (16 * i + 0 + e) ≡ put_word onto (slice_index old (16 * i + 0 + e)) (half_word x y left 0 i e))
+pub halves_put : (put : ℕ → ℕ → ℕ) (x y old mid out : List ℕ) (left right : List (List ℕ))
+    → ((i : ℕ) → i < 8 → (e : ℕ) → e < 8 → slice_index mid (16 * i + 0 + e) ≡ put (slice_index old (16 * i + 0 + e)) (half_word x y left 0 i e))
     → ((i : ℕ) → i < 8 → (r : ℕ) → r < 16 → (r < 0) ⊎ (0 + 8 ≤ r) → slice_index mid (16 * i + r) ≡ slice_index old (16 * i + r))
-    → ((i : ℕ) → i < 8 → (e : ℕ) → e < 8 → slice_index out (16 * i + 8 + e) ≡ put_word onto (slice_index mid (16 * i + 8 + e)) (half_word x y right 8 i e))
+    → ((i : ℕ) → i < 8 → (e : ℕ) → e < 8 → slice_index out (16 * i + 8 + e) ≡ put (slice_index mid (16 * i + 8 + e)) (half_word x y right 8 i e))
     → ((i : ℕ) → i < 8 → (r : ℕ) → r < 16 → (r < 8) ⊎ (8 + 8 ≤ r) → slice_index out (16 * i + r) ≡ slice_index mid (16 * i + r))
-    → ((i : ℕ) → i < 8 → (e : ℕ) → e < 8 → lane_at left (2 * i + e / 4) (e % 4) ≡ slice_index (columns (rows (xor_words x y))) (16 * i + 8 * 0 + e))
-    → ((i : ℕ) → i < 8 → (e : ℕ) → e < 8 → lane_at right (2 * i + e / 4) (e % 4) ≡ slice_index (columns (rows (xor_words x y))) (16 * i + 8 * 1 + e))
-    → (n : ℕ) → n < 128 → slice_index out n ≡ put_word onto (slice_index old n) (slice_index (compress x y) n)
-halves_put onto x y old mid out left right put_left keep_right put_right keep_left left_is right_is n h =
+    → IsHalf (columns (rows (xor_words x y))) 0 left
+    → IsHalf (columns (rows (xor_words x y))) 8 right
+    → (n : ℕ) → n < 128 → slice_index out n ≡ put (slice_index old n) (slice_index (compress x y) n)
+halves_put put x y old mid out left right put_left keep_right put_right keep_left left_is right_is n h =
     elim (cases_lt (n % 16) 8) [
       | inl low ↦
           let i = n / 16 in
@@ -124,9 +118,9 @@ halves_put onto x y old mid out left right put_left keep_right put_right keep_le
           let from_left : 16 * i + 0 + e ≡ n = omega arith in
           let word_at : 16 * i + 8 * 0 + e ≡ n = omega arith in
           let same = rw place at (keep_left i (omega arith) e (omega arith) (inl low)) in
-          let put = rw from_left at (put_left i (omega arith) e low) in
+          let word_put = rw from_left at (put_left i (omega arith) e low) in
           let word = rw word_at at (half_words x y left 0 i e (omega arith) (omega arith) low (left_is i (omega arith) e low)) in
-          same ∙ put ∙ ap (λ (w : ℕ). put_word onto (slice_index old n) w) word
+          same ∙ word_put ∙ ap (put (slice_index old n)) word
       | inr high ↦
           let i = n / 16 in
           let e = n % 16 - 8 in
@@ -134,7 +128,7 @@ halves_put onto x y old mid out left right put_left keep_right put_right keep_le
           let from_right : 16 * i + 8 + e ≡ n = omega (arith, high) in
           let word_at : 16 * i + 8 * 1 + e ≡ n = omega (arith, high) in
           let same = rw place at (keep_right i (omega arith) (n % 16) (omega arith) (inr high)) in
-          let put = rw from_right at (put_right i (omega arith) e (omega arith)) in
+          let word_put = rw from_right at (put_right i (omega arith) e (omega arith)) in
           let word = rw word_at at (half_words x y right 1 i e (omega arith) (omega arith) (omega arith) (right_is i (omega arith) e (omega arith))) in
-          put ∙ ap₂ (λ (o w : ℕ). put_word onto o w) same word
+          word_put ∙ ap₂ (λ (o w : ℕ). put o w) same word
     ]

@@ -1,15 +1,15 @@
 -- A segment while it is worked.
-use Rattle.std.proofs.Common.{◌≡◌, ℕ, ◌<◌, ◌≤◌, List, slice_index_or, vec_len, vec_capacity, inl, inr, arith}
+use Rattle.std.proofs.Common.{◌≡◌, ℕ, ◌<◌, ◌≤◌, List, Option, slice_index_or, vec_len, vec_capacity, inl, inr, arith}
 use Rattle.std.proofs.lemmas.Bool.{cases_lt}
 use Rattle.cred_argon.specs.declared.block.Block.{Block}
 use Rattle.cred_argon.specs.declared.segment.Segment.{Segment}
 use Rattle.cred_argon.specs.declared.segment.Shared.{Shared}
-use Rattle.cred_argon.specs.declared.address.Addresses.{Addresses}
+use Rattle.cred_argon.specs.declared.address.AddressBlock.{AddressBlock}
 use Rattle.cred_argon.specs.Parameters.{segment_len}
-use Rattle.cred_argon.specs.Addresses.{HoldsAddresses}
+use Rattle.cred_argon.specs.Addresses.{KeepsAddresses}
 use Rattle.cred_argon.specs.Segments.{SharedHolds, OwnHolds, first_offset}
 
-pub record IsWorking (c : Shared) (start now : Segment) (addresses : Addresses) (s k : ℕ) : Type 0 where
+pub record IsWorking (c : Shared) (start now : Segment) (addresses : Option AddressBlock) (s k : ℕ) : Type 0 where
   pub lane : now.lane ≡ start.lane
   pub length_is : s ≡ segment_len c.params
   pub some : 2 ≤ s
@@ -18,18 +18,18 @@ pub record IsWorking (c : Shared) (start now : Segment) (addresses : Addresses) 
   pub room : s ≤ vec_capacity now.blocks
   pub first : c.pass ≡ 0 → vec_len now.blocks ≡ k
   pub later : 0 < c.pass → vec_len now.blocks ≡ s
-  pub kept : HoldsAddresses c.params c.pass now.lane c.slice addresses
+  pub kept : KeepsAddresses c now.lane addresses
   pub own : (h : List ℕ) → SharedHolds h c → OwnHolds h c start.lane (first_offset c) start.blocks.items → OwnHolds h c now.lane k now.blocks.items
 
 -- as many blocks are there as were worked before
-at_least : (c : Shared) (start now : Segment) (addresses : Addresses) (s k : ℕ) → IsWorking c start now addresses s k → k ≤ vec_len now.blocks
+at_least : (c : Shared) (start now : Segment) (addresses : Option AddressBlock) (s k : ℕ) → IsWorking c start now addresses s k → k ≤ vec_len now.blocks
 at_least c start now addresses s k working = elim (cases_lt 0 c.pass) [
   | inl later ↦ omega (arith, working.later later, working.inside)
   | inr first ↦ omega (arith, working.first (omega (arith, first)))
 ]
 
 -- the same cells, where a block more may have come behind them
-pub own_extended : (c : Shared) (start now : Segment) (addresses : Addresses) (s k : ℕ) (h : List ℕ) (items : List Block)
+pub own_extended : (c : Shared) (start now : Segment) (addresses : Option AddressBlock) (s k : ℕ) (h : List ℕ) (items : List Block)
     → IsWorking c start now addresses s k
     → ((i : ℕ) (d : Block) → i < vec_len now.blocks → slice_index_or items i d ≡ slice_index_or now.blocks.items i d)
     → OwnHolds h c now.lane k now.blocks.items → OwnHolds h c now.lane k items

@@ -1,19 +1,29 @@
 -- What the code keeps of address blocks, and what it reads of them.
-use Rattle.std.specs.Prelude.{◌≡◌, ℕ, ◌+◌, ◌/◌, ◌<◌, List, false}
-use Rattle.cred_argon.specs.declared.address.Addresses.{Addresses}
+use Rattle.std.specs.Prelude.{◌≡◌, ℕ, ◌+◌, ◌/◌, List, Bool, true, false, Option, None, Some, slice_index}
+use Rattle.cred_argon.specs.declared.address.AddressBlock.{AddressBlock}
 use Rattle.cred_argon.specs.declared.segment.Shared.{Shared}
-use Rattle.cred_argon.specs.Parameters.{Parameters}
 use Rattle.cred_argon.specs.Cells.{is_dependent, address_block}
 
--- the block that is kept, if any, is the address block of its number
-abbrev pub HoldsAddresses : Parameters → ℕ → ℕ → ℕ → Addresses → Type 0
-HoldsAddresses a pass lane slice kept = 0 < kept.number → kept.block.0 ≡ address_block a pass lane slice kept.number
+-- whether the slice that is worked has its words from the blocks before
+abbrev pub follows_blocks : Shared → Bool
+follows_blocks c = is_dependent c.params.kind c.pass c.slice
 
--- the same, for a lane of the slice that is worked
-abbrev pub KeepsAddresses : Shared → ℕ → Addresses → Type 0
-KeepsAddresses c lane kept = HoldsAddresses c.params c.pass lane c.slice kept
+-- what is at hand in a lane's segment: nothing, or the address block of its number, where words
+-- come from the place alone
+abbrev pub KeepsAddresses : Shared → ℕ → Option AddressBlock → Type 0
+KeepsAddresses c lane None = Unit {0}
+KeepsAddresses c lane (Some kept) =
+    (follows_blocks c ≡ false) × (kept.block.0 ≡ address_block c.params c.pass lane c.slice kept.number)
 
--- where words come from the place alone, these are the ones of the address block of an offset
-abbrev pub AreAddresses : Shared → ℕ → ℕ → List ℕ → Type 0
-AreAddresses c lane k words =
-    is_dependent c.params.kind c.pass c.slice ≡ false → words ≡ address_block c.params c.pass lane c.slice (k / 128 + 1)
+-- what serves an offset: nothing where words come from the blocks before, and else the address
+-- block of the offset
+abbrev pub ServesOffset : Shared → ℕ → ℕ → Option AddressBlock → Type 0
+ServesOffset c lane k None = follows_blocks c ≡ true
+ServesOffset c lane k (Some kept) =
+    (follows_blocks c ≡ false)
+    × (kept.block.0 ≡ address_block c.params c.pass lane c.slice (k / 128 + 1))
+
+-- the word that names a reference: the first of the block before, where no address block is at hand
+abbrev pub word_from : Option AddressBlock → List ℕ → ℕ → ℕ
+word_from None before k = slice_index before 0
+word_from (Some kept) before k = slice_index kept.block.0 k

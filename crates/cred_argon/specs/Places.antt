@@ -3,9 +3,14 @@
 use Rattle.std.specs.Prelude.{◌≡◌, ℕ, ◌+◌, ◌-◌, ◌*◌, ◌/◌, ◌%◌, ◌^◌, ◌<◌, ◌≤◌, List, Bool, length, map, filter, flat_map, take, nat_le, nat_lt, ◌==◌, ◌&&◌, ◌||◌, if◌then◌else◌, slice_index_or}
 use Rattle.std.specs.List.{range_with_len}
 use Rattle.cred_argon.specs.declared.place.Place.{Place}
+use Rattle.cred_argon.specs.declared.position.Position.{Position}
 
 abbrev pub place : ℕ → ℕ → ℕ → Place
 place r i j = record { pass = r; lane = i; column = j }
+
+-- the place of a position
+abbrev pub place_of : ℕ → Position → Place
+place_of s at = place at.pass at.lane (at.slice * s + at.offset)
 
 -- the number of a place's segment, over all passes
 abbrev pub segment_of : ℕ → Place → ℕ

@@ -3,6 +3,8 @@
 use Rattle.std.specs.Prelude.{◌≡◌, ℕ, ◌+◌, ◌-◌, ◌*◌, ◌/◌, ◌%◌, ◌<◌, ◌≤◌, List, length, slice_index_or, vec_len, vec_capacity, ◌==◌, if◌then◌else◌}
 use Rattle.cred_argon.specs.declared.block.Block.{Block}
 use Rattle.cred_argon.specs.declared.place.Place.{Place}
+use Rattle.cred_argon.specs.declared.position.Position.{Position}
+use Rattle.cred_argon.specs.declared.position.Reference.{Reference}
 use Rattle.cred_argon.specs.declared.segment.Segment.{Segment}
 use Rattle.cred_argon.specs.declared.segment.Shared.{Shared}
 use Rattle.cred_argon.specs.Parameters.{Parameters, segment_len}
@@ -51,7 +53,10 @@ first_offset c = if number c == 0 then 2 else 0
 abbrev pub begun_len : Shared → ℕ
 begun_len c = if c.pass == 0 then first_offset c else segment_len c.params
 
--- the place of an offset in a lane's segment
+-- the position of an offset in a lane's segment, and its place
+abbrev pub position_in : Shared → ℕ → ℕ → Position
+position_in c l k = record { pass = c.pass; lane = l; slice = c.slice; offset = k }
+
 abbrev pub place_in : Shared → ℕ → ℕ → Place
 place_in c l k = place c.pass l (c.slice * segment_len c.params + k)
 
@@ -67,6 +72,7 @@ pub record OwnHolds (h : List ℕ) (c : Shared) (l k : ℕ) (blocks : List Block
       → (slice_index_or blocks i d).0 ≡ cell c.params h (place (c.pass - 1) l (c.slice * segment_len c.params + i))
 
 -- a place that the place of an offset may refer to lies at this lane and column
-abbrev pub IsReadable : Shared → ℕ → ℕ → ℕ → ℕ → Type 0
-IsReadable c l k lane column =
-    (there : Place) × IsBefore (segment_len c.params) c.params.lanes (place_in c l k) there × (there.lane ≡ lane) × (there.column ≡ column)
+abbrev pub IsReadable : Shared → ℕ → ℕ → Reference → Type 0
+IsReadable c l k reference =
+    (there : Place) × IsBefore (segment_len c.params) c.params.lanes (place_in c l k) there
+    × (there.lane ≡ reference.lane) × (there.column ≡ reference.column)

@@ -1,7 +1,7 @@
 //! A block of the memory, and the compression function G (RFC 9106, section 3.5).
-ghost use Rattle.std.specs.Prelude.{◌≡◌, ℕ, ◌+◌, ◌*◌, ◌<◌, ◌≤◌, ◌⊎◌, length, bit_xor, if◌then◌else◌, slice_index};
-ghost use Rattle.cred_argon.specs.Compress.{compress, rows, xor_words};
-ghost use Rattle.cred_argon.specs.Quads.{lane_at, put_word, half_word};
+ghost use Rattle.std.specs.Prelude.{◌≡◌, ℕ, ◌+◌, ◌*◌, ◌<◌, ◌≤◌, ◌⊎◌, List, length, bit_xor, slice_index};
+ghost use Rattle.cred_argon.specs.Compress.{compress, rows, columns, xor_words};
+ghost use Rattle.cred_argon.specs.Quads.{half_word, IsRows, IsHalf};
 
 use crate::permutation::xor;
 use crate::rows_columns::{four_columns, four_rows};
@@ -21,36 +21,63 @@ pub fn compress(x: &Block, y: &Block) -> Block
     ensures { result.0 ≡ compress x.now.0 y.now.0 }
 {
     let mut out = Block::ZERO;
-    compress_to(x, y, &mut out, false);
+    compress_over(x, y, &mut out);
     out
 }
 
-/// Writes G of two blocks over a third, or adds it to the third by exclusive or.
+/// Writes G of two blocks over a third.
 #[inline(always)]
-pub(crate) fn compress_to(x: &Block, y: &Block, out: &mut Block, onto: bool)
-    ensures { let made = compress x.now.0 y.now.0 in
-        out.new.0 ≡ (if onto then xor_words out.old.0 made else made) }
+pub(crate) fn compress_over(x: &Block, y: &Block, out: &mut Block)
+    ensures { out.new.0 ≡ compress x.now.0 y.now.0 }
 {
     let top = rows_from(&x.0, &y.0, 0);
     let low = rows_from(&x.0, &y.0, 4);
-    let left = four_columns([
-        top[0], top[1], top[4], top[5], top[8], top[9], top[12], top[13], low[0], low[1], low[4],
-        low[5], low[8], low[9], low[12], low[13],
-    ]);
-    let right = four_columns([
-        top[2], top[3], top[6], top[7], top[10], top[11], top[14], top[15], low[2], low[3], low[6],
-        low[7], low[10], low[11], low[14], low[15],
-    ]);
-    put_half(&x.0, &y.0, &mut out.0, 0, left, onto);
-    put_half(&x.0, &y.0, &mut out.0, 8, right, onto);
+    let left = left_columns(top, low);
+    let right = right_columns(top, low);
+    write_half(&x.0, &y.0, &mut out.0, 0, left);
+    write_half(&x.0, &y.0, &mut out.0, 8, right);
 }
 
-/// Four rows of the exclusive or of two blocks, with P on each.
+/// Adds G of two blocks to a third by XOR.
+#[inline(always)]
+pub(crate) fn compress_onto(x: &Block, y: &Block, out: &mut Block)
+    ensures { out.new.0 ≡ xor_words out.old.0 (compress x.now.0 y.now.0) }
+{
+    let top = rows_from(&x.0, &y.0, 0);
+    let low = rows_from(&x.0, &y.0, 4);
+    let left = left_columns(top, low);
+    let right = right_columns(top, low);
+    add_half(&x.0, &y.0, &mut out.0, 0, left);
+    add_half(&x.0, &y.0, &mut out.0, 8, right);
+}
+
+/// P on the columns that make the left half of each row.
+#[inline(always)]
+fn left_columns(top: [u64x4; 16], low: [u64x4; 16]) -> [u64x4; 16]
+    ensures { (v : List ℕ) → IsRows v 0 top → IsRows v 4 low → IsHalf (columns v) 0 result }
+{
+    four_columns([
+        top[0], top[1], top[4], top[5], top[8], top[9], top[12], top[13], low[0], low[1], low[4],
+        low[5], low[8], low[9], low[12], low[13],
+    ])
+}
+
+/// P on the columns that make the right half of each row.
+#[inline(always)]
+fn right_columns(top: [u64x4; 16], low: [u64x4; 16]) -> [u64x4; 16]
+    ensures { (v : List ℕ) → IsRows v 0 top → IsRows v 4 low → IsHalf (columns v) 8 result }
+{
+    four_columns([
+        top[2], top[3], top[6], top[7], top[10], top[11], top[14], top[15], low[2], low[3], low[6],
+        low[7], low[10], low[11], low[14], low[15],
+    ])
+}
+
+/// Four rows of the XOR of two blocks, with P on each.
 #[inline(always)]
 fn rows_from(x: &[u64; 128], y: &[u64; 128], row: usize) -> [u64x4; 16]
     requires { row + 4 ≤ 8 }
-    ensures { (m : ℕ) → m < 16 → (e : ℕ) → e < 4
-        → lane_at result m e ≡ slice_index (rows (xor_words x.now y.now)) (16 * row + 4 * m + e) }
+    ensures { IsRows (rows (xor_words x.now y.now)) row result }
 {
     four_rows([
         xored(x, y, 16 * row + 0),
@@ -72,39 +99,43 @@ fn rows_from(x: &[u64; 128], y: &[u64; 128], row: usize) -> [u64x4; 16]
     ])
 }
 
-/// Puts the exclusive or of three blocks into half of each row of a block: the third comes as its
-/// half, in vectors.
+/// Writes the XOR of three blocks over half of each row of a block: the third comes as its half, in
+/// vectors.
 #[inline(always)]
-fn put_half(
-    x: &[u64; 128],
-    y: &[u64; 128],
-    out: &mut [u64; 128],
-    at: usize,
-    half: [u64x4; 16],
-    onto: bool,
-)
+fn write_half(x: &[u64; 128], y: &[u64; 128], out: &mut [u64; 128], at: usize, half: [u64x4; 16])
     requires { at ≤ 8 }
     ensures len { length out.new ≡ 128 }
     ensures written { (i : ℕ) → i < 8 → (e : ℕ) → e < 8
-        → slice_index out.new (16 * i + at + e)
-        ≡ put_word onto (slice_index out.old (16 * i + at + e))
-        (half_word x.now y.now half at i e) }
+        → slice_index out.new (16 * i + at + e) ≡ half_word x.now y.now half at i e }
     ensures kept { (i : ℕ) → i < 8 → (r : ℕ) → r < 16 → (r < at) ⊎ (at + 8 ≤ r)
         → slice_index out.new (16 * i + r) ≡ slice_index out.old (16 * i + r) }
 {
     'rows: for i in 0..8 {
         let start = 16 * i + at;
-        put(out, start, xor(xored(x, y, start), half[2 * i]), onto);
-        put(
-            out,
-            start + 4,
-            xor(xored(x, y, start + 4), half[2 * i + 1]),
-            onto,
-        );
+        write(out, start, xor(xored(x, y, start), half[2 * i]));
+        write(out, start + 4, xor(xored(x, y, start + 4), half[2 * i + 1]));
     }
 }
 
-/// The exclusive or of four words of each of two blocks.
+/// Adds the same to half of each row of a block by XOR.
+#[inline(always)]
+fn add_half(x: &[u64; 128], y: &[u64; 128], out: &mut [u64; 128], at: usize, half: [u64x4; 16])
+    requires { at ≤ 8 }
+    ensures len { length out.new ≡ 128 }
+    ensures added { (i : ℕ) → i < 8 → (e : ℕ) → e < 8
+        → slice_index out.new (16 * i + at + e)
+        ≡ bit_xor (slice_index out.old (16 * i + at + e)) (half_word x.now y.now half at i e) }
+    ensures kept { (i : ℕ) → i < 8 → (r : ℕ) → r < 16 → (r < at) ⊎ (at + 8 ≤ r)
+        → slice_index out.new (16 * i + r) ≡ slice_index out.old (16 * i + r) }
+{
+    'rows: for i in 0..8 {
+        let start = 16 * i + at;
+        add(out, start, xor(xored(x, y, start), half[2 * i]));
+        add(out, start + 4, xor(xored(x, y, start + 4), half[2 * i + 1]));
+    }
+}
+
+/// The XOR of four words of each of two blocks.
 #[inline(always)]
 fn xored(x: &[u64; 128], y: &[u64; 128], at: usize) -> u64x4
     requires { at + 4 ≤ 128 }
@@ -119,33 +150,41 @@ fn xored(x: &[u64; 128], y: &[u64; 128], at: usize) -> u64x4
     ])
 }
 
-/// Puts four words into a block.
+/// Writes four words into a block.
 #[inline(always)]
-fn put(out: &mut [u64; 128], at: usize, words: u64x4, onto: bool)
+fn write(out: &mut [u64; 128], at: usize, words: u64x4)
     requires { at + 4 ≤ 128 }
     ensures len { length out.new ≡ 128 }
-    ensures written { (j : ℕ) → j < 4
-        → slice_index out.new (at + j)
-        ≡ put_word onto (slice_index out.old (at + j)) (slice_index words j) }
+    ensures written { (j : ℕ) → j < 4 → slice_index out.new (at + j) ≡ slice_index words j }
     ensures kept { (n : ℕ) → (n < at) ⊎ (at + 4 ≤ n)
         → slice_index out.new n ≡ slice_index out.old n }
 {
     let [w0, w1, w2, w3] = words.to_array();
-    out[at] = put_word(onto, out[at], w0);
-    out[at + 1] = put_word(onto, out[at + 1], w1);
-    out[at + 2] = put_word(onto, out[at + 2], w2);
-    out[at + 3] = put_word(onto, out[at + 3], w3);
+    out[at] = w0;
+    out[at + 1] = w1;
+    out[at + 2] = w2;
+    out[at + 3] = w3;
 }
 
-/// A word written over another, or added to it by exclusive or.
+/// Adds four words to those of a block by XOR.
 #[inline(always)]
-fn put_word(onto: bool, old: u64, new: u64) -> u64
-    ensures { result ≡ put_word onto old new }
+fn add(out: &mut [u64; 128], at: usize, words: u64x4)
+    requires { at + 4 ≤ 128 }
+    ensures len { length out.new ≡ 128 }
+    ensures added { (j : ℕ) → j < 4
+        → slice_index out.new (at + j)
+        ≡ bit_xor (slice_index out.old (at + j)) (slice_index words j) }
+    ensures kept { (n : ℕ) → (n < at) ⊎ (at + 4 ≤ n)
+        → slice_index out.new n ≡ slice_index out.old n }
 {
-    if onto { old ^ new } else { new }
+    let [w0, w1, w2, w3] = words.to_array();
+    out[at] ^= w0;
+    out[at + 1] ^= w1;
+    out[at + 2] ^= w2;
+    out[at + 3] ^= w3;
 }
 
-/// Adds a block to another by exclusive or.
+/// Adds a block to another by XOR.
 pub(crate) fn add_onto(x: &Block, out: &mut Block)
     ensures { out.new.0 ≡ xor_words out.old.0 x.now.0 }
 {

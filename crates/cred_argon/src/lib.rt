@@ -19,6 +19,7 @@ mod memory;
 mod params;
 mod permutation;
 mod place;
+mod position;
 mod reference_block;
 mod rows_columns;
 mod segment;

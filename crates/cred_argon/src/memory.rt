@@ -1,5 +1,5 @@
-//! The memory: four slices, which take turns. While one is worked, its segments are parts that
-//! threads work, and the other three are shared (RFC 9106, section 3.4).
+//! The memory: four slices, worked one after another. While one is worked, its segments are parts
+//! that threads work, and the other three are shared (RFC 9106, section 3.4).
 ghost use Rattle.std.specs.Prelude.{◌≡◌, ℕ, ◌+◌, ◌*◌, ◌<◌, ◌≤◌, List};
 ghost use Rattle.cred_argon.specs.Parameters.{segment_len};
 ghost use Rattle.cred_argon.specs.Segments.{IsSlice, HoldsSlice, number};

@@ -1,9 +1,9 @@
-//! The permutation P of Argon2 on four lists of sixteen words at once: list j is lane j of sixteen
-//! vectors (RFC 9106, section 3.6).
+//! The permutation P of Argon2 on four lists of sixteen words at once: list j lies in slot j
+//! of sixteen vectors (RFC 9106, section 3.6).
 ghost use Rattle.std.specs.Prelude.{◌≡◌, ℕ, ◌<◌, bit_xor, slice_index};
 ghost use Rattle.std.specs.Int.{w64, rotate_right};
 ghost use Rattle.cred_argon.specs.Compress.{add_product, mixed, straight, slanted};
-ghost use Rattle.cred_argon.specs.Quads.{lane};
+ghost use Rattle.cred_argon.specs.Quads.{slot_list};
 
 use std::simd::u64x4;
 
@@ -26,9 +26,9 @@ fn add_product(x: u64x4, y: u64x4) -> u64x4
     x + y + product + product
 }
 
-/// Each word turned to the right by `by` bits.
+/// Each word rotated to the right by `by` bits.
 #[inline(always)]
-fn turn(x: u64x4, by: u64) -> u64x4
+fn rotate(x: u64x4, by: u64) -> u64x4
     requires few { by < 64 }
     requires some { 0 < by }
     ensures { (j : ℕ) → j < 4 → slice_index result j ≡ rotate_right w64 (slice_index x j) by }
@@ -36,7 +36,7 @@ fn turn(x: u64x4, by: u64) -> u64x4
     (x >> u64x4::splat(by)) | (x << u64x4::splat(64 - by))
 }
 
-/// Four words mixed (GB of RFC 9106, section 3.6), lane by lane.
+/// Four words mixed (GB of RFC 9106, section 3.6), slot by slot.
 #[inline(always)]
 fn mixed(a: u64x4, b: u64x4, c: u64x4, d: u64x4) -> (u64x4, u64x4, u64x4, u64x4)
     ensures { (j : ℕ) → j < 4
@@ -49,20 +49,20 @@ fn mixed(a: u64x4, b: u64x4, c: u64x4, d: u64x4) -> (u64x4, u64x4, u64x4, u64x4)
         ≡ mixed (slice_index a j) (slice_index b j) (slice_index c j) (slice_index d j) }
 {
     let a1 = add_product(a, b);
-    let d1 = turn(xor(d, a1), 32);
+    let d1 = rotate(xor(d, a1), 32);
     let c1 = add_product(c, d1);
-    let b1 = turn(xor(b, c1), 24);
+    let b1 = rotate(xor(b, c1), 24);
     let a2 = add_product(a1, b1);
-    let d2 = turn(xor(d1, a2), 16);
+    let d2 = rotate(xor(d1, a2), 16);
     let c2 = add_product(c1, d2);
-    let b2 = turn(xor(b1, c2), 63);
+    let b2 = rotate(xor(b1, c2), 63);
     (a2, b2, c2, d2)
 }
 
 /// The four words of each column of a list, seen as four rows of four.
 #[inline(always)]
 pub(crate) fn straight(x: [u64x4; 16]) -> [u64x4; 16]
-    ensures { (j : ℕ) → j < 4 → lane j result ≡ straight (lane j x) }
+    ensures { (j : ℕ) → j < 4 → slot_list j result ≡ straight (slot_list j x) }
 {
     let (x0, x4, x8, x12) = mixed(x[0], x[4], x[8], x[12]);
     let (x1, x5, x9, x13) = mixed(x[1], x[5], x[9], x[13]);
@@ -76,7 +76,7 @@ pub(crate) fn straight(x: [u64x4; 16]) -> [u64x4; 16]
 /// The four words of each diagonal.
 #[inline(always)]
 pub(crate) fn slanted(x: [u64x4; 16]) -> [u64x4; 16]
-    ensures { (j : ℕ) → j < 4 → lane j result ≡ slanted (lane j x) }
+    ensures { (j : ℕ) → j < 4 → slot_list j result ≡ slanted (slot_list j x) }
 {
     let (x0, x5, x10, x15) = mixed(x[0], x[5], x[10], x[15]);
     let (x1, x6, x11, x12) = mixed(x[1], x[6], x[11], x[12]);

@@ -2,14 +2,14 @@
 //! 3.5). A block's words lie four to a vector, so that a row is four vectors.
 ghost use Rattle.std.specs.Prelude.{◌≡◌, ℕ, ◌<◌, [], ◌∷◌, slice_index};
 ghost use Rattle.cred_argon.specs.Compress.{permuted};
-ghost use Rattle.cred_argon.specs.Quads.{lane, row_list, column_list};
+ghost use Rattle.cred_argon.specs.Quads.{slot_list, row_list, column_list};
 
 use crate::permutation::{slanted, straight};
 use std::simd::u64x4;
 
 /// Four vectors with rows and columns exchanged.
 #[inline(always)]
-fn turned(a: u64x4, b: u64x4, c: u64x4, d: u64x4) -> (u64x4, u64x4, u64x4, u64x4)
+fn transpose(a: u64x4, b: u64x4, c: u64x4, d: u64x4) -> (u64x4, u64x4, u64x4, u64x4)
     ensures first { result.0
         ≡ slice_index a 0 ∷ slice_index b 0 ∷ slice_index c 0 ∷ slice_index d 0 ∷ [] }
     ensures second { result.1
@@ -31,29 +31,29 @@ fn turned(a: u64x4, b: u64x4, c: u64x4, d: u64x4) -> (u64x4, u64x4, u64x4, u64x4
     )
 }
 
-/// Four rows that lie one after another, as the four lanes of sixteen vectors.
+/// Four rows that lie one after another, as the four slots of sixteen vectors.
 #[inline(always)]
-fn lanes_of_rows(x: [u64x4; 16]) -> [u64x4; 16]
-    ensures { (j : ℕ) → j < 4 → lane j result ≡ row_list j x }
+fn slots_of_rows(x: [u64x4; 16]) -> [u64x4; 16]
+    ensures { (j : ℕ) → j < 4 → slot_list j result ≡ row_list j x }
 {
-    let (w0, w1, w2, w3) = turned(x[0], x[4], x[8], x[12]);
-    let (w4, w5, w6, w7) = turned(x[1], x[5], x[9], x[13]);
-    let (w8, w9, w10, w11) = turned(x[2], x[6], x[10], x[14]);
-    let (w12, w13, w14, w15) = turned(x[3], x[7], x[11], x[15]);
+    let (w0, w1, w2, w3) = transpose(x[0], x[4], x[8], x[12]);
+    let (w4, w5, w6, w7) = transpose(x[1], x[5], x[9], x[13]);
+    let (w8, w9, w10, w11) = transpose(x[2], x[6], x[10], x[14]);
+    let (w12, w13, w14, w15) = transpose(x[3], x[7], x[11], x[15]);
     [
         w0, w1, w2, w3, w4, w5, w6, w7, w8, w9, w10, w11, w12, w13, w14, w15,
     ]
 }
 
-/// The four lanes of sixteen vectors, as rows that lie one after another.
+/// The four slots of sixteen vectors, as rows that lie one after another.
 #[inline(always)]
-fn rows_of_lanes(w: [u64x4; 16]) -> [u64x4; 16]
-    ensures { (j : ℕ) → j < 4 → row_list j result ≡ lane j w }
+fn rows_of_slots(w: [u64x4; 16]) -> [u64x4; 16]
+    ensures { (j : ℕ) → j < 4 → row_list j result ≡ slot_list j w }
 {
-    let (x0, x4, x8, x12) = turned(w[0], w[1], w[2], w[3]);
-    let (x1, x5, x9, x13) = turned(w[4], w[5], w[6], w[7]);
-    let (x2, x6, x10, x14) = turned(w[8], w[9], w[10], w[11]);
-    let (x3, x7, x11, x15) = turned(w[12], w[13], w[14], w[15]);
+    let (x0, x4, x8, x12) = transpose(w[0], w[1], w[2], w[3]);
+    let (x1, x5, x9, x13) = transpose(w[4], w[5], w[6], w[7]);
+    let (x2, x6, x10, x14) = transpose(w[8], w[9], w[10], w[11]);
+    let (x3, x7, x11, x15) = transpose(w[12], w[13], w[14], w[15]);
     [
         x0, x1, x2, x3, x4, x5, x6, x7, x8, x9, x10, x11, x12, x13, x14, x15,
     ]
@@ -64,7 +64,7 @@ fn rows_of_lanes(w: [u64x4; 16]) -> [u64x4; 16]
 pub(crate) fn four_rows(x: [u64x4; 16]) -> [u64x4; 16]
     ensures { (j : ℕ) → j < 4 → row_list j result ≡ permuted (row_list j x) }
 {
-    rows_of_lanes(slanted(straight(lanes_of_rows(x))))
+    rows_of_slots(slanted(straight(slots_of_rows(x))))
 }
 
 /// Two vectors of pairs to the vector of the pairs' first words and that of the second words, or
@@ -79,11 +79,11 @@ fn pairs(a: u64x4, b: u64x4) -> (u64x4, u64x4)
     (a.shuffle(b, [0, 4, 2, 6]), a.shuffle(b, [1, 5, 3, 7]))
 }
 
-/// Four columns, whose words lie in pairs, as the four lanes of sixteen vectors, and back.
+/// Four columns, whose words lie in pairs, as the four slots of sixteen vectors, and back.
 #[inline(always)]
 fn unpaired(x: [u64x4; 16]) -> [u64x4; 16]
-    ensures lanes { (j : ℕ) → j < 4 → lane j result ≡ column_list j x }
-    ensures columns { (j : ℕ) → j < 4 → column_list j result ≡ lane j x }
+    ensures slots { (j : ℕ) → j < 4 → slot_list j result ≡ column_list j x }
+    ensures columns { (j : ℕ) → j < 4 → column_list j result ≡ slot_list j x }
 {
     let (w0, w1) = pairs(x[0], x[1]);
     let (w2, w3) = pairs(x[2], x[3]);

@@ -8,15 +8,15 @@ ghost use Rattle.cred_argon.specs.Parameters.{Parameters, segment_len};
 ghost use Rattle.cred_argon.specs.Places.{place, reference_place};
 ghost use Rattle.cred_argon.specs.Times.{IsBefore};
 ghost use Rattle.cred_argon.specs.Cells.{cell, is_dependent, is_fresh, previous, older};
-ghost use Rattle.cred_argon.specs.Addresses.{KeepsAddresses, AreAddresses};
+ghost use Rattle.cred_argon.specs.Addresses.{KeepsAddresses, ServesOffset, word_from};
 ghost use Rattle.cred_argon.specs.SegmentWork.{CanWork, Works};
-ghost use Rattle.cred_argon.specs.Segments.{IsSlice, HoldsSlice, IsShaped, SharedHolds, OwnHolds, DoneHolds, IsReadable, first_offset, begun_len, number, place_in};
+ghost use Rattle.cred_argon.specs.Segments.{IsSlice, HoldsSlice, IsShaped, SharedHolds, OwnHolds, DoneHolds, IsReadable, first_offset, begun_len, number, position_in, place_in};
 
-use crate::address::Addresses;
-use crate::block::{Block, compress_to};
+use crate::address::AddressBlock;
+use crate::block::{Block, compress_onto, compress_over};
 use crate::kind::{Kind, Version};
 use crate::params::Params;
-use crate::place::Place;
+use crate::position::{Position, Reference};
 use crate::reference_block::reference_from;
 use cred_pool::Part;
 
@@ -47,17 +47,11 @@ impl Part<Shared> for Segment {
 
     fn work(&mut self, shared: &Shared) {
         let segment_len = shared.params.segment_len();
-        let mut addresses = Addresses::none();
+        let mut addresses = None;
         'columns: for offset in shared.first_offset()..segment_len {
             extend(shared, &mut self.blocks);
-            turn(shared, self.lane, offset, &mut addresses);
-            work_offset(
-                shared,
-                self.lane,
-                offset,
-                &addresses.block,
-                &mut self.blocks,
-            );
+            refresh(shared, self.lane, offset, &mut addresses);
+            work_offset(shared, self.lane, offset, &addresses, &mut self.blocks);
         }
     }
 }
@@ -84,6 +78,18 @@ impl Shared {
         }
     }
 
+    /// The position of an offset in a lane's segment.
+    fn position(&self, lane: u32, offset: u32) -> Position
+        ensures { result ≡ position_in self.now lane offset }
+    {
+        Position {
+            pass: self.pass,
+            lane,
+            slice: self.slice,
+            offset,
+        }
+    }
+
     /// The first offset that is worked: the first two blocks of a lane are made of the inputs.
     fn first_offset(&self) -> u32
         ensures { result ≡ first_offset self.now }
@@ -106,93 +112,95 @@ fn extend(shared: &Shared, blocks: &mut Vec<Block>)
     ensures capacity { vec_capacity blocks.old ≤ vec_capacity blocks.new }
 {
     if shared.pass == 0 {
-        push_block(blocks, Block::ZERO);
+        blocks.push_reserved(Block::ZERO);
     }
 }
 
-/// Puts a block behind others, where there is room for it.
-pub(crate) fn push_block(blocks: &mut Vec<Block>, block: Block)
-    requires { vec_len blocks.old < vec_capacity blocks.old }
-    ensures items { blocks.new.items ≡ blocks.old.items ++ block ∷ [] }
-    ensures len { vec_len blocks.new ≡ vec_len blocks.old + 1 }
-    ensures capacity { vec_capacity blocks.old ≤ vec_capacity blocks.new }
-{
-    if blocks.push(block).is_err() {
-        unreachable!()
-    }
-}
-
-/// Where the words that name references come from the place, makes the address block of an offset.
-fn turn(shared: &Shared, lane: u32, offset: u32, addresses: &mut Addresses)
+/// Where the words that name references come from the place alone, makes the address block of an
+/// offset, unless it is at hand.
+fn refresh(shared: &Shared, lane: u32, offset: u32, addresses: &mut Option<AddressBlock>)
     ensures keeps { KeepsAddresses shared.now lane addresses.old
         → KeepsAddresses shared.now lane addresses.new }
     ensures here { KeepsAddresses shared.now lane addresses.old
-        → AreAddresses shared.now lane offset addresses.new.block.0 }
+        → ServesOffset shared.now lane offset addresses.new }
 {
-    if !shared.is_dependent() {
-        addresses.turn_to(
-            &shared.params,
-            shared.pass,
-            lane,
-            shared.slice,
-            offset / 128 + 1,
-        );
+    if shared.is_dependent() {
+        return;
+    }
+    let position = shared.position(lane, offset);
+    let is_there = match addresses {
+        Some(kept) => kept.is_of(&position),
+        None => false,
+    };
+    if !is_there {
+        *addresses = Some(AddressBlock::at(&shared.params, &position));
     }
 }
 
 /// Works the block at an offset of a lane's segment.
-fn work_offset(shared: &Shared, lane: u32, offset: u32, addresses: &Block, blocks: &mut [Block])
+fn work_offset(
+    shared: &Shared,
+    lane: u32,
+    offset: u32,
+    addresses: &Option<AddressBlock>,
+    blocks: &mut [Block],
+)
     requires shaped { IsShaped shared.now }
+    requires some { 2 ≤ segment_len shared.now.params }
     requires lane { lane < shared.now.params.lanes }
     requires offset { offset < segment_len shared.now.params }
     requires computed { first_offset shared.now ≤ offset }
     requires there { offset < length blocks.old }
     ensures { (h : List ℕ) → SharedHolds h shared.now
-        → AreAddresses shared.now lane offset addresses.now.0
+        → ServesOffset shared.now lane offset addresses.now
         → OwnHolds h shared.now lane offset blocks.old
         → OwnHolds h shared.now lane (offset + 1) blocks.new }
 {
+    let position = shared.position(lane, offset);
     let (done, rest) = blocks.split_at_mut(offset as usize);
-    work_block(shared, lane, done, addresses, &mut rest[0]);
+    work_block(shared, &position, done, addresses, &mut rest[0]);
 }
 
 /// Works a block, the due one, behind those of its segment that are done.
-fn work_block(shared: &Shared, lane: u32, done: &[Block], addresses: &Block, due: &mut Block)
+fn work_block(
+    shared: &Shared,
+    position: &Position,
+    done: &[Block],
+    addresses: &Option<AddressBlock>,
+    due: &mut Block,
+)
     requires shaped { IsShaped shared.now }
-    requires lane { lane < shared.now.params.lanes }
+    requires some { 2 ≤ segment_len shared.now.params }
+    requires here { position.now ≡ position_in shared.now position.now.lane (length done.now) }
+    requires lane { position.now.lane < shared.now.params.lanes }
     requires offset { length done.now < segment_len shared.now.params }
     requires computed { first_offset shared.now ≤ length done.now }
-    ensures { (h : List ℕ) → SharedHolds h shared.now → DoneHolds h shared.now lane done.now
-        → AreAddresses shared.now lane (length done.now) addresses.now.0
+    ensures { let lane = position.now.lane in let offset = length done.now in
+        (h : List ℕ) → SharedHolds h shared.now → DoneHolds h shared.now lane done.now
+        → ServesOffset shared.now lane offset addresses.now
         → (0 < shared.now.pass
-        → due.old.0 ≡ cell shared.now.params h (older (place_in shared.now lane (length done.now))))
-        → due.new.0 ≡ cell shared.now.params h (place_in shared.now lane (length done.now)) }
+        → due.old.0 ≡ cell shared.now.params h (older (place_in shared.now lane offset)))
+        → due.new.0 ≡ cell shared.now.params h (place_in shared.now lane offset) }
 {
-    let segment_len = shared.params.segment_len();
-    let offset = done.len() as u32;
-    let column = shared.slice * segment_len + offset;
-    let place = Place {
-        pass: shared.pass,
-        lane,
-        column,
-    };
-    let before = block_before(shared, lane, done);
-    let word = word_at(shared.is_dependent(), before, addresses, offset);
+    let before = block_before(shared, position.lane, done);
+    let word = word_at(before, addresses, position.offset);
     let (j1, j2) = halves(word);
-    let (there, at) = reference_from(&shared.params, &place, shared.slice, offset, j1, j2);
-    let other = block_at(shared, lane, done, there, at);
-    compress_to(before, other, due, !shared.is_fresh());
+    let reference = reference_from(&shared.params, position, j1, j2);
+    let other = block_at(shared, position.lane, done, &reference);
+    if shared.is_fresh() {
+        compress_over(before, other, due);
+    } else {
+        compress_onto(before, other, due);
+    }
 }
 
 /// The word that names a block's reference.
-fn word_at(dependent: bool, before: &Block, addresses: &Block, offset: u32) -> u64
-    ensures { result ≡ (if dependent then slice_index before.now.0 0
-        else slice_index addresses.now.0 (offset % 128)) }
+fn word_at(before: &Block, addresses: &Option<AddressBlock>, offset: u32) -> u64
+    ensures { result ≡ word_from addresses.now before.now.0 (offset % 128) }
 {
-    if dependent {
-        before.0[0]
-    } else {
-        addresses.0[offset as usize % 128]
+    match addresses {
+        Some(kept) => kept.block.0[offset as usize % 128],
+        None => before.0[0],
     }
 }
 
@@ -225,27 +233,26 @@ fn block_at<'a>(
     shared: &'a Shared,
     lane: u32,
     done: &'a [Block],
-    there: u32,
-    column: u32,
+    reference: &Reference,
 ) -> &'a Block
     requires shaped { IsShaped shared.now }
     requires offset { length done.now < segment_len shared.now.params }
-    requires readable { IsReadable shared.now lane (length done.now) there column }
+    requires readable { IsReadable shared.now lane (length done.now) reference.now }
     ensures { (p : Place)
         → IsBefore (segment_len shared.now.params) shared.now.params.lanes
         (place_in shared.now lane (length done.now)) p
-        → p.lane ≡ there → p.column ≡ column
+        → p.lane ≡ reference.now.lane → p.column ≡ reference.now.column
         → (h : List ℕ) → SharedHolds h shared.now → DoneHolds h shared.now lane done.now
         → result.now.0 ≡ cell shared.now.params h p }
 {
     let segment_len = shared.params.segment_len();
-    let slice = column / segment_len;
-    let offset = column % segment_len;
+    let slice = reference.column / segment_len;
+    let offset = reference.column % segment_len;
     let back = (shared.slice + 4 - slice) % 4;
     if back == 0 {
         &done[offset as usize]
     } else {
-        earlier_block(shared, back, there, offset)
+        earlier_block(shared, back, reference.lane, offset)
     }
 }
 

@@ -11,7 +11,7 @@ ghost use Rattle.cred_argon.specs.Cells.{first_cell};
 use crate::inputs::first_block;
 use crate::memory::Memory;
 use crate::params::Params;
-use crate::segment::{Segment, Shared, push_block};
+use crate::segment::{Segment, Shared};
 use std::alloc::{AllocError, Global};
 
 /// The memory with the first two blocks of each lane, from the first hash.
@@ -73,6 +73,6 @@ fn begin(segment: &mut Segment, hash: &[u8])
 {
     let first = first_block(hash, segment.lane, 0);
     let second = first_block(hash, segment.lane, 1);
-    push_block(&mut segment.blocks, first);
-    push_block(&mut segment.blocks, second);
+    segment.blocks.push_reserved(first);
+    segment.blocks.push_reserved(second);
 }

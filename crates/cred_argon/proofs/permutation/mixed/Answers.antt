@@ -6,16 +6,16 @@ pub returns : goal.returns
 unfolding mixed
 returns c j h =
     rw (
-      c.turn-b2.ensures j h,
+      c.rotate-b2.ensures j h,
       c.xor-4.ensures j h,
       c.add_product-c2.ensures j h,
-      c.turn-d2.ensures j h,
+      c.rotate-d2.ensures j h,
       c.xor-3.ensures j h,
       c.add_product-a2.ensures j h,
-      c.turn-b1.ensures j h,
+      c.rotate-b1.ensures j h,
       c.xor-2.ensures j h,
       c.add_product-c1.ensures j h,
-      c.turn-d1.ensures j h,
+      c.rotate-d1.ensures j h,
       c.xor.ensures j h,
       c.add_product-a1.ensures j h,
     ) refl

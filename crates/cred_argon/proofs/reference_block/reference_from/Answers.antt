@@ -1,22 +1,22 @@
-use Rattle.std.proofs.Common.{◌≤◌}
+use Rattle.std.proofs.Common.{◌≤◌, ◌<◌, arith}
 use Rattle.cred_argon.specs.Parameters.{segment_len}
-use Rattle.cred_argon.proofs.Picks.{column_is}
+use Rattle.cred_argon.proofs.Picks.{column_of, slice_below}
 use Rattle.cred_argon.proofs.reference_block.reference_from.Goals as goal
 
 pub returns-clause-lane : goal.returns-clause-lane
 returns-clause-lane c =
     let a = c.args.params.now in
     let some : 2 ≤ segment_len a = rw c.segment_len-segment_len.ensures.value at c.segment_len-segment_len.ensures.at_least in
-    let both = column_is (segment_len a) a.lanes c.args.place.now c.args.j1 c.args.j2 c.args.slice c.args.offset some c.requires.computed c.requires.slice c.requires.offset in
+    let both = column_of (segment_len a) a.lanes c.args.position.now c.args.j1 c.args.j2 some c.requires.computed c.requires.offset in
     rw (c.lane_for-lane.ensures.value, c.lanes.ensures.value) both.1
 
 pub returns-clause-column : goal.returns-clause-column
 returns-clause-column c =
     let a = c.args.params.now in
     let some : 2 ≤ segment_len a = rw c.segment_len-segment_len.ensures.value at c.segment_len-segment_len.ensures.at_least in
-    let both = column_is (segment_len a) a.lanes c.args.place.now c.args.j1 c.args.j2 c.args.slice c.args.offset some c.requires.computed c.requires.slice c.requires.offset in
+    let both = column_of (segment_len a) a.lanes c.args.position.now c.args.j1 c.args.j2 some c.requires.computed c.requires.offset in
     rw (
-      c.wrapped.ensures.value,
+      c.wrapped-column.ensures.value,
       c.picked.ensures.value,
       c.start-start.ensures.value,
       c.count-count.ensures,
@@ -24,3 +24,15 @@ returns-clause-column c =
       c.lanes.ensures.value,
       c.segment_len-segment_len.ensures.value,
     ) both.0
+
+pub count-count-requires-clause-slice : goal.count-count-requires-clause-slice
+count-count-requires-clause-slice c =
+    let a = c.args.params.now in
+    let some : 2 ≤ segment_len a = rw c.segment_len-segment_len.ensures.value at c.segment_len-segment_len.ensures.at_least in
+    slice_below (segment_len a) a.lanes c.args.position.now (omega (arith, some)) c.requires.computed c.requires.offset
+
+pub start-start-requires-clause-slice : goal.start-start-requires-clause-slice
+start-start-requires-clause-slice c =
+    let a = c.args.params.now in
+    let some : 2 ≤ segment_len a = rw c.segment_len-segment_len.ensures.value at c.segment_len-segment_len.ensures.at_least in
+    slice_below (segment_len a) a.lanes c.args.position.now (omega (arith, some)) c.requires.computed c.requires.offset

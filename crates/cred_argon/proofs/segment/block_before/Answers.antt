@@ -3,7 +3,7 @@ use Rattle.std.proofs.lemmas.Bool.Decides.{nat_tests}
 use Rattle.cred_argon.specs.Parameters.{segment_len}
 use Rattle.cred_argon.specs.Segments.{number}
 use Rattle.cred_argon.specs.Cells.{cell}
-use Rattle.cred_argon.proofs.Slots.{before_first, begun_later}
+use Rattle.cred_argon.proofs.Distances.{before_first, begun_later}
 use Rattle.cred_argon.proofs.segment.block_before.Goals as goal
 
 pub returns-then-is_empty : goal.returns-then-is_empty

@@ -1,50 +1,83 @@
-use Rattle.std.proofs.Common.{◌≡◌, ◌≤◌, ◌/◌, ◌%◌, ◌^◌, ◌∙◌, length, sym}
+use Rattle.std.proofs.Common.{◌≡◌, ◌/◌, ◌%◌, ◌^◌, ◌∙◌, length, ap, sym, subst}
 use Rattle.cred_argon.specs.Parameters.{segment_len}
 use Rattle.cred_argon.specs.Compress.{compress}
-use Rattle.cred_argon.specs.Places.{reference_place}
-use Rattle.cred_argon.specs.Cells.{cell, word_by}
+use Rattle.cred_argon.specs.Places.{IsComputed, place_of, reference_place}
 use Rattle.cred_argon.specs.Segments.{place_in}
+use Rattle.cred_argon.specs.declared.position.Position.{Position}
 use Rattle.cred_argon.proofs.Picks.{reference_before}
-use Rattle.cred_argon.proofs.Slots.{place_computed}
-use Rattle.cred_argon.proofs.Steps.{word_is, mixed_is, made_is}
+use Rattle.cred_argon.proofs.Distances.{place_computed}
+use Rattle.cred_argon.proofs.Steps.{offset_mixed_is, replaced_is, added_is}
 use Rattle.cred_argon.proofs.segment.work_block.Goals as goal
+
+pub reference_from-reference-requires-clause-computed :
+    goal.reference_from-reference-requires-clause-computed
+reference_from-reference-requires-clause-computed c =
+    let shared = c.args.shared.now in
+    let s = segment_len shared.params in
+    let at = c.args.position.now in
+    let here : place_of s at ≡ place_in shared at.lane (length c.args.done.now) = ap (place_of s) c.requires.here in
+    subst (IsComputed s shared.params.lanes) (sym here)
+    (place_computed shared at.lane (length c.args.done.now) c.requires.shaped.slice c.requires.lane c.requires.offset c.requires.some c.requires.computed)
 
 pub block_at-other-requires-clause-readable : goal.block_at-other-requires-clause-readable
 block_at-other-requires-clause-readable c =
     let shared = c.args.shared.now in
     let a = shared.params in
     let s = segment_len a in
-    let p = place_in shared c.args.lane (length c.args.done.now) in
+    let at = c.args.position.now in
+    let p = place_in shared at.lane (length c.args.done.now) in
     let j1 = c.halves-j1.result.0 in
     let j2 = c.halves-j1.result.1 in
-    let value = c.segment_len-segment_len.ensures.value in
-    let some : 2 ≤ s = rw value at c.segment_len-segment_len.ensures.at_least in
-    let computed = place_computed shared c.args.lane (length c.args.done.now) c.requires.shaped.slice c.requires.lane c.requires.offset some c.requires.computed in (
+    let here : place_of s at ≡ p = ap (place_of s) c.requires.here in
+    let computed = place_computed shared at.lane (length c.args.done.now) c.requires.shaped.slice c.requires.lane c.requires.offset c.requires.some c.requires.computed in (
       reference_place s a.lanes p j1 j2,
-      reference_before s a.lanes p j1 j2 some computed,
-      sym (rw value at c.reference_from-there.ensures.lane),
-      sym (rw value at c.reference_from-there.ensures.column),
+      reference_before s a.lanes p j1 j2 c.requires.some computed,
+      sym (c.reference_from-reference.ensures.lane ∙ ap (λ q. (reference_place s a.lanes q j1 j2).lane) here),
+      sym (c.reference_from-reference.ensures.column ∙ ap (λ q. (reference_place s a.lanes q j1 j2).column) here),
     )
 
-pub returns : goal.returns
-returns c h held done addresses due =
+pub returns-then-is_fresh : goal.returns-then-is_fresh
+returns-then-is_fresh c h held done addresses due =
     let shared = c.args.shared.now in
     let a = shared.params in
     let s = segment_len a in
+    let at = c.args.position.now in
     let k = length c.args.done.now in
-    let p = place_in shared c.args.lane k in
-    let value = c.segment_len-segment_len.ensures.value in
-    let some : 2 ≤ s = rw value at c.segment_len-segment_len.ensures.at_least in
-    let computed = place_computed shared c.args.lane k c.requires.shaped.slice c.requires.lane c.requires.offset some c.requires.computed in
+    let p = place_in shared at.lane k in
     let before = c.block_before-before.result.now.0 in
-    let before_is = c.block_before-before.ensures h held done in
+    let other = c.block_at-other.result.now.0 in
     let w = c.word_at-word.result in
-    let word : w ≡ word_by a (cell a h) p =
-    rw c.is_dependent.ensures at c.word_at-word.ensures ∙ word_is shared h before c.args.addresses.now.0 c.args.lane k c.requires.offset before_is addresses in
-    let there = reference_place s a.lanes p (w % 2 ^ 32) (w / 2 ^ 32) in
-    let lane = sym (rw (value, c.halves-j1.ensures.low, c.halves-j1.ensures.high) at c.reference_from-there.ensures.lane) in
-    let column = sym (rw (value, c.halves-j1.ensures.low, c.halves-j1.ensures.high) at c.reference_from-there.ensures.column) in
-    let other_is = c.block_at-other.ensures there (reference_before s a.lanes p (w % 2 ^ 32) (w / 2 ^ 32) some computed) lane column h held done in
-    let mixed = mixed_is a h before c.block_at-other.result.now.0 p w before_is word other_is in
-    made_is a h c.args.due.now.0 (compress before c.block_at-other.result.now.0) c.compress_to.new.out.0 p c.is_fresh.result some computed
-    (sym c.is_fresh.ensures) due mixed c.compress_to.ensures
+    let here : place_of s at ≡ p = ap (place_of s) c.requires.here in
+    let offset : at.offset ≡ k = ap (λ (q : Position). q.offset) c.requires.here in
+    let computed = place_computed shared at.lane k c.requires.shaped.slice c.requires.lane c.requires.offset c.requires.some c.requires.computed in
+    let mixed = offset_mixed_is shared h before other c.args.addresses.now at.lane k w c.reference_from-reference.result
+    c.requires.some computed c.requires.offset (c.block_before-before.ensures h held done) addresses (rw offset at c.word_at-word.ensures)
+    (rw (c.halves-j1.ensures.low, c.halves-j1.ensures.high) at c.reference_from-reference.ensures.lane
+    ∙ ap (λ q. (reference_place s a.lanes q (w % 2 ^ 32) (w / 2 ^ 32)).lane) here)
+    (rw (c.halves-j1.ensures.low, c.halves-j1.ensures.high) at c.reference_from-reference.ensures.column
+    ∙ ap (λ q. (reference_place s a.lanes q (w % 2 ^ 32) (w / 2 ^ 32)).column) here)
+    (λ q before lane column. c.block_at-other.ensures q before lane column h held done) in
+    replaced_is a h (compress before other) c.compress_over.new.out.0 p c.requires.some computed (sym c.is_fresh.ensures ∙ c.if-is_fresh.true) mixed c.compress_over.ensures
+
+pub returns-else-is_fresh : goal.returns-else-is_fresh
+returns-else-is_fresh c h held done addresses due =
+    let shared = c.args.shared.now in
+    let a = shared.params in
+    let s = segment_len a in
+    let at = c.args.position.now in
+    let k = length c.args.done.now in
+    let p = place_in shared at.lane k in
+    let before = c.block_before-before.result.now.0 in
+    let other = c.block_at-other.result.now.0 in
+    let w = c.word_at-word.result in
+    let here : place_of s at ≡ p = ap (place_of s) c.requires.here in
+    let offset : at.offset ≡ k = ap (λ (q : Position). q.offset) c.requires.here in
+    let computed = place_computed shared at.lane k c.requires.shaped.slice c.requires.lane c.requires.offset c.requires.some c.requires.computed in
+    let mixed = offset_mixed_is shared h before other c.args.addresses.now at.lane k w c.reference_from-reference.result
+    c.requires.some computed c.requires.offset (c.block_before-before.ensures h held done) addresses (rw offset at c.word_at-word.ensures)
+    (rw (c.halves-j1.ensures.low, c.halves-j1.ensures.high) at c.reference_from-reference.ensures.lane
+    ∙ ap (λ q. (reference_place s a.lanes q (w % 2 ^ 32) (w / 2 ^ 32)).lane) here)
+    (rw (c.halves-j1.ensures.low, c.halves-j1.ensures.high) at c.reference_from-reference.ensures.column
+    ∙ ap (λ q. (reference_place s a.lanes q (w % 2 ^ 32) (w / 2 ^ 32)).column) here)
+    (λ q before lane column. c.block_at-other.ensures q before lane column h held done) in
+    added_is a h c.args.due.now.0 (compress before other) c.compress_onto.new.out.0 p c.requires.some computed (sym c.is_fresh.ensures ∙ c.if-is_fresh.false) due mixed c.compress_onto.ensures

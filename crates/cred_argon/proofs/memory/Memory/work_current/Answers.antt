@@ -1,6 +1,6 @@
 use Rattle.std.proofs.Common.{◌≡◌, ◌<◌, length, slice_index_or, vec_len, arith}
 use Rattle.std.proofs.lemmas.List.{with_items_is}
-use Rattle.cred_argon.proofs.Turns.{shared_begins, own_begins, segment_worked}
+use Rattle.cred_argon.proofs.SliceWork.{shared_begins, own_begins, segment_worked}
 use Rattle.cred_argon.proofs.memory.Memory.work_current.Goals as goal
 
 pub returns-clause-holds : goal.returns-clause-holds

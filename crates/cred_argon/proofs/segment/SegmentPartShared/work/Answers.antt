@@ -17,9 +17,9 @@ columns-preserved c =
       room = omega (arith, working.room, c.extend.ensures.capacity);
       first = λ e. omega (arith, working.first e, c.extend.ensures.first e);
       later = λ e. omega (arith, working.later e, c.extend.ensures.later e);
-      kept = c.turn.ensures.keeps working.kept;
+      kept = c.refresh.ensures.keeps working.kept;
       own = λ h held start. rw (with_items_is c.extend.new.blocks c.work_offset.new.blocks same_length)
-          (c.work_offset.ensures h held (λ e. c.turn.ensures.here working.kept e)
+          (c.work_offset.ensures h held (c.refresh.ensures.here working.kept)
           (rw c.deref_mut.ensures.value (own_extended shared c.args.self.now c.columns.self c.columns.addresses c.segment_len-segment_len.result c.columns.offset h
           c.extend.new.blocks.items working c.extend.ensures.items (working.own h held start))));
     }

@@ -37,8 +37,8 @@ pub before_first : (r u s l : ℕ) → u < 4 → 2 ≤ s → 0 < 4 * r + u
     → place ((4 * r + u - 1) / 4) l ((4 * r + u - 1) % 4 * s + (s - 1)) ≡ previous s (place r l (u * s + 0))
 before_first r zero s l four some later =
     let start : zero * s + 0 ≡ 0 = omega arith in
-    let turn : (4 * r + zero - 1) % 4 ≡ 3 = omega (arith, later) in
-    rw start (ap₂ (λ x y. place x l y) (omega (arith, later)) (rw turn (omega (arith, some))))
+    let last_slice : (4 * r + zero - 1) % 4 ≡ 3 = omega (arith, later) in
+    rw start (ap₂ (λ x y. place x l y) (omega (arith, later)) (rw last_slice (omega (arith, some))))
 before_first r (suc u) s l four some later =
     let one : 1 * s ≤ suc u * s = mul-le-mul_right s (omega arith) in
     let inner : (suc u * s + 0 == 0) ≡ false = grind (arith, nat_tests, one, some) in
@@ -48,7 +48,7 @@ before_first r (suc u) s l four some later =
 
 -- how many segments a place that is referred to lies back; none back is the own lane's segment,
 -- before k
-pub record IsSlot (r u s l k : ℕ) (there : Place) (back : ℕ) : Type 0 where
+pub record IsDistance (r u s l k : ℕ) (there : Place) (back : ℕ) : Type 0 where
   pub number : 4 * there.pass + there.column / s + back ≡ 4 * r + u
   pub slice : there.column / s < 4
   pub offset : there.column % s < s
@@ -56,9 +56,9 @@ pub record IsSlot (r u s l k : ℕ) (there : Place) (back : ℕ) : Type 0 where
   pub own : back ≡ 0 → there.column % s < k
   pub own_lane : back ≡ 0 → there.lane ≡ l
 
-pub slot_of : (r u s lanes l k : ℕ) (there : Place) → u < 4 → k < s → IsBefore s lanes (place r l (u * s + k)) there
-    → IsSlot r u s l k there ((u + 4 - there.column / s) % 4)
-slot_of r u s lanes l k there four inside before =
+pub distance_of : (r u s lanes l k : ℕ) (there : Place) → u < 4 → k < s → IsBefore s lanes (place r l (u * s + k)) there
+    → IsDistance r u s l k there ((u + 4 - there.column / s) % 4)
+distance_of r u s lanes l k there four inside before =
     let some : 0 < s = omega (arith, inside) in
     let segment : segment_of s (place r l (u * s + k)) ≡ 4 * r + u = ap (λ x. 4 * r + x) (div-mul-add u s k inside) in
     let time : segment_of s there * s + there.column % s ≡ time_of s there = time_is s there in
@@ -95,20 +95,20 @@ slot_of r u s lanes l k there four inside before =
     }
 
 -- such a place, as the memory counts it
-pub slot_place : (r u s l k : ℕ) (there : Place) (back : ℕ) → IsSlot r u s l k there back
+pub distance_place : (r u s l k : ℕ) (there : Place) (back : ℕ) → IsDistance r u s l k there back
     → place ((4 * r + u - back) / 4) there.lane ((4 * r + u - back) % 4 * s + there.column % s) ≡ there
-slot_place r u s l k there back slot =
-    let number : 4 * r + u - back ≡ 4 * there.pass + there.column / s = omega (arith, slot.number) in
-    let pass : (4 * there.pass + there.column / s) / 4 ≡ there.pass = omega (arith, slot.slice) in
-    let slice : (4 * there.pass + there.column / s) % 4 ≡ there.column / s = omega (arith, slot.slice) in
-    rw (number, pass, slice, slot.column) refl
+distance_place r u s l k there back distance =
+    let number : 4 * r + u - back ≡ 4 * there.pass + there.column / s = omega (arith, distance.number) in
+    let pass : (4 * there.pass + there.column / s) / 4 ≡ there.pass = omega (arith, distance.slice) in
+    let slice : (4 * there.pass + there.column / s) % 4 ≡ there.column / s = omega (arith, distance.slice) in
+    rw (number, pass, slice, distance.column) refl
 
-pub slot_own : (r u s l k : ℕ) (there : Place) (back : ℕ) → u < 4 → IsSlot r u s l k there back → back ≡ 0
+pub distance_own : (r u s l k : ℕ) (there : Place) (back : ℕ) → u < 4 → IsDistance r u s l k there back → back ≡ 0
     → place r l (u * s + there.column % s) ≡ there
-slot_own r u s l k there back four slot same =
-    let pass : r ≡ there.pass = omega (arith, slot.number, slot.slice, same, four) in
-    let slice : u ≡ there.column / s = omega (arith, slot.number, slot.slice, same, four) in
-    rw (pass, slice, slot.column, ← slot.own_lane same) refl
+distance_own r u s l k there back four distance same =
+    let pass : r ≡ there.pass = omega (arith, distance.number, distance.slice, same, four) in
+    let slice : u ≡ there.column / s = omega (arith, distance.number, distance.slice, same, four) in
+    rw (pass, slice, distance.column, ← distance.own_lane same) refl
 
 -- an empty segment that is to be worked isn't the first of all
 pub begun_later : (c : Shared) (k : ℕ) → first_offset c ≤ k → k ≡ 0 → 0 < number c
