@@ -1,5 +1,6 @@
 -- What an Argon2 tag is asked for (RFC 9106, section 3.1), and how the memory is cut (section 3.2).
 use Rattle.std.specs.Prelude.{ℕ, ◌*◌, ◌/◌, ◌≤◌}
+use Rattle.cred_argon.specs.declared.params.TheConstants.{MAX_LANES, MAX_MEMORY, MIN_TAG, MAX_TAG}
 use Rattle.cred_argon.specs.declared.kind.Kind.{Kind}
 use Rattle.cred_argon.specs.declared.kind.Version.{Version}
 
@@ -25,17 +26,17 @@ segment_len a = a.memory / (4 * a.lanes)
 -- the ranges that this library takes, with a tag of at most `most` bytes
 pub record IsUpTo (most : ℕ) (a : Parameters) : Type 0 where
   pub some_lane : 1 ≤ a.lanes
-  pub lanes_at_most : a.lanes ≤ 255
+  pub lanes_at_most : a.lanes ≤ MAX_LANES
   pub memory_at_least : 8 * a.lanes ≤ a.memory
-  pub memory_at_most : a.memory ≤ 2097152
+  pub memory_at_most : a.memory ≤ MAX_MEMORY
   pub some_pass : 1 ≤ a.passes
-  pub tag_at_least : 4 ≤ a.tag_len
+  pub tag_at_least : MIN_TAG ≤ a.tag_len
   pub tag_at_most : a.tag_len ≤ most
 
 -- with a tag that a record can hold
 abbrev pub IsParameters : Parameters → Type 0
-IsParameters a = IsUpTo 64 a
+IsParameters a = IsUpTo MAX_TAG a
 
--- with any tag that RFC 9106 knows
+-- with any tag that RFC 9106 knows: its length is written in 32 bits
 abbrev pub IsRaw : Parameters → Type 0
 IsRaw a = IsUpTo 4294967295 a

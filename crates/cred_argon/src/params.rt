@@ -1,5 +1,6 @@
 //! What an Argon2 tag is asked for.
 ghost use Rattle.std.specs.Prelude.{◌≡◌, ◌*◌, ◌≤◌, ◌↔◌, IfOk};
+ghost use Rattle.cred_argon.specs.declared.params.TheConstants.{MAX_LANES, MAX_MEMORY, MIN_TAG};
 ghost use Rattle.cred_argon.specs.Faults.{IsFaultUpTo, IsFirstFault, IsFirstRawFault};
 ghost use Rattle.cred_argon.specs.Parameters.{parameters, IsParameters, IsRaw, IsUpTo, segment_len};
 
@@ -8,16 +9,16 @@ use crate::kind::{Kind, Version};
 use std::marker::Model;
 
 /// The most lanes that a memory may have.
-const MAX_LANES: u32 = 255;
+pub const MAX_LANES: u32 = 255;
 
 /// The most memory, in KiB: 2 GiB.
-const MAX_MEMORY: u32 = 2_097_152;
+pub const MAX_MEMORY: u32 = 2_097_152;
 
 /// The fewest bytes of a tag (RFC 9106, section 3.1).
-const MIN_TAG: u32 = 4;
+pub const MIN_TAG: u32 = 4;
 
-/// The most that a record holds: one BLAKE2b digest has no more.
-const MAX_TAG: u32 = 64;
+/// The most bytes of a tag that a record holds: one BLAKE2b digest has no more.
+pub const MAX_TAG: u32 = 64;
 
 /// The version, kind, costs and tag length of an Argon2 tag (RFC 9106, section 3.1), always in
 /// range.
@@ -195,7 +196,7 @@ impl Params {
     pub fn lanes(&self) -> u32
         ensures value { result ≡ self.now.lanes }
         ensures some { 1 ≤ result }
-        ensures at_most { result ≤ 255 }
+        ensures at_most { result ≤ MAX_LANES }
     {
         self.lanes
     }
@@ -203,7 +204,7 @@ impl Params {
     /// The length of the tag, in bytes.
     pub fn tag_len(&self) -> u32
         ensures value { result ≡ self.now.tag_len }
-        ensures some { 4 ≤ result }
+        ensures some { MIN_TAG ≤ result }
     {
         self.tag_len
     }
@@ -212,8 +213,8 @@ impl Params {
     pub(crate) fn segment_len(&self) -> u32
         ensures value { result ≡ segment_len self.now }
         ensures at_least { 2 ≤ result }
-        ensures fits { 4 * result * self.now.lanes ≤ 2097152 }
-        ensures at_most { 4 * result ≤ 2097152 }
+        ensures fits { 4 * result * self.now.lanes ≤ MAX_MEMORY }
+        ensures at_most { 4 * result ≤ MAX_MEMORY }
     {
         self.segment
     }

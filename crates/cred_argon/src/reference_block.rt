@@ -1,6 +1,7 @@
 //! Which block a place refers to (RFC 9106, section 3.4.2): the finished blocks that it may refer
 //! to are one stretch of a lane, so a start and a count stand for their list.
 ghost use Rattle.std.specs.Prelude.{◌≡◌, ◌+◌, ◌-◌, ◌*◌, ◌/◌, ◌%◌, ◌<◌, ◌≤◌, min, if◌then◌else◌, ◌==◌};
+ghost use Rattle.cred_argon.specs.declared.params.TheConstants.{MAX_MEMORY};
 ghost use Rattle.cred_argon.specs.Parameters.{segment_len};
 ghost use Rattle.cred_argon.specs.Places.{IsComputed, pick, place_of, reference_place};
 ghost use Rattle.cred_argon.specs.Times.{reference_count};
@@ -71,7 +72,7 @@ fn lane_for(lanes: u32, position: &Position, j2: u32) -> u32
 fn count(segment_len: u32, position: &Position, own: bool) -> u32
     requires slice { position.now.slice < 4 }
     requires offset { position.now.offset < segment_len }
-    requires fits { 4 * segment_len ≤ 2097152 }
+    requires fits { 4 * segment_len ≤ MAX_MEMORY }
     requires some { 0 < reference_count segment_len (4 * position.now.pass + position.now.slice)
         position.now.offset own }
     ensures { result ≡ reference_count segment_len (4 * position.now.pass + position.now.slice)
@@ -96,7 +97,7 @@ fn count(segment_len: u32, position: &Position, own: bool) -> u32
 fn start(segment_len: u32, position: &Position) -> u32
     requires slice { position.now.slice < 4 }
     requires some { 0 < segment_len }
-    requires fits { 4 * segment_len ≤ 2097152 }
+    requires fits { 4 * segment_len ≤ MAX_MEMORY }
     ensures value { result ≡ (4 * position.now.pass + position.now.slice - 3) * segment_len
         % (4 * segment_len) }
     ensures below { result < 4 * segment_len }

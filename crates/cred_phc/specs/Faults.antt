@@ -1,11 +1,13 @@
 -- The fault of a text: its fields are judged from left to right, and the first fault is the answer.
-use Rattle.std.specs.Prelude.{ℕ, List, [], ◌∷◌, ◌++◌, length, take, not, Option, Some, None, is_some, Bool, true, false, nat_lt, ◌==◌, if◌then◌else◌, codes}
+use Rattle.std.specs.Prelude.{ℕ, List, [], ◌∷◌, ◌++◌, length, take, not, Option, Some, None, is_some, Bool, true, false, nat_lt, ◌==◌, if◌then◌else◌}
 use Rattle.std.specs.Str.{bytes_eq}
 use Rattle.cred_phc.specs.declared.error.PhcError.{PhcError}
 use Rattle.cred_phc.specs.declared.error.PhcError.TheVariants.{Shape, Version as WrongVersion, Params, Range, Salt, Tag, TooLong, Scheme as NoScheme}
 use Rattle.cred_phc.specs.declared.scheme.Name.{Name}
 use Rattle.cred_phc.specs.declared.scheme.Name.TheVariants.{Argon2, Scrypt}
-use Rattle.cred_phc.specs.Ranges.{argon_fits, scrypt_fits, most_salt, least_tag, most_tag, most_text}
+use Rattle.cred_phc.specs.Ranges.{argon_fits, scrypt_fits, MIN_ARGON2_SALT, MIN_SCRYPT_SALT, MAX_SALT, MIN_TAG, MAX_TAG, MAX_TEXT}
+use Rattle.cred_argon.specs.declared.kind.Version.TheVariants.{V10, V13}
+use Rattle.cred_phc.specs.Names.{version_text, version_label, memory_label, passes_label, cost_label, block_size_label, parallelism_label}
 use Rattle.cred_phc.specs.Pieces.{pieces}
 use Rattle.cred_phc.specs.Base64.{bytes_of}
 use Rattle.cred_phc.specs.Fields.{name_of, numbers_of}
@@ -28,11 +30,11 @@ bytes_fault low high e field = unless (is_some (bytes_of low high field)) e
 -- the numbers and the salt
 abbrev pub judges_of : Name → List Judge
 judges_of (Argon2 variant) =
-    (λ field. numbers_fault argon_fits (numbers_of (codes "m=") (codes "t=") (codes "p=") field))
-    ∷ bytes_fault 8 most_salt Salt ∷ []
+    (λ field. numbers_fault argon_fits (numbers_of memory_label passes_label parallelism_label field))
+    ∷ bytes_fault MIN_ARGON2_SALT MAX_SALT Salt ∷ []
 judges_of Scrypt =
-    (λ field. numbers_fault scrypt_fits (numbers_of (codes "ln=") (codes "r=") (codes "p=") field))
-    ∷ bytes_fault 1 most_salt Salt ∷ []
+    (λ field. numbers_fault scrypt_fits (numbers_of cost_label block_size_label parallelism_label field))
+    ∷ bytes_fault MIN_SCRYPT_SALT MAX_SALT Salt ∷ []
 
 -- the fault that comes first
 abbrev pub first : Option PhcError → Option PhcError → Option PhcError
@@ -50,10 +52,10 @@ judged (judge ∷ judges) (field ∷ fields) = first (judge field) (judged judge
 abbrev pub version_fault : Bool → List Judge → List (List ℕ) → Option PhcError
 version_fault old judges [] = Some Shape
 version_fault old judges (field ∷ fields) =
-    if bytes_eq field (codes "v=19") then judged judges fields
+    if bytes_eq field (version_text V13) then judged judges fields
     else if not old then Some WrongVersion
-    else if bytes_eq field (codes "v=16") then judged judges fields
-    else if bytes_eq (take 2 field) (codes "v=") then Some WrongVersion
+    else if bytes_eq field (version_text V10) then judged judges fields
+    else if bytes_eq (take 2 field) version_label then Some WrongVersion
     else judged judges (field ∷ fields)
 
 -- the fields that the name asks for, and those at the end
@@ -72,7 +74,7 @@ fields_fault old last (front ∷ name ∷ fields) =
 -- a text that is too long is not looked at; any other is cut at each `$` (byte 36)
 abbrev pub text_fault : Bool → List Judge → List ℕ → Option PhcError
 text_fault old last text =
-    if nat_lt most_text (length text) then Some TooLong else fields_fault old last (pieces 36 text)
+    if nat_lt MAX_TEXT (length text) then Some TooLong else fields_fault old last (pieces 36 text)
 
 -- the first fault of a setting's text, if it has any
 unfoldable pub setting_fault : List ℕ → Option PhcError
@@ -80,4 +82,4 @@ setting_fault text = text_fault false [] text
 
 -- the first fault of a record's text, if it has any
 unfoldable pub record_fault : List ℕ → Option PhcError
-record_fault text = text_fault true (bytes_fault least_tag most_tag Tag ∷ []) text
+record_fault text = text_fault true (bytes_fault MIN_TAG MAX_TAG Tag ∷ []) text

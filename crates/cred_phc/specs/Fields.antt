@@ -1,18 +1,19 @@
 -- What one field of a text stands for.
-use Rattle.std.specs.Prelude.{ℕ, List, [], ◌∷◌, length, drop, take, Option, Some, None, if◌then◌else◌, codes}
+use Rattle.std.specs.Prelude.{ℕ, List, [], ◌∷◌, length, drop, take, Option, Some, None, if◌then◌else◌}
 use Rattle.std.specs.Str.{bytes_eq}
 use Rattle.cred_phc.specs.declared.scheme.Variant.TheVariants.{D, I, Id}
 use Rattle.cred_phc.specs.declared.scheme.Name.{Name}
 use Rattle.cred_phc.specs.declared.scheme.Name.TheVariants.{Argon2, Scrypt}
+use Rattle.cred_phc.specs.Names.{variant_name, scrypt_name}
 use Rattle.cred_phc.specs.Pieces.{pieces}
 use Rattle.cred_phc.specs.Number.{number_of}
 
 abbrev pub name_of : List ℕ → Option Name
 name_of field =
-    if bytes_eq field (codes "argon2d") then Some (Argon2 D)
-    else if bytes_eq field (codes "argon2i") then Some (Argon2 I)
-    else if bytes_eq field (codes "argon2id") then Some (Argon2 Id)
-    else if bytes_eq field (codes "scrypt") then Some Scrypt
+    if bytes_eq field (variant_name D) then Some (Argon2 D)
+    else if bytes_eq field (variant_name I) then Some (Argon2 I)
+    else if bytes_eq field (variant_name Id) then Some (Argon2 Id)
+    else if bytes_eq field scrypt_name then Some Scrypt
     else None
 
 -- the number behind a label

@@ -11,6 +11,29 @@ variant_name D = codes "argon2d"
 variant_name I = codes "argon2i"
 variant_name Id = codes "argon2id"
 
+abbrev pub scrypt_name : List ℕ
+scrypt_name = codes "scrypt"
+
+-- what stands before the number of a version
+abbrev pub version_label : List ℕ
+version_label = codes "v="
+
+-- what stands before the numbers of Argon2, m, t and p, and of scrypt, ln, r and p
+abbrev pub memory_label : List ℕ
+memory_label = codes "m="
+
+abbrev pub passes_label : List ℕ
+passes_label = codes "t="
+
+abbrev pub cost_label : List ℕ
+cost_label = codes "ln="
+
+abbrev pub block_size_label : List ℕ
+block_size_label = codes "r="
+
+abbrev pub parallelism_label : List ℕ
+parallelism_label = codes "p="
+
 abbrev pub version_text : Version → List ℕ
 version_text V10 = codes "v=16"
 version_text V13 = codes "v=19"

@@ -1,7 +1,7 @@
 -- Reading as a function: the value that a text stands for, or its fault. Contracts say of the
 -- readers that they compute it, and that it agrees with the texts of values and with the table of
 -- faults.
-use Rattle.std.specs.Prelude.{◌≡◌, ℕ, List, [], ◌∷◌, length, take, Option, Some, None, Result, Ok, Err, Bool, true, false, nat_lt, ◌==◌, not, if◌then◌else◌, codes}
+use Rattle.std.specs.Prelude.{◌≡◌, ℕ, List, [], ◌∷◌, length, take, Option, Some, None, Result, Ok, Err, Bool, true, false, nat_lt, ◌==◌, not, if◌then◌else◌}
 use Rattle.std.specs.Option.{ok_or}
 use Rattle.std.specs.Str.{bytes_eq}
 use Rattle.cred_phc.specs.declared.error.PhcError.{PhcError}
@@ -11,13 +11,21 @@ use Rattle.cred_phc.specs.declared.scheme.Scheme.TheVariants.{Argon2, Scrypt}
 use Rattle.cred_argon.specs.declared.kind.Version.{Version}
 use Rattle.cred_argon.specs.declared.kind.Version.TheVariants.{V10, V13}
 use Rattle.cred_phc.specs.declared.scheme.Variant.{Variant}
+use Rattle.cred_phc.specs.declared.parse.Form.{Form}
+use Rattle.cred_phc.specs.declared.parse.Form.TheVariants.{Setting, Record}
 use Rattle.cred_phc.specs.declared.scheme.Name.{Name}
 use Rattle.cred_phc.specs.declared.scheme.Name.TheVariants.{Argon2 as NamesArgon2, Scrypt as NamesScrypt}
-use Rattle.cred_phc.specs.Ranges.{argon_fits, scrypt_fits, salt_low, most_salt, least_tag, most_tag, most_text}
+use Rattle.cred_phc.specs.Ranges.{argon_fits, scrypt_fits, salt_low, MAX_SALT, MIN_TAG, MAX_TAG, MAX_TEXT}
 use Rattle.cred_phc.specs.Values.{SettingValue, setting_of, RecordValue, record_of}
+use Rattle.cred_phc.specs.Names.{version_text, version_label, memory_label, passes_label, cost_label, block_size_label, parallelism_label}
 use Rattle.cred_phc.specs.Pieces.{pieces}
 use Rattle.cred_phc.specs.Base64.{bytes_of}
 use Rattle.cred_phc.specs.Fields.{name_of, numbers_of}
+
+-- whether the version of a text may be 0x10, or be left out: records alone may be old
+abbrev pub may_be_old : Form → Bool
+may_be_old Setting = false
+may_be_old Record = true
 
 -- goes on with the value; the first fault ends it
 infixl 10 ◌>>=◌
@@ -49,10 +57,10 @@ scrypt_of n = if scrypt_fits n.0 n.1 n.2 then Some (Scrypt n.0 n.1 n.2) else Non
 -- the version, and the fields behind it; a record may be old, and then its version may be left out
 abbrev pub version_of : Bool → List (List ℕ) → List ℕ × List (List ℕ) → Result (Version × List (List ℕ)) PhcError
 version_of old fields field =
-    if bytes_eq field.0 (codes "v=19") then Ok (V13, field.1)
+    if bytes_eq field.0 (version_text V13) then Ok (V13, field.1)
     else if not old then Err WrongVersion
-    else if bytes_eq field.0 (codes "v=16") then Ok (V10, field.1)
-    else if bytes_eq (take 2 field.0) (codes "v=") then Err WrongVersion
+    else if bytes_eq field.0 (version_text V10) then Ok (V10, field.1)
+    else if bytes_eq (take 2 field.0) version_label then Err WrongVersion
     else Ok (V10, fields)
 
 unfoldable pub version_at : Bool → List (List ℕ) → Result (Version × List (List ℕ)) PhcError
@@ -69,10 +77,10 @@ numbers_at x y z scheme_of fields =
 unfoldable pub argon_at : Bool → Variant → List (List ℕ) → Result (Scheme × List (List ℕ)) PhcError
 argon_at old variant fields =
     version_at old fields >>= λ version.
-    numbers_at (codes "m=") (codes "t=") (codes "p=") (argon_of version.0 variant) version.1
+    numbers_at memory_label passes_label parallelism_label (argon_of version.0 variant) version.1
 
 unfoldable pub scrypt_at : List (List ℕ) → Result (Scheme × List (List ℕ)) PhcError
-scrypt_at fields = numbers_at (codes "ln=") (codes "r=") (codes "p=") scrypt_of fields
+scrypt_at fields = numbers_at cost_label block_size_label parallelism_label scrypt_of fields
 
 abbrev pub named_at : Bool → Name → List (List ℕ) → Result (Scheme × List (List ℕ)) PhcError
 named_at old (NamesArgon2 variant) fields = argon_at old variant fields
@@ -91,17 +99,17 @@ unfoldable pub setting_at : Bool → List (List ℕ) → Result (SettingValue ×
 setting_at old fields =
     scheme_at old fields >>= λ scheme.
     next scheme.1 >>= λ field.
-    ok_or (bytes_of (salt_low scheme.0) most_salt field.0) Salt >>= λ salt.
+    ok_or (bytes_of (salt_low scheme.0) MAX_SALT field.0) Salt >>= λ salt.
     Ok (setting_of scheme.0 salt, field.1)
 
 unfoldable pub tag_at : List (List ℕ) → Result (List ℕ × List (List ℕ)) PhcError
 tag_at fields =
     next fields >>= λ field.
-    ok_or (bytes_of least_tag most_tag field.0) Tag >>= λ tag.
+    ok_or (bytes_of MIN_TAG MAX_TAG field.0) Tag >>= λ tag.
     Ok (tag, field.1)
 
 unfoldable pub fields_of : List ℕ → Result (List (List ℕ)) PhcError
-fields_of text = if nat_lt most_text (length text) then Err TooLong else Ok (pieces 36 text)
+fields_of text = if nat_lt MAX_TEXT (length text) then Err TooLong else Ok (pieces 36 text)
 
 -- the setting that a text stands for, or its first fault
 unfoldable pub read_setting : List ℕ → Result SettingValue PhcError

@@ -1,10 +1,10 @@
 -- The texts of settings and records, in the PHC string format: `$`, the name, and further fields
 -- with `$` (byte 36) between.
-use Rattle.std.specs.Prelude.{◌≡◌, ℕ, List, [], ◌∷◌, ◌++◌, ◌⊎◌, codes, decimal, true, false}
+use Rattle.std.specs.Prelude.{◌≡◌, ℕ, List, [], ◌∷◌, ◌++◌, ◌⊎◌, decimal, true, false}
 use Rattle.std.specs.List.{join_with_byte}
 use Rattle.cred_phc.specs.declared.scheme.Scheme.{Scheme}
 use Rattle.cred_phc.specs.declared.scheme.Scheme.TheVariants.{Argon2, Scrypt}
-use Rattle.cred_phc.specs.Names.{variant_name, version_text}
+use Rattle.cred_phc.specs.Names.{variant_name, version_text, scrypt_name, memory_label, passes_label, cost_label, block_size_label, parallelism_label}
 use Rattle.cred_phc.specs.Ranges.{is_current}
 use Rattle.cred_phc.specs.Values.{SettingValue, RecordValue}
 use Rattle.cred_phc.specs.Base64.{base64}
@@ -17,16 +17,16 @@ abbrev pub numbers_text : List ℕ → ℕ → List ℕ → ℕ → List ℕ →
 numbers_text x a y b z c = join_with_byte 44 (label x a ∷ label y b ∷ label z c ∷ [])
 
 abbrev pub argon_numbers : ℕ → ℕ → ℕ → List ℕ
-argon_numbers m t p = numbers_text (codes "m=") m (codes "t=") t (codes "p=") p
+argon_numbers m t p = numbers_text memory_label m passes_label t parallelism_label p
 
 abbrev pub scrypt_numbers : ℕ → ℕ → ℕ → List ℕ
-scrypt_numbers ln r p = numbers_text (codes "ln=") ln (codes "r=") r (codes "p=") p
+scrypt_numbers ln r p = numbers_text cost_label ln block_size_label r parallelism_label p
 
 -- nothing stands before the first `$`
 abbrev pub scheme_fields : Scheme → List (List ℕ)
 scheme_fields (Argon2 version variant m t p) =
     [] ∷ variant_name variant ∷ version_text version ∷ argon_numbers m t p ∷ []
-scheme_fields (Scrypt ln r p) = [] ∷ codes "scrypt" ∷ scrypt_numbers ln r p ∷ []
+scheme_fields (Scrypt ln r p) = [] ∷ scrypt_name ∷ scrypt_numbers ln r p ∷ []
 
 unfoldable pub scheme_text : Scheme → List ℕ
 scheme_text scheme = join_with_byte 36 (scheme_fields scheme)

@@ -4,7 +4,7 @@ use Rattle.base64.specs.GeneralPurpose.{IsBytes}
 use Rattle.cred_phc.specs.declared.scheme.Scheme.{Scheme}
 use Rattle.cred_phc.specs.declared.error.PhcError.{PhcError}
 use Rattle.cred_phc.specs.declared.error.PhcError.TheVariants.{Range, Salt, Tag}
-use Rattle.cred_phc.specs.Ranges.{between, scheme_fits, salt_low, most_salt, least_tag, most_tag, most_password}
+use Rattle.cred_phc.specs.Ranges.{between, scheme_fits, salt_low, MAX_SALT, MIN_TAG, MAX_TAG, MAX_PASSWORD}
 
 -- a scheme with its numbers, and a salt
 pub record SettingValue : Type 0 where
@@ -23,13 +23,13 @@ abbrev pub record_of : SettingValue → List ℕ → RecordValue
 record_of setting tag = record { setting = setting; tag = tag }
 
 abbrev pub salt_fits : Scheme → List ℕ → Bool
-salt_fits scheme salt = between (salt_low scheme) most_salt (length salt)
+salt_fits scheme salt = between (salt_low scheme) MAX_SALT (length salt)
 
 abbrev pub tag_fits : List ℕ → Bool
-tag_fits tag = between least_tag most_tag (length tag)
+tag_fits tag = between MIN_TAG MAX_TAG (length tag)
 
 abbrev pub password_fits : List ℕ → Bool
-password_fits password = between 0 most_password (length password)
+password_fits password = between 0 MAX_PASSWORD (length password)
 
 -- inside the ranges; a list of numbers need not be one of bytes, so that is said too
 pub record IsSetting (v : SettingValue) : Type 0 where

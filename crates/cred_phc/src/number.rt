@@ -44,19 +44,19 @@ pub fn decimal(digits: &[u8]) -> Option<u64>
     Some(number)
 }
 
-fn labelled(piece: &[u8], label: &[u8]) -> Option<u64>
+fn labelled(piece: &[u8], label: &str) -> Option<u64>
     ensures { result ≡ option_map capped (labelled label.now piece.now) }
 {
-    decimal(piece.strip_prefix(label)?)
+    decimal(piece.strip_prefix(label.as_bytes())?)
 }
 
 /// The three numbers of a field, each behind its label and with commas between.
 #[tactic(auto, unfolding(crate::specs::Fields::numbers_of))]
 pub(crate) fn numbers(
     field: &[u8],
-    first: &[u8],
-    second: &[u8],
-    third: &[u8],
+    first: &str,
+    second: &str,
+    third: &str,
 ) -> Option<(u64, u64, u64)>
     ensures { result
         ≡ option_map capped_each (numbers_of first.now second.now third.now field.now) }

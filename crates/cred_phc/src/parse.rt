@@ -4,7 +4,7 @@ ghost use Rattle.std.specs.Prelude.{◌≡◌, IfOk, IfErr, OnOk, IsTrue};
 ghost use Rattle.cred_phc.specs.Faults.{record_fault, setting_fault};
 ghost use Rattle.cred_phc.specs.Fields.{name_of};
 ghost use Rattle.cred_phc.specs.Ranges.{scheme_fits};
-ghost use Rattle.cred_phc.specs.Reading.{Gives, argon_at, end, fields_of, next, read_record, read_setting, scheme_at, scrypt_at, setting_at, tag_at, version_at};
+ghost use Rattle.cred_phc.specs.Reading.{Gives, argon_at, end, fields_of, may_be_old, next, read_record, read_setting, scheme_at, scrypt_at, setting_at, tag_at, version_at};
 ghost use Rattle.cred_phc.specs.Text.{IsRecordText, IsSettingText};
 ghost use Rattle.cred_phc.specs.Values.{IsRecord, IsSetting, RecordValue, SettingValue};
 
@@ -12,13 +12,35 @@ use crate::error::PhcError;
 use crate::number::numbers;
 use crate::pieces::Pieces;
 use crate::record::Record;
-use crate::scheme::{Name, SCRYPT, Scheme, Variant, version_text};
+use crate::scheme::{
+    BLOCK_SIZE_LABEL, COST_LABEL, MEMORY_LABEL, Name, PARALLELISM_LABEL, PASSES_LABEL, SCRYPT,
+    Scheme, VERSION_LABEL, Variant, version_text,
+};
 use crate::setting::Setting;
 use crate::tag::Tag;
 use cred_argon::Version;
 
 /// Longer texts are not looked at. No text that stands for a value has even half as many bytes.
 const MAX_TEXT: usize = 512;
+
+/// What a text is read as.
+#[derive(Clone, Copy)]
+enum Form {
+    Setting,
+    Record,
+}
+
+impl Form {
+    /// Whether the version may be 0x10, or be left out: records alone may be old.
+    fn may_be_old(self) -> bool
+        ensures { result ≡ may_be_old self }
+    {
+        match self {
+            Form::Setting => false,
+            Form::Record => true,
+        }
+    }
+}
 
 /// The setting that a text stands for, as `$argon2id$v=19$m=256,t=2,p=1$c29tZXNhbHQ`. One of
 /// version 0x10 is not read: new records are of version 0x13.
@@ -57,7 +79,7 @@ fn whole_setting(text: &[u8]) -> Result<Setting, PhcError>
     ensures ranges { IfOk result IsSetting }
 {
     let mut fields = fields(text)?;
-    let setting = setting(&mut fields, false)?;
+    let setting = setting(&mut fields, Form::Setting)?;
     last_field(&mut fields)?;
     Ok(setting)
 }
@@ -69,7 +91,7 @@ fn whole_record(text: &[u8]) -> Result<Record, PhcError>
     ensures ranges { IfOk result IsRecord }
 {
     let mut fields = fields(text)?;
-    let setting = setting(&mut fields, true)?;
+    let setting = setting(&mut fields, Form::Record)?;
     let tag = tag(&mut fields)?;
     last_field(&mut fields)?;
     Ok(Record::with_tag(setting, tag))
@@ -117,37 +139,38 @@ fn name(field: &[u8]) -> Option<Name>
     }
 }
 
-/// The version of Argon2. A record may be `old`, and then its version may be left out.
+/// The version of Argon2.
 #[tactic(auto, unfolding(crate::specs::Reading::version_at))]
-fn version(fields: &mut Pieces<'_>, old: bool) -> Result<Version, PhcError>
-    ensures { Gives (λ version. (version, fields.new)) result (version_at old fields.old) }
+fn version(fields: &mut Pieces<'_>, form: Form) -> Result<Version, PhcError>
+    ensures { Gives (λ version. (version, fields.new)) result (version_at (may_be_old form) fields.old) }
 {
     let field = fields.peek().ok_or(PhcError::Shape)?;
     if field == version_text(Version::V13).as_bytes() {
         let _ = fields.next();
         return Ok(Version::V13);
     }
-    if !old {
+    if !form.may_be_old() {
         return Err(PhcError::Version);
     }
     if field == version_text(Version::V10).as_bytes() {
         let _ = fields.next();
         return Ok(Version::V10);
     }
-    if field.starts_with(b"v=") {
+    if field.starts_with(VERSION_LABEL.as_bytes()) {
         return Err(PhcError::Version);
     }
     Ok(Version::V10)
 }
 
 #[tactic(auto, unfolding(crate::specs::Reading::argon_at, crate::specs::Reading::numbers_at))]
-fn argon(fields: &mut Pieces<'_>, old: bool, variant: Variant) -> Result<Scheme, PhcError>
-    ensures read { Gives (λ scheme. (scheme, fields.new)) result (argon_at old variant fields.old) }
+fn argon(fields: &mut Pieces<'_>, form: Form, variant: Variant) -> Result<Scheme, PhcError>
+    ensures read { Gives (λ scheme. (scheme, fields.new)) result (argon_at (may_be_old form) variant fields.old) }
     ensures ranges { IfOk result (λ scheme. IsTrue (scheme_fits scheme)) }
 {
-    let version = version(fields, old)?;
+    let version = version(fields, form)?;
     let field = next_field(fields)?;
-    let (m, t, p) = numbers(field, b"m=", b"t=", b"p=").ok_or(PhcError::Params)?;
+    let written = numbers(field, MEMORY_LABEL, PASSES_LABEL, PARALLELISM_LABEL);
+    let (m, t, p) = written.ok_or(PhcError::Params)?;
     Scheme::argon(version, variant, m, t, p).ok_or(PhcError::Range)
 }
 
@@ -157,13 +180,14 @@ fn scrypt(fields: &mut Pieces<'_>) -> Result<Scheme, PhcError>
     ensures ranges { IfOk result (λ scheme. IsTrue (scheme_fits scheme)) }
 {
     let field = next_field(fields)?;
-    let (ln, r, p) = numbers(field, b"ln=", b"r=", b"p=").ok_or(PhcError::Params)?;
+    let written = numbers(field, COST_LABEL, BLOCK_SIZE_LABEL, PARALLELISM_LABEL);
+    let (ln, r, p) = written.ok_or(PhcError::Params)?;
     Scheme::scrypt(ln, r, p).ok_or(PhcError::Range)
 }
 
 #[tactic(auto, unfolding(crate::specs::Reading::scheme_at))]
-fn scheme(fields: &mut Pieces<'_>, old: bool) -> Result<Scheme, PhcError>
-    ensures read { Gives (λ scheme. (scheme, fields.new)) result (scheme_at old fields.old) }
+fn scheme(fields: &mut Pieces<'_>, form: Form) -> Result<Scheme, PhcError>
+    ensures read { Gives (λ scheme. (scheme, fields.new)) result (scheme_at (may_be_old form) fields.old) }
     ensures ranges { IfOk result (λ scheme. IsTrue (scheme_fits scheme)) }
 {
     let front = next_field(fields)?;
@@ -172,16 +196,16 @@ fn scheme(fields: &mut Pieces<'_>, old: bool) -> Result<Scheme, PhcError>
     }
     let field = next_field(fields)?;
     match name(field).ok_or(PhcError::Scheme)? {
-        Name::Argon2(variant) => argon(fields, old, variant),
+        Name::Argon2(variant) => argon(fields, form, variant),
         Name::Scrypt => scrypt(fields),
     }
 }
 
 #[tactic(auto, unfolding(crate::specs::Reading::setting_at))]
-fn setting(fields: &mut Pieces<'_>, old: bool) -> Result<Setting, PhcError>
-    ensures { Gives (λ setting. (setting, fields.new)) result (setting_at old fields.old) }
+fn setting(fields: &mut Pieces<'_>, form: Form) -> Result<Setting, PhcError>
+    ensures { Gives (λ setting. (setting, fields.new)) result (setting_at (may_be_old form) fields.old) }
 {
-    let scheme = scheme(fields, old)?;
+    let scheme = scheme(fields, form)?;
     let field = next_field(fields)?;
     Setting::from_base64(scheme, field).ok_or(PhcError::Salt)
 }

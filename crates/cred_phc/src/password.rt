@@ -2,6 +2,7 @@
 
 ghost use Rattle.std.specs.Prelude.{◌≡◌};
 ghost use Rattle.cred_phc.specs.Base64.{bytes_of};
+ghost use Rattle.cred_phc.specs.Ranges.{MAX_PASSWORD};
 ghost use Rattle.cred_phc.specs.Values.{IsPassword, made_password};
 
 use crate::short_bytes::ShortBytes;
@@ -53,7 +54,7 @@ impl Password {
     /// The 1 to 256 bytes that these letters stand for, in base64 with no padding (RFC 4648,
     /// section 4).
     pub fn from_base64(letters: &[u8]) -> Option<Password>
-        ensures { result ≡ bytes_of 1 256 letters.now }
+        ensures { result ≡ bytes_of 1 MAX_PASSWORD letters.now }
     {
         let bytes = ShortBytes::from_base64(letters, 1)?;
         Some(Password { bytes })

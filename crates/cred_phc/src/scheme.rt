@@ -1,11 +1,13 @@
 //! Which function makes a record's tag, and with which numbers.
 
 ghost use Rattle.std.specs.Prelude.{◌≡◌, ◌≤◌, ◌*◌, ◌^◌, nat_le, IfSome, IsTrue};
+ghost use Rattle.cred_scrypt.specs.declared.params.TheConstants.{MAX_LN, MAX_ROWS};
 ghost use Rattle.cred_phc.specs.Names.{variant_name, version_text};
 ghost use Rattle.cred_phc.specs.Reading.{argon_of, scrypt_of};
 ghost use Rattle.cred_phc.specs.Ranges.{argon_fits, is_current, salt_low, scheme_fits, scrypt_fits};
 
-use cred_argon::Version;
+use cred_argon::{MAX_MEMORY, Version};
+use cred_scrypt::{MAX_LN, MAX_ROWS};
 
 /// The variants of Argon2 (RFC 9106, section 1).
 #[derive(Clone, Copy, Debug, PartialEq, Eq)]
@@ -15,11 +17,11 @@ pub enum Variant {
     Id,
 }
 
-/// 2 GiB in KiB.
-const MAX_MEMORY: u32 = 2097152;
+/// The fewest bytes of a salt of Argon2 (RFC 9106, section 3.1).
+pub(crate) const MIN_ARGON2_SALT: usize = 8;
 
-/// 2 GiB in blocks of 128 bytes, of which scrypt takes `r` times the cost.
-const MAX_BLOCKS: u32 = 16777216;
+/// The fewest bytes of a salt of scrypt, so that each record has one.
+pub(crate) const MIN_SCRYPT_SALT: usize = 1;
 
 /// A function of passwords with its cost.
 ///
@@ -55,6 +57,24 @@ pub(crate) enum Name {
 
 /// The name of scrypt in a text.
 pub(crate) const SCRYPT: &str = "scrypt";
+
+/// What stands before the number of a version in a text.
+pub(crate) const VERSION_LABEL: &str = "v=";
+
+/// What stands before Argon2's memory in a text.
+pub(crate) const MEMORY_LABEL: &str = "m=";
+
+/// What stands before Argon2's passes.
+pub(crate) const PASSES_LABEL: &str = "t=";
+
+/// What stands before the logarithm of scrypt's cost.
+pub(crate) const COST_LABEL: &str = "ln=";
+
+/// What stands before scrypt's block size.
+pub(crate) const BLOCK_SIZE_LABEL: &str = "r=";
+
+/// What stands before Argon2's lanes, and before scrypt's parallelization.
+pub(crate) const PARALLELISM_LABEL: &str = "p=";
 
 /// The field that names the version in a text.
 pub(crate) fn version_text(version: Version) -> &'static str
@@ -139,8 +159,8 @@ impl Scheme {
         ensures { result ≡ salt_low self.now }
     {
         match self {
-            Scheme::Argon2 { .. } => 8,
-            Scheme::Scrypt { .. } => 1,
+            Scheme::Argon2 { .. } => MIN_ARGON2_SALT,
+            Scheme::Scrypt { .. } => MIN_SCRYPT_SALT,
         }
     }
 
@@ -164,16 +184,16 @@ fn argon_fits(m: u32, t: u32, p: u8) -> bool
 fn scrypt_fits(ln: u8, r: u8, p: u8) -> bool
     ensures { result ≡ scrypt_fits ln r p }
 {
-    if ln < 1 || ln > 24 {
+    if ln < 1 || ln > MAX_LN {
         return false;
     }
     r >= 1 && p >= 1 && u32::from(ln) < 16 * u32::from(r) && memory_fits(ln, r)
 }
 
-/// Whether `r` times the cost is at most 2^24.
+/// Whether `r` times the cost is at most what scrypt's memory allows.
 fn memory_fits(ln: u8, r: u8) -> bool
-    requires { ln ≤ 24 }
-    ensures { result ≡ nat_le (r * 2 ^ ln) 16777216 }
+    requires { ln ≤ MAX_LN }
+    ensures { result ≡ nat_le (r * 2 ^ ln) MAX_ROWS }
 {
-    u32::from(r) <= MAX_BLOCKS >> ln
+    u64::from(r) <= MAX_ROWS >> ln
 }

@@ -3,7 +3,7 @@
 ghost use Rattle.std.specs.Prelude.{◌≡◌, IfOk, IsTrue};
 ghost use Rattle.std.specs.Option.{option_map};
 ghost use Rattle.cred_phc.specs.Base64.{bytes_of};
-ghost use Rattle.cred_phc.specs.Ranges.{is_current, salt_low, scheme_fits};
+ghost use Rattle.cred_phc.specs.Ranges.{MAX_SALT, is_current, salt_low, scheme_fits};
 ghost use Rattle.cred_phc.specs.Values.{IsSetting, made_setting, setting_of};
 
 use crate::error::PhcError;
@@ -56,7 +56,7 @@ impl Setting {
     pub(crate) fn from_base64(scheme: Scheme, letters: &[u8]) -> Option<Setting>
         requires { IsTrue (scheme_fits scheme) }
         ensures { result
-            ≡ option_map (setting_of scheme) (bytes_of (salt_low scheme) 48 letters.now) }
+            ≡ option_map (setting_of scheme) (bytes_of (salt_low scheme) MAX_SALT letters.now) }
     {
         let salt = ShortBytes::from_base64(letters, scheme.least_salt())?;
         Some(Setting { scheme, salt })

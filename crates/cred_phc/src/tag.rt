@@ -2,16 +2,17 @@
 
 ghost use Rattle.std.specs.Prelude.{◌≡◌, if◌then◌else◌};
 ghost use Rattle.cred_phc.specs.Base64.{bytes_of};
+ghost use Rattle.cred_phc.specs.Ranges.{MIN_TAG, MAX_TAG};
 ghost use Rattle.cred_phc.specs.Values.{IsTag, tag_fits};
 
 use crate::short_bytes::ShortBytes;
 use std::marker::Model;
 
 /// The least tag of Argon2 (RFC 9106, section 3.1), which is the least of scrypt here too.
-const MIN_TAG: usize = 4;
+const MIN_TAG: usize = cred_argon::MIN_TAG as usize;
 
 /// How many bytes a tag has at most, so that a record has a fixed size.
-pub(crate) const MAX_TAG: usize = 64;
+pub(crate) const MAX_TAG: usize = cred_argon::MAX_TAG as usize;
 
 /// What a password hashing function answers: 4 to 64 bytes.
 #[derive(Clone, Copy, Debug, PartialEq, Eq)]
@@ -43,7 +44,7 @@ impl Tag {
 
     /// The 4 to 64 bytes that these letters stand for.
     pub(crate) fn from_base64(letters: &[u8]) -> Option<Tag>
-        ensures { result ≡ bytes_of 4 64 letters.now }
+        ensures { result ≡ bytes_of MIN_TAG MAX_TAG letters.now }
     {
         let bytes = ShortBytes::from_base64(letters, MIN_TAG)?;
         Some(Tag { bytes })

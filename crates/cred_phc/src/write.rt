@@ -8,7 +8,10 @@ ghost use Rattle.cred_phc.specs.Values.{IsRecord, IsSetting};
 
 use crate::error::PhcError;
 use crate::record::Record;
-use crate::scheme::{SCRYPT, Scheme, version_text};
+use crate::scheme::{
+    BLOCK_SIZE_LABEL, COST_LABEL, MEMORY_LABEL, PARALLELISM_LABEL, PASSES_LABEL, SCRYPT, Scheme,
+    version_text,
+};
 use crate::setting::Setting;
 use base64::engine::general_purpose::STANDARD_NO_PAD;
 use itoa::Buffer;
@@ -75,11 +78,21 @@ fn push_scheme(text: &mut String, scheme: Scheme) -> Result<(), AllocError>
         } => {
             push_field(text, variant.name())?;
             push_field(text, version_text(version))?;
-            push_numbers(text, "m=", m, "t=", t, "p=", p)
+            push_numbers(
+                text,
+                Labelled::new(MEMORY_LABEL, m),
+                Labelled::new(PASSES_LABEL, t),
+                Labelled::new(PARALLELISM_LABEL, u32::from(p)),
+            )
         }
         Scheme::Scrypt { ln, r, p } => {
             push_field(text, SCRYPT)?;
-            push_numbers(text, "ln=", u32::from(ln), "r=", u32::from(r), "p=", p)
+            push_numbers(
+                text,
+                Labelled::new(COST_LABEL, u32::from(ln)),
+                Labelled::new(BLOCK_SIZE_LABEL, u32::from(r)),
+                Labelled::new(PARALLELISM_LABEL, u32::from(p)),
+            )
         }
     }
 }
@@ -91,32 +104,47 @@ fn push_field(text: &mut String, field: &str) -> Result<(), AllocError>
     text.push_str(field)
 }
 
+/// A number with the label that stands before it.
+#[derive(Clone, Copy)]
+struct Labelled {
+    label: &'static str,
+    number: u32,
+}
+
+impl Labelled {
+    fn new(label: &'static str, number: u32) -> Self
+        ensures label { result.label.now ≡ label.now }
+        ensures number { result.number ≡ number }
+    {
+        Labelled { label, number }
+    }
+}
+
 /// A field with three numbers, each behind its label.
 fn push_numbers(
     text: &mut String,
-    x: &str,
-    a: u32,
-    y: &str,
-    b: u32,
-    z: &str,
-    c: u8,
+    first: Labelled,
+    second: Labelled,
+    third: Labelled,
 ) -> Result<(), AllocError>
     ensures { OnOk result (string_bytes text.new
-        ≡ string_bytes text.old ++ 36 ∷ numbers_text x.now a y.now b z.now c) }
+        ≡ string_bytes text.old ++ 36 ∷ numbers_text first.label.now first.number
+        second.label.now second.number third.label.now third.number) }
 {
     text.push('$')?;
-    push_number(text, x, a)?;
+    push_number(text, first)?;
     text.push(',')?;
-    push_number(text, y, b)?;
+    push_number(text, second)?;
     text.push(',')?;
-    push_number(text, z, u32::from(c))
+    push_number(text, third)
 }
 
-fn push_number(text: &mut String, name: &str, n: u32) -> Result<(), AllocError>
-    ensures { OnOk result (string_bytes text.new ≡ string_bytes text.old ++ label name.now n) }
+fn push_number(text: &mut String, number: Labelled) -> Result<(), AllocError>
+    ensures { OnOk result (string_bytes text.new
+        ≡ string_bytes text.old ++ label number.label.now number.number) }
 {
-    text.push_str(name)?;
-    text.push_str(Buffer::new().format(n))
+    text.push_str(number.label)?;
+    text.push_str(Buffer::new().format(number.number))
 }
 
 /// A field with the letters of the bytes.

@@ -1,19 +1,21 @@
 //! The numbers that scrypt is run with, each in its range (RFC 7914, section 2).
 ghost use Rattle.std.specs.Prelude.{◌≡◌, ◌<◌, ◌≤◌, ◌*◌, ◌^◌, ◌↔◌, IsTrue, IfOk};
+ghost use Rattle.cred_scrypt.specs.declared.params.TheConstants.{MAX_LN, MAX_ROWS};
 ghost use Rattle.cred_scrypt.specs.Params.{IsBadLen, IsCostly};
 
 use crate::error::ScryptError;
 
 /// The most that r * N may be: a table has 128 bytes for each unit of it, and 2 GiB at most.
-const MAX_ROWS: u64 = 16_777_216;
+pub const MAX_ROWS: u64 = 16_777_216;
 
 /// The greatest ln, at which a table has 2 GiB with the least block size.
-const MAX_LN: u8 = 24;
+pub const MAX_LN: u8 = 24;
 
-/// The shortest and the longest key in bytes, which are those that a stored record can hold.
-const MIN_LEN: u32 = 4;
+/// The shortest key in bytes that a record can hold.
+pub const MIN_LEN: u32 = 4;
 
-const MAX_LEN: u32 = 64;
+/// The longest key in bytes that a record can hold.
+pub const MAX_LEN: u32 = 64;
 
 /// scrypt's numbers (RFC 7914, section 2), of which the table fits into 2 GiB.
 #[derive(Clone, Copy, Debug, PartialEq, Eq)]
@@ -27,11 +29,11 @@ pub struct ScryptParams {
     /// The length of the key in bytes.
     pub len: u32,
     ghost some_rows: { 1 ≤ ln },
-    ghost few_rows: { ln ≤ 24 },
+    ghost few_rows: { ln ≤ MAX_LN },
     ghost some_blocks: { 1 ≤ r },
     ghost some_pieces: { 1 ≤ p },
     ghost below_block_size: { ln < 16 * r },
-    ghost room: { r * 2 ^ ln ≤ 16777216 },
+    ghost room: { r * 2 ^ ln ≤ MAX_ROWS },
     ghost some_bytes: { 1 ≤ len },
 }
 

@@ -1,5 +1,6 @@
 //! ROMix, with the table of rows that it looks back into (RFC 7914, section 5).
 ghost use Rattle.std.specs.Prelude.{◌≡◌, ℕ, ◌+◌, ◌*◌, ◌^◌, ◌%◌, ◌<◌, ◌≤◌, List, length, OnOk, OnErr, IfOk};
+ghost use Rattle.cred_scrypt.specs.declared.params.TheConstants.{MAX_LN, MAX_ROWS};
 ghost use Rattle.cred_scrypt.specs.Mixing.{block_mix, integerify, mixes, ro_mix};
 ghost use Rattle.cred_scrypt.specs.Table.{IsTable, row_at};
 ghost use Rattle.cred_scrypt.specs.Xor.{xor_all};
@@ -18,8 +19,8 @@ use std::mem;
 /// was.
 pub fn ro_mix(alloc: Global, r: u8, ln: u8, block: &mut [u32]) -> Result<(), ScryptError>
     requires block_size { 1 ≤ r }
-    requires cost { ln ≤ 24 }
-    requires room { r * 2 ^ ln ≤ 16777216 }
+    requires cost { ln ≤ MAX_LN }
+    requires room { r * 2 ^ ln ≤ MAX_ROWS }
     requires size { length block.old ≡ 32 * r }
     ensures memory { (e : _) → result ≡ Err e → e ≡ ScryptError.Memory }
     ensures ok { OnOk result (block.new ≡ ro_mix r (2 ^ ln) block.old) }
@@ -36,9 +37,9 @@ pub fn ro_mix(alloc: Global, r: u8, ln: u8, block: &mut [u32]) -> Result<(), Scr
 
 /// N, which is how many rows the table has.
 fn rows_of(ln: u8) -> usize
-    requires { ln ≤ 24 }
+    requires { ln ≤ MAX_LN }
     ensures value { result ≡ 2 ^ ln }
-    ensures below { result ≤ 16777216 }
+    ensures below { result ≤ MAX_ROWS }
 {
     1 << ln
 }
@@ -52,7 +53,7 @@ fn filled(
     y: &mut Vec<u32>,
 ) -> Result<Vec<u32>, ScryptError>
     requires block_size { 1 ≤ r }
-    requires room { r * n ≤ 16777216 }
+    requires room { r * n ≤ MAX_ROWS }
     requires size { length x.old.items ≡ 32 * r }
     requires same { length y.old.items ≡ 32 * r }
     ensures memory { (e : _) → result ≡ Err e → e ≡ ScryptError.Memory }
@@ -72,7 +73,7 @@ fn filled(
 /// Mixes `x` 2^`ln` times, each time after it took in the row of the table that it names itself.
 fn walk(r: usize, ln: u8, table: &[u32], x: &mut Vec<u32>, y: &mut Vec<u32>)
     requires block_size { 1 ≤ r }
-    requires cost { ln ≤ 24 }
+    requires cost { ln ≤ MAX_LN }
     requires room { length table.now ≡ 32 * r * 2 ^ ln }
     requires size { length x.old.items ≡ 32 * r }
     requires same { length y.old.items ≡ 32 * r }
@@ -92,7 +93,7 @@ fn walk(r: usize, ln: u8, table: &[u32], x: &mut Vec<u32>, y: &mut Vec<u32>)
 #[tactic(auto, using(crate::proofs::TableRows::integerify_low_word))]
 fn named_row(r: usize, ln: u8, x: &[u32]) -> usize
     requires block_size { 1 ≤ r }
-    requires cost { ln ≤ 24 }
+    requires cost { ln ≤ MAX_LN }
     requires size { length x.now ≡ 32 * r }
     ensures value { result ≡ integerify r x.now % 2 ^ ln }
     ensures below { result < 2 ^ ln }
