@@ -4,14 +4,25 @@ use cred_book::Name;
 use cred_phc::Record;
 use sqlite::Error;
 
-/// Why a book isn't begun or opened.
+/// Why a book isn't begun or opened. A row is named by its row id, as `SELECT rowid, * FROM account`
+/// shows it.
 #[derive(Debug, Drop)]
 pub enum OpenFault {
-    /// The database has tables already.
+    /// No book is begun: the database has tables already.
     NotEmpty,
+    /// The database holds no book: it hasn't the one table that a book has.
+    NoBook,
+    /// In this row there is no name where one should be.
+    NoName(i64),
+    /// In this row there is neither NULL nor a record's text where one should be.
+    NoRecord(i64),
+    /// This row has a name that another row has.
+    Twice(i64),
+    /// There are more than 4096 rows.
+    TooMany,
     /// There is no memory for a book.
     Memory,
-    /// The database failed, or refused.
+    /// The database failed, or refused, or its row ids aren't those of a table.
     Database(Error),
 }
 
