@@ -13,7 +13,7 @@ use Rattle.cred_file.specs.Schema.{account, account_schema, create_text, no_sche
 use Rattle.cred_file.specs.Table.{StandsFor}
 use Rattle.cred_file.specs.Keeps.{HoldsBook, IsTableOf}
 use Rattle.cred_file.proofs.Keeping.{IsSettled, holds, commits_as}
-use Rattle.cred_file.proofs.Texts.{create_is, create_plain}
+use Rattle.cred_file.proofs.Texts.{create_is, create_plain, created_is}
 
 went : {B E R : Type 0} {b : B} {Stops : E → Type 0} → ((stop : E) × Stops stop × (Ok b ≡ Err stop)) ⊎ R → R
 went (inl stopped) = absurd (let e = stopped.2 in cc)
@@ -31,7 +31,7 @@ does_create limit mode db after tally has does =
     let made = first.1 in
     let both : Ok made.table ≡ Ok account = sym made.defined ∙ create_is.2 in
     let same : made.table ≡ account = cc in
-    let schema : first.0.schema ≡ account_schema = made.is ∙ ap (λ s. created s made.table) has ∙ ap (created no_schema) same in
+    let schema : first.0.schema ≡ account_schema = made.is ∙ ap (λ s. created s made.table) has ∙ ap (created no_schema) same ∙ created_is in
     let plain : lacks_sequence first.0.schema ≡ false = ap lacks_sequence schema in
     let now : after ≡ first.0 = ap (λ (p : Tally × Database). p.1) (same_value all.2) ∙ same_value (rw plain at first.2) in
     let empty : after.trees 0 ≡ [] = ap (λ (d : Database). d.trees 0) now ∙ subst (λ s. first.0.trees (next_tree s) ≡ []) has made.empty in

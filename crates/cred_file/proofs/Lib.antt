@@ -4,3 +4,9 @@ pub mod Changes
 pub mod Keeping
 pub mod Judged
 pub mod Creating
+pub mod Shuffled
+pub mod Pushed
+pub mod LeftOut
+pub mod Selected
+pub mod FoundAgain
+pub mod Catalogued

@@ -21,20 +21,20 @@ use Rattle.cred_file.specs.Table.{Line, Says, entry_of, has_id, has_name, AreApa
 
 -- ---- tests
 
-or_false : (a b : Bool) → (a || b) ≡ false → (a ≡ false) × (b ≡ false)
+pub or_false : (a b : Bool) → (a || b) ≡ false → (a ≡ false) × (b ≡ false)
 or_false true b e = absurd cc
 or_false false b e = (refl, e)
 
-or_both : (a b : Bool) → a ≡ false → b ≡ false → (a || b) ≡ false
+pub or_both : (a b : Bool) → a ≡ false → b ≡ false → (a || b) ≡ false
 or_both a b p q = rw (p, q)
 
 equal_eq : (o : Ordering) → is_eq o ≡ false → o ≡ Equal → ⊥
 equal_eq o e same = let e' = subst (λ o. is_eq o ≡ false) same e in cc
 
-id_symm : (a b : ℤ) → is_eq (value_cmp (Int a) (Int b)) ≡ is_eq (value_cmp (Int b) (Int a))
+pub id_symm : (a b : ℤ) → is_eq (value_cmp (Int a) (Int b)) ≡ is_eq (value_cmp (Int b) (Int a))
 id_symm a b = (eq_by_cmp_equiv value_cmp_total).symm (Int a) (Int b)
 
-name_symm : (a b : List ℕ) → eq_by_cmp name_cmp a b ≡ eq_by_cmp name_cmp b a
+pub name_symm : (a b : List ℕ) → eq_by_cmp name_cmp a b ≡ eq_by_cmp name_cmp b a
 name_symm = (eq_by_cmp_equiv nat_list_cmp_total).symm
 
 -- ---- a line more
@@ -58,7 +58,7 @@ each_put row new says (r ∷ rows) (l ∷ ls) all =
       | Greater ↦ (says, all)
     ])
 
-swap_or : (a b c : Bool) → (a || (b || c)) ≡ (b || (a || c))
+pub swap_or : (a b c : Bool) → (a || (b || c)) ≡ (b || (a || c))
 swap_or true true c = refl
 swap_or true false c = refl
 swap_or false b c = refl
@@ -97,18 +97,18 @@ apart_put new (l ∷ ls) free named apart =
 apart_names : (q a b : List ℕ) → eq_by_cmp name_cmp q a ≡ true → eq_by_cmp name_cmp q b ≡ true → eq_by_cmp name_cmp b a ≡ true
 apart_names q a b p r = let e = eq_by_cmp_equiv nat_list_cmp_total in sym (e.congr q b a r) ∙ p
 
-any_rows : (id : ℤ) (rows : List Row) (ls : List Line) → AllZip Says rows ls → list_any (has_rowid id) rows ≡ list_any (has_id id) ls
+pub any_rows : (id : ℤ) (rows : List Row) (ls : List Line) → AllZip Says rows ls → list_any (has_rowid id) rows ≡ list_any (has_id id) ls
 any_rows id [] [] all = refl
 any_rows id [] (l ∷ ls) all = absurd all
 any_rows id (r ∷ rows) [] all = absurd all
 any_rows id (r ∷ rows) (l ∷ ls) all =
     ap (λ v. is_eq (value_cmp v (Int id)) || list_any (has_rowid id) rows) all.0.id ∙ ap (λ b. has_id id l || b) (any_rows id rows ls all.1)
 
-any_names : (name : List ℕ) (ls : List Line) → list_any (has_name name) ls ≡ list_any (eq_by_cmp name_cmp name) (map (λ e. e.0) (map entry_of ls))
+pub any_names : (name : List ℕ) (ls : List Line) → list_any (has_name name) ls ≡ list_any (eq_by_cmp name_cmp name) (map (λ e. e.0) (map entry_of ls))
 any_names name [] = refl
 any_names name (l ∷ ls) = ap (λ b. has_name name l || b) (any_names name ls)
 
-over : {X : Type 0} (q a b : List ℕ) → eq_by_cmp name_cmp b a ≡ false → (u v w : X) (s : Bool) → eq_by_cmp name_cmp q a ≡ s → (t : Bool) → eq_by_cmp name_cmp q b ≡ t
+pub over : {X : Type 0} (q a b : List ℕ) → eq_by_cmp name_cmp b a ≡ false → (u v w : X) (s : Bool) → eq_by_cmp name_cmp q a ≡ s → (t : Bool) → eq_by_cmp name_cmp q b ≡ t
     → cond s u (cond t v w) ≡ cond t v (cond s u w)
 over q a b apart u v w true p true r = absurd (true≢false (sym (apart_names q a b p r) ∙ apart))
 over q a b apart u v w true p false r = refl
@@ -199,7 +199,7 @@ none_dropped id (r ∷ rows) (l ∷ ls) all e =
     let parts = or_false (has_id id l) (list_any (has_id id) ls) e in
     ap (λ b. cond (not b) (r ∷ without_rowid id rows) (without_rowid id rows)) (ap (λ v. is_eq (value_cmp v (Int id))) all.0.id ∙ parts.0) ∙ ap (λ rs. r ∷ rs) (none_dropped id rows ls all.1 parts.1)
 
-same_name : (a b : List ℕ) → eq_by_cmp name_cmp a b ≡ true → a ≡ b
+pub same_name : (a b : List ℕ) → eq_by_cmp name_cmp a b ≡ true → a ≡ b
 same_name a b e = slice_cmp-IsAntisymmetric nat_cmp-IsAntisymmetric a b (is_equal (name_cmp a b) e)
 
 -- the row is the one that the test finds, and dropping its rowid drops the line with the name

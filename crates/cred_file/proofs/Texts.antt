@@ -3,6 +3,7 @@ use Rattle.std.proofs.Common.{◌≡◌, ℕ, pos, negsuc, List, [], ◌∷◌, 
 use Rattle.sqlite.specs.Term.{Term, lit, col, op2}
 use Rattle.sqlite.specs.Command.TheVariants.{Insert, Select, CreateTable, Update}
 use Rattle.sqlite.specs.Compile.{table_defined_by}
+use Rattle.sqlite.specs.Change.{created}
 use Rattle.sqlite_tied.specs.Compute.{everything}
 use Rattle.sqlite.specs.Listing.{understood, reads_listing}
 use Rattle.sqlite.proofs.Callers.{IsPlain, command_of, statement_of}
@@ -13,6 +14,7 @@ use Rattle.sqlite_sql.specs.declared.ops.BinaryOp.TheVariants.{Compare}
 use Rattle.sqlite_sql.specs.declared.ops.CompareOp.TheVariants.{Eq}
 use Rattle.sqlite.specs.Source.TheVariants.{Values}
 use Rattle.cred_file.specs.Schema.{account, account_schema, create_text, no_schema}
+use Rattle.cred_file.specs.Opening.{rows_text}
 
 abbrev pub insert_text : List ℕ
 insert_text = codes "INSERT INTO account (name) VALUES (?1)"
@@ -20,12 +22,13 @@ insert_text = codes "INSERT INTO account (name) VALUES (?1)"
 abbrev pub update_text : List ℕ
 update_text = codes "UPDATE account SET record = ?2 WHERE name = ?1"
 
-abbrev pub rows_text : List ℕ
-rows_text = codes "SELECT rowid, name, record FROM account"
-
 pub create_is : (command_of (understood no_schema create_text) ≡ CreateTable) × (statement_of create_text (understood no_schema create_text) ≡ create_text) × (table_defined_by create_text ≡ Ok account)
 unfolding understood everything
 create_is = (refl, refl, refl)
+
+pub created_is : created no_schema account ≡ account_schema
+unfolding understood everything
+created_is = refl
 
 abbrev pub matched : Query
 matched = record {

@@ -1,12 +1,12 @@
 -- The one table of a kept book.
-use Rattle.std.specs.Prelude.{ℕ, List, [], ◌∷◌, None, codes, true, false}
+use Rattle.std.specs.Prelude.{◌≡◌, ℕ, List, [], ◌∷◌, None, codes, true, false}
 use Rattle.sqlite.specs.Collation.TheVariants.{Binary}
 use Rattle.sqlite.specs.declared.types.Value.TheVariants.{Null}
 use Rattle.sqlite.specs.Table.{Table}
 use Rattle.sqlite.specs.Schema.{Schema}
 use Rattle.sqlite.specs.Kind.TheVariants.{Text}
 use Rattle.sqlite_schema.specs.declared.schema.Column.{Column}
-use Rattle.sqlite_catalog.specs.Listing.{automatic}
+use Rattle.sqlite_schema.specs.declared.schema.Index.{Index}
 
 abbrev pub create_text : List ℕ
 create_text = codes "CREATE TABLE account (name TEXT NOT NULL PRIMARY KEY, record TEXT) STRICT"
@@ -34,9 +34,40 @@ account = record {
   is_counted = false;
 }
 
--- the table, with the index of its key
+-- the index that comes with the key
+abbrev pub key_index : Index
+key_index = record {
+  name = codes "sqlite_autoindex_account_1";
+  tree = 1;
+  table = 0;
+  columns = 1 ∷ [];
+  order = record { digits = 0 };
+  is_unique = true;
+}
+
 abbrev pub account_schema : Schema
-account_schema = record { tables = account ∷ []; indexes = automatic account 0 (1 ∷ []) 1 ∷ []; views = [] }
+account_schema = record { tables = account ∷ []; indexes = key_index ∷ []; views = [] }
 
 abbrev pub no_schema : Schema
 no_schema = record { tables = []; indexes = []; views = [] }
+
+-- ---- parts of these, as an open compares them
+
+pub record IsPlainText (c : Column) : Type 0 where
+  pub kind : c.kind ≡ Text
+  pub is_strict : c.is_strict ≡ true
+  pub default : c.default ≡ Null
+  pub collation : c.collation ≡ Binary
+
+pub record HasAccountKey (t : Table) : Type 0 where
+  pub key : t.key ≡ None
+  pub primary : t.primary ≡ 1 ∷ []
+  pub uniques : t.uniques ≡ (1 ∷ []) ∷ []
+  pub orders : t.orders ≡ record { digits = 0 } ∷ []
+
+pub record HasNoRules (t : Table) : Type 0 where
+  pub checks : t.checks ≡ []
+  pub references : t.references ≡ []
+  pub computed : t.computed ≡ []
+  pub stamps : t.stamps ≡ record { places = []; terms = []; formats = [] }
+  pub is_counted : t.is_counted ≡ false

@@ -3,6 +3,7 @@
 ghost use Rattle.sqlite.specs.Held.{state};
 ghost use Rattle.cred_file.specs.Schema.{no_schema};
 ghost use Rattle.cred_file.specs.Keeps.{Keeps, MayBegin};
+ghost use Rattle.cred_file.specs.Opening.{IsFound, IsUnopened};
 ghost use Rattle.cred_file.specs.Table.{Tells};
 ghost use Rattle.sqlite_value.specs.Value.{owned};
 ghost use Rattle.std.specs.Prelude.{◌≡◌, true, false, IfErr, IfOk, IfSome, MatchBool, None, OnOk, Some, option_map};
@@ -10,10 +11,11 @@ ghost use Rattle.std.specs.FinMap as fin;
 ghost use Rattle.cred_book.specs.Calls.{Admits, Loads, Shows};
 ghost use Rattle.cred_book.specs.Commits.{Begins, Commits};
 ghost use Rattle.cred_book.specs.Works.{is_for_current, makes_change};
-ghost use Rattle.sqlite.specs.State.{HasCleanDisk};
+ghost use Rattle.sqlite.specs.State.{HasCleanDisk, Survives};
 
+use crate::catalogue::is_of_book;
 use crate::fault::{Lost, OpenFault};
-use crate::statements::{add_name, create_table, set_stored};
+use crate::statements::{add_name, create_table, read_table, set_stored};
 use cred_book::{Book, BookError, Keeper, Name, Reply, Request, Ticket, Worked};
 use cred_phc::{Record, write_record};
 use sqlite::types::ValueRef;
@@ -86,6 +88,40 @@ impl<S: Alter> FileBook<S> {
                 lost: None,
             }),
             Err(error) => Err((OpenFault::Database(error), conn)),
+        }
+    }
+
+    /// Opens the book that a database holds. Nothing is changed.
+    ///
+    /// Errors: `NoBook` where the database hasn't the one table of a book; `NoName`, `NoRecord` and
+    /// `Twice` with the id of a row that is at fault; `TooMany` where there are over 4096 rows;
+    /// `Memory`; `Database`. The connection comes back.
+    pub fn open(
+        alloc: Global,
+        mut conn: Connection<S>,
+    ) -> Result<FileBook<S>, (OpenFault, Connection<S>)>
+        requires autocommit { conn.in_transaction ≡ false }
+        ensures whole { IfOk result (λ b. b.1.0 ≡ None) }
+        ensures found { IfOk result (λ b. HasCleanDisk (state S.Store b.1.1)
+            → IsFound (state S.Store conn) (state S.Store b.1.1) b.0) }
+        ensures refused { IfErr result (λ e. HasCleanDisk (state S.Store e.1)
+            → IsUnopened (state S.Store conn) (state S.Store e.1) e.0) }
+        ensures kept { IfOk result (λ b. Survives (state S.Store conn) (state S.Store b.1.1) (λ _. ⊥)) }
+        ensures left { IfErr result (λ e. Survives (state S.Store conn) (state S.Store e.1) (λ _. ⊥)) }
+    {
+        match is_of_book(alloc, conn.schema()) {
+            Ok(true) => {}
+            Ok(false) => return Err((OpenFault::NoBook, conn)),
+            Err(_) => return Err((OpenFault::Memory, conn)),
+        }
+        match read_table(alloc, &mut conn) {
+            Ok(book) => Ok(FileBook {
+                alloc,
+                conn,
+                book,
+                lost: None,
+            }),
+            Err(fault) => Err((fault, conn)),
         }
     }
 
@@ -179,9 +215,9 @@ fn is_empty(schema: &Schema) -> bool
 }
 
 impl<S: Alter> Keeper for FileBook<S> {
-    ghost use Rattle.std.specs.Prelude.{◌≡◌, OnOk, IfOk, IfSome, Some, None, true};
+    ghost use Rattle.std.specs.Prelude.{◌≡◌, OnOk, IfOk, IfSome, Some, None, is_ok, not, true};
     ghost use Rattle.cred_book.specs.Calls.{Admits, Loads};
-    ghost use Rattle.cred_book.specs.Commits.{Commits};
+    ghost use Rattle.cred_book.specs.Commits.{Commits, judged};
     ghost use Rattle.cred_book.specs.Works.{makes_change};
 
     ghost book = { λ b. b.0 };
@@ -239,6 +275,7 @@ impl<S: Alter> Keeper for FileBook<S> {
     #[tactic(auto, using(crate::proofs::Judged::judged_change, crate::proofs::Judged::judged_still, crate::proofs::Judged::judged_there))]
     fn commit<R: Wait>(&mut self, _rt: &R, worked: Worked) -> Result<Reply, (Worked, BookError)>
         ensures done { Commits self.old.0 self.new.0 worked result }
+        ensures refused { IfSome self.old.1.0 (λ _. is_ok result ≡ not (judged self.old.0 worked).2) }
         ensures written { OnOk result (self.new.1.0 ≡ self.old.1.0) }
         ensures remembered { IfSome self.old.1.0 (λ l. self.new.1.0 ≡ Some l) }
     {

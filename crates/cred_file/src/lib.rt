@@ -1,9 +1,13 @@
 //! A book that is kept in a database of one table, which the program sqlite3 reads.
 #![tactic(auto)]
 
+mod catalogue;
 mod fault;
 mod file_book;
+mod reading;
+mod restart;
 mod statements;
 
 pub use fault::{Lost, OpenFault};
 pub use file_book::FileBook;
+pub use restart::crash_and_open;

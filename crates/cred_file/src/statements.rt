@@ -1,19 +1,23 @@
-//! The statements that change the table of accounts.
+//! The statements that change the table of accounts, and the one that reads it.
 
-ghost use Rattle.std.specs.Prelude.{◌≡◌, ◌≤◌, false, Option, None, OnOk};
+ghost use Rattle.std.specs.Prelude.{◌≡◌, ◌≤◌, false, Option, None, IfErr, IfOk, OnOk};
 ghost use Rattle.std.specs.FinMap as fin;
 ghost use Rattle.cred_phc.specs.Values.{RecordValue};
-ghost use Rattle.cred_file.specs.Schema.{no_schema};
+ghost use Rattle.cred_file.specs.Schema.{account_schema, no_schema};
 ghost use Rattle.cred_file.specs.Keeps.{Has, IsTableOf, Lacks, MayBegin, MayPut, Puts};
 ghost use Rattle.cred_file.specs.Table.{Tells};
-ghost use Rattle.sqlite.specs.State.{HasCleanDisk};
+ghost use Rattle.cred_file.specs.Opening.{IsFound, IsUnopened};
+ghost use Rattle.sqlite.specs.State.{HasCleanDisk, Survives};
 ghost use Rattle.sqlite.specs.Held.{state};
 ghost use Rattle.sqlite_value.specs.Value.{owned};
 ghost use Rattle.sqlite_trees.specs.View.{doubt};
 
-use cred_book::Name;
+use crate::fault::OpenFault;
+use crate::reading::read_book;
+use cred_book::{Book, Name};
 use sqlite::types::ValueRef;
 use sqlite::{Alter, Connection, Error};
+use std::alloc::Global;
 
 /// Adds the row of a name that isn't there, with no record.
 pub(crate) fn add_name<S: Alter>(conn: &mut Connection<S>, name: &Name) -> Result<(), Error>
@@ -67,4 +71,29 @@ pub(crate) fn create_table<S: Alter>(conn: &mut Connection<S>) -> Result<(), Err
         &[],
     )?;
     Ok(())
+}
+
+/// The book that the rows of the table stand for.
+pub(crate) fn read_table<S: Alter>(
+    alloc: Global,
+    conn: &mut Connection<S>,
+) -> Result<Book, OpenFault>
+    requires schema { (state S.Store conn.old).now.schema ≡ account_schema }
+    requires autocommit { conn.old.in_transaction ≡ false }
+    ensures found { HasCleanDisk (state S.Store conn.new)
+        → IfOk result (IsFound (state S.Store conn.old) (state S.Store conn.new)) }
+    ensures table { HasCleanDisk (state S.Store conn.new)
+        → IfOk result (IsTableOf (state S.Store conn.new)) }
+    ensures fault { HasCleanDisk (state S.Store conn.new)
+        → IfErr result (IsUnopened (state S.Store conn.old) (state S.Store conn.new)) }
+    ensures left { Survives (state S.Store conn.old) (state S.Store conn.new) (λ _. ⊥) }
+{
+    let rows = match conn.query_all("SELECT rowid, name, record FROM account", &[]) {
+        Ok(rows) => rows,
+        Err(error) => return Err(OpenFault::Database(error)),
+    };
+    let book = read_book(alloc, &rows)?;
+    let _at_rest = conn.is_autocommit();
+    let _sound = conn.schema();
+    Ok(book)
 }

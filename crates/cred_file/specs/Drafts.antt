@@ -1,0 +1,54 @@
+-- The book while its rows are read, one at a time.
+use Rattle.std.specs.Prelude.{◌≡◌, ◌⊎◌, ℤ, ◌≤◌, true, false, List, [], ◌∷◌, ◌++◌, length, map, ⊤}
+use Rattle.std.specs.List.{list_any}
+use Rattle.std.specs.Ordering.{int_eq}
+use Rattle.std.specs.FinMap as fin
+use Rattle.sqlite.specs.declared.types.Value.TheVariants.{Int}
+use Rattle.sqlite.specs.Order.{Row, column}
+use Rattle.sqlite_trees.specs.View.{is_int}
+use Rattle.cred_book.specs.Accounts.{Accounts, most_accounts}
+use Rattle.cred_file.specs.declared.fault.OpenFault.{OpenFault}
+use Rattle.cred_file.specs.declared.fault.OpenFault.TheVariants as fault
+use Rattle.cred_file.specs.Table.{Line, Says, StandsFor}
+use Rattle.cred_file.specs.Opening.{corrupt, is_no_name, is_no_record}
+
+-- the rows so far stand for the book, and these are their ids
+pub record IsDraftOf (rows : List Row) (book : Accounts) (ids : List ℤ) : Type 0 where
+  pub stands : StandsFor rows book
+  pub ids_are : map (λ l. l.id) stands.lines ≡ ids
+  pub count : fin.len book ≡ length rows
+
+-- one row more
+pub record IsAdded (row : Row) (book : Accounts) (ids : List ℤ) (after : Accounts) (more : List ℤ) : Type 0 where
+  pub line : Line
+  pub says : Says row line
+  pub new_id : list_any (λ id. int_eq id line.id) ids ≡ false
+  pub new_name : fin.contains_key book line.name ≡ false
+  pub book_is : after ≡ fin.insert book line.name line.stored
+  pub ids_are : more ≡ ids ++ line.id ∷ []
+
+-- why a row says nothing
+abbrev pub IsUnread : Row → OpenFault → Type 0
+IsUnread row fault.NotEmpty = ⊥
+IsUnread row fault.NoBook = ⊥
+IsUnread row (fault.NoName id) = (column row 0 ≡ Int id) × (is_no_name (column row 1) ≡ true)
+IsUnread row (fault.NoRecord id) = (column row 0 ≡ Int id) × (is_no_record (column row 2) ≡ true)
+IsUnread row (fault.Twice id) = ⊥
+IsUnread row fault.TooMany = ⊥
+IsUnread row fault.Memory = ⊥
+IsUnread row (fault.Database e) = (e ≡ corrupt) × (is_int (column row 0) ≡ false)
+
+-- why a row that says a line is not added
+abbrev pub IsSpare : Row → Accounts → List ℤ → OpenFault → Type 0
+IsSpare row book ids fault.NotEmpty = ⊥
+IsSpare row book ids fault.NoBook = ⊥
+IsSpare row book ids (fault.NoName id) = ⊥
+IsSpare row book ids (fault.NoRecord id) = ⊥
+IsSpare row book ids (fault.Twice id) =
+    (l : Line) × Says row l × (l.id ≡ id) × (list_any (λ x. int_eq x id) ids ≡ false) × (fin.contains_key book l.name ≡ true)
+IsSpare row book ids fault.TooMany = most_accounts ≤ fin.len book
+IsSpare row book ids fault.Memory = ⊤
+IsSpare row book ids (fault.Database e) = (e ≡ corrupt) × (id : ℤ) × (column row 0 ≡ Int id) × (list_any (λ x. int_eq x id) ids ≡ true)
+
+abbrev pub IsNotAdded : Row → Accounts → List ℤ → OpenFault → Type 0
+IsNotAdded row book ids fault = IsUnread row fault ⊎ IsSpare row book ids fault

@@ -1,0 +1,142 @@
+//! The book that the rows of a table stand for.
+
+ghost use Rattle.std.specs.Prelude.{◌≡◌, [], true, IfErr, IfOk, MatchOption};
+ghost use Rattle.cred_file.specs.Drafts.{IsAdded, IsNotAdded, IsUnread};
+ghost use Rattle.cred_file.specs.Opening.{AreAtFault, corrupt, is_no_name, is_no_record};
+ghost use Rattle.cred_file.specs.Table.{Says, StandsFor, Tells};
+ghost use Rattle.sqlite.specs.declared.types.Value.TheVariants.{Text};
+ghost use Rattle.sqlite.specs.Order.{column};
+ghost use Rattle.sqlite_value.specs.Value.{owned};
+ghost use Rattle.std.specs.FinMap as fin;
+
+use crate::fault::OpenFault;
+use cred_book::{Book, Name};
+use cred_phc::{Record, parse_record};
+use sqlite::types::ValueRef;
+use sqlite::{Error, ErrorCode, Row};
+use std::alloc::Global;
+
+/// What a row of the table says.
+#[derive(Clone, Copy)]
+struct Entry {
+    id: i64,
+    name: Name,
+    stored: Option<Record>,
+}
+
+/// The book of the rows so far, and their ids.
+#[derive(Drop)]
+struct Draft {
+    book: Book,
+    ids: Vec<i64>,
+}
+
+/// The book that these rows, of row id, name and record, stand for.
+pub(crate) fn read_book(alloc: Global, rows: &[Row]) -> Result<Book, OpenFault>
+    ensures book { IfOk result (StandsFor rows.now) }
+    ensures fault { IfErr result (AreAtFault rows.now) }
+{
+    let mut draft = Draft::new(alloc)?;
+    for row in rows {
+        draft.add(row)?;
+    }
+    Ok(draft.book)
+}
+
+impl Draft {
+    fn new(alloc: Global) -> Result<Draft, OpenFault>
+        ensures empty { IfOk result (λ d. (d.book ≡ fin.empty) × (d.ids.items ≡ [])) }
+        ensures memory { IfErr result (λ e. e ≡ OpenFault.Memory) }
+    {
+        match Book::new(alloc) {
+            Ok(book) => Ok(Draft {
+                book,
+                ids: Vec::new(alloc),
+            }),
+            Err(_) => Err(OpenFault::Memory),
+        }
+    }
+
+    fn add(&mut self, row: &Row) -> Result<(), OpenFault>
+        ensures added { IfOk result (λ _. IsAdded row.now self.old.book self.old.ids.items self.new.book self.new.ids.items) }
+        ensures left_out { IfErr result (IsNotAdded row.now self.old.book self.old.ids.items) }
+    {
+        let entry = read_entry(row)?;
+        if self.ids.contains(&entry.id) {
+            return Err(OpenFault::Database(corrupt_error()));
+        }
+        if self.book.show(&entry.name).is_ok() {
+            return Err(OpenFault::Twice(entry.id));
+        }
+        if self.book.is_full() {
+            return Err(OpenFault::TooMany);
+        }
+        match self.ids.push(entry.id) {
+            Ok(()) => {
+                self.book.put(&entry.name, entry.stored);
+                Ok(())
+            }
+            Err(_) => Err(OpenFault::Memory),
+        }
+    }
+}
+
+fn read_entry(row: &Row) -> Result<Entry, OpenFault>
+    ensures says { IfOk result (λ e. Says row.now (record { id = e.id; name = e.name; stored = e.stored })) }
+    ensures unread { IfErr result (IsUnread row.now) }
+{
+    let ValueRef::Int(id) = value_at(row, 0) else {
+        return Err(OpenFault::Database(corrupt_error()));
+    };
+    let Some(name) = read_name(value_at(row, 1)) else {
+        return Err(OpenFault::NoName(id));
+    };
+    let Some(stored) = read_stored(value_at(row, 2)) else {
+        return Err(OpenFault::NoRecord(id));
+    };
+    Ok(Entry { id, name, stored })
+}
+
+/// A column's value; past the last one there is NULL.
+fn value_at(row: &Row, at: usize) -> ValueRef<'_>
+    ensures { owned result ≡ column row.now at }
+{
+    match row.get_ref(at) {
+        Ok(value) => value,
+        Err(_) => ValueRef::Null,
+    }
+}
+
+fn read_name(value: ValueRef<'_>) -> Option<Name>
+    ensures { MatchOption result (is_no_name (owned value.entry) ≡ true)
+        (λ name. owned value.entry ≡ Text name) }
+{
+    match value {
+        ValueRef::Text(text) => match Name::new(text) {
+            Ok(name) => Some(name),
+            Err(_) => None,
+        },
+        _ => None,
+    }
+}
+
+/// NULL is no record, which is no fault.
+fn read_stored(value: ValueRef<'_>) -> Option<Option<Record>>
+    ensures { MatchOption result (is_no_record (owned value.entry) ≡ true)
+        (Tells (owned value.entry)) }
+{
+    match value {
+        ValueRef::Null => Some(None),
+        ValueRef::Text(text) => match parse_record(text) {
+            Ok(stored) => Some(Some(stored)),
+            Err(_) => None,
+        },
+        _ => None,
+    }
+}
+
+fn corrupt_error() -> Error
+    ensures { result ≡ corrupt }
+{
+    Error::SqliteFailure(ErrorCode::DatabaseCorrupt)
+}

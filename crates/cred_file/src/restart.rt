@@ -1,0 +1,36 @@
+//! What a run kept is what the next one opens, also after a crash.
+
+ghost use Rattle.std.specs.Prelude.{IfSome};
+ghost use Rattle.cred_file.specs.Keeps.{IsOrWith};
+ghost use Rattle.sqlite.specs.Held.{state};
+ghost use Rattle.sqlite.specs.State.{HasCleanDisk};
+
+use crate::file_book::FileBook;
+use sqlite::{Alter, Connection};
+use sqlite_trees::store::Reopen;
+use std::alloc::Global;
+
+/// Stops the machine and opens the book again, over a disk that can be made to crash: for what is
+/// proved of a restart, and for tests. The book is then the one that was kept, or that with the
+/// lost change.
+///
+/// None where the disk failed, or memory was refused.
+pub fn crash_and_open<S: Alter + Reopen + Drop>(
+    alloc: Global,
+    book: FileBook<S>,
+) -> Option<FileBook<S>>
+    ensures kept { IfSome result (λ b. HasCleanDisk (state S.Store b.1.1)
+        → IsOrWith book.0 book.1.0 b.0) }
+{
+    let mut store = book.close().into_store();
+    let Ok(()) = store.crash_and_reopen() else {
+        return None;
+    };
+    let Ok(conn) = Connection::over(alloc, store) else {
+        return None;
+    };
+    match FileBook::open(alloc, conn) {
+        Ok(again) => Some(again),
+        Err(_) => None,
+    }
+}
