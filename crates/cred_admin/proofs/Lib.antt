@@ -1,0 +1,5 @@
+mod Writes
+mod Reading
+mod Records
+mod Importing
+mod Printed

@@ -1,0 +1,85 @@
+-- Whole operations done at once, and first records.
+use Rattle.std.proofs.Common.{◌≡◌, inr, ℕ, List, Bool, true, false, cond, is_some, Option, Some, None, Result, Ok, Err, IfOk, IfErr, OnErr, refl, sym, ap, ◌∙◌}
+use Rattle.std.specs.FinMap as map
+use Rattle.std.specs.Cmp.{eq_by_cmp_equiv}
+use Rattle.std.specs.Ordering.{eq_by_cmp}
+use Rattle.std.specs.Cmp.Lexicographic.{nat_list_cmp_total}
+use Rattle.cred_phc.specs.Values.{RecordValue}
+use Rattle.cred_book.specs.Accounts.{Accounts}
+use Rattle.cred_book.specs.Calls.{Shows}
+use Rattle.cred_book.specs.Commits.{committed, committed_at, committed_if}
+use Rattle.cred_book.specs.Names.{name_cmp}
+use Rattle.cred_book.specs.Works.{Task, name_of, same, seq, seq_at, whole}
+use Rattle.cred_book.specs.declared.error.BookError.{BookError}
+use Rattle.cred_book.specs.declared.error.BookError.TheVariants as error
+use Rattle.cred_book.specs.declared.reply.Reply.{Reply}
+use Rattle.cred_book.specs.declared.reply.Reply.TheVariants as reply
+use Rattle.cred_book.specs.declared.request.Request.{Request}
+use Rattle.cred_book.proofs.Equality.{same-Decides}
+use Rattle.cred_admin.specs.declared.fault.Fault.{Fault}
+use Rattle.cred_admin.specs.declared.fault.Fault.TheVariants as fault
+use Rattle.cred_admin.specs.Commands.{Enrols, enrolled}
+
+-- ---- a whole operation
+
+same_self : (now : Option RecordValue) → same now now ≡ true
+same_self now = (same-Decides now now).1 refl
+
+pub no_account : (book : Accounts) (request : Request) → map.get book (name_of request) ≡ None → (reply.NoAccount, book) ≡ seq book request
+unfolding seq
+no_account book request is = sym (ap (seq_at book request) is)
+
+committed_now : (book : Accounts) (work : Task) → map.get book (name_of work.0) ≡ Some work.1
+    → committed book work ≡ ((whole work.0 work.1).0, map.insert book (name_of work.0) (whole work.0 work.1).1)
+unfolding committed
+committed_now book work is = ap (committed_at book work) is ∙ ap (committed_if book work work.1) (same_self work.1)
+
+seq_now : (book : Accounts) (request : Request) (now : Option RecordValue) → map.get book (name_of request) ≡ Some now
+    → seq book request ≡ ((whole request now).0, map.insert book (name_of request) (whole request now).1)
+unfolding seq
+seq_now book request now is = ap (seq_at book request) is
+
+-- a commit right behind its begin does the whole operation
+pub done_whole : (book new : Accounts) (request : Request) (ticket work : Task) (r : Reply) → work ≡ ticket → ticket.0 ≡ request → map.get book (name_of request) ≡ Some ticket.1
+    → (r, new) ≡ committed book work → (r, new) ≡ seq book request
+done_whole book new request ticket work r same is found h =
+    let here : map.get book (name_of ticket.0) ≡ Some ticket.1 = ap (λ q. map.get book (name_of q)) is ∙ found in
+    h ∙ ap (committed book) same ∙ committed_now book ticket here ∙ sym (seq_now book ticket.0 ticket.1 here) ∙ ap (seq book) is
+
+-- ---- a first record
+
+cond_twice : {X : Type 0} (b : Bool) (x y z : X) → cond b x (cond b y z) ≡ cond b x z
+cond_twice true x y z = refl
+cond_twice false x y z = refl
+
+pub insert_over : (book : Accounts) (name : List ℕ) (u v : Option RecordValue) → map.insert (map.insert book name u) name v ≡ map.insert book name v
+insert_over book name u v = map.same_map nat_list_cmp_total (map.slice_cmp-IsAntisymmetric map.nat_cmp-IsAntisymmetric) _ _
+    (λ q. map.get-insert nat_list_cmp_total (map.insert book name u) name v q
+    ∙ ap (cond (eq_by_cmp name_cmp q name) (Some v)) (map.get-insert nat_list_cmp_total book name u q)
+    ∙ cond_twice (eq_by_cmp name_cmp q name) _ _ _
+    ∙ sym (map.get-insert nat_list_cmp_total book name v q))
+
+pub there_now : (book : Accounts) (name : List ℕ) (v : Option RecordValue) → map.contains_key (map.insert book name v) name ≡ true
+there_now book name v = ap is_some (map.get-insert nat_list_cmp_total book name v name
+    ∙ ap (λ b. cond b (Some v) (map.get book name)) ((eq_by_cmp_equiv nat_list_cmp_total).refl name))
+
+pub not_there : (book : Accounts) (name : List ℕ) (e : BookError) → Shows book name (Err e) → map.get book name ≡ None
+not_there book name error.NoAccount h = h
+not_there book name error.Memory h = absurd h
+not_there book name error.Name h = absurd h
+not_there book name error.Exists h = absurd h
+not_there book name error.Full h = absurd h
+
+-- the account was added before
+pub put_behind : (old mid new : Accounts) (name : List ℕ) (stored made : RecordValue) (r : Result Reply Fault) → map.get old name ≡ None → mid ≡ map.insert old name None → stored ≡ made
+    → IfOk r (λ a. (a ≡ reply.Enrolled) × (new ≡ map.insert mid name (Some stored))) → OnErr r (new ≡ mid) → IfErr r (λ e. e ≡ fault.Memory)
+    → Enrols old new name made r
+put_behind old mid new name stored made (Ok a) none added is done stays memory =
+    let after : new ≡ map.insert old name (Some made) = done.1 ∙ ap (λ (m : Accounts). map.insert m name (Some stored)) added ∙ insert_over old name None (Some stored) ∙ ap (λ v. map.insert old name (Some v)) is in
+    let reached : enrolled old name made ≡ (reply.Enrolled, map.insert old name (Some made)) = rw none refl in
+    ap (λ a. (a, new)) done.0 ∙ ap (λ (m : Accounts). (reply.Enrolled, m)) after ∙ sym reached
+put_behind old mid new name stored made (Err fault.Memory) none added is done stays memory = inr (ap is_some none, stays ∙ added)
+put_behind old mid new name stored made (Err fault.Read) none added is done stays memory = absurd cc
+put_behind old mid new name stored made (Err fault.Write) none added is done stays memory = absurd cc
+put_behind old mid new name stored made (Err fault.Password) none added is done stays memory = absurd cc
+put_behind old mid new name stored made (Err fault.Full) none added is done stays memory = absurd cc

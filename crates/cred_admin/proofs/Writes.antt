@@ -1,0 +1,21 @@
+-- Several writes in a row.
+use Rattle.std.proofs.Common.{◌≡◌, ℕ, ◌<◌, List, [], ◌++◌, length, take, drop, Option, sym, ap, ◌∙◌, arith, append_assoc, append-nil, take-append-drop}
+use Rattle.std.proofs.lemmas.List.{length-append}
+use Rattle.std.proofs.Math.Seq.{take-append_seam}
+use Rattle.std.specs.Io.KnownBytes.{Appends}
+use Rattle.std.proofs.KnownBytes.{Appends-trans}
+use Rattle.cred_admin.specs.Answers.{FrontWritten}
+
+-- what is written is a proper front, while something is left
+pub front_written : (bytes front rest : List ℕ) (before now : Option (List ℕ)) → bytes ≡ front ++ rest → 0 < length rest → Appends before now front → FrontWritten before now bytes
+front_written bytes front rest before now cut left written =
+    (length front, omega (arith, ap length cut, length-append front rest), rw (cut, take-append_seam) written)
+
+-- the next write moves the cut
+pub cut_later : (bytes front rest : List ℕ) (n : ℕ) → bytes ≡ front ++ rest → bytes ≡ (front ++ take n rest) ++ drop n rest
+cut_later bytes front rest n cut = cut ∙ rw append_assoc (ap (λ xs. front ++ xs) (sym (take-append-drop n rest)))
+
+-- a write of no byte adds none
+pub none_more : (a b c : Option (List ℕ)) (front rest : List ℕ) (n : ℕ) → n ≡ 0 → Appends a b front → Appends b c (take n rest) → Appends a c front
+none_more a b c front rest n none written more =
+    rw append-nil at (Appends-trans a b c front [] written (rw none at more))

@@ -1,0 +1,68 @@
+//! Passwords as they are read: a line each.
+
+ghost use Rattle.std.specs.Prelude.{◌≡◌, ◌<◌, ◌++◌, ◌∷◌, [], Err, IfErr, IfOk, IfSome, OnOk, length};
+ghost use Rattle.cred_admin.specs.Lines.{IsReading, ReadsLine, Takes, line_before, longest_password};
+
+use crate::fault::Fault;
+use cred_phc::Password;
+use std::alloc::Global;
+use std::io::Read;
+
+/// The longest password in bytes.
+const LONGEST: usize = 256;
+
+/// Reads one line: the bytes before the next line end, which is taken off too, or before the end of
+/// what is read. No byte behind the line is taken.
+///
+/// Errors: `Read`; `Memory`; `Password` where the line has over 256 bytes.
+pub(crate) fn read_password<R: Read>(alloc: Global, reader: &mut R) -> Result<Password, Fault>
+    ensures line { IfOk result (λ pw. IfSome (R.remaining reader.old)
+        (λ bytes. ReadsLine bytes (R.remaining reader.new) pw)) }
+    ensures long { result ≡ Err Fault.Password → IfSome (R.remaining reader.old)
+        (λ bytes. longest_password < length (line_before bytes)) }
+    ensures faults { IfErr result IsReading }
+{
+    let mut line = Vec::new(alloc);
+    for _taken in 0..=LONGEST {
+        let Some(byte) = next_byte(reader)? else {
+            return password(&line);
+        };
+        if byte == b'\n' {
+            return password(&line);
+        }
+        keep(&mut line, byte)?;
+    }
+    Err(Fault::Password)
+}
+
+/// The next byte, or none at the end.
+fn next_byte<R: Read>(reader: &mut R) -> Result<Option<u8>, Fault>
+    ensures byte { IfOk result (λ byte. IfSome (R.remaining reader.old)
+        (λ bytes. Takes bytes (R.remaining reader.new) byte)) }
+    ensures fault { IfErr result (λ e. e ≡ Fault.Read) }
+{
+    let mut byte = [0];
+    match reader.read(&mut byte) {
+        Ok(0) => Ok(None),
+        Ok(_) => Ok(Some(byte[0])),
+        Err(_) => Err(Fault::Read),
+    }
+}
+
+/// The password of these bytes.
+fn password(bytes: &[u8]) -> Result<Password, Fault>
+    ensures value { IfOk result (λ pw. pw ≡ bytes.now) }
+    ensures long { IfErr result (λ e. (e ≡ Fault.Password) × (longest_password < length bytes.now)) }
+{
+    Password::new(bytes).ok_or(Fault::Password)
+}
+
+fn keep(line: &mut Vec<u8>, byte: u8) -> Result<(), Fault>
+    ensures kept { OnOk result (line.new.items ≡ line.old.items ++ byte ∷ []) }
+    ensures memory { IfErr result (λ e. e ≡ Fault.Memory) }
+{
+    match line.push(byte) {
+        Ok(()) => Ok(()),
+        Err(_) => Err(Fault::Memory),
+    }
+}

@@ -1,0 +1,25 @@
+//! With what commands are done.
+
+use cred_book::Hashing;
+use cred_pool::NoGate;
+use std::alloc::Global;
+
+/// The runtime, the allocator, and how many threads at most work one hash.
+#[derive(Drop)]
+pub struct Tools<'a, T> {
+    pub rt: &'a T,
+    pub alloc: Global,
+    pub workers: u8,
+}
+
+impl<'a, T> Tools<'a, T> {
+    /// Hashing with these, with no gate.
+    pub(crate) fn hashing(&self) -> Hashing<'a, T, NoGate> {
+        Hashing {
+            rt: self.rt,
+            alloc: self.alloc,
+            workers: self.workers,
+            gate: &NoGate,
+        }
+    }
+}
