@@ -1,168 +1,227 @@
--- The steps on the word behind a list keep its rule.
-use Rattle.std.proofs.Common.{◌≡◌, ℕ, zero, suc, ◌+◌, ◌<◌, ◌≤◌, ◌==◌, Bool, true, false, List, [], ◌∷◌, ◌++◌, length, replicate, slice_set, slice_index_or, refl, ap, sym, subst, arith, inl, length-append, None, MatchBool, ◌∙◌}
+-- The steps on the words behind a list keep their rule.
+use Rattle.std.proofs.Common.{◌≡◌, ℕ, zero, suc, ◌<◌, ◌==◌, Bool, true, false, List, [], ◌∷◌, ◌++◌, length, slice_set, refl, ap, sym, subst, arith, inl, length-append, None, MatchBool, ◌∙◌}
 use Rattle.std.proofs.lemmas.List.{append-nil}
 use Rattle.std.proofs.lemmas.Bool.Decides.{nat_tests}
 use mathlib.Core.List.{IsPrefix}
 use prog.Atomic.{either}
-use Rattle.logbook.specs.Pages.{Cell, cell, keeps, adds, gives, no_nib, nib, may_make, step, Moves, Goes, Away}
-use Rattle.cred_desk.specs.declared.entry.Entry.{Entry}
-use Rattle.cred_desk.specs.Rules.{IsKept, filled, row, pen_after, Reserves, Fills, Looks}
-use Rattle.cred_desk.proofs.Lists.{prefix_whole, prefix_length}
+use Rattle.logbook.specs.Pages.{Cell, Nib, cell, keeps, adds, gives, no_nib, may_write, step, Moves, Goes}
+use Rattle.cred_desk.specs.declared.link.Link.{Link}
+use Rattle.cred_desk.specs.Rules.{AreHome, Begins, Fills, IsKept, IsPenAfter, Looks, Reserves, first_place, is_home, place_after}
+use Rattle.cred_desk.proofs.Links.{prefix_trans}
+use Rattle.cred_desk.proofs.Lists.{prefix_length, prefix_whole}
 
-abbrev pub shown : List Entry → List Entry
-shown list = []
+abbrev pub shown : List Link → List Link
+shown links = []
 
-abbrev pub moved : List Entry → List Entry → ℕ → Type 0
+abbrev pub moved : List Link → List Link → ℕ → Type 0
 moved xs ys n = Unit {0}
 
-abbrev free_cell : Cell
-free_cell = (0, false)
+-- ---- words, of which one is set or one more is made
 
--- ---- rows of cells
+set_length : (cells : List Cell) (k : ℕ) (c : Cell) → length (slice_set cells k c) ≡ length cells
+set_length [] k c = refl
+set_length (x ∷ cells) zero c = refl
+set_length (x ∷ cells) (suc k) c = ap suc (set_length cells k c)
 
-filled_length : (n : ℕ) (rest : List Cell) → length (filled n rest) ≡ n + length rest
-filled_length zero rest = omega arith
-filled_length (suc n) rest = omega (arith, filled_length n rest)
+home_set : (cells : List Cell) (k x j : ℕ) → is_home cells j ≡ true → is_home (slice_set cells k (x, true)) j ≡ true
+home_set [] k x j home = absurd (cc home)
+home_set (c ∷ cells) zero x zero home = refl
+home_set (c ∷ cells) zero x (suc j) home = home
+home_set (c ∷ cells) (suc k) x zero home = home
+home_set (c ∷ cells) (suc k) x (suc j) home = home_set cells k x j home
 
-replicate_length : (n : ℕ) → length (replicate n free_cell) ≡ n
-replicate_length zero = omega arith
-replicate_length (suc n) = omega (arith, replicate_length n)
+home_here : (cells : List Cell) (k x : ℕ) → k < length cells → is_home (slice_set cells k (x, true)) k ≡ true
+home_here [] k x lt = absurd (omega (arith, lt))
+home_here (c ∷ cells) zero x lt = refl
+home_here (c ∷ cells) (suc k) x lt = home_here cells k x (omega (arith, lt))
 
-row_length : (free n : ℕ) → length (row free n) ≡ suc (suc (n + free))
-row_length free n = omega (arith, filled_length n (replicate free free_cell), replicate_length free)
+home_more : (cells : List Cell) (j : ℕ) → is_home cells j ≡ true → is_home (cells ++ (0, false) ∷ []) j ≡ true
+home_more [] j home = absurd (cc home)
+home_more (c ∷ cells) zero home = home
+home_more (c ∷ cells) (suc j) home = home_more cells j home
 
-replicate_more : (n : ℕ) → replicate n free_cell ++ free_cell ∷ [] ≡ replicate (suc n) free_cell
-replicate_more zero = refl
-replicate_more (suc n) = ap (λ cells. free_cell ∷ cells) (replicate_more n)
+away_set : (cells : List Cell) (k x : ℕ) → is_home cells 0 ≡ true → is_home cells k ≡ false → is_home (slice_set cells 0 (x, true)) k ≡ false
+away_set [] k x home away = away
+away_set (c ∷ cells) zero x home away = absurd (cc (home, away))
+away_set (c ∷ cells) (suc k) x home away = away
 
-filled_more : (n free : ℕ) → filled n (replicate free free_cell) ++ free_cell ∷ [] ≡ filled n (replicate (suc free) free_cell)
-filled_more zero free = replicate_more free
-filled_more (suc n) free = ap (λ cells. (0, true) ∷ cells) (filled_more n free)
+number_here : (cells : List Cell) (x : ℕ) → 0 < length cells → (cell (slice_set cells 0 (x, true)) 0).0 ≡ x
+number_here [] x some = absurd (omega (arith, some))
+number_here (c ∷ cells) x some = refl
 
--- the first open place is filled
-filled_next : (n : ℕ) (rest : List Cell) → slice_set (filled n (free_cell ∷ rest)) n (0, true) ≡ filled (suc n) rest
-filled_next zero rest = refl
-filled_next (suc n) rest = ap (λ cells. (0, true) ∷ cells) (filled_next n rest)
+number_other : (cells : List Cell) (k x : ℕ) → is_home cells 0 ≡ true → is_home cells k ≡ false → (cell (slice_set cells k (x, true)) 0).0 ≡ (cell cells 0).0
+number_other [] k x home away = refl
+number_other (c ∷ cells) zero x home away = absurd (cc (home, away))
+number_other (c ∷ cells) (suc k) x home away = refl
 
--- an open place comes after the filled ones
-open_after : (n k : ℕ) (rest : List Cell) → (slice_index_or (filled n rest) k (0, false)).1 ≡ false → n ≤ k
-open_after zero k rest is = omega arith
-open_after (suc n) zero rest is = absurd (cc is)
-open_after (suc n) (suc k) rest is = omega (arith, open_after n k rest is)
+number_more : (cells : List Cell) → 0 < length cells → (cell (cells ++ (0, false) ∷ []) 0).0 ≡ (cell cells 0).0
+number_more [] some = absurd (omega (arith, some))
+number_more (c ∷ cells) some = refl
 
--- ---- opening a place
+-- ---- links whose words are at home
 
-reserves_goes : (list v : List Entry) (e : Entry) (old free : ℕ) → (free ≡ 0 → list ≡ [])
-    → (b : Bool) → (free == old) ≡ b
-    → Goes IsKept shown moved 0 (v, (no_nib, None)) (λ n. either (n == old) (old + 1) n) (Reserves (step 0 old (old + 1) e) (v, (no_nib, None))) (row free (length list)) list
-reserves_goes list v e old free none true is =
-    let here : free ≡ old = grind (arith, nat_tests) in
-    let all : list ++ [] ≡ list = append-nil list in
-    let number : either (free == old) (old + 1) free ≡ suc free = rw is (omega (arith, here)) in
-    let cells : (either (free == old) (old + 1) free, true) ∷ (0, true) ∷ (filled (length list) (replicate free free_cell) ++ free_cell ∷ []) ≡ row (suc free) (length (list ++ [])) = rw (all, number, filled_more (length list) free) refl in
-    let pen : nib may_make (length (row free (length list))) 0 ≡ nib may_make (suc (suc (length (list ++ []) + old))) 0 = ap (λ k. nib may_make k 0) (rw all (omega (arith, row_length free (length list), here))) in (
-      adds,
-      [],
+home_still : (cells others : List Cell) (place : ℕ) (links : List Link) → ((j : ℕ) → is_home cells j ≡ true → is_home others j ≡ true) → AreHome cells place links → AreHome others place links
+home_still cells others place [] still home = tt
+home_still cells others place (l ∷ links) still home = (still place home.0, home_still cells others l.next links still home.1)
+
+home_snoc : (cells : List Cell) (place : ℕ) (links : List Link) (new : Link) → AreHome cells place links → is_home cells (place_after place links) ≡ true → AreHome cells place (links ++ new ∷ [])
+home_snoc cells place [] new home here = (here, tt)
+home_snoc cells place (l ∷ links) new home here = (home.0, home_snoc cells l.next links new home.1 here)
+
+-- links after which a word is away are all that there are
+all_seen : (cells : List Cell) (place : ℕ) (xs links : List Link) → IsPrefix xs links → AreHome cells place links → is_home cells (place_after place xs) ≡ false → xs ≡ links
+all_seen cells place [] [] p home away = refl
+all_seen cells place [] (l ∷ links) p home away = absurd (cc (home.0, away))
+all_seen cells place (x ∷ xs) [] p home away = absurd (cc (p.1))
+all_seen cells place (x ∷ xs) (l ∷ links) p home away =
+    let heads : x ≡ l = cc (p.1) in
+    let rest = all_seen cells l.next xs links (p.0, cc (p.1)) home.1 (subst (λ (m : Link). is_home cells (place_after m.next xs) ≡ false) heads away) in
+    cc (heads, rest)
+
+-- ---- the rule, where a word is set or one more is made
+
+kept_set : (cells : List Cell) (links : List Link) (x : ℕ) → (x ≡ 0 → links ≡ []) → IsKept cells links → IsKept (slice_set cells 0 (x, true)) links
+kept_set cells links x begun kept = record {
+  two = omega (arith, set_length cells 0 (x, true), kept.two);
+  first = home_set cells 0 x 0 kept.first;
+  second = home_set cells 0 x first_place kept.second;
+  begun = λ z. begun (sym (number_here cells x (omega (arith, kept.two))) ∙ z);
+  home = home_still cells (slice_set cells 0 (x, true)) first_place links (home_set cells 0 x) kept.home;
+}
+
+kept_more : (cells : List Cell) (links : List Link) → IsKept cells links → IsKept (cells ++ (0, false) ∷ []) links
+kept_more cells links kept = record {
+  two = omega (arith, length-append cells ((0, false) ∷ []), kept.two);
+  first = home_more cells 0 kept.first;
+  second = home_more cells first_place kept.second;
+  begun = λ z. kept.begun (sym (number_more cells (omega (arith, kept.two))) ∙ z);
+  home = home_still cells (cells ++ (0, false) ∷ []) first_place links (home_more cells) kept.home;
+}
+
+-- ---- making a place
+
+none_stays : (n : ℕ) (b : Bool) → (n == 0) ≡ b → either (n == 0) 0 n ≡ n
+none_stays n true is = let none : n ≡ 0 = grind (arith, nat_tests) in rw is (sym none)
+none_stays n false is = rw is refl
+
+kept_same : (cells : List Cell) (links : List Link) → IsKept cells links → IsKept (slice_set cells 0 (either ((cell cells 0).0 == 0) 0 (cell cells 0).0, true)) (links ++ [])
+kept_same cells links kept =
+    let n = (cell cells 0).0 in
+    let same = none_stays n (n == 0) refl in
+    subst (IsKept (slice_set cells 0 (either (n == 0) 0 n, true))) (sym (append-nil links)) (kept_set cells links (either (n == 0) 0 n) (λ z. kept.begun (sym same ∙ z)) kept)
+
+pub reserves_moves : (v : List Link) (ask : Link)
+    → Moves IsKept shown moved 0 (v, (no_nib, None)) (λ n. either (n == 0) 0 n) (Reserves (step 0 0 0 ask) (v, (no_nib, None)))
+reserves_moves v ask cells links kept pre away = (
+  omega (arith, kept.two),
+  kept.first,
+  (adds, [], None, tt, kept_more _ (links ++ []) (kept_same cells links kept), inl (refl, refl), refl),
+)
+
+-- ---- adding a link
+
+one_at_least : (n : ℕ) (b : Bool) → (n == 0) ≡ b → either (n == 0) 1 n ≡ 0 → ⊥
+one_at_least n true is none = let one : 1 ≡ 0 = rw is at none in absurd (omega (arith, one))
+one_at_least n false is none =
+    let same : n ≡ 0 = rw is at none in
+    let apart : (n == 0) ≡ true = grind (arith, nat_tests) in
+    absurd (cc (is, apart))
+
+begins_goes : (cells : List Cell) (links v : List Link) (ask : Link) → IsKept cells links → (b : Bool) → ((cell cells 0).0 == 0) ≡ b
+    → Goes IsKept shown moved 0 (v, (no_nib, None)) (λ n. either (n == 0) 1 n) (Begins (step 0 0 1 ask) (v, (no_nib, None))) cells links
+begins_goes cells links v ask kept true is =
+    let n = (cell cells 0).0 in
+    let zero_is : n ≡ 0 = grind (arith, nat_tests) in
+    let none : links ≡ [] = kept.begun zero_is in
+    let empty : IsKept cells [] = subst (IsKept cells) none kept in
+    let x = either (n == 0) 1 n in
+    let set = kept_set cells [] x (λ z. refl) empty in
+    let all : links ++ ask ∷ [] ≡ ask ∷ [] = ap (λ l. l ++ ask ∷ []) none in
+    let new : IsKept (slice_set cells 0 (x, true)) (ask ∷ []) = record {
+      two = set.two;
+      first = set.first;
+      second = set.second;
+      begun = λ z. absurd (one_at_least n true is (sym (number_here cells x (omega (arith, kept.two))) ∙ z));
+      home = (set.second, tt);
+    } in (
+      keeps,
+      ask ∷ [],
       None,
       tt,
-      (suc free, (λ z. absurd (omega (arith, z))), cells),
+      subst (IsKept (slice_set cells 0 (x, true))) (sym all) new,
       inl (refl, refl),
-      rw is (pen, λ z. all ∙ none (here ∙ z)),
+      rw is all,
     )
-reserves_goes list v e old free none false is =
-    let all : list ++ [] ≡ list = append-nil list in
-    let number : either (free == old) (old + 1) free ≡ free = rw is refl in
-    let cells : (either (free == old) (old + 1) free, true) ∷ (0, true) ∷ filled (length list) (replicate free free_cell) ≡ row free (length (list ++ [])) = rw (all, number) refl in (
+begins_goes cells links v ask kept false is =
+    let n = (cell cells 0).0 in
+    let x = either (n == 0) 1 n in
+    let some : x ≡ 0 → links ≡ [] = λ z. absurd (one_at_least n false is z) in (
       keeps,
       [],
       None,
       tt,
-      (free, (λ z. all ∙ none z), cells),
+      subst (IsKept (slice_set cells 0 (x, true))) (sym (append-nil links)) (kept_set cells links x some kept),
       inl (refl, refl),
       rw is tt,
     )
 
-pub reserves_moves : (v : List Entry) (e : Entry) (old : ℕ)
-    → Moves IsKept shown moved 0 (v, (no_nib, None)) (λ n. either (n == old) (old + 1) n) (Reserves (step 0 old (old + 1) e) (v, (no_nib, None)))
-reserves_moves v e old cs list kept pre away =
-    let P : List Cell → Type 0 = λ c. (0 < length c) × ((cell c 0).1 ≡ true) × Goes IsKept shown moved 0 (v, (no_nib, None)) (λ n. either (n == old) (old + 1) n) (Reserves (step 0 old (old + 1) e) (v, (no_nib, None))) c list in
-    subst P (sym kept.2) (omega arith, refl, reserves_goes list v e old kept.0 kept.1 (kept.0 == old) refl)
+pub begins_moves : (v : List Link) (ask : Link)
+    → Moves IsKept shown moved 0 (v, (no_nib, None)) (λ n. either (n == 0) 1 n) (Begins (step 0 0 1 ask) (v, (no_nib, None)))
+begins_moves v ask cells links kept pre away = (omega (arith, kept.two), kept.first, begins_goes cells links v ask kept ((cell cells 0).0 == 0) refl)
 
--- ---- filling it
+kept_snoc : (cells : List Cell) (links : List Link) (new : Link) (key value x : ℕ) → (x ≡ 0 → ⊥) → IsKept cells links → key < length cells → is_home cells key ≡ false → key ≡ place_after first_place links
+    → IsKept (slice_set (slice_set cells 0 (x, true)) key (value, true)) (links ++ new ∷ [])
+kept_snoc cells links new key value x some kept lt away at =
+    let once = slice_set cells 0 (x, true) in
+    let twice = slice_set once key (value, true) in
+    let set = kept_set cells links x (λ z. absurd (some z)) kept in
+    let long = set_length cells 0 (x, true) in
+    let here : is_home twice key ≡ true = home_here once key value (omega (arith, lt, long)) in
+    let number = number_other once key value set.first (away_set cells key x kept.first away) ∙ number_here cells x (omega (arith, kept.two)) in
+    record {
+      two = omega (arith, long, set_length once key (value, true), kept.two);
+      first = home_set once key value 0 set.first;
+      second = home_set once key value first_place set.second;
+      begun = λ z. absurd (some (sym number ∙ z));
+      home = home_snoc twice first_place links new (home_still once twice first_place links (home_set once key value) set.home) (subst (λ k. is_home twice k ≡ true) at here);
+    }
 
-fills_goes : (list v : List Entry) (e : Entry) (n free : ℕ) → n ≤ length v → IsPrefix v list → (free ≡ 0 → list ≡ [])
-    → Away (pen_after n) (row free (length list))
-    → (b : Bool) → (free == 2) ≡ b
-    → Goes IsKept shown moved 0 (v, (pen_after n, None)) (λ n. either (n == 2) 1 n) (Fills (step 0 2 1 e) (v, (pen_after n, None))) (row free (length list)) list
-fills_goes list v e n free le pre none away true is =
-    let two : free ≡ 2 = grind (arith, nat_tests) in
-    let after : length list ≤ n = open_after (length list) n (replicate free free_cell) ((away refl).1) in
-    let same : v ≡ list = prefix_whole v list pre (omega (arith, le, after)) in
-    let here : n ≡ length list = omega (arith, le, after, ap length same) in
-    let long : length (list ++ e ∷ []) ≡ suc (length list) = omega (arith, length-append list (e ∷ [])) in
-    let number : either (free == 2) 1 free ≡ 1 = rw is refl in
-    let cells : (either (free == 2) 1 free, true) ∷ (0, true) ∷ slice_set (filled (length list) (replicate free free_cell)) n (0, true) ≡ row 1 (length (list ++ e ∷ [])) = rw (number, long, here, two) (ap (λ r. (1, true) ∷ (0, true) ∷ r) (filled_next (length list) (free_cell ∷ []))) in (
-      gives,
-      e ∷ [],
-      None,
-      refl,
-      (1, (λ z. absurd (omega (arith, z))), cells),
-      inl (refl, refl),
-      rw is (ap (λ w. w ++ e ∷ []) (sym same), ap pen_after (here ∙ ap length (sym same))),
-    )
-fills_goes list v e n free le pre none away false is =
-    let all : list ++ [] ≡ list = append-nil list in
-    let number : either (free == 2) 1 free ≡ free = rw is refl in
-    let cells : (either (free == 2) 1 free, true) ∷ (0, true) ∷ filled (length list) (replicate free free_cell) ≡ row free (length (list ++ [])) = rw (all, number) refl in (
-      keeps,
-      [],
-      None,
-      tt,
-      (free, (λ z. all ∙ none z), cells),
-      inl (refl, refl),
-      rw is refl,
-    )
-
-pub fills_moves : (v : List Entry) (e : Entry) (n : ℕ) → n ≤ length v
-    → Moves IsKept shown moved 0 (v, (pen_after n, None)) (λ n. either (n == 2) 1 n) (Fills (step 0 2 1 e) (v, (pen_after n, None)))
-fills_moves v e n le cs list kept pre away =
-    let P : List Cell → Type 0 = λ c. Away (pen_after n) c → (0 < length c) × ((cell c 0).1 ≡ true) × Goes IsKept shown moved 0 (v, (pen_after n, None)) (λ n. either (n == 2) 1 n) (Fills (step 0 2 1 e) (v, (pen_after n, None))) c list in
-    subst P (sym kept.2) (λ (there : Away (pen_after n) (row kept.0 (length list))). (omega arith, refl, fills_goes list v e n kept.0 le pre kept.1 there (kept.0 == 2) refl)) away
-
--- ---- looking at it
-
-none_stays : (free : ℕ) (b : Bool) → (free == 0) ≡ b → either (free == 0) 0 free ≡ free
-none_stays free true is = let none : free ≡ 0 = grind (arith, nat_tests) in rw is (sym none)
-none_stays free false is = rw is refl
-
-looks_goes : (list v : List Entry) (e : Entry) (n free : ℕ) → IsPrefix v list → (free ≡ 0 → list ≡ [])
-    → Away (pen_after n) (row free (length list))
-    → (b : Bool) → (free == 0) ≡ b
-    → Goes IsKept shown moved 0 (v, (pen_after n, None)) (λ n. either (n == 0) 0 n) (Looks (step 0 0 0 e) (v, (pen_after n, None))) (row free (length list)) list
-looks_goes list v e n free pre none away b is =
-    let after : length list ≤ n = open_after (length list) n (replicate free free_cell) ((away refl).1) in
-    let all : list ++ [] ≡ list = append-nil list in
-    let number : either (free == 0) 0 free ≡ free = none_stays free b is in
-    let cells : (either (free == 0) 0 free, true) ∷ (0, true) ∷ filled (length list) (replicate free free_cell) ≡ row free (length (list ++ [])) = rw (all, number) refl in (
-      keeps,
-      [],
-      None,
-      tt,
-      (free, (λ z. all ∙ none z), cells),
-      inl (refl, refl),
-      (refl, omega (arith, after, prefix_length v list pre)),
+pub fills_moves : (v : List Link) (ask : Link) (pen : Nib) → IsPenAfter v pen
+    → Moves IsKept shown moved 0 (v, (pen, None)) (λ n. either (n == 0) 1 n) (Fills (step 0 0 1 ask) (v, (pen, None)))
+fills_moves v ask pen after cells links kept pre away =
+    let n = (cell cells 0).0 in
+    let there = away after.0 in
+    let same : v ≡ links = all_seen cells first_place v links pre kept.home (subst (λ k. is_home cells k ≡ false) after.1 there.1) in
+    let at : pen.key ≡ place_after first_place links = after.1 ∙ ap (place_after first_place) same in (
+      omega (arith, kept.two),
+      kept.first,
+      (
+        gives,
+        ask ∷ [],
+        None,
+        after.0,
+        kept_snoc cells links ask pen.key pen.value (either (n == 0) 1 n) (one_at_least n (n == 0) refl) kept there.0 there.1 at,
+        inl (refl, refl),
+        ap (λ l. l ++ ask ∷ []) (sym same),
+      ),
     )
 
-pub looks_moves : (v : List Entry) (e : Entry) (n : ℕ)
-    → Moves IsKept shown moved 0 (v, (pen_after n, None)) (λ n. either (n == 0) 0 n) (Looks (step 0 0 0 e) (v, (pen_after n, None)))
-looks_moves v e n cs list kept pre away =
-    let P : List Cell → Type 0 = λ c. Away (pen_after n) c → (0 < length c) × ((cell c 0).1 ≡ true) × Goes IsKept shown moved 0 (v, (pen_after n, None)) (λ n. either (n == 0) 0 n) (Looks (step 0 0 0 e) (v, (pen_after n, None))) c list in
-    subst P (sym kept.2) (λ (there : Away (pen_after n) (row kept.0 (length list))). (omega arith, refl, looks_goes list v e n kept.0 pre kept.1 there (kept.0 == 0) refl)) away
+-- ---- looking at all
+
+looks_at_all : (cells : List Cell) (links v : List Link) (key : ℕ) → IsKept cells links → IsPrefix v links → is_home cells key ≡ false
+    → (u : List Link) → IsPrefix u v → key ≡ place_after first_place u → u ≡ v
+looks_at_all cells links v key kept pre away u p at =
+    let all : u ≡ links = all_seen cells first_place u links (prefix_trans u v links p pre) kept.home (subst (λ k. is_home cells k ≡ false) at away) in
+    prefix_whole u v p (omega (arith, prefix_length v links pre, ap length all))
+
+pub looks_moves : (v : List Link) (ask : Link) (pen : Nib) → pen.right ≡ may_write
+    → Moves IsKept shown moved 0 (v, (pen, None)) (λ n. either (n == 0) 0 n) (Looks (step 0 0 0 ask) (v, (pen, None)))
+looks_moves v ask pen may cells links kept pre away = (
+  omega (arith, kept.two),
+  kept.first,
+  (keeps, [], None, tt, kept_same cells links kept, inl (refl, refl), (refl, looks_at_all cells links v pen.key kept pre (away may).1)),
+)
 
 -- what a step tells where the number found is the one expected
 pub is_found : (P Q : Type 0) (found old : ℕ) → MatchBool (found == old) P Q → found ≡ old → P
 is_found P Q found old told is = let same : (found == old) ≡ true = grind (arith, nat_tests) in rw same at told
-
--- and where it isn't
-pub is_other : (P Q : Type 0) (found old : ℕ) → MatchBool (found == old) P Q → (found ≡ old → ⊥) → Q
-is_other P Q found old told apart = let other : (found == old) ≡ false = grind (arith, nat_tests) in rw other at told

@@ -11,7 +11,7 @@ use Rattle.cred_book.specs.Accounts.{Accounts, with_entry}
 use Rattle.cred_book.proofs.Kept.{with_known, with_new}
 use Rattle.cred_desk.specs.declared.entry.Entry.{Entry}
 use Rattle.cred_desk.specs.Commits.{list_after, weight}
-use Rattle.cred_desk.specs.Histories.{put, after, FollowsAt, Allowed, IsListed}
+use Rattle.cred_desk.specs.Histories.{put, after, FollowsAt, Allowed, IsLegal, IsListed, IsMade}
 use Rattle.cred_desk.specs.Rules.{IsLonger}
 
 -- of two beginnings of one list the shorter begins the longer
@@ -42,7 +42,7 @@ prefix_whole (x ∷ xs) (y ∷ ys) p le =
     let rest = prefix_whole xs ys (p.0, cc (p.1)) (omega arith) in cc (p.1, rest)
 
 -- a beginning is no longer than the whole
-pub prefix_length : (xs ys : List Entry) → IsPrefix xs ys → length xs ≤ length ys
+pub prefix_length : {A : Type 0} (xs ys : List A) → IsPrefix xs ys → length xs ≤ length ys
 prefix_length xs ys p = omega (arith, ap length (p.1), length-append xs p.0)
 
 -- the book after one entry more
@@ -65,6 +65,14 @@ with_allowed false book entry made = with_known book entry.name entry.now (there
 with_allowed true book entry (inl made) = with_known book entry.name entry.now (there (map.get book entry.name) entry.now made)
 with_allowed true book entry (inr (inl admitted)) = with_new book entry.name entry.now admitted.0 admitted.1
 with_allowed true book entry (inr (inr loaded)) = with_known book entry.name entry.now loaded.0
+
+-- what operations alone made goes on with what one of them makes
+pub legal_snoc : (book : Accounts) (list new : List Entry) (entry : Entry) → new ≡ list ++ entry ∷ [] → IsMade (after book list) entry → IsLegal book list → IsLegal book new
+legal_snoc book list new entry is made legal = subst (IsLegal book) (sym is) (listed_snoc false book list entry legal made)
+
+-- where no loads may stand in a list, operations alone made it
+pub legal_if : (loads : Bool) (book : Accounts) (list : List Entry) → loads ≡ false → IsListed loads book list → IsLegal book list
+legal_if loads book list none listed = subst (λ b. IsListed b book list) none listed
 
 -- a change makes the list longer by one
 pub length_list_after : (list : List Entry) (change : Option Entry) → length (list_after list change) ≡ length list + weight change

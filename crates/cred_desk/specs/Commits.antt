@@ -16,7 +16,8 @@ reply_of book work = (judged book work).0
 
 -- the entry that the commit makes, if it is a change
 abbrev pub entry_of : Accounts → Task → Option Entry
-entry_of book work = if (judged book work).2 then Some (entry (name_of work.0) (judged book work).1) else None
+entry_of book work = if (judged book work).2 then Some
+    (entry (name_of work.0) (judged book work).1) else None
 
 -- the list after it
 abbrev pub list_after : List Entry → Option Entry → List Entry

@@ -51,11 +51,13 @@ IsMade book entry = FollowsAt (map.get book entry.name) entry.now
 
 -- a new name, with no record, while there is room
 abbrev pub IsAdmitted : Accounts → Entry → Type 0
-IsAdmitted book entry = (map.contains_key book entry.name ≡ false) × (map.len book < most_accounts) × (entry.now ≡ None)
+IsAdmitted book entry = (map.contains_key book entry.name ≡ false) × (map.len book < most_accounts)
+    × (entry.now ≡ None)
 
 -- a record at a name that is there
 abbrev pub IsLoaded : Accounts → Entry → Type 0
-IsLoaded book entry = (map.contains_key book entry.name ≡ true) × ((stored : RecordValue) × (entry.now ≡ Some stored))
+IsLoaded book entry = (map.contains_key book entry.name ≡ true)
+    × ((stored : RecordValue) × (entry.now ≡ Some stored))
 
 -- ---- lists
 
@@ -68,7 +70,8 @@ Allowed true book entry = IsMade book entry ⊎ (IsAdmitted book entry ⊎ IsLoa
 -- each entry was allowed at the book of those before it
 abbrev pub IsListed : Bool → Accounts → List Entry → Type 0
 IsListed loads book [] = Unit {0}
-IsListed loads book (entry ∷ entries) = Allowed loads book entry × IsListed loads (put book entry) entries
+IsListed loads book (entry ∷ entries) = Allowed loads book entry
+    × IsListed loads (put book entry) entries
 
 -- operations alone made the list
 abbrev pub IsLegal : Accounts → List Entry → Type 0

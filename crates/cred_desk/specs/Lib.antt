@@ -1,4 +1,5 @@
 -- The definitions that the contracts of the desk cite.
+pub mod Additions
 pub mod Commits
 pub mod Histories
 pub mod Published

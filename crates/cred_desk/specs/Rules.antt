@@ -1,45 +1,81 @@
--- The rule of the word behind a list, and what its steps tell.
+-- The rule of the words behind a list, and what its steps tell.
 --
--- Each entry has a place, and the next one's place is open: its pen alone fills it. So the list is
--- as long as the holder of that pen knows it. While an entry is added two places are open, so that
--- its adder holds one all the time.
-use Rattle.std.specs.Prelude.{ℕ, zero, suc, ◌≡◌, ◌==◌, ◌+◌, ◌<◌, ◌≤◌, true, false, List, [], ◌∷◌, ◌++◌, length, replicate, MatchBool}
+-- A list of entries is kept as links: each names the place, a word with a key, where the next link
+-- goes. Whoever holds the pen of the last place alone can add a link, by bringing its word home.
+use Rattle.std.specs.Prelude.{ℕ, ◌≡◌, ◌==◌, ◌<◌, Bool, true, List, [], ◌∷◌, ◌++◌, length, MatchBool, Option, Some, None}
 use mathlib.Core.List.{IsPrefix}
-use Rattle.logbook.specs.Pages.{Cell, Step, View, Book, Named, Nib, nib, may_make, may_write}
+use Rattle.logbook.specs.Pages.{Cell, Step, View, Book, Nib, Named, cell, may_make, may_write}
 use Rattle.cred_desk.specs.declared.entry.Entry.{Entry}
+use Rattle.cred_desk.specs.declared.link.Link.{Link}
 
--- cells of so many filled places, and others after them
-abbrev pub filled : ℕ → List Cell → List Cell
-filled zero rest = rest
-filled (suc n) rest = (0, true) ∷ filled n rest
+-- ---- links
 
--- the first word counts the open places, which follow those of the list. A book of words has two,
--- of which this one leaves the second at 0
-abbrev pub row : ℕ → ℕ → List Cell
-row free n = (free, true) ∷ (0, true) ∷ filled n (replicate free (0, false))
+abbrev pub link : Option Entry → ℕ → Link
+link entry next = record { entry = entry; next = next }
 
--- none is open before the list is
-abbrev pub IsKept : List Cell → List Entry → Type 0
-IsKept cells list = (free : ℕ) × (free ≡ 0 → list ≡ []) × (cells ≡ row free (length list))
+abbrev pub with_entries : Option Entry → List Entry → List Entry
+with_entries None entries = entries
+with_entries (Some entry) entries = entry ∷ entries
+
+-- the entries of the links that have one
+abbrev pub entries_of : List Link → List Entry
+entries_of [] = []
+entries_of (l ∷ links) = with_entries l.entry (entries_of links)
+
+-- the place where the next link goes, by the place of the first one
+abbrev pub place_after : ℕ → List Link → ℕ
+place_after place [] = place
+place_after place (l ∷ links) = place_after l.next links
+
+-- the place of the first link of all
+abbrev pub first_place : ℕ
+first_place = 1
+
+-- ---- words
+
+abbrev pub is_home : List Cell → ℕ → Bool
+is_home cells key = (cell cells key).1
+
+-- each link's word is at home
+abbrev pub AreHome : List Cell → ℕ → List Link → Type 0
+AreHome cells place [] = Unit {0}
+AreHome cells place (l ∷ links) = (is_home cells place ≡ true) × AreHome cells l.next links
+
+-- the first word is 0 while there is no link. It and the second one, the first link's, are at home
+-- from the start
+pub record IsKept (cells : List Cell) (links : List Link) : Type 0 where
+  pub two : 1 < length cells
+  pub first : is_home cells 0 ≡ true
+  pub second : is_home cells first_place ≡ true
+  pub begun : (cell cells 0).0 ≡ 0 → links ≡ []
+  pub home : AreHome cells first_place links
 
 abbrev pub head_of : Book → Named
 head_of b = record { tracked = true; key = 0; book = b }
 
--- the pen of the place after so many entries
-abbrev pub pen_after : ℕ → Nib
-pen_after n = nib may_write (suc (suc n)) 0
+-- a pen that may write the word after these links
+abbrev pub IsPenAfter : List Link → Nib → Type 0
+IsPenAfter links pen = (pen.right ≡ may_write) × (pen.key ≡ place_after first_place links)
 
--- a place was opened, after so many open ones; or another number of them was found
-abbrev pub Reserves : Step Entry → View Entry ℕ → ℕ → View Entry ℕ → Type 0
-Reserves s v found w = MatchBool (found == s.old) ((w.1.0 ≡ nib may_make (suc (suc (length w.0 + s.old))) 0) × (s.old ≡ 0 → w.0 ≡ [])) (Unit {0})
+-- ---- steps
 
--- the pen's place was filled, and no entry was before it that hadn't been seen; or the pen is left
-abbrev pub Fills : Step Entry → View Entry ℕ → ℕ → View Entry ℕ → Type 0
-Fills s v found w = MatchBool (found == s.old) ((w.0 ≡ v.0 ++ s.ask ∷ []) × (v.1.0 ≡ pen_after (length v.0))) (w.1.0 ≡ v.1.0)
+-- a place was made
+abbrev pub Reserves : Step Link → View Link ℕ → ℕ → View Link ℕ → Type 0
+Reserves s v found w = w.1.0.right ≡ may_make
 
--- what was seen ends before the pen's place
-abbrev pub Looks : Step Entry → View Entry ℕ → ℕ → View Entry ℕ → Type 0
-Looks s v found w = (w.1.0 ≡ v.1.0) × (length v.0 + 2 ≤ v.1.0.key)
+-- the first link was added, if there was none
+abbrev pub Begins : Step Link → View Link ℕ → ℕ → View Link ℕ → Type 0
+Begins s v found w = MatchBool (found == 0) (w.0 ≡ s.ask ∷ []) (Unit {0})
+
+-- a link was added, and before it none that hadn't been seen
+abbrev pub Fills : Step Link → View Link ℕ → ℕ → View Link ℕ → Type 0
+Fills s v found w = w.0 ≡ v.0 ++ s.ask ∷ []
+
+-- what was seen is as long as the list after which the pen writes
+abbrev pub Looks : Step Link → View Link ℕ → ℕ → View Link ℕ → Type 0
+Looks s v found w = (w.1.0 ≡ v.1.0)
+    × ((links : List Link) → IsPrefix links v.0 → v.1.0.key ≡ place_after first_place links
+    → links ≡ v.0)
 
 -- ys begins with xs, and goes on
 abbrev pub IsLonger : List Entry → List Entry → Type 0

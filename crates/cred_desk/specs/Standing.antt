@@ -19,16 +19,20 @@ pub record Standing : Type 0 where
   pub count : ℕ
 
 -- a ticket is the request with the record of its name in this book
-abbrev pub BeginsAt : Accounts → Standing → Standing → Request → Result Task (Request × DeskError) → Type 0
-BeginsAt book old new request (Ok ticket) = (ticket.0 ≡ request) × (map.get book (name_of request) ≡ Some ticket.1)
-BeginsAt book old new request (Err (back, error.NoAccount)) = (back ≡ request) × (map.get book (name_of request) ≡ None)
+abbrev pub BeginsAt : Accounts → Standing → Standing → Request → Result Task (Request × DeskError)
+    → Type 0
+BeginsAt book old new request (Ok ticket) = (ticket.0 ≡ request)
+    × (map.get book (name_of request) ≡ Some ticket.1)
+BeginsAt book old new request (Err (back, error.NoAccount)) = (back ≡ request)
+    × (map.get book (name_of request) ≡ None)
 BeginsAt book old new request (Err (back, error.Reader)) = (back ≡ request) × (new ≡ old)
 BeginsAt book old new request (Err (back, error.Memory)) = ⊥
 BeginsAt book old new request (Err (back, error.Sessions)) = ⊥
 BeginsAt book old new request (Err (back, error.Session)) = ⊥
 
 -- the answer is the one of a commit at this book
-abbrev pub ClosesAt : Accounts → Standing → Standing → Task → Result Reply (Task × DeskError) → Type 0
+abbrev pub ClosesAt : Accounts → Standing → Standing → Task → Result Reply (Task × DeskError)
+    → Type 0
 ClosesAt book old new work (Ok answer) = answer ≡ reply_of book work
 ClosesAt book old new work (Err (back, error.Reader)) = (back ≡ work) × (new ≡ old)
 ClosesAt book old new work (Err (back, error.Memory)) = ⊥
@@ -39,7 +43,8 @@ ClosesAt book old new work (Err (back, error.NoAccount)) = ⊥
 -- a settle is a commit at a legal list that begins with the known one, and is counted if it is a
 -- change. Where a change that was due there found no memory, the session knows that list, and
 -- nothing is counted
-abbrev pub Settles : Accounts → Standing → Standing → Task → Result (Reply × List Entry) (Task × DeskError) → Type 0
+abbrev pub Settles : Accounts → Standing → Standing → Task
+    → Result (Reply × List Entry) (Task × DeskError) → Type 0
 Settles opening old new work (Ok (answer, told)) =
     (list : List Entry) × IsLegal opening list × IsPrefix old.known list
     × (answer ≡ reply_of (after opening list) work)

@@ -1,14 +1,16 @@
-//! What lies behind a desk's lock: the publisher of its book, and the count of what its sessions
-//! settled.
+//! What lies behind a desk's lock: the publisher of its book, the writer of its entries, and the
+//! count of what its sessions settled.
 
-ghost use Rattle.std.specs.Prelude.{◌≡◌, ◌≢◌, ◌+◌, ◌≤◌, [], All, IfErr, IfOk, MatchResult, None, false, length, map, sum, vec_capacity, vec_len};
+ghost use Rattle.std.specs.Prelude.{◌≡◌, ◌≢◌, ◌+◌, ◌++◌, ◌∷◌, ◌≤◌, [], All, Err, IfErr, IfOk, MatchResult, None, Some, false, length, map, sum, true, vec_capacity, vec_len};
 ghost use mathlib.Core.List.{IsPrefix};
+ghost use Rattle.cred_book.specs.Calls.{Admits, Loads};
+ghost use Rattle.cred_book.specs.declared.error.BookError.TheVariants.{Memory as memory};
+ghost use Rattle.cred_desk.specs.Additions.{IsAdded, IsAt, refusal_of};
 ghost use Rattle.cred_desk.specs.Commits.{entry_of, list_after, reply_of, weight};
-ghost use Rattle.cred_desk.specs.Histories.{IsLegal, after};
+ghost use Rattle.cred_desk.specs.Histories.{Allowed, IsAdmitted, IsListed, IsLoaded, after, entry};
 ghost use Rattle.cred_desk.specs.Standing.{IsMissed};
-ghost use Rattle.cred_desk.specs.declared.error.DeskError.TheVariants as error;
 
-use crate::closed::Closed;
+use crate::closed::{Closed, Kept, Remains};
 use crate::entry::Entry;
 use crate::error::DeskError;
 use crate::naming::Naming;
@@ -16,7 +18,9 @@ use crate::published::{Published, Shown};
 use crate::publisher::Publisher;
 use crate::session::Session;
 use crate::told::Told;
-use cred_book::{Book, Reply, Worked};
+use crate::writer::{EntryWriter, KeepError};
+use cred_book::{BookError, Name, Reply, Worked};
+use cred_phc::Record;
 use crossbeam_utils::rule::Protocol;
 use left_right::Absorb;
 use std::marker::Model;
@@ -24,84 +28,100 @@ use std::sync::Wait;
 use std::sync::ledger::{Book as Total, Share};
 
 /// Settles one work after another, and counts the changes. Contracts see it as its list.
-pub(crate) struct Clerk<J: Naming>
+pub(crate) struct Clerk<J: Naming, W: EntryWriter>
 where
     Shown<J>: Absorb<(), State = ()>,
     Published<J>: Protocol<Shown<J>, ()>,
 {
     publisher: Publisher<J>,
+    /// Keeps each entry before anybody sees it.
+    writer: W,
     total: Total<J>,
     /// What the sessions' shares are merged into.
     spare: Share<J>,
     sessions: u8,
     /// Empty, with room for each session's count.
     counts: Vec<u64>,
+    /// How many admissions and loads there were.
+    additions: u64,
 }
 
-impl<J: Naming> Model for Clerk<J>
+impl<J: Naming, W: EntryWriter> Model for Clerk<J, W>
 where
     Shown<J>: Absorb<(), State = ()>,
     Published<J>: Protocol<Shown<J>, ()>,
 {
-    ghost use Rattle.std.specs.Prelude.{◌≡◌, ◌≤◌, List, [], false, length, vec_capacity};
+    ghost use Rattle.std.specs.Prelude.{◌≡◌, ◌+◌, ◌≤◌, List, [], false, length, vec_capacity};
     ghost use Rattle.cred_desk.specs.declared.entry.Entry.{Entry};
 
     ghost Value = { List Entry };
 
     ghost view = { λ c. c.publisher };
 
-    ghost invariant = { λ c. (c.total.total ≡ length c.publisher) × (c.spare.parts ≡ 0) × (c.spare.amount ≡ 0) × (c.counts.items ≡ []) × (c.sessions ≤ vec_capacity c.counts) × (J.parts ≡ c.sessions) × (J.loads ≡ false) };
+    ghost invariant = { λ c. ((c.total.total + c.additions ≡ length c.publisher)
+        × (J.loads ≡ false → c.additions ≡ 0))
+        × ((c.spare.parts ≡ 0) × (c.spare.amount ≡ 0))
+        × ((c.counts.items ≡ []) × (c.sessions ≤ vec_capacity c.counts) × (J.parts ≡ c.sessions))
+        × W.keeps c.writer c.publisher };
 }
 
-impl<J: Naming> Clerk<J> {
+impl<J: Naming, W: EntryWriter> Clerk<J, W> {
     /// One who has settled nothing.
     pub(crate) fn new(
         publisher: Publisher<J>,
+        writer: W,
         total: Total<J>,
         spare: Share<J>,
         sessions: u8,
         counts: Vec<u64>,
-    ) -> Clerk<J>
+    ) -> Clerk<J, W>
         requires list { publisher ≡ [] }
+        requires kept { W.keeps writer [] }
         requires total { (total.total ≡ 0) × (spare.parts ≡ 0) × (spare.amount ≡ 0) }
         requires counts { (counts.items ≡ []) × (sessions ≤ vec_capacity counts) }
-        requires name { (J.parts ≡ sessions) × (J.loads ≡ false) }
+        requires name { J.parts ≡ sessions }
         ensures { result ≡ [] }
     {
         Clerk {
             publisher,
+            writer,
             total,
             spare,
             sessions,
             counts,
+            additions: 0,
         }
     }
 
     /// Commits the work for the session, which knows the list after it from then on.
     ///
-    /// Errors: `Memory` where a change finds none. The list stays then, the session knows it, and
-    /// the work comes back.
+    /// Errors: `Memory` where a change finds none; the writer's own. The list stays then, the
+    /// session knows it, and the work comes back.
     #[tactic(auto, using(crate::proofs::Lists::length_list_after))]
     pub(crate) fn settle<R: Wait>(
         &mut self,
         rt: &R,
         session: &mut Session<J>,
         work: Worked,
-    ) -> Result<(Reply, Told<J>), (Worked, DeskError)>
-        ensures legal { IsLegal J.opening self.old }
+    ) -> Result<(Reply, Told<J>), (Worked, KeepError<W::Error>)>
+        ensures listed { IsListed J.loads J.opening self.old }
         ensures behind { IsPrefix session.old.known self.old }
         ensures reply { IfOk result (λ r. r.0 ≡ reply_of (after J.opening self.old) work) }
-        ensures list { IfOk result (λ _. self.new ≡ list_after self.old (entry_of (after J.opening self.old) work)) }
+        ensures list { IfOk result (λ _.
+            self.new ≡ list_after self.old (entry_of (after J.opening self.old) work)) }
         ensures told { IfOk result (λ r. r.1 ≡ self.new) }
         ensures learns { session.new.known ≡ self.new }
         ensures known { IsPrefix session.old.known session.new.known }
-        ensures count { IfOk result (λ _. session.new.count ≡ session.old.count + weight (entry_of (after J.opening self.old) work)) }
-        ensures refused { IfErr result (λ e. (e.0 ≡ work) × (e.1 ≡ error.Memory) × (self.new ≡ self.old) × (session.new.count ≡ session.old.count)) }
+        ensures count { IfOk result (λ _. session.new.count
+            ≡ session.old.count + weight (entry_of (after J.opening self.old) work)) }
+        ensures refused { IfErr result (λ e. (e.0 ≡ work) × (self.new ≡ self.old)
+            × (session.new.count ≡ session.old.count)) }
         ensures due { IfErr result (λ _. entry_of (after J.opening self.old) work ≢ None) }
+        ensures error { IfErr result (λ e. refusal_of e.1 ≡ memory) }
     {
         self.publisher.covers(session.known());
         let before = self.publisher.front().len();
-        let settled = self.publisher.commit(rt, work);
+        let settled = self.publisher.commit(rt, work, &mut self.writer);
         let changes = self.publisher.front().len() - before;
         session.count_changes(&mut self.total, changes);
         let told = self.publisher.told();
@@ -112,58 +132,188 @@ impl<J: Naming> Clerk<J> {
         }
     }
 
+    /// Adds a name with no record for the session, which knows the list after it from then on.
+    ///
+    /// Errors: `Exists` where the name is there; `Full` where there is no room for it; as of `add`.
+    /// The list stays then, and the session knows it.
+    pub(crate) fn admit<R: Wait>(
+        &mut self,
+        rt: &R,
+        session: &mut Session<J>,
+        name: Name,
+    ) -> Result<Told<J>, KeepError<W::Error>>
+        requires { J.loads ≡ true }
+        ensures done { IfOk result (IsAdded J.loads J.opening session.old session.new
+            IsAdmitted (entry name None)) }
+        ensures refused { IfErr result (λ e. IsAt J.loads J.opening session.old session.new
+            × Admits (after J.opening session.new.known) (after J.opening session.new.known) name
+            (Err (refusal_of e))
+            × (session.new.count ≡ session.old.count)) }
+        ensures known { IsPrefix session.old.known session.new.known }
+    {
+        if self.publisher.book().show(&name).is_ok() {
+            return Err(self.refuse(session, BookError::Exists));
+        }
+        if self.publisher.book().is_full() {
+            return Err(self.refuse(session, BookError::Full));
+        }
+        self.add(rt, session, Entry { name, now: None })
+    }
+
+    /// Puts a record at a name for the session, which knows the list after it from then on.
+    ///
+    /// Errors: `NoAccount` where the name isn't there; as of `add`. The list stays then, and the
+    /// session knows it.
+    pub(crate) fn load<R: Wait>(
+        &mut self,
+        rt: &R,
+        session: &mut Session<J>,
+        name: Name,
+        stored: Record,
+    ) -> Result<Told<J>, KeepError<W::Error>>
+        requires { J.loads ≡ true }
+        ensures done { IfOk result (IsAdded J.loads J.opening session.old session.new
+            IsLoaded (entry name (Some stored))) }
+        ensures refused { IfErr result (λ e. IsAt J.loads J.opening session.old session.new
+            × Loads (after J.opening session.new.known) (after J.opening session.new.known) name
+            stored (Err (refusal_of e))
+            × (session.new.count ≡ session.old.count)) }
+        ensures known { IsPrefix session.old.known session.new.known }
+    {
+        if self.publisher.book().show(&name).is_err() {
+            return Err(self.refuse(session, BookError::NoAccount));
+        }
+        let now = Some(stored);
+        self.add(rt, session, Entry { name, now })
+    }
+
+    /// Adds an entry for the session, which knows the list after it from then on.
+    ///
+    /// Errors: `Memory` where there is none; the writer's own. The list stays then, and the session
+    /// knows it.
+    fn add<R: Wait>(
+        &mut self,
+        rt: &R,
+        session: &mut Session<J>,
+        entry: Entry,
+    ) -> Result<Told<J>, KeepError<W::Error>>
+        requires allowed { Allowed J.loads (after J.opening self.old) entry }
+        requires loads { J.loads ≡ true }
+        ensures listed { IsListed J.loads J.opening self.old }
+        ensures behind { IsPrefix session.old.known self.old }
+        ensures list { MatchResult result
+            (λ told. (self.new ≡ self.old ++ entry ∷ []) × (told ≡ self.new))
+            (λ e. (self.new ≡ self.old) × (refusal_of e ≡ memory)) }
+        ensures learns { session.new.known ≡ self.new }
+        ensures known { IsPrefix session.old.known session.new.known }
+        ensures count { session.new.count ≡ session.old.count }
+    {
+        let known = session.known();
+        self.publisher.covers(known);
+        let before = self.publisher.front().len();
+        let added = self.publisher.publish(rt, entry, &mut self.writer);
+        self.additions += self.publisher.front().len() - before;
+        let told = self.publisher.told();
+        session.learn(&told);
+        match added {
+            Ok(()) => Ok(told),
+            Err(error) => Err(error),
+        }
+    }
+
+    /// The refusal of an addition. The session knows the list at which it was refused.
+    fn refuse(&mut self, session: &mut Session<J>, error: BookError) -> KeepError<W::Error>
+        ensures same { self.new ≡ self.old }
+        ensures listed { IsListed J.loads J.opening self.old }
+        ensures error { refusal_of result ≡ error }
+        ensures learns { session.new.known ≡ self.new }
+        ensures known { IsPrefix session.old.known session.new.known }
+        ensures count { session.new.count ≡ session.old.count }
+    {
+        let known = session.known();
+        self.publisher.covers(known);
+        session.learn(&self.publisher.told());
+        KeepError::Book(error)
+    }
+
     /// Looks whether these are all sessions of the desk. None knows more than the journal.
     ///
     /// Errors: `Session` where some are missing.
     pub(crate) fn look(&mut self, sessions: &[Session<J>]) -> Result<(), DeskError>
         ensures same { self.new ≡ self.old }
-        ensures all { MatchResult result (λ _. length sessions.now ≡ J.parts) (IsMissed J.parts sessions.now) }
+        ensures all { MatchResult result (λ _. length sessions.now ≡ J.parts)
+            (IsMissed J.parts sessions.now) }
         ensures known { IfOk result (λ _. All (λ s. IsPrefix s.known self.new) sessions.now) }
     {
         if sessions.len() != usize::from(self.sessions) {
             return Err(DeskError::Session);
         }
-        cover_all(&mut self.publisher, sessions);
+        self.cover(sessions);
         Ok(())
     }
 
-    /// Gives the book, the journal, and each session's count.
-    pub(crate) fn close<R: Wait>(self, rt: &R, sessions: Vec<Session<J>>) -> Closed
+    /// Finds that none of these sessions knows more than the journal.
+    pub(crate) fn cover(&mut self, sessions: &[Session<J>])
+        ensures same { self.new ≡ self.old }
+        ensures known { All (λ s. IsPrefix s.known self.new) sessions.now }
+    {
+        cover_all(&mut self.publisher, sessions);
+    }
+
+    /// Gives the book, the journal, each session's count, and the writer.
+    pub(crate) fn close<R: Wait>(self, rt: &R, sessions: Vec<Session<J>>) -> Kept<W>
         requires { vec_len sessions ≡ J.parts }
-        ensures legal { IsLegal J.opening result.journal.items }
-        ensures journal { result.journal.items ≡ self }
-        ensures book { result.book ≡ after J.opening result.journal.items }
-        ensures counts { result.counts.items ≡ map (λ s. s.count) sessions.items }
-        ensures total { sum result.counts.items ≡ length result.journal.items }
+        ensures listed { IsListed J.loads J.opening result.closed.journal.items }
+        ensures journal { result.closed.journal.items ≡ self }
+        ensures book { result.closed.book ≡ after J.opening result.closed.journal.items }
+        ensures counts { result.closed.counts.items ≡ map (λ s. s.count) sessions.items }
+        ensures total { sum result.closed.counts.items + result.additions
+            ≡ length result.closed.journal.items }
+        ensures additions { J.loads ≡ false → result.additions ≡ 0 }
+        ensures kept { W.keeps result.writer result.closed.journal.items }
     {
         let Clerk {
             publisher,
+            writer,
             mut total,
             spare: mut all,
             sessions: _,
             mut counts,
+            additions,
         } = self;
         write_counts(&mut counts, &sessions);
         merge_shares(&mut all, sessions);
         total.audit(&mut all);
-        let (book, journal) = publisher.finish(rt);
-        Closed {
+        let Remains { book, journal } = publisher.finish(rt);
+        let closed = Closed {
             book,
             journal,
             counts,
+        };
+        Kept {
+            closed,
+            additions,
+            writer,
         }
     }
 
-    /// Lets the sessions in to no book from now on.
-    pub(crate) fn end<R: Wait>(self, rt: &R) {
+    /// Gives the book, the journal and the writer, without counts.
+    pub(crate) fn give_up<R: Wait>(self, rt: &R) -> (Remains, W)
+        ensures listed { IsListed J.loads J.opening result.0.journal.items }
+        ensures journal { result.0.journal.items ≡ self }
+        ensures book { result.0.book ≡ after J.opening result.0.journal.items }
+        ensures kept { W.keeps result.1 result.0.journal.items }
+    {
         let Clerk {
             publisher,
+            writer,
             total: _,
             spare: _,
             sessions: _,
             counts: _,
+            additions: _,
         } = self;
-        publisher.finish(rt);
+        (publisher.finish(rt), writer)
     }
 }
 

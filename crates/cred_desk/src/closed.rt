@@ -1,7 +1,13 @@
 //! What a desk leaves.
 
+ghost use Rattle.std.specs.Prelude.{◌≡◌};
+ghost use Rattle.std.specs.FinMap as map;
+ghost use Rattle.std.specs.Slice.Iter.{iter_rest};
+
 use crate::entry::Entry;
-use cred_book::Book;
+use cred_book::{Book, Name};
+use cred_phc::Record;
+use std::{fmt, slice};
 
 /// What is left of a desk that was closed with all its sessions.
 #[derive(Drop)]
@@ -11,4 +17,60 @@ pub struct Closed {
     pub journal: Vec<Entry>,
     /// How many of them each session made, in the order in which the sessions were handed in.
     pub counts: Vec<u64>,
+}
+
+impl Closed {
+    /// How many names its book has.
+    pub fn len(&self) -> usize
+        ensures { result ≡ map.len self.now.book }
+    {
+        self.book.len()
+    }
+
+    /// The names of its book with their records, in the order of the names.
+    pub fn iter(&self) -> slice::Iter<'_, (Name, Option<Record>)>
+        ensures { iter_rest result ≡ map.entries self.now.book }
+    {
+        self.book.iter()
+    }
+}
+
+impl fmt::Debug for Closed {
+    fn fmt<W: fmt::Write>(&self, f: &mut fmt::Formatter<W>) -> fmt::Result {
+        write!(
+            f,
+            "Closed {{ names: {}, changes: {} }}",
+            self.book.len(),
+            self.journal.len()
+        )
+    }
+}
+
+/// What is left of a desk that was given up, whatever became of its sessions.
+#[derive(Drop)]
+pub struct Remains {
+    pub book: Book,
+    /// All changes, in order.
+    pub journal: Vec<Entry>,
+}
+
+impl fmt::Debug for Remains {
+    fn fmt<W: fmt::Write>(&self, f: &mut fmt::Formatter<W>) -> fmt::Result {
+        write!(
+            f,
+            "Remains {{ names: {}, changes: {} }}",
+            self.book.len(),
+            self.journal.len()
+        )
+    }
+}
+
+/// What is left of a kept desk that was closed with all its sessions.
+#[derive(Drop)]
+pub struct Kept<W> {
+    pub closed: Closed,
+    /// How many of the changes were admissions and loads, which no session counts.
+    pub additions: u64,
+    /// It keeps the journal.
+    pub writer: W,
 }

@@ -1,10 +1,11 @@
 //! The one who keeps a published book: what it changes, its sessions see.
 
 ghost use Rattle.std.specs.Prelude.{◌≡◌, ◌++◌, ◌∷◌, [], All, IfErr, IfOk, IsOk, MatchResult, None, Some, nat_le, true, vec_len};
+ghost use mathlib.Core.List.{IsPrefix};
 ghost use Rattle.cred_book.specs.Calls.{Admits, Loads};
 ghost use Rattle.cred_book.specs.Commits.{Commits};
 ghost use Rattle.cred_desk.specs.Commits.{entry_of, list_after, reply_of};
-ghost use Rattle.cred_desk.specs.Histories.{IsLawful, after, entry};
+ghost use Rattle.cred_desk.specs.Histories.{IsLawful, IsLegal, after, entry};
 ghost use Rattle.cred_desk.specs.Refusals.{IsRefusedToMake};
 ghost use Rattle.cred_desk.specs.declared.error.DeskError.TheVariants as error;
 
@@ -16,11 +17,13 @@ use crate::published::{Published, Shown};
 use crate::publisher::Publisher;
 use crate::session::Session;
 use crate::told::Told;
+use crate::writer::Unkept;
 use cred_book::{Book, BookError, Keeper, Name, Reply, Request, Ticket, Worked};
 use cred_phc::Record;
 use crossbeam_utils::rule::Protocol;
 use left_right::Absorb;
 use std::alloc::Global;
+use std::fmt;
 use std::marker::Model;
 use std::sync::Wait;
 
@@ -51,6 +54,16 @@ where
     ghost invariant = { λ c. (J.loads ≡ true) × IsLawful J.opening c.publisher };
 }
 
+impl<J: Naming> fmt::Debug for Committer<J> {
+    fn fmt<W: fmt::Write>(&self, f: &mut fmt::Formatter<W>) -> fmt::Result {
+        write!(
+            f,
+            "Committer {{ changes: {} }}",
+            self.publisher.front().len()
+        )
+    }
+}
+
 impl<J: Naming> Committer<J> {
     /// Copies the book, and shows it to so many sessions, 0 to 32 of them.
     ///
@@ -63,10 +76,13 @@ impl<J: Naming> Committer<J> {
         book: &Book,
         sessions: u8,
     ) -> Result<(Committer<J>, Vec<Session<J>>), DeskError>
-        requires name { (opened.seen.book ≡ J.book) × (opened.blank.name ≡ J.name) × (opened.blank.parts ≡ J.parts) }
+        requires name { (opened.seen.book ≡ J.book) × (opened.blank.name ≡ J.name)
+            × (opened.blank.parts ≡ J.parts) }
         requires opening { (book.now ≡ J.opening) × (J.parts ≡ sessions) × (J.loads ≡ true) }
         ensures list { IfOk result (λ made. made.0 ≡ []) }
-        ensures sessions { IfOk result (λ made. (vec_len made.1 ≡ sessions) × All (λ s. (s.known ≡ []) × (s.count ≡ 0)) made.1.items) }
+        ensures sessions { IfOk result
+            (λ made. (vec_len made.1 ≡ sessions)
+            × All (λ s. (s.known ≡ []) × (s.count ≡ 0)) made.1.items) }
         ensures few { IfOk result (λ _. nat_le sessions 32 ≡ true) }
         ensures refused { IfErr result (IsRefusedToMake (nat_le sessions 32)) }
     {
@@ -93,14 +109,28 @@ impl<J: Naming> Committer<J> {
         work: Worked,
     ) -> Result<(Reply, Told<J>), (Worked, DeskError)>
         ensures reply { IfOk result (λ r. r.0 ≡ reply_of (after J.opening self.old) work) }
-        ensures list { IfOk result (λ r. self.new ≡ list_after self.old (entry_of (after J.opening self.old) work)) }
+        ensures list { IfOk result
+            (λ r. self.new ≡ list_after self.old (entry_of (after J.opening self.old) work)) }
         ensures told { IfOk result (λ r. r.1 ≡ self.new) }
         ensures lawful { IsLawful J.opening self.new }
-        ensures refused { IfErr result (λ e. (e.0 ≡ work) × (e.1 ≡ error.Memory) × (self.new ≡ self.old)) }
+        ensures legal { IsLegal J.opening self.old → IsLegal J.opening self.new }
+        ensures refused { IfErr result
+            (λ e. (e.0 ≡ work) × (e.1 ≡ error.Memory) × (self.new ≡ self.old)) }
         ensures plain { entry_of (after J.opening self.old) work ≡ None → IsOk result }
     {
-        let reply = self.publisher.commit(rt, work)?;
-        Ok((reply, self.publisher.told()))
+        match self.publisher.commit(rt, work, &mut Unkept) {
+            Ok(reply) => Ok((reply, self.publisher.told())),
+            Err((work, _)) => Err((work, DeskError::Memory)),
+        }
+    }
+
+    /// Finds that what the session knows is a beginning of the list. So whatever a session reads is
+    /// of this list, and where it has learned what `commit_told` told last it knows the whole.
+    pub fn covers(&mut self, session: &Session<J>)
+        ensures begins { IsPrefix session.now.known self.new }
+        ensures same { self.new ≡ self.old }
+    {
+        self.publisher.covers(session.known());
     }
 
     /// Lets the sessions in to no book from now on. It waits for those that read it.
@@ -119,7 +149,8 @@ impl<J: Naming> Keeper for Committer<J> {
     #[tactic(auto, using(crate::proofs::Lists::after_snoc))]
     fn admit<R: Wait>(&mut self, rt: &R, name: Name) -> Result<(), BookError>
         ensures book { Admits (after J.opening self.old) (after J.opening self.new) name result }
-        ensures list { MatchResult result (λ _. self.new ≡ self.old ++ entry name None ∷ []) (λ _. self.new ≡ self.old) }
+        ensures list { MatchResult result (λ _. self.new ≡ self.old ++ entry name None ∷ [])
+            (λ _. self.new ≡ self.old) }
         ensures lawful { IsLawful J.opening self.new }
     {
         if self.show(&name).is_ok() {
@@ -129,20 +160,23 @@ impl<J: Naming> Keeper for Committer<J> {
             return Err(BookError::Full);
         }
         self.publisher
-            .publish(rt, Entry { name, now: None })
+            .publish(rt, Entry { name, now: None }, &mut Unkept)
             .map_err(|_| BookError::Memory)
     }
 
     #[tactic(auto, using(crate::proofs::Lists::after_snoc))]
     fn load<R: Wait>(&mut self, rt: &R, name: &Name, stored: Record) -> Result<(), BookError>
-        ensures book { Loads (after J.opening self.old) (after J.opening self.new) name.now stored result }
-        ensures list { MatchResult result (λ _. self.new ≡ self.old ++ entry name.entry.now (Some stored) ∷ []) (λ _. self.new ≡ self.old) }
+        ensures book { Loads (after J.opening self.old)
+            (after J.opening self.new) name.now stored result }
+        ensures list { MatchResult result
+            (λ _. self.new ≡ self.old ++ entry name.entry.now (Some stored) ∷ [])
+            (λ _. self.new ≡ self.old) }
         ensures lawful { IsLawful J.opening self.new }
     {
         self.show(name)?;
         let now = Some(stored);
         self.publisher
-            .publish(rt, Entry { name: *name, now })
+            .publish(rt, Entry { name: *name, now }, &mut Unkept)
             .map_err(|_| BookError::Memory)
     }
 
@@ -157,12 +191,15 @@ impl<J: Naming> Keeper for Committer<J> {
     #[tactic(auto, using(crate::proofs::Changes::commits))]
     fn commit<R: Wait>(&mut self, rt: &R, worked: Worked) -> Result<Reply, (Worked, BookError)>
         ensures book { Commits (after J.opening self.old) (after J.opening self.new) worked result }
-        ensures list { MatchResult result (λ _. self.new ≡ list_after self.old (entry_of (after J.opening self.old) worked)) (λ _. self.new ≡ self.old) }
+        ensures list { MatchResult result
+            (λ _. self.new ≡ list_after self.old (entry_of (after J.opening self.old) worked))
+            (λ _. self.new ≡ self.old) }
         ensures plain { entry_of (after J.opening self.old) worked ≡ None → IsOk result }
         ensures lawful { IsLawful J.opening self.new }
+        ensures legal { IsLegal J.opening self.old → IsLegal J.opening self.new }
     {
         self.publisher
-            .commit(rt, worked)
+            .commit(rt, worked, &mut Unkept)
             .map_err(|(worked, _)| (worked, BookError::Memory))
     }
 }

@@ -7,7 +7,7 @@ ghost use Rattle.cred_desk.specs.Refusals.{IsRefusedToMake};
 ghost use Rattle.cred_desk.specs.Standing.{IsMissed, Settles};
 
 use crate::clerk::Clerk;
-use crate::closed::Closed;
+use crate::closed::{Closed, Kept, Remains};
 use crate::entry::Entry;
 use crate::error::DeskError;
 use crate::making::{MOST_SESSIONS, Made, make};
@@ -15,10 +15,13 @@ use crate::naming::{Naming, Opened};
 use crate::published::{Published, Shown};
 use crate::session::Session;
 use crate::told::Told;
+use crate::writer::Unkept;
 use cred_book::{Book, Reply, Worked};
 use crossbeam_utils::rule::Protocol;
 use left_right::Absorb;
 use std::alloc::Global;
+use std::fmt;
+use std::marker::Model;
 use std::sync::{Mutex, MutexGuard, Wait};
 
 /// Keeps a book that sessions read while they change it, and a journal of all changes. It isn't
@@ -28,7 +31,27 @@ where
     Shown<J>: Absorb<(), State = ()>,
     Published<J>: Protocol<Shown<J>, ()>,
 {
-    clerk: Mutex<Clerk<J>>,
+    clerk: Mutex<Clerk<J, Unkept>>,
+}
+
+impl<J: Naming> Model for Desk<J>
+where
+    Shown<J>: Absorb<(), State = ()>,
+    Published<J>: Protocol<Shown<J>, ()>,
+{
+    ghost use Rattle.std.specs.Prelude.{◌≡◌, false};
+
+    ghost Value = { Unit {0} };
+
+    ghost view = { λ _. tt };
+
+    ghost invariant = { λ _. J.loads ≡ false };
+}
+
+impl<J: Naming> fmt::Debug for Desk<J> {
+    fn fmt<W: fmt::Write>(&self, f: &mut fmt::Formatter<W>) -> fmt::Result {
+        write!(f, "Desk {{ .. }}")
+    }
 }
 
 impl<J: Naming> Desk<J> {
@@ -44,9 +67,12 @@ impl<J: Naming> Desk<J> {
         book: &Book,
         sessions: u8,
     ) -> Result<(Desk<J>, Vec<Session<J>>), DeskError>
-        requires name { (opened.seen.book ≡ J.book) × (opened.blank.name ≡ J.name) × (opened.blank.parts ≡ J.parts) }
+        requires name { (opened.seen.book ≡ J.book) × (opened.blank.name ≡ J.name)
+            × (opened.blank.parts ≡ J.parts) }
         requires opening { (book.now ≡ J.opening) × (J.parts ≡ sessions) × (J.loads ≡ false) }
-        ensures sessions { IfOk result (λ made. (vec_len made.1 ≡ sessions) × All (λ s. (s.known ≡ []) × (s.count ≡ 0)) made.1.items) }
+        ensures sessions { IfOk result
+            (λ made. (vec_len made.1 ≡ sessions)
+            × All (λ s. (s.known ≡ []) × (s.count ≡ 0)) made.1.items) }
         ensures few { IfOk result (λ _. (nat_le 1 sessions && nat_le sessions 32) ≡ true) }
         ensures refused { IfErr result (IsRefusedToMake (nat_le 1 sessions && nat_le sessions 32)) }
     {
@@ -60,7 +86,7 @@ impl<J: Naming> Desk<J> {
             total,
             spare,
         } = make(rt, alloc, opened, book, sessions)?;
-        let clerk = Mutex::new(Clerk::new(publisher, total, spare, sessions, counts));
+        let clerk = Mutex::new(Clerk::new(publisher, Unkept, total, spare, sessions, counts));
         Ok((Desk { clerk }, seats))
     }
 
@@ -70,6 +96,7 @@ impl<J: Naming> Desk<J> {
     ///
     /// Errors: `Memory` where a change finds none. Nothing changes then but that the session knows
     /// the list at which the change was due, and the work comes back.
+    #[tactic(auto, using(crate::proofs::Lists::legal_if))]
     pub fn settle<R: Wait>(
         &self,
         rt: &R,
@@ -83,13 +110,17 @@ impl<J: Naming> Desk<J> {
         let settled = clerk.settle(rt, session, work);
         // Its drop would ask that a clerk be `Drop`.
         MutexGuard::unlock(clerk);
-        settled
+        match settled {
+            Ok(done) => Ok(done),
+            Err((work, _)) => Err((work, DeskError::Memory)),
+        }
     }
 
     /// Gives the book, the journal and the counts, where all sessions of the desk are handed in, in
     /// any order. It waits for those that read the book.
     ///
     /// Errors: `Session` where some are missing. The desk and the sessions come back.
+    #[tactic(auto, using(crate::proofs::Lists::legal_if))]
     pub fn close<R: Wait>(
         self,
         rt: &R,
@@ -97,16 +128,27 @@ impl<J: Naming> Desk<J> {
     ) -> Result<Closed, (Desk<J>, Vec<Session<J>>, DeskError)>
         ensures legal { IfOk result (λ closed. IsLegal J.opening closed.journal.items) }
         ensures book { IfOk result (λ closed. closed.book ≡ after J.opening closed.journal.items) }
-        ensures known { IfOk result (λ closed. All (λ s. IsPrefix s.known closed.journal.items) sessions.items) }
-        ensures counts { IfOk result (λ closed. closed.counts.items ≡ map (λ s. s.count) sessions.items) }
-        ensures total { IfOk result (λ closed. sum closed.counts.items ≡ length closed.journal.items) }
-        ensures all { MatchResult result (λ _. vec_len sessions ≡ J.parts) (λ e. IsMissed J.parts sessions.items e.2) }
+        ensures known { IfOk result
+            (λ closed. All (λ s. IsPrefix s.known closed.journal.items) sessions.items) }
+        ensures counts { IfOk result
+            (λ closed. closed.counts.items ≡ map (λ s. s.count) sessions.items) }
+        ensures total { IfOk result
+            (λ closed. sum closed.counts.items ≡ length closed.journal.items) }
+        ensures all { MatchResult result (λ _. vec_len sessions ≡ J.parts)
+            (λ e. IsMissed J.parts sessions.items e.2) }
         ensures back { IfErr result (λ e. e.1.items ≡ sessions.items) }
     {
         let Desk { clerk } = self;
         let mut clerk = clerk.into_inner();
         match clerk.look(&sessions) {
-            Ok(()) => Ok(clerk.close(rt, sessions)),
+            Ok(()) => {
+                let Kept {
+                    closed,
+                    additions: _,
+                    writer: _,
+                } = clerk.close(rt, sessions);
+                Ok(closed)
+            }
             Err(error) => {
                 let clerk = Mutex::new(clerk);
                 Err((Desk { clerk }, sessions, error))
@@ -114,9 +156,25 @@ impl<J: Naming> Desk<J> {
         }
     }
 
+    /// Gives the book and the journal without counts, where a session is lost. These are sessions
+    /// that are still there: the journal begins with what each of them knows. It waits for those
+    /// that read the book.
+    #[tactic(auto, using(crate::proofs::Lists::legal_if))]
+    pub fn give_up<R: Wait>(self, rt: &R, sessions: &[Session<J>]) -> Remains
+        ensures legal { IsLegal J.opening result.journal.items }
+        ensures book { result.book ≡ after J.opening result.journal.items }
+        ensures known { All (λ s. IsPrefix s.known result.journal.items) sessions.now }
+    {
+        let Desk { clerk } = self;
+        let mut clerk = clerk.into_inner();
+        clerk.cover(sessions);
+        let (remains, _unkept) = clerk.give_up(rt);
+        remains
+    }
+
     /// Lets the sessions in to no book from now on. It waits for those that read it.
     pub fn end<R: Wait>(self, rt: &R) {
         let Desk { clerk } = self;
-        clerk.into_inner().end(rt);
+        let (_remains, _unkept) = clerk.into_inner().give_up(rt);
     }
 }

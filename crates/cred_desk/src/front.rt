@@ -3,9 +3,9 @@
 ghost use Rattle.std.specs.Prelude.{◌≡◌, [], length, MatchBool};
 ghost use mathlib.Core.List.{IsPrefix};
 ghost use Rattle.cred_desk.specs.Histories.{IsListed};
-ghost use Rattle.cred_desk.specs.Rules.{IsLonger};
+ghost use Rattle.cred_desk.specs.Rules.{IsLonger, entries_of};
 
-use crate::entry::Entry;
+use crate::link::Link;
 use crate::naming::Naming;
 use crate::rule::Law;
 use logbook::Seen;
@@ -15,7 +15,7 @@ use std::marker::{Model, PhantomData};
 #[derive(Drop)]
 pub(crate) struct Front<J: Naming> {
     entries: u64,
-    seen: Seen<Entry, u64, Law>,
+    seen: Seen<Link, u64, Law>,
     of: PhantomData<J>,
 }
 
@@ -23,21 +23,24 @@ impl<J: Naming> Model for Front<J> {
     ghost use Rattle.std.specs.Prelude.{◌≡◌, List, length};
     ghost use Rattle.cred_desk.specs.declared.entry.Entry.{Entry};
     ghost use Rattle.cred_desk.specs.Histories.{IsListed};
+    ghost use Rattle.cred_desk.specs.Rules.{entries_of};
 
     ghost Value = { List Entry };
 
-    ghost view = { λ f. f.seen.log };
+    ghost view = { λ f. entries_of f.seen.log };
 
-    ghost invariant = { λ f. (f.entries ≡ length f.seen.log) × (f.seen.book ≡ J.book) × IsListed J.loads J.opening f.seen.log };
+    ghost invariant = { λ f. (f.entries ≡ length (entries_of f.seen.log))
+        × (f.seen.book ≡ J.book)
+        × IsListed J.loads J.opening (entries_of f.seen.log) };
 }
 
 impl<J: Naming> Front<J> {
     /// The beginning that was seen so far, which has so many entries.
-    pub(crate) fn of(seen: Seen<Entry, u64, Law>, entries: u64) -> Front<J>
+    pub(crate) fn of(seen: Seen<Link, u64, Law>, entries: u64) -> Front<J>
         requires book { seen.book ≡ J.book }
-        requires length { entries ≡ length seen.log }
-        requires listed { IsListed J.loads J.opening seen.log }
-        ensures { result ≡ seen.log }
+        requires length { entries ≡ length (entries_of seen.log) }
+        requires listed { IsListed J.loads J.opening (entries_of seen.log) }
+        ensures { result ≡ entries_of seen.log }
     {
         Front {
             entries,
@@ -47,9 +50,9 @@ impl<J: Naming> Front<J> {
     }
 
     /// What was seen.
-    pub(crate) fn seen(&self) -> Seen<Entry, u64, Law>
-        ensures seen { (result.log ≡ self.now) × (result.book ≡ J.book) }
-        ensures listed { IsListed J.loads J.opening self.now }
+    pub(crate) fn seen(&self) -> Seen<Link, u64, Law>
+        ensures entries { entries_of result.log ≡ self.now }
+        ensures book { result.book ≡ J.book }
     {
         self.seen.again()
     }
@@ -77,7 +80,8 @@ impl<J: Naming> Front<J> {
     /// Whether the other list begins with this one. Of two beginnings of one list the shorter
     /// begins the longer, so it is enough to compare lengths.
     pub(crate) fn begins(&self, other: &Front<J>) -> bool
-        ensures lists { MatchBool result (IsPrefix self.now other.now) (IsLonger other.now self.now) }
+        ensures lists { MatchBool result (IsPrefix self.now other.now)
+            (IsLonger other.now self.now) }
         ensures listed { IsListed J.loads J.opening other.now }
     {
         let mut both = self.seen.again();

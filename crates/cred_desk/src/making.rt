@@ -42,11 +42,15 @@ pub(crate) fn make<J: Naming, R: Wait>(
     book: &Book,
     sessions: u8,
 ) -> Result<Made<J>, DeskError>
-    requires name { (opened.seen.book ≡ J.book) × (opened.blank.name ≡ J.name) × (opened.blank.parts ≡ J.parts) }
+    requires name { (opened.seen.book ≡ J.book) × (opened.blank.name ≡ J.name)
+        × (opened.blank.parts ≡ J.parts) }
     requires opening { (book.now ≡ J.opening) × (J.parts ≡ sessions) }
     ensures list { IfOk result (λ made. made.publisher ≡ []) }
-    ensures sessions { IfOk result (λ made. (vec_len made.sessions ≡ sessions) × All (λ s. (s.known ≡ []) × (s.count ≡ 0)) made.sessions.items) }
-    ensures count { IfOk result (λ made. (made.total.total ≡ 0) × (made.spare.parts ≡ 0) × (made.spare.amount ≡ 0)) }
+    ensures sessions { IfOk result
+        (λ made. (vec_len made.sessions ≡ sessions)
+        × All (λ s. (s.known ≡ []) × (s.count ≡ 0)) made.sessions.items) }
+    ensures count { IfOk result
+        (λ made. (made.total.total ≡ 0) × (made.spare.parts ≡ 0) × (made.spare.amount ≡ 0)) }
     ensures refused { IfErr result (λ e. IsRefusedToMake true e) }
 {
     let (history, blank) = opened.named::<J>();
@@ -79,7 +83,8 @@ fn open_writer<J: Naming, R: Wait>(
 ) -> Result<BookWriter<J>, AllocError>
     requires empty { front.now ≡ [] }
     requires opening { book.now ≡ J.opening }
-    ensures shown { IfOk result (λ w. (w.desk.shown.value.front ≡ []) × (w.desk.shown.value.book ≡ J.opening)) }
+    ensures shown { IfOk result
+        (λ w. (w.desk.shown.value.front ≡ []) × (w.desk.shown.value.book ≡ J.opening)) }
     ensures spare { IfOk result (λ w. w.desk.spare.value.book ≡ J.opening) }
 {
     let first = Shown::of(book, front)?;
@@ -102,7 +107,8 @@ fn seats<J: Naming>(
 ) -> Result<Vec<Session<J>>, DeskError>
     requires empty { front.now ≡ [] }
     requires spare { (spare.old.parts ≡ count) × (spare.old.amount ≡ 0) }
-    ensures sessions { IfOk result (λ made. (vec_len made ≡ count) × All (λ s. (s.known ≡ []) × (s.count ≡ 0)) made.items) }
+    ensures sessions { IfOk result
+        (λ made. (vec_len made ≡ count) × All (λ s. (s.known ≡ []) × (s.count ≡ 0)) made.items) }
     ensures spare { IfOk result (λ _. (spare.new.parts ≡ 0) × (spare.new.amount ≡ 0)) }
     ensures refused { IfErr result (λ e. IsRefusedToMake true e) }
 {

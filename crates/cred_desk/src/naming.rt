@@ -3,8 +3,8 @@
 ghost use Rattle.std.specs.Prelude.{◌≡◌, [], IfSome};
 ghost use Rattle.cred_desk.specs.Rules.{head_of};
 
-use crate::entry::Entry;
 use crate::history::History;
+use crate::link::Link;
 use crate::rule::Law;
 use logbook::{Seen, Start, Word};
 use std::marker::Brand;
@@ -41,8 +41,8 @@ impl Naming for Brand {
 /// An empty list, and the count of what sessions do, that no name stands for yet.
 #[derive(Drop)]
 pub struct Opened {
-    head: Word<Entry, u64, Law>,
-    seen: Seen<Entry, u64, Law>,
+    head: Word<Link, u64, Law>,
+    seen: Seen<Link, u64, Law>,
     blank: Blank,
     pub ghost empty: { seen.log ≡ [] },
     pub ghost head_is: { head ≡ head_of seen.book },

@@ -49,7 +49,8 @@ pub(crate) struct Step<J: Naming> {
 impl<J: Naming> Shown<J> {
     /// Becomes what is shown next.
     fn advance(&mut self, step: &Step<J>)
-        ensures book { self.new.book ≡ with_step (with_step self.old.book step.now.last) (Some step.now.entry) }
+        ensures book { self.new.book
+            ≡ with_step (with_step self.old.book step.now.last) (Some step.now.entry) }
         ensures front { self.new.front ≡ step.now.front }
     {
         if let Some(last) = &step.last {
@@ -109,7 +110,8 @@ pub(crate) type BookWriter<J> = Writer<Shown<J>, (), (), Published<J>>;
 /// Shows readers the book with the step's entry, and its list. It waits for those that still read
 /// the copy from before, and takes no memory.
 pub(crate) fn show<J: Naming, R: Wait>(writer: &mut BookWriter<J>, rt: &R, step: Step<J>)
-    requires { with_step (with_step writer.old.desk.spare.value.book step.last) (Some step.entry) ≡ after J.opening step.front }
+    requires { with_step (with_step writer.old.desk.spare.value.book step.last) (Some step.entry)
+        ≡ after J.opening step.front }
     ensures front { writer.new.desk.shown.value.front ≡ step.front }
     ensures book { writer.new.desk.shown.value.book ≡ after J.opening step.front }
     ensures spare { writer.new.desk.spare.value.book ≡ writer.old.desk.shown.value.book }
@@ -118,7 +120,8 @@ pub(crate) fn show<J: Naming, R: Wait>(writer: &mut BookWriter<J>, rt: &R, step:
         &mut writer.desk,
         (rt, step),
         |desk, (rt, step)|
-            requires { with_step (with_step desk.spare.value.book step.last) (Some step.entry) ≡ after J.opening step.front }
+            requires { with_step (with_step desk.spare.value.book step.last) (Some step.entry)
+                ≡ after J.opening step.front }
         {
             let (open, mut spare) = desk.open(rt);
             spare.advance(&step);

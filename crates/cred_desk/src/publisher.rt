@@ -1,19 +1,21 @@
 //! The one who changes the published book, and keeps a journal of it.
 
-ghost use Rattle.std.specs.Prelude.{◌≡◌, ◌++◌, ◌∷◌, [], None, IfErr, IfOk, IsOk};
+ghost use Rattle.std.specs.Prelude.{◌≡◌, ◌++◌, ◌∷◌, [], None, IfErr, IfOk, IsOk, MatchResult};
 ghost use mathlib.Core.List.{IsPrefix};
+ghost use Rattle.cred_book.specs.declared.error.BookError.TheVariants.{Memory as memory};
+ghost use Rattle.cred_desk.specs.Additions.{refusal_of};
 ghost use Rattle.cred_desk.specs.Commits.{entry_of, list_after, reply_of};
-ghost use Rattle.cred_desk.specs.Histories.{Allowed, IsListed, after};
-ghost use Rattle.cred_desk.specs.declared.error.DeskError.TheVariants as error;
+ghost use Rattle.cred_desk.specs.Histories.{Allowed, IsLegal, IsListed, IsMade, after};
 
 use crate::change::judge;
+use crate::closed::Remains;
 use crate::entry::Entry;
-use crate::error::DeskError;
 use crate::front::Front;
 use crate::history::History;
 use crate::naming::Naming;
 use crate::published::{BookWriter, Published, Shown, Step, show};
 use crate::told::Told;
+use crate::writer::{EntryWriter, KeepError};
 use cred_book::{Book, Reply, Worked};
 use crossbeam_utils::rule::Protocol;
 use left_right::Absorb;
@@ -48,14 +50,19 @@ where
 
     ghost view = { λ p. p.history };
 
-    ghost invariant = { λ p. (p.journal.items ≡ p.history) × (p.writer.desk.shown.value.front ≡ p.history) × (p.writer.desk.shown.value.book ≡ after J.opening p.history) × (with_step p.writer.desk.spare.value.book p.last ≡ after J.opening p.history) × IsListed J.loads J.opening p.history };
+    ghost invariant = { λ p. (p.journal.items ≡ p.history)
+        × (p.writer.desk.shown.value.front ≡ p.history)
+        × (p.writer.desk.shown.value.book ≡ after J.opening p.history)
+        × (with_step p.writer.desk.spare.value.book p.last ≡ after J.opening p.history)
+        × IsListed J.loads J.opening p.history };
 }
 
 impl<J: Naming> Publisher<J> {
     /// One with no entry yet.
     pub(crate) fn new(alloc: Global, writer: BookWriter<J>, history: History<J>) -> Publisher<J>
         requires empty { history ≡ [] }
-        requires shown { (writer.desk.shown.value.front ≡ []) × (writer.desk.shown.value.book ≡ J.opening) }
+        requires shown { (writer.desk.shown.value.front ≡ [])
+            × (writer.desk.shown.value.book ≡ J.opening) }
         requires spare { writer.desk.spare.value.book ≡ J.opening }
         ensures { result ≡ [] }
     {
@@ -98,19 +105,29 @@ impl<J: Naming> Publisher<J> {
         Told::new(self.front().again())
     }
 
-    /// Adds an entry to the list, the journal and the published book.
+    /// Hands an entry to the writer, and then adds it to the list, the journal and the published
+    /// book. Nothing of that can fail once the writer has it.
     ///
-    /// Errors: `Memory` where there is none; nothing changes then.
-    pub(crate) fn publish<R: Wait>(&mut self, rt: &R, entry: Entry) -> Result<(), DeskError>
+    /// Errors: `Memory` where there is none, before the writer is asked; the writer's own. Nothing
+    /// changes then.
+    #[tactic(auto, using(crate::proofs::Lists::legal_snoc))]
+    pub(crate) fn publish<R: Wait, W: EntryWriter>(
+        &mut self,
+        rt: &R,
+        entry: Entry,
+        writer: &mut W,
+    ) -> Result<(), KeepError<W::Error>>
         requires { Allowed J.loads (after J.opening self.old) entry }
-        ensures done { IfOk result (λ _. self.new ≡ self.old ++ entry ∷ []) }
-        ensures refused { IfErr result (λ e. (e ≡ error.Memory) × (self.new ≡ self.old)) }
+        ensures done { MatchResult result (λ _. self.new ≡ self.old ++ entry ∷ [])
+            (λ e. (self.new ≡ self.old) × (refusal_of e ≡ memory)) }
+        ensures kept { W.keeps writer.old self.old → W.keeps writer.new self.new }
+        ensures legal { IsMade (after J.opening self.old) entry → IsLegal J.opening self.old
+            → IsLegal J.opening self.new }
         ensures listed { IsListed J.loads J.opening self.new }
     {
         self.journal.reserve(1)?;
-        if !self.history.add(&entry) {
-            return Err(DeskError::Memory);
-        }
+        writer.write(&entry).map_err(KeepError::Writer)?;
+        self.history.add(&entry);
         let step = Step {
             last: self.last,
             entry,
@@ -124,21 +141,27 @@ impl<J: Naming> Publisher<J> {
 
     /// Does the whole operation, if the record is the one that was copied, and else nothing.
     ///
-    /// Errors: `Memory` where an entry finds none; nothing changes then, and the work comes back.
-    pub(crate) fn commit<R: Wait>(
+    /// Errors: `Memory` where an entry finds none; the writer's own. Nothing changes then, and the
+    /// work comes back.
+    pub(crate) fn commit<R: Wait, W: EntryWriter>(
         &mut self,
         rt: &R,
         work: Worked,
-    ) -> Result<Reply, (Worked, DeskError)>
+        writer: &mut W,
+    ) -> Result<Reply, (Worked, KeepError<W::Error>)>
         ensures reply { IfOk result (λ reply. reply ≡ reply_of (after J.opening self.old) work) }
-        ensures list { IfOk result (λ _. self.new ≡ list_after self.old (entry_of (after J.opening self.old) work)) }
-        ensures refused { IfErr result (λ e. (e.0 ≡ work) × (e.1 ≡ error.Memory) × (self.new ≡ self.old)) }
+        ensures list { IfOk result (λ _.
+            self.new ≡ list_after self.old (entry_of (after J.opening self.old) work)) }
+        ensures refused { IfErr result (λ e. (e.0 ≡ work) × (self.new ≡ self.old)) }
+        ensures error { IfErr result (λ e. refusal_of e.1 ≡ memory) }
         ensures plain { entry_of (after J.opening self.old) work ≡ None → IsOk result }
+        ensures kept { W.keeps writer.old self.old → W.keeps writer.new self.new }
+        ensures legal { IsLegal J.opening self.old → IsLegal J.opening self.new }
         ensures listed { IsListed J.loads J.opening self.new }
     {
         let (reply, entry) = judge(self.book(), &work);
         if let Some(entry) = entry {
-            if let Err(error) = self.publish(rt, entry) {
+            if let Err(error) = self.publish(rt, entry, writer) {
                 return Err((work, error));
             }
         }
@@ -147,9 +170,10 @@ impl<J: Naming> Publisher<J> {
 
     /// Lets nobody in to the book from now on, waits for those that read it, and gives the book and
     /// the journal.
-    pub(crate) fn finish<R: Wait>(self, rt: &R) -> (Book, Vec<Entry>)
-        ensures book { result.0 ≡ after J.opening self }
-        ensures journal { result.1.items ≡ self }
+    pub(crate) fn finish<R: Wait>(self, rt: &R) -> Remains
+        ensures book { result.book ≡ after J.opening self }
+        ensures journal { result.journal.items ≡ self }
+        ensures listed { IsListed J.loads J.opening self }
     {
         let Publisher {
             writer,
@@ -158,6 +182,6 @@ impl<J: Naming> Publisher<J> {
             journal,
         } = self;
         let Shown { book, front: _ } = Box::into_inner(writer.take(rt));
-        (book, journal)
+        Remains { book, journal }
     }
 }

@@ -17,6 +17,7 @@ use crate::told::Told;
 use core::mem::replace_with;
 use cred_book::{BookError, Reply, Request, Ticket, VerifyWorked};
 use crossbeam_utils::rule::Protocol;
+use std::fmt;
 use std::marker::Model;
 use std::sync::ledger::{Book as Total, Share};
 
@@ -48,7 +49,19 @@ where
 
     ghost view = { λ s. record { known = s.known; count = s.settled } };
 
-    ghost invariant = { λ s. IsListed J.loads J.opening s.known × (s.share.parts ≡ 1) × (s.share.amount ≡ s.settled) };
+    ghost invariant = { λ s. IsListed J.loads J.opening s.known × (s.share.parts ≡ 1)
+        × (s.share.amount ≡ s.settled) };
+}
+
+impl<J: Naming> fmt::Debug for Session<J> {
+    fn fmt<W: fmt::Write>(&self, f: &mut fmt::Formatter<W>) -> fmt::Result {
+        write!(
+            f,
+            "Session {{ known: {}, settled: {} }}",
+            self.known.len(),
+            self.settled
+        )
+    }
 }
 
 impl<J: Naming> Session<J> {
@@ -181,7 +194,8 @@ impl<J: Naming> Session<J> {
     /// Knows this list from now on, if it begins with the one that was known. Else that one goes
     /// on after it.
     fn know(&mut self, list: Front<J>) -> bool
-        ensures known { MatchBool result (self.new.known ≡ list) (IsLonger list self.old.known × (self.new.known ≡ self.old.known)) }
+        ensures known { MatchBool result (self.new.known ≡ list)
+            (IsLonger list self.old.known × (self.new.known ≡ self.old.known)) }
         ensures mine { IsPrefix self.old.known self.new.known }
         ensures count { self.new.count ≡ self.old.count }
         ensures listed { IsListed J.loads J.opening self.new.known }

@@ -4,6 +4,7 @@ ghost use Rattle.std.specs.Prelude.{◌≡◌};
 
 use crate::front::Front;
 use crate::naming::Naming;
+use std::fmt;
 use std::marker::Model;
 
 /// The list of entries as it stood after a commit. A session that learns it reads no older book
@@ -20,6 +21,12 @@ impl<J: Naming> Model for Told<J> {
     ghost Value = { List Entry };
 
     ghost view = { λ t. t.front };
+}
+
+impl<J: Naming> fmt::Debug for Told<J> {
+    fn fmt<W: fmt::Write>(&self, f: &mut fmt::Formatter<W>) -> fmt::Result {
+        write!(f, "Told {{ changes: {} }}", self.front.len())
+    }
 }
 
 impl<J: Naming> Told<J> {

@@ -22,7 +22,7 @@ returns-clause-learns g c =
     let before : IsPrefix known c.covers.new.self = subst (λ (l : List Entry). IsPrefix l c.covers.new.self) c.known.ensures c.covers.ensures.begins in
     let behind : IsPrefix known list = elim c.match-settled.branch [
       | in-Ok w ↦ subst (λ (l : List Entry). IsPrefix known l) (sym w.in-Ok.ensures.list) (begins_list_after _ _ _ before)
-      | in-Err w ↦ subst (λ (l : List Entry). IsPrefix known l) (sym w.in-Err.ensures.refused.2) before
+      | in-Err w ↦ subst (λ (l : List Entry). IsPrefix known l) (sym w.in-Err.ensures.refused.1) before
     ] in
     let mine : IsPrefix c.count_changes.new.self.known list = subst (λ (l : List Entry). IsPrefix l list) (sym c.count_changes.ensures.known) behind in
     let told : IsPrefix c.count_changes.new.self.known c.told-told.result = subst (λ (l : List Entry). IsPrefix c.count_changes.new.self.known l) (sym c.told-told.ensures.told) mine in

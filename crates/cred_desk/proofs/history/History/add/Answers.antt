@@ -1,33 +1,62 @@
-use Rattle.std.proofs.Common.{◌≡◌, ◌∷◌, ◌++◌, [], length, List, subst, sym, ◌∙◌, ap, arith}
-use mathlib.Core.List.{IsPrefix}
+use Rattle.std.proofs.Common.{◌≡◌, ◌∷◌, ◌++◌, [], length, List, Some, subst, sym, ◌∙◌, ap, arith, length-append}
 use Rattle.cred_desk.specs.declared.entry.Entry.{Entry}
 use Rattle.cred_desk.specs.Histories.{Allowed, IsListed, after}
-use Rattle.cred_desk.proofs.Adding.{fills_moves, is_found}
-use Rattle.cred_desk.proofs.Lists.{listed_snoc, prefix_length, prefix_whole}
+use Rattle.cred_desk.specs.Rules.{entries_of, first_place, link, place_after}
+use Rattle.cred_desk.proofs.Adding.{fills_moves}
+use Rattle.cred_desk.proofs.Links.{entries_snoc, place_snoc}
+use Rattle.cred_desk.proofs.Lists.{listed_snoc}
 use Rattle.cred_desk.proofs.history.History.add.Goals as goal
 
-pub compare_exchange-found-requires : goal.compare_exchange-found-requires
-compare_exchange-found-requires g c =
+pub compare_exchange-requires : goal.compare_exchange-requires
+compare_exchange-requires g c =
     let h = c.self.invariant.0 in
-    let offer = c.plain-offer.ensures in
-    let front = c.self.inside.front in
-    let seen = c.reserve.new.seen.log in
-    let pre : IsPrefix front seen = subst (λ (l : List Entry). IsPrefix l seen) c.seen-seen.ensures.seen.0 c.reserve.ensures.seen.1 in (
+    let pen = c.self.invariant.1 in
+    let offer = c.plain-offer.ensures in (
       ap (λ w. w.tracked) h,
-      c.reserve.ensures.seen.0 ∙ (c.seen-seen.ensures.seen.1 ∙ sym (ap (λ w. w.book) h)),
-      c.self.invariant.1 ∙ sym (ap (λ w. w.book) h),
+      ap (λ s. s.book) c.again-seen.ensures ∙ (c.self.invariant.2.0 ∙ sym (ap (λ w. w.book) h)),
+      pen.0 ∙ sym (ap (λ w. w.book) h),
       offer.0,
-      rw (ap (λ w. w.key) h, c.self.invariant.2, offer.3) (fills_moves seen c.plain-offer.result.ask (length front) (prefix_length front seen pre)),
+      rw (ap (λ w. w.key) h, offer.3, c.again-seen.ensures) (fills_moves c.self.inside.seen.log c.plain-offer.result.ask c.self.inside.pen.nib pen.1),
     )
+
+pub of-requires-clause-length : goal.of-requires-clause-length
+of-requires-clause-length g c =
+    let front = c.self.inside.front in
+    let new = c.args.new.now in
+    let grown : c.again-2.result.log ≡ c.self.inside.seen.log ++ link (Some new) c.make_place-next.result.nib.key ∷ [] = cc (ap (λ s. s.log) c.again-2.ensures, c.compare_exchange.ensures.7, ap (λ s. s.log) c.again-seen.ensures, c.plain-offer.ensures.1) in
+    let entries : entries_of c.again-2.result.log ≡ front ++ new ∷ [] = ap entries_of grown ∙ (entries_snoc c.self.inside.seen.log new c.make_place-next.result.nib.key ∙ ap (λ (l : List Entry). l ++ new ∷ []) (sym c.self.invariant.2.1)) in
+    omega (arith, c.len.ensures.length, ap length entries, length-append front (new ∷ []))
 
 pub of-requires-clause-listed : goal.of-requires-clause-listed
 of-requires-clause-listed g c =
     let front = c.self.inside.front in
-    let seen = c.reserve.new.seen.log in
-    let pre : IsPrefix front seen = subst (λ (l : List Entry). IsPrefix l seen) c.seen-seen.ensures.seen.0 c.reserve.ensures.seen.1 in
-    let filled = is_found _ _ _ _ c.compare_exchange-found.ensures.7 c.if-found-ne2.false in
-    let keys = ap (λ p. p.key) (sym c.self.invariant.2 ∙ filled.1) in
-    let same : front ≡ seen = prefix_whole front seen pre (omega (arith, keys)) in
-    let grown : c.compare_exchange-found.new.seen.log ≡ front ++ c.args.new.now ∷ [] = cc (filled.0, same, c.plain-offer.ensures.1) in
-    let allowed : Allowed g.J.Naming.loads (after g.J.Naming.opening front) c.args.new.now = rw c.self.view_is c.requires.allowed in
-    subst (IsListed g.J.Naming.loads g.J.Naming.opening) (sym grown) (listed_snoc _ _ _ _ c.seen-seen.ensures.listed allowed)
+    let new = c.args.new.now in
+    let grown : c.again-2.result.log ≡ c.self.inside.seen.log ++ link (Some new) c.make_place-next.result.nib.key ∷ [] = cc (ap (λ s. s.log) c.again-2.ensures, c.compare_exchange.ensures.7, ap (λ s. s.log) c.again-seen.ensures, c.plain-offer.ensures.1) in
+    let entries : entries_of c.again-2.result.log ≡ front ++ new ∷ [] = ap entries_of grown ∙ (entries_snoc c.self.inside.seen.log new c.make_place-next.result.nib.key ∙ ap (λ (l : List Entry). l ++ new ∷ []) (sym c.self.invariant.2.1)) in
+    let allowed : Allowed g.J.Naming.loads (after g.J.Naming.opening front) new = rw c.self.view_is c.requires.allowed in
+    subst (IsListed g.J.Naming.loads g.J.Naming.opening) (sym entries) (listed_snoc _ _ _ _ c.len.ensures.listed allowed)
+
+pub invariant_of-self : goal.invariant_of-self
+invariant_of-self g c =
+    let links = c.self.inside.seen.log in
+    let new = c.args.new.now in
+    let place = c.make_place-next in
+    let grown : c.compare_exchange.new.seen.log ≡ links ++ link (Some new) place.result.nib.key ∷ [] = cc (c.compare_exchange.ensures.7, ap (λ s. s.log) c.again-seen.ensures, c.plain-offer.ensures.1) in (
+      c.self.invariant.0,
+      (
+        place.ensures.pen.0 ∙ (ap (λ s. s.book) c.again.ensures ∙ c.self.invariant.2.0),
+        (place.ensures.pen.1, sym (ap (place_after first_place) grown ∙ place_snoc first_place links (link (Some new) place.result.nib.key))),
+      ),
+      (
+        c.compare_exchange.ensures.0 ∙ (ap (λ s. s.book) c.again-seen.ensures ∙ c.self.invariant.2.0),
+        c.of.ensures ∙ ap (λ s. entries_of s.log) c.again-2.ensures,
+      ),
+    )
+
+pub returns : goal.returns
+returns g c =
+    let front = c.self.inside.front in
+    let new = c.args.new.now in
+    let grown : c.again-2.result.log ≡ c.self.inside.seen.log ++ link (Some new) c.make_place-next.result.nib.key ∷ [] = cc (ap (λ s. s.log) c.again-2.ensures, c.compare_exchange.ensures.7, ap (λ s. s.log) c.again-seen.ensures, c.plain-offer.ensures.1) in
+    let entries : entries_of c.again-2.result.log ≡ front ++ new ∷ [] = ap entries_of grown ∙ (entries_snoc c.self.inside.seen.log new c.make_place-next.result.nib.key ∙ ap (λ (l : List Entry). l ++ new ∷ []) (sym c.self.invariant.2.1)) in
+    rw (← c.self.view_is) (c.of.ensures ∙ entries)

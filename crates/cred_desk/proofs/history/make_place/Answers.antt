@@ -1,9 +1,9 @@
 use Rattle.std.proofs.Common.{sym, ◌∙◌, ap}
 use Rattle.cred_desk.proofs.Adding.{reserves_moves}
-use Rattle.cred_desk.proofs.history.reserve.Goals as goal
+use Rattle.cred_desk.proofs.history.make_place.Goals as goal
 
-pub compare_exchange-found-requires : goal.compare_exchange-found-requires
-compare_exchange-found-requires c =
+pub compare_exchange-requires : goal.compare_exchange-requires
+compare_exchange-requires c =
     let h = c.requires.head in
     let offer = c.plain-offer.ensures in
     let pen = c.no_pen-pen.ensures in (
@@ -11,5 +11,5 @@ compare_exchange-found-requires c =
       sym (ap (λ w. w.book) h),
       pen.0 ∙ sym (ap (λ w. w.book) h),
       offer.0,
-      rw (ap (λ w. w.key) h, pen.1, offer.3) (reserves_moves c.args.seen.now.log c.plain-offer.result.ask c.args.free),
+      rw (ap (λ w. w.key) h, pen.1, offer.3) (reserves_moves c.args.seen.now.log c.plain-offer.result.ask),
     )

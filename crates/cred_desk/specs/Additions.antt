@@ -1,0 +1,49 @@
+-- What a desk does for sessions that add names and records, and what it answers where a writer may
+-- refuse an entry.
+use Rattle.std.specs.Prelude.{◌≡◌, ◌≢◌, ◌+◌, Bool, List, ◌∷◌, [], ◌++◌, None}
+use mathlib.Core.List.{IsPrefix}
+use Rattle.cred_book.specs.Accounts.{Accounts}
+use Rattle.cred_book.specs.Works.{Task}
+use Rattle.cred_book.specs.declared.error.BookError.{BookError}
+use Rattle.cred_book.specs.declared.error.BookError.TheVariants as error
+use Rattle.cred_book.specs.declared.reply.Reply.{Reply}
+use Rattle.cred_desk.specs.Commits.{entry_of, list_after, reply_of, weight}
+use Rattle.cred_desk.specs.Histories.{IsListed, after}
+use Rattle.cred_desk.specs.Standing.{Standing}
+use Rattle.cred_desk.specs.declared.entry.Entry.{Entry}
+use Rattle.cred_desk.specs.declared.writer.KeepError.{KeepError}
+use Rattle.cred_desk.specs.declared.writer.KeepError.TheVariants.{Book, Writer}
+
+-- what a book would say: where a writer refuses an entry, the change would have been done
+abbrev pub refusal_of : {E : Type 0} → KeepError E → BookError
+refusal_of (Book e) = e
+refusal_of (Writer e) = error.Memory
+
+-- the session knows this list, and no less than before
+abbrev pub IsAt : Bool → Accounts → Standing → Standing → Type 0
+IsAt loads opening old new = IsListed loads opening new.known × IsPrefix old.known new.known
+
+-- a settle is a commit at a list that begins with the known one, and is counted if it is a change
+abbrev pub IsSettled : Bool → Accounts → Standing → Standing → Task → Reply × List Entry → Type 0
+IsSettled loads opening old new work answer =
+    (list : List Entry) × IsListed loads opening list × IsPrefix old.known list
+    × (answer.0 ≡ reply_of (after opening list) work)
+    × (answer.1 ≡ list_after list (entry_of (after opening list) work))
+    × (new.known ≡ answer.1)
+    × (new.count ≡ old.count + weight (entry_of (after opening list) work))
+
+-- a change was due at the list that the session knows now
+abbrev pub IsUnsettled : Bool → Accounts → Standing → Standing → Task → Type 0
+IsUnsettled loads opening old new work =
+    IsAt loads opening old new × (entry_of (after opening new.known) work ≢ None)
+    × (new.count ≡ old.count)
+
+-- an entry was added, at a list that begins with the known one and where it may be
+abbrev pub IsAdded : Bool → Accounts → Standing → Standing → (Accounts → Entry → Type 0) → Entry
+    → List Entry → Type 0
+IsAdded loads opening old new may entry told =
+    (list : List Entry) × IsListed loads opening list × IsPrefix old.known list
+    × may (after opening list) entry
+    × (told ≡ list ++ entry ∷ [])
+    × (new.known ≡ told)
+    × (new.count ≡ old.count)

@@ -1,0 +1,230 @@
+//! A desk whose entries a writer of its owner's keeps, and at which people sign up.
+
+ghost use Rattle.std.specs.Prelude.{◌≡◌, ◌+◌, ◌&&◌, [], All, Err, IfErr, IfOk, MatchResult, None, Some, false, length, map, nat_le, sum, true, vec_len};
+ghost use mathlib.Core.List.{IsPrefix};
+ghost use Rattle.cred_book.specs.Calls.{Admits, Loads};
+ghost use Rattle.cred_book.specs.declared.error.BookError.TheVariants.{Memory as memory};
+ghost use Rattle.cred_desk.specs.Additions.{IsAdded, IsAt, IsSettled, IsUnsettled, refusal_of};
+ghost use Rattle.cred_desk.specs.Histories.{IsAdmitted, IsListed, IsLoaded, after, entry};
+ghost use Rattle.cred_desk.specs.Refusals.{IsRefusedToMake};
+ghost use Rattle.cred_desk.specs.Standing.{IsMissed};
+
+use crate::clerk::Clerk;
+use crate::closed::{Kept, Remains};
+use crate::entry::Entry;
+use crate::error::DeskError;
+use crate::making::{MOST_SESSIONS, Made, make};
+use crate::naming::{Naming, Opened};
+use crate::published::{Published, Shown};
+use crate::session::Session;
+use crate::told::Told;
+use crate::writer::{EntryWriter, KeepError, Unsettled};
+use cred_book::{Book, Name, Reply, Worked};
+use cred_phc::Record;
+use crossbeam_utils::rule::Protocol;
+use left_right::Absorb;
+use std::alloc::Global;
+use std::fmt;
+use std::sync::{Mutex, MutexGuard, Wait};
+
+/// A desk that hands each entry to a writer, under its lock and before anybody sees it. So what the
+/// writer keeps is the journal, or while an entry is added the journal with that entry.
+///
+/// Where its naming allows loads, names are admitted and records loaded while sessions live. It
+/// isn't `Drop`: end it by `close` or `give_up`.
+pub struct KeptDesk<J: Naming, W: EntryWriter>
+where
+    Shown<J>: Absorb<(), State = ()>,
+    Published<J>: Protocol<Shown<J>, ()>,
+{
+    clerk: Mutex<Clerk<J, W>>,
+}
+
+impl<J: Naming, W: EntryWriter> fmt::Debug for KeptDesk<J, W> {
+    fn fmt<T: fmt::Write>(&self, f: &mut fmt::Formatter<T>) -> fmt::Result {
+        write!(f, "KeptDesk {{ .. }}")
+    }
+}
+
+impl<J: Naming, W: EntryWriter> KeptDesk<J, W> {
+    /// Copies the book, and shows it to so many sessions, 1 to 32 of them. The writer is one that
+    /// keeps no entry yet.
+    ///
+    /// Errors: those of `Desk::new`. The writer comes back.
+    pub fn new<R: Wait>(
+        rt: &R,
+        alloc: Global,
+        opened: Opened,
+        book: &Book,
+        sessions: u8,
+        writer: W,
+    ) -> Result<(KeptDesk<J, W>, Vec<Session<J>>), (W, DeskError)>
+        requires name { (opened.seen.book ≡ J.book) × (opened.blank.name ≡ J.name)
+            × (opened.blank.parts ≡ J.parts) }
+        requires opening { (book.now ≡ J.opening) × (J.parts ≡ sessions) }
+        requires kept { W.keeps writer [] }
+        ensures sessions { IfOk result (λ made. (vec_len made.1 ≡ sessions)
+            × All (λ s. (s.known ≡ []) × (s.count ≡ 0)) made.1.items) }
+        ensures few { IfOk result (λ _. (nat_le 1 sessions && nat_le sessions 32) ≡ true) }
+        ensures refused { IfErr result (λ e. (e.0 ≡ writer)
+            × IsRefusedToMake (nat_le 1 sessions && nat_le sessions 32) e.1) }
+    {
+        if sessions == 0 || sessions > MOST_SESSIONS {
+            return Err((writer, DeskError::Sessions));
+        }
+        let Ok(counts) = Vec::with_capacity(alloc, usize::from(sessions)) else {
+            return Err((writer, DeskError::Memory));
+        };
+        match make(rt, alloc, opened, book, sessions) {
+            Ok(
+                Made {
+                    publisher,
+                    sessions: seats,
+                    total,
+                    spare,
+                },
+            ) => {
+                let clerk = Clerk::new(publisher, writer, total, spare, sessions, counts);
+                let clerk = Mutex::new(clerk);
+                Ok((KeptDesk { clerk }, seats))
+            }
+            Err(error) => Err((writer, error)),
+        }
+    }
+
+    /// Waits for the lock, and does the whole operation, if the record is the one that was copied,
+    /// and else nothing. The session knows the list after it from then on, and counts a change.
+    ///
+    /// Errors: `Memory` where a change finds none; the writer's own where it doesn't keep the
+    /// entry. Nothing changes then but that the session knows the list at which the change was due,
+    /// and the work comes back.
+    pub fn settle<R: Wait>(
+        &self,
+        rt: &R,
+        session: &mut Session<J>,
+        work: Worked,
+    ) -> Result<(Reply, Told<J>), Unsettled<W::Error>>
+        ensures done { MatchResult result
+            (IsSettled J.loads J.opening session.old session.new work)
+            (λ e. (e.work ≡ work)
+            × IsUnsettled J.loads J.opening session.old session.new work) }
+        ensures error { IfErr result (λ e. refusal_of e.error ≡ memory) }
+        ensures known { IsPrefix session.old.known session.new.known }
+    {
+        let mut clerk = self.clerk.lock(rt);
+        let settled = clerk.settle(rt, session, work);
+        // Its drop would ask that a clerk be `Drop`.
+        MutexGuard::unlock(clerk);
+        match settled {
+            Ok(done) => Ok(done),
+            Err((work, error)) => Err(Unsettled { work, error }),
+        }
+    }
+
+    /// Waits for the lock, and adds a name with no record. The session knows the list after it from
+    /// then on.
+    ///
+    /// Errors: `Exists` where the name is there; `Full` where the book has 4096 names; `Memory`
+    /// where there is none, or the writer's own, where the name would have been added. Nothing
+    /// changes then but that the session knows the list at which it was refused.
+    pub fn admit<R: Wait>(
+        &self,
+        rt: &R,
+        session: &mut Session<J>,
+        name: Name,
+    ) -> Result<Told<J>, KeepError<W::Error>>
+        requires loads { J.loads ≡ true }
+        ensures done { IfOk result (IsAdded J.loads J.opening session.old session.new
+            IsAdmitted (entry name None)) }
+        ensures refused { IfErr result (λ e. IsAt J.loads J.opening session.old session.new
+            × Admits (after J.opening session.new.known) (after J.opening session.new.known) name
+            (Err (refusal_of e))
+            × (session.new.count ≡ session.old.count)) }
+        ensures known { IsPrefix session.old.known session.new.known }
+    {
+        let mut clerk = self.clerk.lock(rt);
+        let admitted = clerk.admit(rt, session, name);
+        MutexGuard::unlock(clerk);
+        admitted
+    }
+
+    /// Waits for the lock, and puts a record at a name, in the place of one that stands there. The
+    /// session knows the list after it from then on.
+    ///
+    /// Errors: `NoAccount` where the name isn't there; `Memory` where there is none, or the
+    /// writer's own, where the record would have been put. Nothing changes then but that the
+    /// session knows the list at which it was refused.
+    pub fn load<R: Wait>(
+        &self,
+        rt: &R,
+        session: &mut Session<J>,
+        name: Name,
+        stored: Record,
+    ) -> Result<Told<J>, KeepError<W::Error>>
+        requires loads { J.loads ≡ true }
+        ensures done { IfOk result (IsAdded J.loads J.opening session.old session.new
+            IsLoaded (entry name (Some stored))) }
+        ensures refused { IfErr result (λ e. IsAt J.loads J.opening session.old session.new
+            × Loads (after J.opening session.new.known) (after J.opening session.new.known) name
+            stored (Err (refusal_of e))
+            × (session.new.count ≡ session.old.count)) }
+        ensures known { IsPrefix session.old.known session.new.known }
+    {
+        let mut clerk = self.clerk.lock(rt);
+        let loaded = clerk.load(rt, session, name, stored);
+        MutexGuard::unlock(clerk);
+        loaded
+    }
+
+    /// Gives the book, the journal, the counts and the writer, where all sessions of the desk are
+    /// handed in, in any order. It waits for those that read the book.
+    ///
+    /// Errors: `Session` where some are missing. The desk and the sessions come back.
+    pub fn close<R: Wait>(
+        self,
+        rt: &R,
+        sessions: Vec<Session<J>>,
+    ) -> Result<Kept<W>, (KeptDesk<J, W>, Vec<Session<J>>, DeskError)>
+        ensures listed { IfOk result (λ kept.
+            IsListed J.loads J.opening kept.closed.journal.items) }
+        ensures book { IfOk result (λ kept.
+            kept.closed.book ≡ after J.opening kept.closed.journal.items) }
+        ensures known { IfOk result (λ kept.
+            All (λ s. IsPrefix s.known kept.closed.journal.items) sessions.items) }
+        ensures counts { IfOk result (λ kept.
+            kept.closed.counts.items ≡ map (λ s. s.count) sessions.items) }
+        ensures total { IfOk result (λ kept.
+            sum kept.closed.counts.items + kept.additions
+            ≡ length kept.closed.journal.items) }
+        ensures settled { IfOk result (λ kept. J.loads ≡ false → kept.additions ≡ 0) }
+        ensures kept { IfOk result (λ kept. W.keeps kept.writer kept.closed.journal.items) }
+        ensures all { MatchResult result (λ _. vec_len sessions ≡ J.parts)
+            (λ e. IsMissed J.parts sessions.items e.2) }
+        ensures back { IfErr result (λ e. e.1.items ≡ sessions.items) }
+    {
+        let KeptDesk { clerk } = self;
+        let mut clerk = clerk.into_inner();
+        match clerk.look(&sessions) {
+            Ok(()) => Ok(clerk.close(rt, sessions)),
+            Err(error) => {
+                let clerk = Mutex::new(clerk);
+                Err((KeptDesk { clerk }, sessions, error))
+            }
+        }
+    }
+
+    /// Gives the book, the journal and the writer without counts, where a session is lost. These
+    /// are sessions that are still there: the journal begins with what each of them knows. It waits
+    /// for those that read the book.
+    pub fn give_up<R: Wait>(self, rt: &R, sessions: &[Session<J>]) -> (Remains, W)
+        ensures listed { IsListed J.loads J.opening result.0.journal.items }
+        ensures book { result.0.book ≡ after J.opening result.0.journal.items }
+        ensures known { All (λ s. IsPrefix s.known result.0.journal.items) sessions.now }
+        ensures kept { W.keeps result.1 result.0.journal.items }
+    {
+        let KeptDesk { clerk } = self;
+        let mut clerk = clerk.into_inner();
+        clerk.cover(sessions);
+        clerk.give_up(rt)
+    }
+}
