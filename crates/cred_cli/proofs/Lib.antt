@@ -1,6 +1,7 @@
 -- The lemmas that the proofs of the script engine cite.
 pub mod Doing
 pub mod Events
+pub mod EventLines
 pub mod Feeds
 pub mod Lines
 pub mod Names

@@ -5,7 +5,8 @@ use Rattle.std.proofs.KnownBytes.{Appends-nil}
 use Rattle.cred_book.specs.Accounts.{Accounts}
 use Rattle.cred_cli.specs.declared.fault.ScriptFault.{ScriptFault}
 use Rattle.cred_cli.specs.declared.fault.ScriptFault.TheVariants.{Memory}
-use Rattle.cred_cli.specs.Commands.{Runs, status_of}
+use Rattle.cred_cli.specs.Statuses.{status_number, status_of}
+use Rattle.cred_cli.specs.Commands.{Runs}
 use Rattle.cred_cli.specs.Outcome.{HasCause, ScriptFails, StandsAfter}
 use Rattle.cred_cli.specs.Script.{events_of}
 use Rattle.cred_cli.proofs.Names.{book_at-zero}
@@ -23,13 +24,13 @@ pub script_unbegun : (known before : Option (List ℕ)) (book : Accounts) → If
 script_unbegun known before book = if_known known (λ bytes. ScriptFails book bytes known before before book Memory) (λ bytes is. (0, inr refl, nothing_done book bytes before))
 
 -- there was no memory to begin with
-pub no_memory : (bytes left before : Option (List ℕ)) (reader writer : Bool) (status : ℕ) → status ≡ status_of Memory → Runs bytes left before before reader writer status
+pub no_memory : (bytes left before : Option (List ℕ)) (reader writer : Bool) (status : ℕ) → status ≡ status_number (status_of Memory) → Runs bytes left before before reader writer status
 no_memory bytes left before reader writer status is =
     inr (Memory, is, record { stands = if_known bytes _ (λ bs known. (map.empty, (0, inr refl, nothing_done map.empty bs before))); cause = tt })
 
 -- the script met a fault
 pub run_fails : (book : Accounts) (bytes left before now : Option (List ℕ)) (reader writer : Bool) (accounts : Accounts) (fault : ScriptFault) (status : ℕ) →
-    book ≡ map.empty → status ≡ status_of fault → IfSome bytes (λ bs. ScriptFails book bs left before now accounts fault) → HasCause reader writer fault →
+    book ≡ map.empty → status ≡ status_number (status_of fault) → IfSome bytes (λ bs. ScriptFails book bs left before now accounts fault) → HasCause reader writer fault →
     Runs bytes left before now reader writer status
 run_fails book bytes left before now reader writer accounts fault status empty is fails cause =
     inr (fault, is, record { stands = known bytes fails; cause = cause })

@@ -13,4 +13,5 @@ line_bytes (Made bytes) = bytes.items
 
 -- the answer, the book and the tickets are the step's
 abbrev pub IsDone : Step → Accounts → List (Option Task) → AnswerLine → Type 0
-IsDone step book slots line = (line_bytes line ≡ line_of step.answer) × (book ≡ step.book) × (slots ≡ step.slots)
+IsDone step book slots line =
+    (line_bytes line ≡ line_of step.answer) × (book ≡ step.book) × (slots ≡ step.slots)

@@ -5,7 +5,13 @@ use Rattle.clap.specs.declared.builder.value_parser.ValueParser.TheVariants as p
 
 -- `--workers N`, a number of 1 to 64, by default 1
 abbrev pub workers_rule : Rule
-workers_rule = record (new_rule (codes "workers")) { long = Some (codes "workers"); value_names = 1; parser = Some (parser.Signed (pos 1) (pos 64)); defaults = codes "1" ∷ [] }
+workers_rule =
+    record (new_rule (codes "workers")) {
+      long = Some (codes "workers");
+      value_names = 1;
+      parser = Some (parser.Signed (pos 1) (pos 64));
+      defaults = codes "1" ∷ [];
+    }
 
 abbrev pub needed_rule : Text → Rule
 needed_rule name = record (new_rule name) { value_names = 1; required = true }
@@ -24,7 +30,13 @@ one_app word what = with_rule (with_rule (with_rule (new_app word) what) passwor
 -- with `run` alone; `--version` is taken too
 abbrev pub running : App
 running = let app = new_app (codes "credbook") in
-    with_subcommand (record app { top = record app.top { no_binary_name = true; subcommand_required = true; has_version = true } }) run_app.top
+    with_subcommand
+    (record app {
+      top = record app.top { no_binary_name = true; subcommand_required = true; has_version = true };
+    }) run_app.top
 
 abbrev pub credbook : App
-credbook = with_subcommand (with_subcommand running (one_app (codes "hash") (needed_rule (codes "setting"))).top) (one_app (codes "check") (needed_rule (codes "record"))).top
+credbook =
+    with_subcommand
+    (with_subcommand running (one_app (codes "hash") (needed_rule (codes "setting"))).top)
+    (one_app (codes "check") (needed_rule (codes "record"))).top

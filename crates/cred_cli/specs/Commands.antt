@@ -11,20 +11,16 @@ use Rattle.cred_phc.specs.Values.{RecordValue, SettingValue}
 use Rattle.cred_book.specs.Accounts.{Accounts}
 use Rattle.cred_book.specs.Works.{made, right}
 use Rattle.cred_cli.specs.declared.fault.ScriptFault.{ScriptFault}
-use Rattle.cred_cli.specs.declared.fault.ScriptFault.TheVariants.{Read, Write, Memory, TooLong}
 use Rattle.cred_cli.specs.declared.refusal.Refusal.{Refusal}
 use Rattle.cred_cli.specs.declared.refusal.Refusal.TheVariants.{Password}
+use Rattle.cred_cli.specs.declared.status.Status.{Status}
+use Rattle.cred_cli.specs.declared.status.Status.TheVariants.{Done, Refused, Failed, OutOfMemory, No}
+use Rattle.cred_cli.specs.Statuses.{status_number, status_of}
 use Rattle.cred_cli.specs.Events.{record_field, setting_field}
 use Rattle.cred_cli.specs.Outcome.{FrontWritten, HasCause, ScriptFails, longest_script}
 use Rattle.cred_cli.specs.History.{Shown}
 use Rattle.cred_cli.specs.Script.{out}
 use Rattle.cred_cli.specs.Texts.{line_of}
-
-abbrev pub status_of : ScriptFault → ℕ
-status_of Read = 2
-status_of Write = 2
-status_of TooLong = 2
-status_of Memory = 3
 
 -- a script on an empty book was answered whole
 pub record RunsWhole (bytes before now : Option (List ℕ)) : Type 0 where
@@ -32,15 +28,19 @@ pub record RunsWhole (bytes before now : Option (List ℕ)) : Type 0 where
   pub short : IfSome bytes (λ bs. length bs ≤ longest_script)
 
 -- or it met a fault, and its book is let go
-pub record RunFails (bytes left before now : Option (List ℕ)) (reader_failed writer_failed : Bool) (fault : ScriptFault) : Type 0 where
-  pub stands : IfSome bytes (λ bs. (accounts : Accounts) × ScriptFails map.empty bs left before now accounts fault)
+pub record RunFails (bytes left before now : Option (List ℕ)) (reader_failed writer_failed : Bool)
+    (fault : ScriptFault) : Type 0 where
+  pub stands : IfSome bytes (λ bs. (accounts : Accounts)
+      × ScriptFails map.empty bs left before now accounts fault)
   pub cause : HasCause reader_failed writer_failed fault
 
 -- `run`: left is what the reader has left
-abbrev pub Runs : Option (List ℕ) → Option (List ℕ) → Option (List ℕ) → Option (List ℕ) → Bool → Bool → ℕ → Type 0
+abbrev pub Runs : Option (List ℕ) → Option (List ℕ) → Option (List ℕ) → Option (List ℕ) → Bool
+    → Bool → ℕ → Type 0
 Runs bytes left before now reader_failed writer_failed status =
-    ((status ≡ 0) × RunsWhole bytes before now)
-    ⊎ ((fault : ScriptFault) × (status ≡ status_of fault) × RunFails bytes left before now reader_failed writer_failed fault)
+    ((status ≡ status_number Done) × RunsWhole bytes before now)
+    ⊎ ((fault : ScriptFault) × (status ≡ status_number (status_of fault))
+    × RunFails bytes left before now reader_failed writer_failed fault)
 
 -- ---- `hash` and `check`
 
@@ -51,7 +51,8 @@ password_word (Some text) = ok_or (bytes_of 1 256 text) Password
 
 -- what is to be hashed; the setting is judged before the password
 abbrev pub to_hash : Text → Option Text → Result (SettingValue × List ℕ) Refusal
-to_hash setting pw = setting_field setting >>= λ s. password_word pw >>= λ password. Ok (s, password)
+to_hash setting pw =
+    setting_field setting >>= λ s. password_word pw >>= λ password. Ok (s, password)
 
 -- what is to be checked; the record is judged before the password
 abbrev pub to_check : Text → Option Text → Result (RecordValue × List ℕ) Refusal
@@ -61,31 +62,35 @@ abbrev pub record_line : RecordValue → List ℕ
 record_line stored = line_of (Shown (Some stored))
 
 -- the line was written whole, or the writer failed behind a proper front of it
-abbrev pub Prints : List ℕ → ℕ → Option (List ℕ) → Option (List ℕ) → Bool → ℕ → Type 0
+abbrev pub Prints : List ℕ → Status → Option (List ℕ) → Option (List ℕ) → Bool → ℕ → Type 0
 Prints line good before now writer_failed status =
-    ((status ≡ good) × Appends before now line)
-    ⊎ ((status ≡ status_of Write) × (writer_failed ≡ true) × FrontWritten before now line)
+    ((status ≡ status_number good) × Appends before now line)
+    ⊎ ((status ≡ status_number Failed) × (writer_failed ≡ true) × FrontWritten before now line)
 
 -- nothing was written
-abbrev pub Ends : ℕ → Option (List ℕ) → Option (List ℕ) → ℕ → Type 0
-Ends why before now status = (status ≡ why) × Keeps before now
+abbrev pub Ends : Status → Option (List ℕ) → Option (List ℕ) → ℕ → Type 0
+Ends why before now status = (status ≡ status_number why) × Keeps before now
 
-abbrev pub Hashes : Option Text → Option Text → Option (List ℕ) → Option (List ℕ) → Bool → ℕ → Type 0
-Hashes None pw before now writer_failed status = Ends 1 before now status
+abbrev pub Hashes : Option Text → Option Text → Option (List ℕ) → Option (List ℕ) → Bool → ℕ
+    → Type 0
+Hashes None pw before now writer_failed status = Ends Refused before now status
 Hashes (Some setting) pw before now writer_failed status = MatchResult (to_hash setting pw)
-    (λ asked. Prints (record_line (made asked.0 asked.1)) 0 before now writer_failed status ⊎ Ends (status_of Memory) before now status)
-    (λ why. Ends 1 before now status)
+    (λ values. Prints (record_line (made values.0 values.1)) Done before now writer_failed status
+    ⊎ Ends OutOfMemory before now status)
+    (λ why. Ends Refused before now status)
 
 -- the answer and its status
-abbrev pub verdict : Bool → List ℕ × ℕ
-verdict is_right = if is_right then (codes "yes" ++ 10 ∷ [], 0) else (codes "no" ++ 10 ∷ [], 4)
+abbrev pub verdict : Bool → List ℕ × Status
+verdict is_right = if is_right then (codes "yes" ++ 10 ∷ [], Done) else (codes "no" ++ 10 ∷ [], No)
 
-abbrev pub Checks : Option Text → Option Text → Option (List ℕ) → Option (List ℕ) → Bool → ℕ → Type 0
-Checks None pw before now writer_failed status = Ends 1 before now status
+abbrev pub Checks : Option Text → Option Text → Option (List ℕ) → Option (List ℕ) → Bool → ℕ
+    → Type 0
+Checks None pw before now writer_failed status = Ends Refused before now status
 Checks (Some stored) pw before now writer_failed status = MatchResult (to_check stored pw)
-    (λ asked. Prints (verdict (right asked.0 asked.1)).0 (verdict (right asked.0 asked.1)).1 before now writer_failed status
-    ⊎ Ends (status_of Memory) before now status)
-    (λ why. Ends 1 before now status)
+    (λ values. Prints (verdict (right values.0 values.1)).0
+    (verdict (right values.0 values.1)).1 before now writer_failed status
+    ⊎ Ends OutOfMemory before now status)
+    (λ why. Ends Refused before now status)
 
 -- ---- all of it
 
@@ -95,10 +100,14 @@ is_run None = false
 is_run (Some (word, rows)) = bytes_eq word (codes "run")
 
 -- by the subcommand and its values
-abbrev pub Acts : Option (Text × List Row) → Option (List ℕ) → Option (List ℕ) → Option (List ℕ) → Option (List ℕ) → Bool → Bool → ℕ → Type 0
-Acts None bytes left before now reader_failed writer_failed status = Ends 1 before now status
+abbrev pub Acts : Option (Text × List Row) → Option (List ℕ) → Option (List ℕ) → Option (List ℕ)
+    → Option (List ℕ) → Bool → Bool → ℕ → Type 0
+Acts None bytes left before now reader_failed writer_failed status = Ends Refused before now status
 Acts (Some (word, rows)) bytes left before now reader_failed writer_failed status =
-    MatchBool (bytes_eq word (codes "run")) (Runs bytes left before now reader_failed writer_failed status)
+    MatchBool (bytes_eq word (codes "run"))
+    (Runs bytes left before now reader_failed writer_failed status)
     (MatchBool (bytes_eq word (codes "hash"))
-    (Hashes (first_of (codes "setting") rows) (first_of (codes "password") rows) before now writer_failed status)
-    (Checks (first_of (codes "record") rows) (first_of (codes "password") rows) before now writer_failed status))
+    (Hashes (first_of (codes "setting") rows)
+    (first_of (codes "password") rows) before now writer_failed status)
+    (Checks (first_of (codes "record") rows)
+    (first_of (codes "password") rows) before now writer_failed status))

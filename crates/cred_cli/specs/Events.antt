@@ -67,7 +67,8 @@ account_event _ = Err Line
 
 -- `load NAME RECORD`
 abbrev pub load_event : List (List ℕ) → Result Event Refusal
-load_event (x ∷ text ∷ []) = name_field x >>= λ name. record_field text >>= λ stored. Ok (Load name stored)
+load_event (x ∷ text ∷ []) =
+    name_field x >>= λ name. record_field text >>= λ stored. Ok (Load name stored)
 load_event _ = Err Line
 
 -- `show NAME`
@@ -90,7 +91,8 @@ operation_of word (x ∷ []) =
     if bytes_eq word (codes "enrol") then Ok operation.Enrol
     else if bytes_eq word (codes "upgrade") then Ok operation.Upgrade
     else Err Line
-operation_of word (x ∷ y ∷ []) = if bytes_eq word (codes "change") then Ok operation.Change else Err Line
+operation_of word (x ∷ y ∷ []) =
+    if bytes_eq word (codes "change") then Ok operation.Change else Err Line
 operation_of word _ = Err Line
 
 abbrev pub own_setting : List (List ℕ) → Result SettingValue Refusal
@@ -98,7 +100,8 @@ own_setting (text ∷ []) = setting_field text
 own_setting _ = Err Line
 
 abbrev pub change_request : List ℕ → List ℕ → List (List ℕ) → Result Request Refusal
-change_request name pw (p ∷ own) = password_field p >>= λ new. own_setting own >>= λ setting. Ok (Change name pw new setting)
+change_request name pw (p ∷ own) =
+    password_field p >>= λ new. own_setting own >>= λ setting. Ok (Change name pw new setting)
 change_request name pw [] = Err Line
 
 -- the request with the fields that are the operation's own
@@ -106,7 +109,8 @@ abbrev pub request_of : Operation → List ℕ → List ℕ → List (List ℕ) 
 request_of operation.Verify name pw own = Ok (Verify name pw)
 request_of operation.Remove name pw own = Ok (Remove name pw)
 request_of operation.Enrol name pw own = own_setting own >>= λ setting. Ok (Enrol name pw setting)
-request_of operation.Upgrade name pw own = own_setting own >>= λ setting. Ok (Upgrade name pw setting)
+request_of operation.Upgrade name pw own =
+    own_setting own >>= λ setting. Ok (Upgrade name pw setting)
 request_of operation.Change name pw own = change_request name pw own
 
 -- `begin K verify NAME PW`, `begin K remove NAME PW`, `begin K enrol NAME PW SETTING`,
@@ -149,7 +153,9 @@ most_pieces = 8
 
 -- a line is cut at every space
 unfoldable pub event_of : List ℕ → Event
-event_of line = if nat_lt longest_line (length line) then Bad Long else or_bad (event_of_pieces (pieces 32 line))
+event_of line =
+    if nat_lt longest_line (length line) then Bad Long
+    else or_bad (event_of_pieces (pieces 32 line))
 
 -- a line's number is one of 1 to 64, and its setting isn't of the version of old records
 abbrev pub IsSound : Event → Type 0

@@ -11,10 +11,12 @@ use Rattle.cred_cli.specs.Tickets.{HoldTickets}
 -- the bytes after the last line end
 abbrev pub unfinished_from : List ℕ → List ℕ → List ℕ
 unfinished_from line [] = line
-unfinished_from line (c ∷ cs) = if c == 10 then unfinished_from [] cs else unfinished_from (line ++ c ∷ []) cs
+unfinished_from line (c ∷ cs) =
+    if c == 10 then unfinished_from [] cs else unfinished_from (line ++ c ∷ []) cs
 
 -- the whole lines of the front are answered, and the start of the next is kept
-pub record IsAt (book : Accounts) (all front : List ℕ) (before now : Option (List ℕ)) (accounts : Accounts) (slots : List (Option Task)) (progress : Progress) : Type 0 where
+pub record IsAt (book : Accounts) (all front : List ℕ) (before now : Option (List ℕ))
+    (accounts : Accounts) (slots : List (Option Task)) (progress : Progress) : Type 0 where
   pub stands : StandsAfter book (events_of all) progress.lines before now accounts
   pub tickets : HoldTickets book (events_of all) progress.lines slots
   pub lines_are : progress.lines ≡ line_ends front

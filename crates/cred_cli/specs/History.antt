@@ -43,14 +43,16 @@ pub record Opened : Type 0 where
 -- a begin is accepted where its number isn't open and its name is there; a commit closes its number
 abbrev pub open_after : List (List ℕ) → ℕ → ℕ → Option Opened → Option Event → Option Opened
 open_after names i key now (Some (Begin k request)) =
-    if k == key && (is_none now && is_among names (name_of request)) then Some (record { place = i; request = request }) else now
+    if k == key && (is_none now && is_among names (name_of request))
+    then Some (record { place = i; request = request }) else now
 open_after names i key now (Some (Commit k)) = if k == key then None else now
 open_after names i key now _ = now
 
 -- the last accepted begin of the number before place i, where no commit of it stands between
 unfoldable pub open_at : Accounts → List Event → ℕ → ℕ → Option Opened
 open_at book events zero key = None
-open_at book events (suc i) key = open_after (names_at book events i) i key (open_at book events i key) (slice_get events i)
+open_at book events (suc i) key =
+    open_after (names_at book events i) i key (open_at book events i key) (slice_get events i)
 
 -- ---- what was done
 
@@ -78,11 +80,13 @@ same_entry (Some a) None = false
 -- after these deeds the account's record isn't the one that stood at the begin's place
 unfoldable pub is_stale : Accounts → List (Option Deed) → Opened → Bool
 is_stale book past opened =
-    not (same_entry (map.get (book_after book past) (name_of opened.request)) (map.get (book_after book (take opened.place past)) (name_of opened.request)))
+    not (same_entry (map.get (book_after book past) (name_of opened.request))
+    (map.get (book_after book (take opened.place past)) (name_of opened.request)))
 
 abbrev pub closing : Accounts → List (Option Deed) → Option Opened → Option Deed
 closing book past None = None
-closing book past (Some opened) = if is_stale book past opened then None else Some (Whole opened.request)
+closing book past (Some opened) =
+    if is_stale book past opened then None else Some (Whole opened.request)
 
 -- an account event whose name is new, while there is room; a load on a name that is there; the
 -- request of a commit that closes a begin and isn't stale
@@ -91,14 +95,16 @@ deed_of book events i past (Some (Account name)) =
     if is_among (names_at book events i) name then None
     else if nat_lt (length (names_at book events i)) most_accounts then Some (Admission name)
     else None
-deed_of book events i past (Some (Load name stored)) = if is_among (names_at book events i) name then Some (Loading name stored) else None
+deed_of book events i past (Some (Load name stored)) =
+    if is_among (names_at book events i) name then Some (Loading name stored) else None
 deed_of book events i past (Some (Commit key)) = closing book past (open_at book events i key)
 deed_of book events i past _ = None
 
 -- what was done before place i: at each place one deed or none
 unfoldable pub done : Accounts → List Event → ℕ → List (Option Deed)
 done book events zero = []
-done book events (suc i) = done book events i ++ deed_of book events i (done book events i) (slice_get events i) ∷ []
+done book events (suc i) =
+    done book events i ++ deed_of book events i (done book events i) (slice_get events i) ∷ []
 
 abbrev pub book_at : Accounts → List Event → ℕ → Accounts
 book_at book events i = book_after book (done book events i)
@@ -120,20 +126,24 @@ shown (Some stored) = Shown stored
 -- a stale commit does nothing; another is answered by the whole operation at its own moment
 abbrev pub closed : Accounts → List (Option Deed) → Option Opened → Answer
 closed book past None = Refused Idle
-closed book past (Some opened) = if is_stale book past opened then Changed else Replied (seq (book_after book past) opened.request).0
+closed book past (Some opened) =
+    if is_stale book past opened then Changed
+    else Replied (seq (book_after book past) opened.request).0
 
 abbrev pub answer_of : Accounts → List Event → ℕ → Option Event → Answer
 answer_of book events i (Some (Account name)) =
     if is_among (names_at book events i) name then Refused (Book Exists)
     else if nat_lt (length (names_at book events i)) most_accounts then Done
     else Refused (Book Full)
-answer_of book events i (Some (Load name stored)) = if is_among (names_at book events i) name then Done else Refused (Book NoAccount)
+answer_of book events i (Some (Load name stored)) =
+    if is_among (names_at book events i) name then Done else Refused (Book NoAccount)
 answer_of book events i (Some (Show name)) = shown (map.get (book_at book events i) name)
 answer_of book events i (Some (Begin key request)) =
     if not (is_none (open_at book events i key)) then Refused Busy
     else if is_among (names_at book events i) (name_of request) then Begun
     else Refused (Book NoAccount)
-answer_of book events i (Some (Commit key)) = closed book (done book events i) (open_at book events i key)
+answer_of book events i (Some (Commit key)) =
+    closed book (done book events i) (open_at book events i key)
 answer_of book events i (Some (Bad why)) = Refused why
 answer_of book events i None = Done
 

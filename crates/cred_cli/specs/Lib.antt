@@ -1,8 +1,10 @@
 -- The definitions that the contracts of the script engine cite.
 pub mod Answers
 pub mod Arguments
+pub mod Statuses
 pub mod Commands
 pub mod Events
+pub mod EventLines
 pub mod Faults
 pub mod Feeding
 pub mod History

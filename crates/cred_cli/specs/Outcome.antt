@@ -23,34 +23,42 @@ abbrev pub FrontWritten : Option (List ℕ) → Option (List ℕ) → List ℕ �
 FrontWritten before now bytes = (n : ℕ) × (n < length bytes) × Appends before now (take n bytes)
 
 -- every line is answered, and the book is that after them
-pub record IsAnswered (book : Accounts) (bytes : List ℕ) (before now : Option (List ℕ)) (accounts : Accounts) (lines : ℕ) : Type 0 where
+pub record IsAnswered (book : Accounts) (bytes : List ℕ) (before now : Option (List ℕ))
+    (accounts : Accounts) (lines : ℕ) : Type 0 where
   pub written : Appends before now (out book bytes)
   pub accounts_are : accounts ≡ book_at book (events_of bytes) (length (events_of bytes))
   pub lines_are : lines ≡ length (events_of bytes)
 
 -- the first i lines are answered, and the book is that after them
-pub record StandsAfter (book : Accounts) (events : List Event) (i : ℕ) (before now : Option (List ℕ)) (accounts : Accounts) : Type 0 where
+pub record StandsAfter (book : Accounts) (events : List Event) (i : ℕ)
+    (before now : Option (List ℕ)) (accounts : Accounts) : Type 0 where
   pub written : Appends before now (answers_before book events i)
   pub accounts_are : accounts ≡ book_at book events i
 
 -- the first i lines are answered, a proper front of the next one's answer is written, and that line
 -- is done
-pub record StopsIn (book : Accounts) (events : List Event) (i : ℕ) (before now : Option (List ℕ)) (accounts : Accounts) : Type 0 where
+pub record StopsIn (book : Accounts) (events : List Event) (i : ℕ) (before now : Option (List ℕ))
+    (accounts : Accounts) : Type 0 where
   pub written : (n : ℕ) × (n < length (line_of (answer_at book events i)))
-      × Appends before now (answers_before book events i ++ take n (line_of (answer_at book events i)))
+      × Appends before now (answers_before book events i
+      ++ take n (line_of (answer_at book events i)))
   pub accounts_are : accounts ≡ book_at book events (suc i)
 
 -- what stands after a fault; left is what the reader has left. Memory was refused to the line behind
 -- those that are answered, or before the first line
-abbrev pub ScriptFails : Accounts → List ℕ → Option (List ℕ) → Option (List ℕ) → Option (List ℕ) → Accounts → ScriptFault → Type 0
+abbrev pub ScriptFails : Accounts → List ℕ → Option (List ℕ) → Option (List ℕ) → Option (List ℕ)
+    → Accounts → ScriptFault → Type 0
 ScriptFails book bytes left before now accounts Read =
-    (front : List ℕ) × Consumes (Some bytes) left front × StandsAfter book (events_of bytes) (line_ends front) before now accounts
+    (front : List ℕ) × Consumes (Some bytes) left front
+    × StandsAfter book (events_of bytes) (line_ends front) before now accounts
 ScriptFails book bytes left before now accounts Write =
     (i : ℕ) × (i < length (events_of bytes)) × StopsIn book (events_of bytes) i before now accounts
 ScriptFails book bytes left before now accounts Memory =
-    (i : ℕ) × ((i < length (events_of bytes)) ⊎ (i ≡ 0)) × StandsAfter book (events_of bytes) i before now accounts
+    (i : ℕ) × ((i < length (events_of bytes)) ⊎ (i ≡ 0))
+    × StandsAfter book (events_of bytes) i before now accounts
 ScriptFails book bytes left before now accounts TooLong =
-    (longest_script < length bytes) × StandsAfter book (events_of bytes) (line_ends (take longest_script bytes)) before now accounts
+    (longest_script < length bytes)
+    × StandsAfter book (events_of bytes) (line_ends (take longest_script bytes)) before now accounts
 
 -- a fault of the reader or of the writer comes only where a call on it failed
 abbrev pub HasCause : Bool → Bool → ScriptFault → Type 0

@@ -21,7 +21,8 @@ events_of bytes = map event_of (lines_of bytes)
 -- the answers to the first events, a line each
 unfoldable pub answers_before : Accounts → List Event → ℕ → List ℕ
 answers_before book events zero = []
-answers_before book events (suc i) = answers_before book events i ++ line_of (answer_at book events i)
+answers_before book events (suc i) =
+    answers_before book events i ++ line_of (answer_at book events i)
 
 -- what is written for a script
 abbrev pub out : Accounts → List ℕ → List ℕ

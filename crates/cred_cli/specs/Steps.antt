@@ -29,13 +29,16 @@ stay answer book slots = record { answer = answer; book = book; slots = slots }
 abbrev pub slot : List (Option Task) → ℕ → Option Task
 slot slots key = slice_index_or slots (key - 1) None
 
-abbrev pub begun_at : Accounts → List (Option Task) → ℕ → Request → Option Task → Option (Option RecordValue) → Step
+abbrev pub begun_at : Accounts → List (Option Task) → ℕ → Request → Option Task
+    → Option (Option RecordValue) → Step
 begun_at book slots key request (Some task) entry = stay (Refused Busy) book slots
 begun_at book slots key request None None = stay (Refused (Book NoAccount)) book slots
-begun_at book slots key request None (Some copy) = record { answer = Begun; book = book; slots = slice_set slots (key - 1) (Some (request, copy)) }
+begun_at book slots key request None (Some copy) =
+    record { answer = Begun; book = book; slots = slice_set slots (key - 1) (Some (request, copy)) }
 
 unfoldable pub begun : Accounts → List (Option Task) → ℕ → Request → Step
-begun book slots key request = begun_at book slots key request (slot slots key) (map.get book (name_of request))
+begun book slots key request =
+    begun_at book slots key request (slot slots key) (map.get book (name_of request))
 
 abbrev pub reply_answer : Reply → Answer
 reply_answer (reply.Changed now) = Changed
@@ -76,7 +79,8 @@ step book slots (Commit key) = committing book slots key
 step book slots (Bad why) = stay (Refused why) book slots
 
 -- what stands where a line met a fault
-abbrev pub LineFails : Accounts → List Event → ℕ → Option (List ℕ) → Option (List ℕ) → Accounts → ScriptFault → Type 0
+abbrev pub LineFails : Accounts → List Event → ℕ → Option (List ℕ) → Option (List ℕ) → Accounts
+    → ScriptFault → Type 0
 LineFails book events i before now accounts Memory = StandsAfter book events i before now accounts
 LineFails book events i before now accounts Write = StopsIn book events i before now accounts
 LineFails book events i before now accounts Read = ⊥

@@ -13,9 +13,12 @@ IsTicketOf book events None None = Unit {0}
 IsTicketOf book events None (Some task) = ⊥
 IsTicketOf book events (Some opened) None = ⊥
 IsTicketOf book events (Some opened) (Some task) =
-    (task.0 ≡ opened.request) × (map.get (book_at book events opened.place) (name_of opened.request) ≡ Some task.1)
+    (task.0 ≡ opened.request) × (map.get (book_at book events opened.place) (name_of opened.request)
+    ≡ Some task.1)
 
 -- each number that is open at place i has its ticket
-pub record HoldTickets (book : Accounts) (events : List Event) (i : ℕ) (slots : List (Option Task)) : Type 0 where
+pub record HoldTickets (book : Accounts) (events : List Event) (i : ℕ)
+    (slots : List (Option Task)) : Type 0 where
   pub size : length slots ≡ 64
-  pub each : (key : ℕ) → 1 ≤ key → key ≤ 64 → IsTicketOf book events (open_at book events i key) (slot slots key)
+  pub each : (key : ℕ) → 1 ≤ key → key ≤ 64
+      → IsTicketOf book events (open_at book events i key) (slot slots key)

@@ -37,8 +37,12 @@ pub(crate) enum AnswerLine {
 impl AnswerLine {
     /// Writes the line whole. Where that fails a proper front of it is written.
     pub(crate) fn write_to<W: Write>(self, writer: &mut Watched<W>) -> Result<(), ScriptFault>
-        ensures done { OnOk result (Appends (W.contents (inner_of writer.old)) (W.contents (inner_of writer.new)) (line_bytes self)) }
-        ensures fails { IfErr result (WriteFails (W.contents (inner_of writer.old)) (W.contents (inner_of writer.new)) (line_bytes self) (failed_of writer.new)) }
+        ensures done { OnOk result
+            (Appends (W.contents (inner_of writer.old)) (W.contents (inner_of writer.new))
+            (line_bytes self)) }
+        ensures fails { IfErr result
+            (WriteFails (W.contents (inner_of writer.old)) (W.contents (inner_of writer.new))
+            (line_bytes self) (failed_of writer.new)) }
     {
         match self {
             AnswerLine::Fixed(bytes) => write_whole(writer, bytes),
@@ -56,7 +60,8 @@ pub(crate) fn do_event<T: Threads + Wait + Sync, K: Keeper>(
     event: Event,
 ) -> Result<AnswerLine, AllocError>
     requires { IsSound event }
-    ensures done { IfOk result (IsDone (step (K.book keeper.old) tickets.old event) (K.book keeper.new) tickets.new) }
+    ensures done { IfOk result
+        (IsDone (step (K.book keeper.old) tickets.old event) (K.book keeper.new) tickets.new) }
     ensures refused { OnErr result (K.book keeper.new ≡ K.book keeper.old) }
 {
     match event {
@@ -81,7 +86,8 @@ pub(crate) fn do_event<T: Threads + Wait + Sync, K: Keeper>(
 
 fn begin<K: Keeper>(keeper: &K, tickets: &mut Tickets, key: Key, request: Request) -> AnswerLine
     requires { is_for_current request ≡ true }
-    ensures { IsDone (begun (K.book keeper.now) tickets.old key request) (K.book keeper.now) tickets.new result }
+    ensures { IsDone (begun (K.book keeper.now) tickets.old key request)
+        (K.book keeper.now) tickets.new result }
 {
     if tickets.is_open(key) {
         return bad(Refusal::Busy);
@@ -101,7 +107,8 @@ fn commit<T: Threads + Wait + Sync, K: Keeper>(
     tickets: &mut Tickets,
     key: Key,
 ) -> Result<AnswerLine, AllocError>
-    ensures done { IfOk result (IsDone (committing (K.book keeper.old) tickets.old key) (K.book keeper.new) tickets.new) }
+    ensures done { IfOk result
+        (IsDone (committing (K.book keeper.old) tickets.old key) (K.book keeper.new) tickets.new) }
     ensures refused { OnErr result (K.book keeper.new ≡ K.book keeper.old) }
 {
     let Some(ticket) = tickets.close(key) else {
@@ -136,7 +143,8 @@ fn reply_line(reply: &Reply) -> &'static [u8]
 }
 
 fn refused(refusal: BookError) -> Result<AnswerLine, AllocError>
-    ensures answer { IfOk result (λ line. line_bytes line ≡ line_of (Refused (Refusal.Book refusal))) }
+    ensures answer { IfOk result
+        (λ line. line_bytes line ≡ line_of (Refused (Refusal.Book refusal))) }
     ensures memory { refusal ≡ BookError.Memory → OnOk result ⊥ }
 {
     match refusal {

@@ -53,7 +53,8 @@ docs/ERRORS.md has them all, by word.";
 
 /// What the words say; `clap`'s error where they don't parse.
 pub(crate) fn matches_of<'a>(alloc: Global, words: &'a [&'a str]) -> Result<ArgMatches<'a>, Error>
-    ensures matches { IfOk result (λ m. subcommand_rows_of m ≡ subcommand_of credbook (map (λ s. s.now) words.entry.now)) }
+    ensures matches { IfOk result (λ m. subcommand_rows_of m
+        ≡ subcommand_of credbook (map (λ s. s.now) words.entry.now)) }
     ensures kinds { FailsBy (fault_of credbook (map (λ s. s.now) words.entry.now)) result }
 {
     credbook(alloc)?.try_get_matches_from(words)
@@ -83,8 +84,10 @@ fn credbook<'a>(alloc: Global) -> Result<Command<'a>, AllocError>
 
 /// The same with a subcommand of its own.
 fn with_command<'a>(command: Command<'a>, below: Command<'a>) -> Result<Command<'a>, AllocError>
-    requires local { ((out-Command command).has_globals ≡ false) × ((out-Command below).has_globals ≡ false) }
-    ensures app { IfOk result (λ c. app_of c ≡ with_subcommand (app_of command.entry) (app_of below.entry).top) }
+    requires local { ((out-Command command).has_globals ≡ false)
+        × ((out-Command below).has_globals ≡ false) }
+    ensures app { IfOk result (λ c. app_of c
+        ≡ with_subcommand (app_of command.entry) (app_of below.entry).top) }
     ensures local { IfOk result (λ c. (out-Command c).has_globals ≡ false) }
 {
     command.subcommand(below)
@@ -138,7 +141,8 @@ fn of_one<'a>(
 /// The same with an argument of its own.
 fn with_arg<'a>(command: Command<'a>, arg: Arg<'a>) -> Result<Command<'a>, AllocError>
     requires local { ((out-Command command).has_globals ≡ false) × (arg.global ≡ false) }
-    ensures app { IfOk result (λ c. app_of c ≡ with_rule (app_of command.entry) (rule_of arg.entry)) }
+    ensures app { IfOk result (λ c. app_of c
+        ≡ with_rule (app_of command.entry) (rule_of arg.entry)) }
     ensures local { IfOk result (λ c. (out-Command c).has_globals ≡ false) }
 {
     command.arg(arg)

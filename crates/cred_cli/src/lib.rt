@@ -21,12 +21,13 @@ mod resources;
 mod script;
 mod session;
 mod single;
+mod status;
 mod tickets;
 mod watched;
 mod writing;
 
 pub use fault::ScriptFault;
-pub use laws::{history_is_a_front, names_are_the_books};
+pub use laws::{history_is_a_front, line_is_its_events, names_are_the_books};
 pub use process::run_program;
 pub use program::command;
 pub use script::{End, run_script};

@@ -1,11 +1,13 @@
 //! What the program prints: one line on its output, or the cause of its end on `faults`.
 
 ghost use Rattle.std.specs.Prelude.{◌≡◌};
-ghost use Rattle.cred_cli.specs.Commands.{Prints, status_of};
+ghost use Rattle.cred_cli.specs.Commands.{Prints};
+ghost use Rattle.cred_cli.specs.Statuses.{status_number, status_of};
 ghost use Rattle.cred_cli.specs.Watched.{failed_of, inner_of};
 
 use crate::fault::ScriptFault;
 use crate::refusal::Refusal;
+use crate::status::Status;
 use crate::watched::Watched;
 use crate::writing::write_whole;
 use std::io::Write;
@@ -15,9 +17,10 @@ pub(crate) fn print<W: Write, F: Write>(
     writer: &mut Watched<W>,
     faults: &mut F,
     line: &[u8],
-    good: u8,
-) -> u8
-    ensures { Prints line.now good (W.contents (inner_of writer.old)) (W.contents (inner_of writer.new)) (failed_of writer.new) result }
+    good: Status,
+) -> Status
+    ensures { Prints line.now good (W.contents (inner_of writer.old))
+        (W.contents (inner_of writer.new)) (failed_of writer.new) (status_number result) }
 {
     match write_whole(writer, line) {
         Ok(()) => good,
@@ -26,20 +29,20 @@ pub(crate) fn print<W: Write, F: Write>(
 }
 
 /// Names the fault on `faults`, and gives its status.
-pub(crate) fn failed<F: Write>(faults: &mut F, fault: ScriptFault) -> u8
+pub(crate) fn failed<F: Write>(faults: &mut F, fault: ScriptFault) -> Status
     ensures { result ≡ status_of fault }
 {
     let _ = writeln!(faults, "credbook: {}", fault.word());
     match fault {
-        ScriptFault::Read | ScriptFault::Write | ScriptFault::TooLong => 2,
-        ScriptFault::Memory => 3,
+        ScriptFault::Read | ScriptFault::Write | ScriptFault::TooLong => Status::Failed,
+        ScriptFault::Memory => Status::OutOfMemory,
     }
 }
 
 /// Says on `faults` why a value is refused.
-pub(crate) fn refused<F: Write>(faults: &mut F, why: Refusal) -> u8
-    ensures { result ≡ 1 }
+pub(crate) fn refused<F: Write>(faults: &mut F, why: Refusal) -> Status
+    ensures { result ≡ Status.Refused }
 {
     let _ = writeln!(faults, "credbook: {} {}", why.number(), why.word());
-    1
+    Status::Refused
 }

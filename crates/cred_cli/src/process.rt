@@ -3,8 +3,10 @@
 
 ghost use Rattle.std.specs.Prelude.{◌≡◌, ◌⊎◌, MatchResult};
 ghost use Rattle.std.specs.Process.{exit_status};
+ghost use Rattle.cred_cli.specs.Statuses.{status_number};
 
 use crate::program::command;
+use crate::status::Status;
 use crate::watched::Watched;
 use std::env::Env;
 use std::io::{ErrorKind, Read, Write};
@@ -35,12 +37,16 @@ where
 
 /// The status of the command, where there was memory for its words and they are UTF-8.
 fn exit_code(ended: &io::Result<u8>) -> ExitCode
-    ensures { MatchResult ended.now (λ status. exit_status result ≡ status) (λ _. (exit_status result ≡ 1) ⊎ (exit_status result ≡ 3)) }
+    ensures { MatchResult ended.now (λ status. exit_status result ≡ status)
+        (λ _. (exit_status result ≡ status_number Status.Refused)
+        ⊎ (exit_status result ≡ status_number Status.OutOfMemory)) }
 {
     match ended {
         Ok(status) => ExitCode::from(*status),
-        Err(error) if error.kind() == ErrorKind::OutOfMemory => ExitCode::from(3),
-        Err(_) => ExitCode::from(1),
+        Err(error) if error.kind() == ErrorKind::OutOfMemory => {
+            ExitCode::from(Status::OutOfMemory.number())
+        },
+        Err(_) => ExitCode::from(Status::Refused.number()),
     }
 }
 

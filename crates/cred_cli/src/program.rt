@@ -4,7 +4,8 @@ ghost use Rattle.std.specs.Prelude.{◌≡◌, ◌⊎◌, [], false, map};
 ghost use Rattle.std.specs.Io.KnownBytes.{Keeps};
 ghost use Rattle.clap.specs.Words.{fault_of, subcommand_of, subcommand_rows_of};
 ghost use Rattle.cred_cli.specs.Arguments.{credbook};
-ghost use Rattle.cred_cli.specs.Commands.{Acts, Ends, Runs, is_run, status_of};
+ghost use Rattle.cred_cli.specs.Commands.{Acts, Ends, Runs, is_run};
+ghost use Rattle.cred_cli.specs.Statuses.{status_number};
 ghost use Rattle.cred_cli.specs.Watched.{IsNew, failed_of, inner_of};
 
 use crate::arguments::{matches_of, workers_of};
@@ -13,6 +14,7 @@ use crate::printing::failed;
 use crate::resources::Resources;
 use crate::script::run_script;
 use crate::single::{check, hash};
+use crate::status::Status;
 use crate::watched::Watched;
 use clap::ArgMatches;
 use clap::error::ErrorKind;
@@ -40,25 +42,31 @@ pub fn command<T: Threads + Wait + Sync, R: Read, W: Write, F: Write>(
 ) -> u8
     requires new_reader { IsNew reader.old }
     requires new_writer { IsNew writer.old }
-    ensures acts { fault_of credbook (map (λ s. s.now) words.entry.now) ≡ [] →
-        Acts (subcommand_of credbook (map (λ s. s.now) words.entry.now))
-        (R.remaining (inner_of reader.old)) (R.remaining (inner_of reader.new)) (W.contents (inner_of writer.old)) (W.contents (inner_of writer.new))
+    ensures acts { fault_of credbook (map (λ s. s.now) words.entry.now) ≡ []
+        → Acts (subcommand_of credbook (map (λ s. s.now) words.entry.now))
+        (R.remaining (inner_of reader.old)) (R.remaining (inner_of reader.new))
+        (W.contents (inner_of writer.old)) (W.contents (inner_of writer.new))
         (failed_of reader.new) (failed_of writer.new) result
-        ⊎ Ends (status_of ScriptFault.Memory) (W.contents (inner_of writer.old)) (W.contents (inner_of writer.new)) result }
-    ensures refused { (fault_of credbook (map (λ s. s.now) words.entry.now) ≡ [] → ⊥) →
-        Ends 1 (W.contents (inner_of writer.old)) (W.contents (inner_of writer.new)) result
-        ⊎ Ends (status_of ScriptFault.Memory) (W.contents (inner_of writer.old)) (W.contents (inner_of writer.new)) result }
-    ensures unread { is_run (subcommand_of credbook (map (λ s. s.now) words.entry.now)) ≡ false → reader.new ≡ reader.old }
-    ensures unparsed { (fault_of credbook (map (λ s. s.now) words.entry.now) ≡ [] → ⊥) → reader.new ≡ reader.old }
+        ⊎ Ends Status.OutOfMemory (W.contents (inner_of writer.old))
+        (W.contents (inner_of writer.new)) result }
+    ensures refused { (fault_of credbook (map (λ s. s.now) words.entry.now) ≡ [] → ⊥)
+        → Ends Status.Refused (W.contents (inner_of writer.old))
+        (W.contents (inner_of writer.new)) result
+        ⊎ Ends Status.OutOfMemory (W.contents (inner_of writer.old))
+        (W.contents (inner_of writer.new)) result }
+    ensures unread { is_run (subcommand_of credbook (map (λ s. s.now) words.entry.now)) ≡ false
+        → reader.new ≡ reader.old }
+    ensures unparsed { (fault_of credbook (map (λ s. s.now) words.entry.now) ≡ [] → ⊥)
+        → reader.new ≡ reader.old }
 {
     match matches_of(alloc, words) {
-        Ok(matches) => act(rt, alloc, &matches, reader, writer, faults),
+        Ok(matches) => act(rt, alloc, &matches, reader, writer, faults).number(),
         Err(error) => {
             if error.kind() == ErrorKind::OutOfMemory {
-                return failed(faults, ScriptFault::Memory);
+                return failed(faults, ScriptFault::Memory).number();
             }
             let _ = write!(faults, "{error}");
-            1
+            Status::Refused.number()
         }
     }
 }
@@ -70,16 +78,18 @@ fn act<T: Threads + Wait + Sync, R: Read, W: Write, F: Write>(
     reader: &mut Watched<R>,
     writer: &mut Watched<W>,
     faults: &mut F,
-) -> u8
+) -> Status
     requires new_reader { IsNew reader.old }
     requires new_writer { IsNew writer.old }
     ensures acts { Acts (subcommand_rows_of matches.now)
-        (R.remaining (inner_of reader.old)) (R.remaining (inner_of reader.new)) (W.contents (inner_of writer.old)) (W.contents (inner_of writer.new))
-        (failed_of reader.new) (failed_of writer.new) result }
-    ensures unread { is_run (subcommand_rows_of matches.now) ≡ false → reader.new ≡ reader.old }
+        (R.remaining (inner_of reader.old)) (R.remaining (inner_of reader.new))
+        (W.contents (inner_of writer.old)) (W.contents (inner_of writer.new))
+        (failed_of reader.new) (failed_of writer.new) (status_number result) }
+    ensures unread { is_run (subcommand_rows_of matches.now) ≡ false
+        → reader.new ≡ reader.old }
 {
     let Some((word, values)) = matches.subcommand() else {
-        return 1;
+        return Status::Refused;
     };
     let resources = Resources {
         rt,
@@ -100,11 +110,12 @@ fn run<T: Threads + Wait + Sync, R: Read, W: Write, F: Write>(
     reader: &mut Watched<R>,
     writer: &mut Watched<W>,
     faults: &mut F,
-) -> u8
+) -> Status
     requires new_reader { IsNew reader.old }
     requires new_writer { IsNew writer.old }
-    ensures { Runs (R.remaining (inner_of reader.old)) (R.remaining (inner_of reader.new)) (W.contents (inner_of writer.old)) (W.contents (inner_of writer.new))
-        (failed_of reader.new) (failed_of writer.new) result }
+    ensures { Runs (R.remaining (inner_of reader.old)) (R.remaining (inner_of reader.new))
+        (W.contents (inner_of writer.old)) (W.contents (inner_of writer.new))
+        (failed_of reader.new) (failed_of writer.new) (status_number result) }
 {
     let Ok(mut book) = Book::new(resources.alloc) else {
         return failed(faults, ScriptFault::Memory);
@@ -117,7 +128,7 @@ fn run<T: Threads + Wait + Sync, R: Read, W: Write, F: Write>(
         reader,
         writer,
     ) {
-        Ok(_) => 0,
+        Ok(_) => Status::Done,
         Err(fault) => failed(faults, fault),
     }
 }

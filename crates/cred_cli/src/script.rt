@@ -41,11 +41,14 @@ pub fn run_script<T: Threads + Wait + Sync, K: Keeper, R: Read, W: Write>(
     requires new_reader { IsNew reader.old }
     requires new_writer { IsNew writer.old }
     ensures done { IfOk result (λ end. IfSome (R.remaining (inner_of reader.old)) (λ bytes.
-        IsAnswered (K.book keeper.old) bytes (W.contents (inner_of writer.old)) (W.contents (inner_of writer.new)) (K.book keeper.new) end.lines)) }
-    ensures short { OnOk result (IfSome (R.remaining (inner_of reader.old)) (λ bytes. length bytes ≤ longest_script)) }
+        IsAnswered (K.book keeper.old) bytes (W.contents (inner_of writer.old))
+        (W.contents (inner_of writer.new)) (K.book keeper.new) end.lines)) }
+    ensures short { OnOk result
+        (IfSome (R.remaining (inner_of reader.old)) (λ bytes. length bytes ≤ longest_script)) }
     ensures fault { IfErr result (λ fault. IfSome (R.remaining (inner_of reader.old)) (λ bytes.
         ScriptFails (K.book keeper.old) bytes (R.remaining (inner_of reader.new))
-        (W.contents (inner_of writer.old)) (W.contents (inner_of writer.new)) (K.book keeper.new) fault)) }
+        (W.contents (inner_of writer.old)) (W.contents (inner_of writer.new))
+        (K.book keeper.new) fault)) }
     ensures cause { IfErr result (HasCause (failed_of reader.new) (failed_of writer.new)) }
     ensures calls { calls_of reader.new ≤ most_calls }
 {

@@ -41,11 +41,15 @@ impl Session {
         writer: &mut Watched<W>,
         byte: u8,
     ) -> Result<(), ScriptFault>
-        ensures fed { (book : Accounts) (all front rest : List ℕ) (before : Option (List ℕ)) → all ≡ front ++ byte ∷ rest →
-            IsAt book all front before (W.contents (inner_of writer.old)) (K.book keeper.old) self.old.tickets self.old.progress →
+        ensures fed { (book : Accounts) (all front rest : List ℕ) (before : Option (List ℕ))
+            → all ≡ front ++ byte ∷ rest →
+            IsAt book all front before (W.contents (inner_of writer.old))
+            (K.book keeper.old) self.old.tickets self.old.progress →
             MatchResult result
-            (λ _. IsAt book all (front ++ byte ∷ []) before (W.contents (inner_of writer.new)) (K.book keeper.new) self.new.tickets self.new.progress)
-            (λ e. (left : Option (List ℕ)) → ScriptFails book all left before (W.contents (inner_of writer.new)) (K.book keeper.new) e) }
+            (λ _. IsAt book all (front ++ byte ∷ []) before (W.contents (inner_of writer.new))
+            (K.book keeper.new) self.new.tickets self.new.progress)
+            (λ e. (left : Option (List ℕ)) → ScriptFails book all left before
+            (W.contents (inner_of writer.new)) (K.book keeper.new) e) }
         ensures taken { OnOk result (self.new.progress.taken ≡ self.old.progress.taken + 1) }
         ensures cause { IfErr result (HasCause false (failed_of writer.new)) }
     {
@@ -78,12 +82,17 @@ impl Session {
         writer: &mut Watched<W>,
         bytes: &[u8],
     ) -> Result<(), ScriptFault>
-        ensures fed { (book : Accounts) (all front rest : List ℕ) (before : Option (List ℕ)) → all ≡ front ++ bytes.now ++ rest →
-            IsAt book all front before (W.contents (inner_of writer.old)) (K.book keeper.old) self.old.tickets self.old.progress →
+        ensures fed { (book : Accounts) (all front rest : List ℕ) (before : Option (List ℕ))
+            → all ≡ front ++ bytes.now ++ rest →
+            IsAt book all front before (W.contents (inner_of writer.old))
+            (K.book keeper.old) self.old.tickets self.old.progress →
             MatchResult result
-            (λ _. IsAt book all (front ++ bytes.now) before (W.contents (inner_of writer.new)) (K.book keeper.new) self.new.tickets self.new.progress)
-            (λ e. (left : Option (List ℕ)) → ScriptFails book all left before (W.contents (inner_of writer.new)) (K.book keeper.new) e) }
-        ensures taken { OnOk result (self.new.progress.taken ≡ self.old.progress.taken + length bytes.now) }
+            (λ _. IsAt book all (front ++ bytes.now) before (W.contents (inner_of writer.new))
+            (K.book keeper.new) self.new.tickets self.new.progress)
+            (λ e. (left : Option (List ℕ)) → ScriptFails book all left before
+            (W.contents (inner_of writer.new)) (K.book keeper.new) e) }
+        ensures taken { OnOk result (self.new.progress.taken
+            ≡ self.old.progress.taken + length bytes.now) }
         ensures cause { IfErr result (HasCause false (failed_of writer.new)) }
     {
         for byte in bytes {
@@ -100,10 +109,13 @@ impl Session {
         writer: &mut Watched<W>,
     ) -> Result<u64, ScriptFault>
         ensures answered { (book : Accounts) (all : List ℕ) (before : Option (List ℕ)) →
-            IsAt book all all before (W.contents (inner_of writer.old)) (K.book keeper.old) self.old.tickets self.old.progress →
+            IsAt book all all before (W.contents (inner_of writer.old))
+            (K.book keeper.old) self.old.tickets self.old.progress →
             MatchResult result
-            (λ lines. IsAnswered book all before (W.contents (inner_of writer.new)) (K.book keeper.new) lines)
-            (λ e. (left : Option (List ℕ)) → ScriptFails book all left before (W.contents (inner_of writer.new)) (K.book keeper.new) e) }
+            (λ lines. IsAnswered book all before (W.contents (inner_of writer.new))
+            (K.book keeper.new) lines)
+            (λ e. (left : Option (List ℕ)) → ScriptFails book all left before
+            (W.contents (inner_of writer.new)) (K.book keeper.new) e) }
         ensures cause { IfErr result (HasCause false (failed_of writer.new)) }
     {
         if self.progress.start.bytes().is_empty() {
@@ -129,11 +141,15 @@ impl Session {
     ) -> Result<End, ScriptFault>
         requires new_reader { calls_of reader.old ≡ 0 }
         requires new_progress { self.old.progress.taken ≡ 0 }
-        ensures ended { (book : Accounts) (all : List ℕ) (before : Option (List ℕ)) → R.remaining (inner_of reader.old) ≡ Some all →
-            IsAt book all [] before (W.contents (inner_of writer.old)) (K.book keeper.old) self.old.tickets self.old.progress →
+        ensures ended { (book : Accounts) (all : List ℕ) (before : Option (List ℕ))
+            → R.remaining (inner_of reader.old) ≡ Some all →
+            IsAt book all [] before (W.contents (inner_of writer.old))
+            (K.book keeper.old) self.old.tickets self.old.progress →
             MatchResult result
-            (λ end. IsAnswered book all before (W.contents (inner_of writer.new)) (K.book keeper.new) end.lines × (length all ≤ longest_script))
-            (ScriptFails book all (R.remaining (inner_of reader.new)) before (W.contents (inner_of writer.new)) (K.book keeper.new)) }
+            (λ end. IsAnswered book all before (W.contents (inner_of writer.new))
+            (K.book keeper.new) end.lines × (length all ≤ longest_script))
+            (ScriptFails book all (R.remaining (inner_of reader.new)) before
+            (W.contents (inner_of writer.new)) (K.book keeper.new)) }
         ensures cause { IfErr result (HasCause (failed_of reader.new) (failed_of writer.new)) }
         ensures calls { calls_of reader.new ≤ most_calls }
     {

@@ -5,6 +5,7 @@ ghost use Rattle.std.specs.Io.KnownBytes.{Keeps};
 ghost use Rattle.clap.specs.Words.{first_of, found_of, rows_of};
 ghost use Rattle.cred_book.specs.Works.{made};
 ghost use Rattle.cred_cli.specs.Commands.{Checks, Hashes, password_word, record_line, to_check, to_hash};
+ghost use Rattle.cred_cli.specs.Statuses.{status_number};
 ghost use Rattle.cred_cli.specs.Watched.{failed_of, inner_of};
 
 use crate::answer::record_line;
@@ -14,6 +15,7 @@ use crate::fields;
 use crate::printing::{failed, print, refused};
 use crate::refusal::Refusal;
 use crate::resources::Resources;
+use crate::status::Status;
 use crate::watched::Watched;
 use clap::ArgMatches;
 use cred_phc::{Password, Record, Setting};
@@ -27,16 +29,18 @@ pub(crate) fn hash<T: Threads + Sync, W: Write, F: Write>(
     values: &ArgMatches<'_>,
     writer: &mut Watched<W>,
     faults: &mut F,
-) -> u8
-    ensures { Hashes (first_of (codes "setting") (rows_of (found_of values.now))) (first_of (codes "password") (rows_of (found_of values.now)))
-        (W.contents (inner_of writer.old)) (W.contents (inner_of writer.new)) (failed_of writer.new) result }
+) -> Status
+    ensures { Hashes (first_of (codes "setting") (rows_of (found_of values.now)))
+        (first_of (codes "password") (rows_of (found_of values.now)))
+        (W.contents (inner_of writer.old)) (W.contents (inner_of writer.new))
+        (failed_of writer.new) (status_number result) }
 {
     let Some(text) = value(values, "setting") else {
-        return 1;
+        return Status::Refused;
     };
     match to_hash(text, value(values, "password")) {
         Ok((setting, pw)) => match hash_line(resources, &setting, &pw) {
-            Ok(line) => print(writer, faults, &line, 0),
+            Ok(line) => print(writer, faults, &line, Status::Done),
             Err(_) => failed(faults, ScriptFault::Memory),
         },
         Err(why) => refused(faults, why),
@@ -49,17 +53,19 @@ pub(crate) fn check<T: Threads + Sync, W: Write, F: Write>(
     values: &ArgMatches<'_>,
     writer: &mut Watched<W>,
     faults: &mut F,
-) -> u8
-    ensures { Checks (first_of (codes "record") (rows_of (found_of values.now))) (first_of (codes "password") (rows_of (found_of values.now)))
-        (W.contents (inner_of writer.old)) (W.contents (inner_of writer.new)) (failed_of writer.new) result }
+) -> Status
+    ensures { Checks (first_of (codes "record") (rows_of (found_of values.now)))
+        (first_of (codes "password") (rows_of (found_of values.now)))
+        (W.contents (inner_of writer.old)) (W.contents (inner_of writer.new))
+        (failed_of writer.new) (status_number result) }
 {
     let Some(text) = value(values, "record") else {
-        return 1;
+        return Status::Refused;
     };
     match to_check(text, value(values, "password")) {
         Ok((stored, pw)) => match resources.hashing().is_right(&stored, &pw) {
-            Ok(true) => print(writer, faults, b"yes\n", 0),
-            Ok(false) => print(writer, faults, b"no\n", 4),
+            Ok(true) => print(writer, faults, b"yes\n", Status::Done),
+            Ok(false) => print(writer, faults, b"no\n", Status::No),
             Err(_) => failed(faults, ScriptFault::Memory),
         },
         Err(why) => refused(faults, why),

@@ -15,8 +15,11 @@ pub(crate) fn write_whole<W: Write>(
     writer: &mut Watched<W>,
     bytes: &[u8],
 ) -> Result<(), ScriptFault>
-    ensures done { OnOk result (Appends (W.contents (inner_of writer.old)) (W.contents (inner_of writer.new)) bytes.now) }
-    ensures fails { IfErr result (WriteFails (W.contents (inner_of writer.old)) (W.contents (inner_of writer.new)) bytes.now (failed_of writer.new)) }
+    ensures done { OnOk result
+        (Appends (W.contents (inner_of writer.old)) (W.contents (inner_of writer.new)) bytes.now) }
+    ensures fails { IfErr result
+        (WriteFails (W.contents (inner_of writer.old)) (W.contents (inner_of writer.new)) bytes.now
+        (failed_of writer.new)) }
 {
     let mut rest = bytes;
     while !rest.is_empty() {
