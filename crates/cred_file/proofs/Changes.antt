@@ -1,5 +1,5 @@
 -- What the statements that change an account do to the table, at Ok and over a crash.
-use Rattle.std.proofs.Common.{◌≡◌, ◌⊎◌, inl, inr, ℕ, ℤ, List, [], ◌∷◌, ◌++◌, map, filter, flat_map, Bool, true, false, not, cond, ◌&&◌, ◌||◌, Some, None, Option, Ok, Err, Result, refl, sym, ap, subst, subst₂, ◌∙◌}
+use Rattle.std.proofs.Common.{◌≡◌, ◌⊎◌, inl, inr, ℕ, ℤ, List, [], ◌∷◌, ◌++◌, map, filter, flat_map, Bool, true, false, not, cond, ◌&&◌, ◌||◌, Some, None, Option, IsTrue, Ok, Err, Result, refl, sym, ap, subst, subst₂, ◌∙◌}
 use Rattle.std.specs.List.{list_any, list_all}
 use Rattle.std.specs.List.Sorted.{IsPermutation}
 use Rattle.std.specs.Ordering.{is_eq, eq_by_cmp}
@@ -31,7 +31,7 @@ use Rattle.sqlite.specs.Effect.{Database}
 use Rattle.sqlite.proofs.Callers.{one_step, one_permutation}
 use Rattle.cred_phc.specs.Values.{RecordValue}
 use Rattle.cred_book.specs.Accounts.{Accounts}
-use Rattle.cred_book.specs.Names.{name_cmp}
+use Rattle.cred_book.specs.Names.{is_name, name_cmp}
 use Rattle.cred_file.specs.Schema.{account, account_schema}
 use Rattle.cred_file.specs.Table.{Line, Says, Tells, has_name, StandsFor}
 use Rattle.cred_file.proofs.TableLemmas.{stands_put, stands_without, row_of, insert_again, absent_now, named_in}
@@ -135,16 +135,16 @@ does_update limit mode name value v db after text tally book tells has stands th
     let news : cast_row account (Int l.id ∷ Text l.name ∷ value ∷ []) ≡ row = (λ i. cast_int l.id i ∷ Text (it.named i) ∷ cast_told value v tells i ∷ []) in
     let changed : edited trees (edit_of trees account (ids_of asked.0) Given 1 asked.0) ≡ put_row row (without_rowid l.id (trees 0)) =
     ap (λ all. edited trees (edit_of trees account (ids_of all) Given 1 all)) rows ∙ ap (λ r. put_row r (without_rowid l.id (trees 0))) news in
-    let made = stands_put (without_rowid l.id (trees 0)) (fin.remove book name) row line (record { id = refl; name = refl; stored = tells })
+    let made = stands_put (without_rowid l.id (trees 0)) (fin.remove book name) row line (record { id = refl; name = refl; is_name = subst (λ n. IsTrue (is_name n)) it.named it.says.is_name; stored = tells })
     (stands_without (passes params) (trees 0) book name stands r l it) (none_left l.id (trees 0)) (absent_now book name) in
     let is : after.trees 0 ≡ put_row row (without_rowid l.id (trees 0)) = ap (λ (d : Database). d.trees 0) now ∙ ap (λ (w : Written). w.trees 0) (same_value written.2) ∙ step.rows ∙ changed in
     (ap (λ (d : Database). d.schema) now, subst₂ StandsFor (sym is) (insert_again book name v) made)
 
-pub does_insert : (limit : Option ℕ) (mode : Mode) (name : List ℕ) (db after : Database) (text : List ℕ) (tally : Tally) (book : Accounts)
+pub does_insert : (limit : Option ℕ) (mode : Mode) (name : List ℕ) (named : IsTrue (is_name name)) (db after : Database) (text : List ℕ) (tally : Tally) (book : Accounts)
     → db.schema ≡ account_schema → StandsFor (db.trees 0) book → fin.contains_key book name ≡ false
     → Does limit mode (Text name ∷ []) db text None (Insert 0 (Values terms 3)) (Ok (tally, after))
     → (after.schema ≡ account_schema) × StandsFor (after.trees 0) (fin.insert book name None)
-does_insert limit mode name db after text tally book has stands absent does =
+does_insert limit mode name named db after text tally book has stands absent does =
     let params = Text name ∷ [] in
     let trees = db.trees in
     let done = went (subst (λ s. Does limit mode params (record db { schema = s }) text None (Insert 0 (Values terms 3)) (Ok (tally, after))) has does) in
@@ -157,7 +157,7 @@ does_insert limit mode name db after text tally book has stands absent does =
     let row : Row = Int line.id ∷ Text name ∷ Null ∷ [] in
     let news : (edit_of trees account [] Chosen 0 asked.0).news ≡ row ∷ [] = ap (λ all. (edit_of trees account [] Chosen 0 all).news) asked.1.1 ∙ rw cast_null in
     let free = fresh_is (trees 0) row (subst (λ n. are_fresh (trees 0) n ≡ true) news step.fresh) in
-    let made = stands_put (trees 0) book row line (record { id = refl; name = refl; stored = tt }) stands free absent in
+    let made = stands_put (trees 0) book row line (record { id = refl; name = refl; is_name = named; stored = tt }) stands free absent in
     let is : after.trees 0 ≡ put_row row (trees 0) = ap (λ (d : Database). d.trees 0) now ∙ ap (λ (w : Written). w.trees 0) (same_value counted.2) ∙ ap (λ (t : Trees). t 0) (same_value counted.1)
     ∙ step.rows ∙ ap (put_all (trees 0)) news in
     (ap (λ (d : Database). d.schema) now, subst (λ rows. StandsFor rows (fin.insert book name None)) (sym is) made)

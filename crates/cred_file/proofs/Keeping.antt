@@ -32,6 +32,7 @@ use Rattle.sqlite.specs.Held.{Held, state}
 use Rattle.sqlite.specs.Store.{Ghosts}
 use Rattle.sqlite_trees.specs.View.{doubt}
 use Rattle.cred_book.specs.Calls.{Shows}
+use Rattle.cred_book.specs.Names.{is_name}
 use Rattle.cred_book.specs.declared.error.BookError.{BookError}
 use Rattle.cred_book.specs.declared.error.BookError.TheVariants as error
 use Rattle.cred_file.proofs.Texts.{insert_text, update_text, insert_is, update_is, insert_plain, update_plain, matched, terms}
@@ -87,14 +88,14 @@ module _ (sql : List ℕ) (params : Row) (schema : Schema) (command : Command) (
               (to, inr refl, holds db to m.2 (made.0 ∙ same) m.4 made.1 m.5)
         ]
 
-module _ (book : Accounts) (name : List ℕ) (absent : fin.contains_key book name ≡ false) (old new : State) where
+module _ (book : Accounts) (name : List ℕ) (named : IsTrue (is_name name)) (absent : fin.contains_key book name ≡ false) (old new : State) where
   insert_may : (s : State) (text : List ℕ) (db : Trees) → MayCommit s None (Insert 0 (Values terms 3)) text (Text name ∷ []) db → MayWrite s None (Insert 0 (Values terms 3)) text (Text name ∷ []) db
   insert_may s text db (inl h) = absurd (elim h.0 [ inl e ↦ cc | inr e ↦ let e = e.2 in cc ])
   insert_may s text db (inr h) = h
 
   insert_does : (limit : Option ℕ) (mode : Mode) (db after : Database) (text : List ℕ) (tally : Tally) → db.schema ≡ account_schema → StandsFor (db.trees 0) book
       → Does limit mode (Text name ∷ []) db text None (Insert 0 (Values terms 3)) (Ok (tally, after)) → (after.schema ≡ account_schema) × StandsFor (after.trees 0) (fin.insert book name None)
-  insert_does limit mode db after text tally has stands d = does_insert limit mode name db after text tally book has stands absent d
+  insert_does limit mode db after text tally has stands d = does_insert limit mode name named db after text tally book has stands absent d
 
   pub inserted : (count : ℕ) → IsSettled new → IsTableOf old book → Executes insert_text (Text name ∷ []) old new (Ok count) → IsTableOf new (fin.insert book name None)
   inserted = done insert_text (Text name ∷ []) account_schema (Insert 0 (Values terms 3)) insert_is insert_plain book (fin.insert book name None) insert_does (λ o n t c h. h) insert_may refl old new

@@ -10,3 +10,4 @@ pub mod LeftOut
 pub mod Selected
 pub mod FoundAgain
 pub mod Catalogued
+pub mod NoFault

@@ -80,7 +80,7 @@ each_shown : (rows : List Row) (ls : List Line) → AllZip Says (map shown rows)
 each_shown [] [] all = tt
 each_shown [] (l ∷ ls) all = absurd all
 each_shown (r ∷ rows) [] all = absurd all
-each_shown (r ∷ rows) (l ∷ ls) all = (record { id = all.0.id; name = all.0.name; stored = all.0.stored }, each_shown rows ls all.1)
+each_shown (r ∷ rows) (l ∷ ls) all = (record { id = all.0.id; name = all.0.name; is_name = all.0.is_name; stored = all.0.stored }, each_shown rows ls all.1)
 
 -- the rows of the answer stand for the book that the table's rows stand for
 pub stands_unshown : (table answer : List Row) (book : Accounts) → IsPermutation answer (map shown table) → StandsFor answer book → StandsFor table book

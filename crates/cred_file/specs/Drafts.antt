@@ -19,7 +19,8 @@ pub record IsDraftOf (rows : List Row) (book : Accounts) (ids : List ℤ) : Type
   pub count : fin.len book ≡ length rows
 
 -- one row more
-pub record IsAdded (row : Row) (book : Accounts) (ids : List ℤ) (after : Accounts) (more : List ℤ) : Type 0 where
+pub record IsAdded (row : Row) (book : Accounts) (ids : List ℤ) (after : Accounts)
+    (more : List ℤ) : Type 0 where
   pub line : Line
   pub says : Says row line
   pub new_id : list_any (λ id. int_eq id line.id) ids ≡ false
@@ -45,10 +46,12 @@ IsSpare row book ids fault.NoBook = ⊥
 IsSpare row book ids (fault.NoName id) = ⊥
 IsSpare row book ids (fault.NoRecord id) = ⊥
 IsSpare row book ids (fault.Twice id) =
-    (l : Line) × Says row l × (l.id ≡ id) × (list_any (λ x. int_eq x id) ids ≡ false) × (fin.contains_key book l.name ≡ true)
+    (l : Line) × Says row l × (l.id ≡ id) × (list_any (λ x. int_eq x id) ids ≡ false)
+    × (fin.contains_key book l.name ≡ true)
 IsSpare row book ids fault.TooMany = most_accounts ≤ fin.len book
 IsSpare row book ids fault.Memory = ⊤
-IsSpare row book ids (fault.Database e) = (e ≡ corrupt) × (id : ℤ) × (column row 0 ≡ Int id) × (list_any (λ x. int_eq x id) ids ≡ true)
+IsSpare row book ids (fault.Database e) =
+    (e ≡ corrupt) × (id : ℤ) × (column row 0 ≡ Int id) × (list_any (λ x. int_eq x id) ids ≡ true)
 
 abbrev pub IsNotAdded : Row → Accounts → List ℤ → OpenFault → Type 0
 IsNotAdded row book ids fault = IsUnread row fault ⊎ IsSpare row book ids fault

@@ -59,12 +59,26 @@ HasBadIds rows =
 abbrev pub AreAtFault : List Row → OpenFault → Type 0
 AreAtFault rows fault.NotEmpty = ⊥
 AreAtFault rows fault.NoBook = ⊥
-AreAtFault rows (fault.NoName id) = list_any (λ row. has_rowid id row && is_no_name (column row 1)) rows ≡ true
-AreAtFault rows (fault.NoRecord id) = list_any (λ row. has_rowid id row && is_no_record (column row 2)) rows ≡ true
-AreAtFault rows (fault.Twice id) = list_any (λ row. has_rowid id row && is_repeated rows row) rows ≡ true
+AreAtFault rows (fault.NoName id) =
+    list_any (λ row. has_rowid id row && is_no_name (column row 1)) rows ≡ true
+AreAtFault rows (fault.NoRecord id) =
+    list_any (λ row. has_rowid id row && is_no_record (column row 2)) rows ≡ true
+AreAtFault rows (fault.Twice id) =
+    list_any (λ row. has_rowid id row && is_repeated rows row) rows ≡ true
 AreAtFault rows fault.TooMany = most_accounts < length rows
 AreAtFault rows fault.Memory = ⊤
 AreAtFault rows (fault.Database e) = (e ≡ corrupt) × HasBadIds rows
+
+-- memory or room was wanting, or the database failed: nothing is said against the tables and rows
+abbrev pub IsForWant : OpenFault → Type 0
+IsForWant fault.NotEmpty = ⊥
+IsForWant fault.NoBook = ⊥
+IsForWant (fault.NoName id) = ⊥
+IsForWant (fault.NoRecord id) = ⊥
+IsForWant (fault.Twice id) = ⊥
+IsForWant fault.TooMany = ⊤
+IsForWant fault.Memory = ⊤
+IsForWant (fault.Database e) = ⊤
 
 -- what is seen and what is committed are as before
 pub record IsAsBefore (old new : State) : Type 0 where

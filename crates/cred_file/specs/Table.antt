@@ -1,5 +1,5 @@
 -- When the rows of the table stand for a book.
-use Rattle.std.specs.Prelude.{◌≡◌, ℕ, ℤ, Bool, false, List, [], ◌∷◌, map, Option, Some, None, Ok, ⊤}
+use Rattle.std.specs.Prelude.{◌≡◌, ℕ, ℤ, Bool, false, List, [], ◌∷◌, map, Option, Some, None, Ok, IsTrue, ⊤}
 use Rattle.std.specs.List.{AllZip, list_any}
 use Rattle.std.specs.Ordering.{is_eq, eq_by_cmp}
 use Rattle.std.specs.FinMap as fin
@@ -9,7 +9,7 @@ use Rattle.sqlite.specs.Order.{Row, column, value_cmp}
 use Rattle.cred_phc.specs.Values.{RecordValue}
 use Rattle.cred_phc.specs.Reading.{read_record}
 use Rattle.cred_book.specs.Accounts.{Accounts}
-use Rattle.cred_book.specs.Names.{name_cmp}
+use Rattle.cred_book.specs.Names.{is_name, name_cmp}
 
 -- what a row says: its rowid, a name, and the record that stands there, if one does
 pub record Line : Type 0 where
@@ -26,6 +26,7 @@ Tells _ _ = ⊥
 pub record Says (row : Row) (l : Line) : Type 0 where
   pub id : column row 0 ≡ Int l.id
   pub name : column row 1 ≡ Text l.name
+  pub is_name : IsTrue (is_name l.name)
   pub stored : Tells (column row 2) l.stored
 
 abbrev pub entry_of : Line → List ℕ × Option RecordValue

@@ -1,7 +1,8 @@
 //! Whether a database has the one table of a book.
 
 ghost use Rattle.std.specs.Prelude.{◌≡◌, ◌≢◌, [], ◌∷◌, IfOk, MatchBool};
-ghost use Rattle.cred_file.specs.Schema.{HasAccountKey, HasNoRules, IsPlainText, account, account_schema, key_index, name_column, record_column};
+ghost use Rattle.cred_file.specs.Schema.{HasAccountKey, HasNoRules, IsPlainText};
+ghost use Rattle.cred_file.specs.Schema.{account, account_schema, key_index, name_column, record_column};
 
 use sqlite_schema::code::Terms;
 use sqlite_schema::schema::{Column, Index, Kind, Schema, Table};
@@ -11,7 +12,8 @@ use std::alloc::{AllocError, Global};
 
 /// Whether the schema is that of a book.
 pub(crate) fn is_of_book(alloc: Global, schema: &Schema) -> Result<bool, AllocError>
-    ensures { IfOk result (λ b. MatchBool b (schema.now ≡ account_schema) (schema.now ≢ account_schema)) }
+    ensures { IfOk result (λ b. MatchBool b (schema.now ≡ account_schema)
+        (schema.now ≢ account_schema)) }
 {
     match (schema.tables.as_slice(), schema.indexes.as_slice()) {
         ([table], [index]) => {

@@ -4,8 +4,8 @@ use cred_book::Name;
 use cred_phc::Record;
 use sqlite::Error;
 
-/// Why a book isn't begun or opened. A row is named by its row id, as `SELECT rowid, * FROM account`
-/// shows it.
+/// Why a book isn't begun or opened. A row is named by its row id, as
+/// `SELECT rowid, * FROM account` shows it.
 #[derive(Debug, Drop)]
 pub enum OpenFault {
     /// No book is begun: the database has tables already.

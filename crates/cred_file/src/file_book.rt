@@ -106,8 +106,10 @@ impl<S: Alter> FileBook<S> {
             → IsFound (state S.Store conn) (state S.Store b.1.1) b.0) }
         ensures refused { IfErr result (λ e. HasCleanDisk (state S.Store e.1)
             → IsUnopened (state S.Store conn) (state S.Store e.1) e.0) }
-        ensures kept { IfOk result (λ b. Survives (state S.Store conn) (state S.Store b.1.1) (λ _. ⊥)) }
-        ensures left { IfErr result (λ e. Survives (state S.Store conn) (state S.Store e.1) (λ _. ⊥)) }
+        ensures kept { IfOk result (λ b.
+            Survives (state S.Store conn) (state S.Store b.1.1) (λ _. ⊥)) }
+        ensures left { IfErr result (λ e.
+            Survives (state S.Store conn) (state S.Store e.1) (λ _. ⊥)) }
     {
         match is_of_book(alloc, conn.schema()) {
             Ok(true) => {}
@@ -275,7 +277,8 @@ impl<S: Alter> Keeper for FileBook<S> {
     #[tactic(auto, using(crate::proofs::Judged::judged_change, crate::proofs::Judged::judged_still, crate::proofs::Judged::judged_there))]
     fn commit<R: Wait>(&mut self, _rt: &R, worked: Worked) -> Result<Reply, (Worked, BookError)>
         ensures done { Commits self.old.0 self.new.0 worked result }
-        ensures refused { IfSome self.old.1.0 (λ _. is_ok result ≡ not (judged self.old.0 worked).2) }
+        ensures refused { IfSome self.old.1.0 (λ _.
+            is_ok result ≡ not (judged self.old.0 worked).2) }
         ensures written { OnOk result (self.new.1.0 ≡ self.old.1.0) }
         ensures remembered { IfSome self.old.1.0 (λ l. self.new.1.0 ≡ Some l) }
     {

@@ -1,6 +1,7 @@
 //! The book that the rows of a table stand for.
 
-ghost use Rattle.std.specs.Prelude.{◌≡◌, [], true, IfErr, IfOk, MatchOption};
+ghost use Rattle.std.specs.Prelude.{◌≡◌, [], true, IfErr, IfOk, IsTrue, MatchOption};
+ghost use Rattle.cred_book.specs.Names.{is_name};
 ghost use Rattle.cred_file.specs.Drafts.{IsAdded, IsNotAdded, IsUnread};
 ghost use Rattle.cred_file.specs.Opening.{AreAtFault, corrupt, is_no_name, is_no_record};
 ghost use Rattle.cred_file.specs.Table.{Says, StandsFor, Tells};
@@ -58,7 +59,8 @@ impl Draft {
     }
 
     fn add(&mut self, row: &Row) -> Result<(), OpenFault>
-        ensures added { IfOk result (λ _. IsAdded row.now self.old.book self.old.ids.items self.new.book self.new.ids.items) }
+        ensures added { IfOk result (λ _. IsAdded row.now self.old.book self.old.ids.items
+            self.new.book self.new.ids.items) }
         ensures left_out { IfErr result (IsNotAdded row.now self.old.book self.old.ids.items) }
     {
         let entry = read_entry(row)?;
@@ -82,7 +84,8 @@ impl Draft {
 }
 
 fn read_entry(row: &Row) -> Result<Entry, OpenFault>
-    ensures says { IfOk result (λ e. Says row.now (record { id = e.id; name = e.name; stored = e.stored })) }
+    ensures says { IfOk result (λ e. Says row.now
+        (record { id = e.id; name = e.name; stored = e.stored })) }
     ensures unread { IfErr result (IsUnread row.now) }
 {
     let ValueRef::Int(id) = value_at(row, 0) else {
@@ -109,11 +112,14 @@ fn value_at(row: &Row, at: usize) -> ValueRef<'_>
 
 fn read_name(value: ValueRef<'_>) -> Option<Name>
     ensures { MatchOption result (is_no_name (owned value.entry) ≡ true)
-        (λ name. owned value.entry ≡ Text name) }
+        (λ name. (owned value.entry ≡ Text name) × IsTrue (is_name name)) }
 {
     match value {
         ValueRef::Text(text) => match Name::new(text) {
-            Ok(name) => Some(name),
+            Ok(name) => {
+                let _bytes = name.bytes();
+                Some(name)
+            }
             Err(_) => None,
         },
         _ => None,

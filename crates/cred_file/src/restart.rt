@@ -1,10 +1,12 @@
 //! What a run kept is what the next one opens, also after a crash.
 
-ghost use Rattle.std.specs.Prelude.{IfSome};
+ghost use Rattle.std.specs.Prelude.{IfErr, IfOk, IfSome};
 ghost use Rattle.cred_file.specs.Keeps.{IsOrWith};
+ghost use Rattle.cred_file.specs.Opening.{IsForWant};
 ghost use Rattle.sqlite.specs.Held.{state};
 ghost use Rattle.sqlite.specs.State.{HasCleanDisk};
 
+use crate::fault::OpenFault;
 use crate::file_book::FileBook;
 use sqlite::{Alter, Connection};
 use sqlite_trees::store::Reopen;
@@ -14,13 +16,16 @@ use std::alloc::Global;
 /// proved of a restart, and for tests. The book is then the one that was kept, or that with the
 /// lost change.
 ///
-/// None where the disk failed, or memory was refused.
+/// None where the disk failed, or memory was refused, before the database stood again. After that
+/// the open is never refused for what the tables and rows are.
 pub fn crash_and_open<S: Alter + Reopen + Drop>(
     alloc: Global,
     book: FileBook<S>,
-) -> Option<FileBook<S>>
-    ensures kept { IfSome result (λ b. HasCleanDisk (state S.Store b.1.1)
-        → IsOrWith book.0 book.1.0 b.0) }
+) -> Option<Result<FileBook<S>, (OpenFault, Connection<S>)>>
+    ensures kept { IfSome result (λ r. IfOk r (λ b. HasCleanDisk (state S.Store b.1.1)
+        → IsOrWith book.0 book.1.0 b.0)) }
+    ensures refused { IfSome result (λ r. IfErr r (λ e. HasCleanDisk (state S.Store e.1)
+        → IsForWant e.0)) }
 {
     let mut store = book.close().into_store();
     let Ok(()) = store.crash_and_reopen() else {
@@ -29,8 +34,5 @@ pub fn crash_and_open<S: Alter + Reopen + Drop>(
     let Ok(conn) = Connection::over(alloc, store) else {
         return None;
     };
-    match FileBook::open(alloc, conn) {
-        Ok(again) => Some(again),
-        Err(_) => None,
-    }
+    Some(FileBook::open(alloc, conn))
 }

@@ -1,0 +1,120 @@
+-- Nothing is wrong with the rows of a table that stands for a book.
+use Rattle.std.proofs.Common.{◌≡◌, inl, inr, List, [], ◌∷◌, Bool, true, false, not, ◌&&◌, ◌||◌, Option, Some, None, is_err, refl, sym, ap, subst, ◌∙◌}
+use Rattle.std.proofs.lemmas.Bool.{true≢false}
+use Rattle.std.specs.List.{AllZip, list_any}
+use Rattle.std.specs.Ordering.{is_eq}
+use Rattle.std.specs.Cmp.{eq_by_cmp_equiv}
+use Rattle.sqlite.specs.declared.types.Value.{Value}
+use Rattle.sqlite.specs.declared.types.Value.TheVariants.{Null, Int, Real, Text, Blob}
+use Rattle.sqlite.specs.Order.{Row, column, value_cmp}
+use Rattle.sqlite.specs.State.{State}
+use Rattle.sqlite.specs.Effect.{IsDatabase}
+use Rattle.sqlite_trees.specs.Tree.{has_rowid}
+use Rattle.sqlite_value.proofs.OrderLemmas.{value_cmp_total, value_cmp-Text}
+use Rattle.cred_phc.specs.Values.{RecordValue}
+use Rattle.cred_book.specs.Accounts.{Accounts}
+use Rattle.cred_file.specs.declared.fault.OpenFault.{OpenFault}
+use Rattle.cred_file.specs.declared.fault.OpenFault.TheVariants as fault
+use Rattle.cred_file.specs.Table.{Line, Says, Tells, has_name, AreApart, StandsFor}
+use Rattle.cred_file.specs.Keeps.{HoldsBook}
+use Rattle.cred_file.specs.Opening.{agree, is_no_name, is_no_record, is_repeated, AreAtFault, IsUnopened, IsForWant}
+use Rattle.cred_file.proofs.TableLemmas.{or_false, or_both, name_symm}
+use Rattle.cred_file.proofs.Catalogued.{one_schema}
+
+-- a test that no row passes
+none_pass : (test : Row → Bool) → ((row : Row) (l : Line) → Says row l → test row ≡ false) → (rows : List Row) (ls : List Line) → AllZip Says rows ls → list_any test rows ≡ false
+none_pass test fails [] [] all = refl
+none_pass test fails [] (l ∷ ls) all = absurd all
+none_pass test fails (r ∷ rows) [] all = absurd all
+none_pass test fails (r ∷ rows) (l ∷ ls) all = or_both (test r) (list_any test rows) (fails r l all.0) (none_pass test fails rows ls all.1)
+
+and_false : (a b : Bool) → b ≡ false → (a && b) ≡ false
+and_false true b e = e
+and_false false b e = refl
+
+told : (v : Value) (stored : Option RecordValue) → Tells v stored → is_no_record v ≡ false
+told Null stored tells = refl
+told (Text t) None tells = absurd tells
+told (Text t) (Some v) tells = ap is_err tells
+told (Int n) stored tells = absurd tells
+told (Real x) stored tells = absurd tells
+told (Blob b) stored tells = absurd tells
+
+-- ---- no name twice
+
+-- the lines are two, of one name
+abbrev repeats : Line → Line → Bool
+repeats l m = not (is_eq (value_cmp (Int l.id) (Int m.id))) && has_name l.name m
+
+not_itself : (l : Line) → repeats l l ≡ false
+not_itself l = ap (λ b. not b && has_name l.name l) ((eq_by_cmp_equiv value_cmp_total).refl (Int l.id))
+
+no_other : (l : Line) (ls : List Line) → list_any (has_name l.name) ls ≡ false → list_any (repeats l) ls ≡ false
+no_other l [] e = refl
+no_other l (m ∷ ls) e = let parts = or_false (has_name l.name m) (list_any (has_name l.name) ls) e in or_both _ _ (and_false _ _ parts.0) (no_other l ls parts.1)
+
+not_back : (x : Line) (ls : List Line) → list_any (has_name x.name) ls ≡ false → list_any (λ l. repeats l x) ls ≡ false
+not_back x [] e = refl
+not_back x (l ∷ ls) e =
+    let parts = or_false (has_name x.name l) (list_any (has_name x.name) ls) e in
+    or_both _ _ (and_false _ _ (name_symm l.name x.name ∙ parts.0)) (not_back x ls parts.1)
+
+-- two tests that none passes
+neither : (f g : Line → Bool) (ls : List Line) → list_any f ls ≡ false → list_any g ls ≡ false → list_any (λ l. f l || g l) ls ≡ false
+neither f g [] p q = refl
+neither f g (l ∷ ls) p q =
+    let fs = or_false (f l) (list_any f ls) p in
+    let gs = or_false (g l) (list_any g ls) q in
+    or_both _ _ (or_both _ _ fs.0 gs.0) (neither f g ls fs.1 gs.1)
+
+none_repeated : (ls : List Line) → AreApart ls → list_any (λ l. list_any (repeats l) ls) ls ≡ false
+none_repeated [] apart = refl
+none_repeated (x ∷ ls) apart =
+    or_both _ _ (or_both _ _ (not_itself x) (no_other x ls apart.1)) (neither (λ l. repeats l x) (λ l. list_any (repeats l) ls) ls (not_back x ls apart.1) (none_repeated ls apart.2))
+
+as_lines : (row : Row) (l : Line) → Says row l → (rows : List Row) (ls : List Line) → AllZip Says rows ls
+    → list_any (λ other. not (agree 0 row other) && agree 1 row other) rows ≡ list_any (repeats l) ls
+as_lines row l says [] [] all = refl
+as_lines row l says [] (m ∷ ls) all = absurd all
+as_lines row l says (r ∷ rows) [] all = absurd all
+as_lines row l says (r ∷ rows) (m ∷ ls) all =
+    let ids : agree 0 row r ≡ is_eq (value_cmp (Int l.id) (Int m.id)) = ap (λ v. is_eq (value_cmp v (column r 0))) says.id ∙ ap (λ v. is_eq (value_cmp (Int l.id) v)) all.0.id in
+    let names : agree 1 row r ≡ has_name l.name m = ap (λ v. is_eq (value_cmp v (column r 1))) says.name ∙ ap (λ v. is_eq (value_cmp (Text l.name) v)) all.0.name ∙ ap is_eq (value_cmp-Text l.name m.name) in
+    ap (λ b. (not b && agree 1 row r) || list_any (λ other. not (agree 0 row other) && agree 1 row other) rows) ids
+    ∙ ap (λ b. (not (is_eq (value_cmp (Int l.id) (Int m.id))) && b) || list_any (λ other. not (agree 0 row other) && agree 1 row other) rows) names
+    ∙ ap (λ b. repeats l m || b) (as_lines row l says rows ls all.1)
+
+-- each row in turn, against all of them
+each_as_line : (all_rows : List Row) (all_lines : List Line) → AllZip Says all_rows all_lines → (rows : List Row) (ls : List Line) → AllZip Says rows ls
+    → list_any (is_repeated all_rows) rows ≡ list_any (λ l. list_any (repeats l) all_lines) ls
+each_as_line all_rows all_lines whole [] [] all = refl
+each_as_line all_rows all_lines whole [] (l ∷ ls) all = absurd all
+each_as_line all_rows all_lines whole (r ∷ rows) [] all = absurd all
+each_as_line all_rows all_lines whole (r ∷ rows) (l ∷ ls) all =
+    ap (λ b. b || list_any (is_repeated all_rows) rows) (as_lines r l all.0 all_rows all_lines whole) ∙ ap (λ b. list_any (repeats l) all_lines || b) (each_as_line all_rows all_lines whole rows ls all.1)
+
+-- a narrower test
+narrower : (test wide : Row → Bool) (rows : List Row) → list_any wide rows ≡ false → list_any (λ row. test row && wide row) rows ≡ false
+narrower test wide [] e = refl
+narrower test wide (r ∷ rows) e = let parts = or_false (wide r) (list_any wide rows) e in or_both _ _ (and_false _ _ parts.0) (narrower test wide rows parts.1)
+
+never : {X : Type 0} {b : Bool} → b ≡ true → b ≡ false → X
+never is isnt = absurd (true≢false (sym is ∙ isnt))
+
+pub no_fault : (rows : List Row) (book : Accounts) → StandsFor rows book → (why : OpenFault) → AreAtFault rows why → IsForWant why
+no_fault rows book s fault.NotEmpty h = absurd h
+no_fault rows book s fault.NoBook h = absurd h
+no_fault rows book s (fault.NoName id) h =
+    never h (narrower (has_rowid id) (λ row. is_no_name (column row 1)) rows (none_pass (λ row. is_no_name (column row 1)) (λ row l says. ap is_no_name says.name ∙ ap not says.is_name) rows s.lines s.each))
+no_fault rows book s (fault.NoRecord id) h =
+    never h (narrower (has_rowid id) (λ row. is_no_record (column row 2)) rows (none_pass (λ row. is_no_record (column row 2)) (λ row l says. told (column row 2) l.stored says.stored) rows s.lines s.each))
+no_fault rows book s (fault.Twice id) h = never h (narrower (has_rowid id) (is_repeated rows) rows (each_as_line rows s.lines s.each rows s.lines s.each ∙ none_repeated s.lines s.apart))
+no_fault rows book s fault.TooMany h = tt
+no_fault rows book s fault.Memory h = tt
+no_fault rows book s (fault.Database e) h = tt
+
+-- a sound database that a crash left of a book is refused for want alone
+pub for_want : (old new : State) (book : Accounts) → HoldsBook old.now.trees book → IsDatabase old.now → (why : OpenFault) → IsUnopened old new why → IsForWant why
+for_want old new book holds sound why (inl no_book) = absurd (no_book.1 (one_schema old.now.trees old.now.schema holds.sound sound))
+for_want old new book holds sound why (inr (inl rows)) = no_fault (old.now.trees 0) book holds.stands why rows.0
+for_want old new book holds sound why (inr (inr failed)) = subst IsForWant (sym failed.1) tt
