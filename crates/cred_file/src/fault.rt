@@ -1,5 +1,7 @@
 //! Why a database keeps no book, and what was lost as it failed.
 
+ghost use Rattle.std.specs.Prelude.{◌≡◌};
+
 use cred_book::Name;
 use cred_phc::Record;
 use sqlite::Error;
@@ -35,4 +37,16 @@ pub struct Lost {
     pub name: Name,
     /// The record that was to stand there, or none.
     pub stored: Option<Record>,
+}
+
+impl Lost {
+    pub(crate) fn new(error: Error, name: Name, stored: Option<Record>) -> Lost
+        ensures { result ≡ record { error = error; name = name; stored = stored } }
+    {
+        Lost {
+            error,
+            name,
+            stored,
+        }
+    }
 }

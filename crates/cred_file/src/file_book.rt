@@ -198,11 +198,7 @@ impl<S: Alter> FileBook<S> {
                 Ok(())
             }
             Err(error) => {
-                self.lost = Some(Lost {
-                    error,
-                    name: *name,
-                    stored,
-                });
+                self.lost = Some(Lost::new(error, *name, stored));
                 Err(BookError::Memory)
             }
         }
@@ -244,11 +240,7 @@ impl<S: Alter> Keeper for FileBook<S> {
                 Ok(())
             }
             Err(error) => {
-                self.lost = Some(Lost {
-                    error,
-                    name,
-                    stored: None,
-                });
+                self.lost = Some(Lost::new(error, name, None));
                 Err(BookError::Memory)
             }
         }
