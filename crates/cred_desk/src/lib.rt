@@ -24,7 +24,6 @@ mod publisher;
 mod rule;
 mod session;
 mod told;
-mod unnamed;
 mod writer;
 
 pub use closed::{Closed, Kept, Remains};
@@ -36,5 +35,4 @@ pub use kept_desk::KeptDesk;
 pub use naming::{Naming, Opened};
 pub use session::Session;
 pub use told::Told;
-pub use unnamed::{AtDesk, with_desk};
 pub use writer::{EntryWriter, KeepError, Unsettled};
