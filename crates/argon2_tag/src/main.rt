@@ -37,9 +37,6 @@ fn main(rt: HostRuntime) -> Result<()> {
         &[],
         &[],
     )?;
-    for byte in &tag {
-        print!(rt; "{byte:02x}")?;
-    }
-    println!(rt;)?;
+    println!(rt; "{}", hex::encode(alloc, tag.as_slice())?)?;
     Ok(())
 }

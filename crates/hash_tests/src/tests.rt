@@ -35,27 +35,11 @@ fn first(input: &[u8; LONGEST], len: usize) -> &[u8] {
 
 /// Whether these are the digits of the bytes in hexadecimal.
 fn is_hex(bytes: &[u8], digits: &str) -> bool {
-    let digits = digits.as_bytes();
-    if digits.len() / 2 != bytes.len() || digits.len() % 2 != 0 {
+    let mut read = [0; 1024];
+    let Some(read) = read.get_mut(..digits.len() / 2) else {
         return false;
-    }
-    for i in 0..bytes.len() {
-        let high = digits.get(2 * i).copied();
-        let low = digits.get(2 * i + 1).copied();
-        if high != Some(digit(bytes[i] >> 4)) || low != Some(digit(bytes[i] & 15)) {
-            return false;
-        }
-    }
-    true
-}
-
-fn digit(n: u8) -> u8 {
-    if n < 10 {
-        b'0' + n
-    } else {
-        // ten below `a`
-        b'W'.saturating_add(n)
-    }
+    };
+    hex::decode_to_slice(digits, read).is_ok() && &*read == bytes
 }
 
 /// Whether something was made, and has these digits in hexadecimal.

@@ -29,11 +29,7 @@ fn main(rt: HostRuntime) -> Result<()> {
         let start = Instant::now(&rt)?;
         let key = scrypt(&rt, alloc, *workers, &NoGate, &params, b"password", b"NaCl")?;
         let time = start.elapsed(&rt)?.as_nanos();
-        print!(rt; "{time} ")?;
-        for byte in &key {
-            print!(rt; "{byte:02x}")?;
-        }
-        println!(rt;)?;
+        println!(rt; "{time} {}", hex::encode(alloc, key.as_slice())?)?;
     }
     Ok(())
 }
