@@ -3,6 +3,8 @@
 
 mod closing;
 mod committing;
+mod kept;
+mod lost;
 mod refused;
 mod scene;
 mod settling;

@@ -1,0 +1,58 @@
+//! A desk one of whose sessions is lost.
+ghost use Rattle.std.specs.Prelude.{◌≡◌, false};
+
+use super::scene::{begin, worked};
+use super::{NONE_STANDS, book_of, enrol, entry, name, stored};
+use cred_book::{Book, Reply};
+use cred_desk::{Desk, Naming, Opened, Remains, Session};
+use samples::{A, A_SETTING};
+use std::alloc::Global;
+use std::marker::Brand;
+use std::process::Abort;
+use std::sync::Wait;
+use std::thread::Threads;
+
+/// Enrols a at the first session.
+fn enrol_first<J: Naming, R: Threads + Wait + Abort + Sync>(
+    rt: &R,
+    alloc: Global,
+    desk: &Desk<J>,
+    sessions: &mut [Session<J>],
+) -> Option<Reply> {
+    let session = sessions.first_mut()?;
+    let mut open = None;
+    begin(session, &mut open, enrol(rt, "a", A_SETTING));
+    let work = worked(rt, alloc, &mut open)?;
+    let (reply, _told) = desk.settle(rt, session, work).ok()?;
+    Some(reply)
+}
+
+/// The first of two sessions enrols, the other one is lost, and the desk is given up.
+fn given_up<J: Naming, R: Threads + Wait + Abort + Sync>(
+    rt: &R,
+    alloc: Global,
+    opened: Opened,
+    book: &Book,
+) -> Option<(Option<Reply>, Remains)>
+    requires name { (opened.seen.book ≡ J.book) × (opened.blank.name ≡ J.name) × (opened.blank.parts ≡ J.parts) }
+    requires opening { (book.now ≡ J.opening) × (J.parts ≡ 2) × (J.loads ≡ false) }
+{
+    let (desk, mut sessions) = Desk::<J>::new(rt, alloc, opened, book, 2).ok()?;
+    let reply = enrol_first(rt, alloc, &desk, &mut sessions);
+    let _lost = sessions.pop();
+    Some((reply, desk.give_up(rt, &sessions)))
+}
+
+#[test]
+fn lost_session(rt: HostRuntime) {
+    let book = book_of(&rt, rt.alloc(), NONE_STANDS).expect(&rt, "a book");
+    let given = given_up::<Brand, _>(&rt, rt.alloc(), Opened::new(2), &book);
+    let (reply, remains) = given.expect(&rt, "a desk");
+    assert_eq!(rt; reply, Some(Reply::Enrolled));
+    let journal = [entry(&rt, "a", Some(A))];
+    assert_eq!(rt; remains.journal.as_slice(), journal.as_slice());
+    assert_eq!(rt;
+        remains.book.show(&name(&rt, "a")),
+        Ok(Some(stored(&rt, A)))
+    );
+}
