@@ -7,7 +7,7 @@ settling, so that the two rows differ by what is published alone. A row is the t
 several; the rows take turns, so that the machine's other work meets all of them. Below the table stands the middle, over all
 turns, of the rate beside upgrades over the rate beside hashes.
 
-The crate desk_load is proved and built with `rt`, in its own folder. The gate runs it on a small load, and compares the totals.
+The crate bench_desk is proved and built with `rt`, in its own folder. The gate runs it on a small load, and compares the totals.
 
     bench/desk/run.py [TURNS]
 """
@@ -18,7 +18,7 @@ import statistics
 import subprocess
 import sys
 
-CRATE = pathlib.Path(__file__).resolve().parent.parent.parent / "crates" / "desk_load"
+CRATE = pathlib.Path(__file__).resolve().parent.parent.parent / "crates" / "bench_desk"
 VERIFIES = 20000
 
 # what is round the book, threads that verify, what one more thread does
@@ -27,7 +27,7 @@ ROWS = [(book, readers, beside) for readers in (1, 2, 4) for book in ("desk", "l
 
 def build():
     """Proves and links the program, and gives its path."""
-    program = CRATE / "out/desk_load"
+    program = CRATE / "out/bench_desk"
     done = subprocess.run(["rt", "run", "--", "desk", "1", "10", "10"], cwd=CRATE, capture_output=True, text=True)
     if done.returncode != 0 or not program.exists():
         sys.exit(done.stdout + done.stderr)

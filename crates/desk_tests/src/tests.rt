@@ -13,9 +13,9 @@ mod threads;
 use cred_book::{Book, Name, Request};
 use cred_desk::Entry;
 use cred_phc::{Password, Record, Setting, parse_record, parse_setting};
-use samples::A;
 use std::alloc::Global;
 use std::process::Abort;
+use test_samples::A;
 
 /// Names, and the records that stand at them.
 type Accounts<'a> = &'a [(&'a str, Option<&'a str>)];

@@ -20,12 +20,12 @@ mod writers;
 use cred_book::{Book, BookError, Keeper, Name};
 use cred_cli::{End, ScriptFault, Watched, run_script};
 use cred_phc::{Record, parse_record};
-use samples::{A, A_SETTING, B, B_SETTING, OLD, SCRYPT};
 use std::alloc::Global;
 use std::io::Read;
 use std::process::Abort;
 use std::sync::Wait;
 use std::thread::Threads;
+use test_samples::{A, A_SETTING, B, B_SETTING, OLD, SCRYPT};
 
 /// The password `password`.
 const PA: &str = "cGFzc3dvcmQ";

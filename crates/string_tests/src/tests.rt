@@ -1,6 +1,6 @@
 //! Texts and what is answered to them, from other programs or worked out by hand: the faults of
 //! damaged texts (`faults`), values read, made and written (`texts`), tags (`tags`) and drawn salts
-//! (`salts`). Most of the texts are those of `samples`. And that a password isn't shown (`secrets`).
+//! (`salts`). Most of the texts are those of `test_samples`. And that a password isn't shown (`secrets`).
 
 mod faults;
 mod salts;

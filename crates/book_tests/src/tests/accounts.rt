@@ -2,9 +2,9 @@
 use super::calls::{Call, DONE, Entry, Line, Slip, enter, keep, play, play_on_new};
 use super::{name, stored};
 use cred_book::{Book, BookError};
-use samples::{A, B};
 use std::alloc::Global;
 use std::sync::Wait;
+use test_samples::{A, B};
 
 #[test]
 fn an_account_is_admitted_loaded_and_shown(rt: HostRuntime) {

@@ -4,9 +4,9 @@ use super::calls::{Call, DONE, Entry, Line, Slip, book_with, play};
 use super::work::{Seen, committed, worked_at};
 use super::{enrol, name, stored, verify};
 use cred_book::{Book, BookError, Reply, Request};
-use samples::{A, A_SETTING, B};
 use std::alloc::Global;
 use std::thread::Threads;
+use test_samples::{A, A_SETTING, B};
 
 /// Plays the lines on a book with one account, and then those of the copy on one that was copied
 /// before.

@@ -4,8 +4,8 @@ use super::calls::{Call, DONE, Line, Slip, play, play_on_new};
 use super::{name, stored};
 use cred_book::{Book, BookError, Name};
 use cred_phc::Record;
-use samples::A;
 use std::alloc::Global;
+use test_samples::A;
 
 /// The name `n` with the four digits of the number.
 fn numbered(number: u32) -> Result<Name, BookError> {

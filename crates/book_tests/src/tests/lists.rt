@@ -3,9 +3,9 @@ use super::calls::Entry;
 use super::work::worked_at;
 use super::{enrol, name, stored, verify};
 use cred_book::{Book, Change, Reply, Request};
-use samples::{A, A_SETTING};
 use std::alloc::Global;
 use std::thread::Threads;
+use test_samples::{A, A_SETTING};
 
 /// Whether these entries are listed, in this order.
 fn lists(book: &Book, entries: &[Entry]) -> bool {

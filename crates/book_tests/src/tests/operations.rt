@@ -4,10 +4,10 @@ use super::work::{Seen, operate};
 use super::{enrol, name, password, setting, stored, verify};
 use cred_book::{Reply, Request};
 use cred_phc::Record;
-use samples::{A, A_SETTING, B, B_SETTING, OLD, SCRYPT};
 use std::alloc::Global;
 use std::process::Abort;
 use std::thread::Threads;
+use test_samples::{A, A_SETTING, B, B_SETTING, OLD, SCRYPT};
 
 const PASSWORD: &str = "password";
 

@@ -3,11 +3,11 @@ use super::calls::book_with;
 use super::work::{begun, worked};
 use super::{name, password, setting, stored};
 use cred_book::{Book, Request, Worked};
-use samples::{A, A_SETTING, SECRET, shows_secret};
 use std::alloc::{AllocError, Global};
 use std::fmt::Debug;
 use std::process::Abort;
 use std::thread::Threads;
+use test_samples::{A, A_SETTING, SECRET, shows_secret};
 
 /// Whether `{:?}` of the value has the password in it.
 fn shows<T: Debug>(alloc: Global, value: &T) -> Result<bool, AllocError> {

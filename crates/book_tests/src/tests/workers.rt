@@ -5,9 +5,9 @@ use super::work::{Seen, begun, committed};
 use super::{enrol, name, stored};
 use cred_book::{Book, BookError, Name, Reply, Request, Ticket, Worked};
 use cred_pool::{Gate, NoGate};
-use samples::{A, A_SETTING, Meetings};
 use std::alloc::Global;
 use std::thread::Threads;
+use test_samples::{A, A_SETTING, Meetings};
 
 /// What is answered to the request at an account with no record where the lanes of its work meet at
 /// a gate, and how often they met in time.

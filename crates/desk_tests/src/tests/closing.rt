@@ -5,10 +5,10 @@ use super::scene::{Act, Answer, Closing, Setup, judge_closed, show};
 use super::{NONE_STANDS, book_of, enrol, entry, name, remove, stored, upgrade, verify};
 use cred_book::{Book, Reply};
 use cred_desk::{Desk, DeskError, Naming, Opened};
-use samples::{A, A_SETTING, B, B_SETTING};
 use std::alloc::Global;
 use std::marker::Brand;
 use std::sync::Wait;
+use test_samples::{A, A_SETTING, B, B_SETTING};
 
 /// A session enrols and removes.
 #[test]

@@ -6,12 +6,12 @@ use super::{Accounts, book_of, enrol, name, stored, upgrade, verify};
 use cred_book::{Book, BookError, Keeper, Name, Reply, Ticket};
 use cred_desk::{Committer, DeskError, Naming, Opened, Session};
 use cred_phc::Record;
-use samples::{A, B, B_SETTING};
 use std::alloc::Global;
 use std::marker::Brand;
 use std::process::Abort;
 use std::sync::Wait;
 use std::thread::Threads;
+use test_samples::{A, B, B_SETTING};
 
 /// The book of the committer, and another one.
 const A_ALONE: Accounts<'static> = &[("a", Some(A))];

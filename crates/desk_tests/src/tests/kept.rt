@@ -5,12 +5,12 @@ use super::scene::{Answer, begin, close, worked};
 use super::{NONE_STANDS, book_of, enrol, entry, name, remove, verify};
 use cred_book::{Book, BookError, Reply, Request};
 use cred_desk::{Entry, EntryWriter, KeepError, Kept, KeptDesk, Naming, Opened, Session};
-use samples::{A, A_SETTING};
 use std::alloc::Global;
 use std::marker::Brand;
 use std::process::Abort;
 use std::sync::Wait;
 use std::thread::Threads;
+use test_samples::{A, A_SETTING};
 
 /// Keeps entries, and refuses those beyond its room.
 #[derive(Drop)]

@@ -5,12 +5,12 @@ use super::scene::{begin, worked};
 use super::{NONE_STANDS, book_of, enrol, entry, name, stored};
 use cred_book::{Book, Reply};
 use cred_desk::{Desk, Naming, Opened, Remains, Session};
-use samples::{A, A_SETTING};
 use std::alloc::Global;
 use std::marker::Brand;
 use std::process::Abort;
 use std::sync::Wait;
 use std::thread::Threads;
+use test_samples::{A, A_SETTING};
 
 /// Enrols a at the first session.
 fn enrol_first<J: Naming, R: Threads + Wait + Abort + Sync>(

@@ -8,12 +8,12 @@ use cred_book::{Book, Keeper, Reply, Request, Ticket, Worked};
 use cred_desk::{Closed, Committer, Desk, DeskError, Naming, Opened, Session};
 use cred_phc::Record;
 use cred_pool::NoGate;
-use samples::{A, A_SETTING, B, B_SETTING};
 use std::alloc::Global;
 use std::marker::Brand;
 use std::process::Abort;
 use std::sync::Wait;
 use std::thread::Threads;
+use test_samples::{A, A_SETTING, B, B_SETTING};
 
 /// How many upgrades are made, to and fro between `A` and `B`; the journal grows more than once on
 /// the way.

@@ -4,11 +4,11 @@ use super::scene::{Act, Answer, Closing, Line, Setup, Slip, judge_closed, show};
 use super::{ONE_STANDS, entry, stored, upgrade, verify};
 use cred_book::Reply;
 use cred_desk::DeskError;
-use samples::{B, B_SETTING};
 use std::alloc::Global;
 use std::process::Abort;
 use std::sync::Wait;
 use std::thread::Threads;
+use test_samples::{B, B_SETTING};
 
 /// The setting of a third record of the same password.
 const SMALL_SETTING: &str = "$argon2id$v=19$m=8,t=1,p=1$c29tZXNhbHQ";

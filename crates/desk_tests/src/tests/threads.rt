@@ -6,11 +6,11 @@ use super::{
 };
 use cred_book::Reply;
 use cred_desk::Closed;
-use samples::{B, B_SETTING};
 use std::alloc::{AllocError, Global};
 use std::process::Abort;
 use std::sync::Wait;
 use std::thread::Threads;
+use test_samples::{B, B_SETTING};
 
 /// The settings between which `totals_over_threads` goes to and fro.
 const ONCE: &str = "$argon2id$v=19$m=8,t=1,p=1$c29tZXNhbHQ";

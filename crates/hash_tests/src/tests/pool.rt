@@ -3,9 +3,9 @@
 ghost use Rattle.std.specs.Prelude.{◌≤◌, ⊤};
 
 use cred_pool::{Gate, Part, run_parts};
-use samples::Meetings;
 use std::sync::atomic::{AtomicU64, Ordering};
 use std::thread::Threads;
+use test_samples::Meetings;
 
 /// Counts how often it was worked.
 #[derive(Clone, Copy)]

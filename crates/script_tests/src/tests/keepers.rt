@@ -10,11 +10,11 @@ use super::{Line, Shown, hold_bytes, hold_end, hold_shown, run_on};
 use cred_book::{Book, BookError, Keeper, Name, Reply, Request, Ticket, Worked};
 use cred_cli::{End, ScriptFault};
 use cred_phc::Record;
-use samples::{A, B, SCRYPT};
 use std::alloc::Global;
 use std::process::Abort;
 use std::sync::Wait;
 use std::thread::Threads;
+use test_samples::{A, B, SCRYPT};
 
 /// Keeps an account a book, in the order in which they came. It refuses one load and one commit for
 /// want of memory.

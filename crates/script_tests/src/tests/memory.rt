@@ -5,11 +5,11 @@ use super::keepers::Shelf;
 use super::{Shown, hold, hold_bytes, hold_shown};
 use cred_book::{Book, BookError, Keeper};
 use cred_cli::{End, ScriptFault, Watched, command, run_script};
-use samples::{A, B};
 use std::alloc::Global;
 use std::process::Abort;
 use std::sync::Wait;
 use std::thread::Threads;
+use test_samples::{A, B};
 
 /// A script, and what it is answered.
 const SCRIPT: &str =

@@ -3,13 +3,13 @@ use super::readers::CutOff;
 use super::writers::Stingy;
 use super::{PA, filled_in, hold, hold_bytes};
 use cred_cli::{Watched, command};
-use samples::{A, A_SETTING, SCRYPT};
 use std::alloc::Global;
 use std::io;
 use std::io::{Read, Write};
 use std::process::Abort;
 use std::sync::Wait;
 use std::thread::Threads;
+use test_samples::{A, A_SETTING, SCRYPT};
 
 /// What the program came to, which wrote to `output`.
 #[derive(Drop)]

@@ -3,9 +3,9 @@ use super::dialogue::{Case, Dialogue, judge_cases};
 use super::{Line, empty_book, hold, hold_bytes, hold_end, hold_shown, run_on_book};
 use cred_book::BookError;
 use cred_cli::End;
-use samples::A;
 use std::alloc::Global;
 use std::process::Abort;
+use test_samples::A;
 
 /// Each behind `account a`.
 static LINES: [Case; 2] = [

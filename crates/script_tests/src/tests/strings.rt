@@ -1,12 +1,12 @@
 //! Password strings in the lines `load` and `show`.
 use super::dialogue::Dialogue;
-use samples::{
-    A, Answer, CUTS_OF_A, Change, DAMAGED_A, DAMAGED_SCRYPT, OLD, OLD_WRITTEN, OTHER_TEXTS, SCRYPT,
-};
 use std::alloc::Global;
 use std::process::Abort;
 use std::sync::Wait;
 use std::thread::Threads;
+use test_samples::{
+    A, Answer, CUTS_OF_A, Change, DAMAGED_A, DAMAGED_SCRYPT, OLD, OLD_WRITTEN, OTHER_TEXTS, SCRYPT,
+};
 
 /// The script's answer to the load of a text that has this fault.
 fn answer_line<R: Abort>(rt: &R, alloc: Global, answer: Answer) -> String {

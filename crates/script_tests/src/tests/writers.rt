@@ -3,13 +3,13 @@ use super::dialogue::Dialogue;
 use super::{Line, Shown, empty_book, hold, hold_bytes, hold_end, hold_shown};
 use cred_book::{Book, BookError};
 use cred_cli::{End, ScriptFault, Watched, run_script};
-use samples::A;
 use std::alloc::Global;
 use std::io;
 use std::io::Write;
 use std::process::Abort;
 use std::sync::Wait;
 use std::thread::Threads;
+use test_samples::A;
 
 /// Takes one byte a call, so many times. After that it fails, or takes no byte. What it holds is
 /// known, so that what a script's contract says of a failing writer says something of this one.

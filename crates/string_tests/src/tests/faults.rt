@@ -1,9 +1,9 @@
 //! What is answered to the texts of records that were damaged.
 
 use cred_phc::parse_record;
-use samples::{A, Answer, CUTS_OF_A, Change, DAMAGED_A, DAMAGED_SCRYPT, OTHER_TEXTS, SCRYPT};
 use std::alloc::{AllocError, Global};
 use std::process::Abort;
+use test_samples::{A, Answer, CUTS_OF_A, Change, DAMAGED_A, DAMAGED_SCRYPT, OTHER_TEXTS, SCRYPT};
 
 fn answer_to(text: &[u8]) -> Answer {
     let fault = parse_record(text).err()?;

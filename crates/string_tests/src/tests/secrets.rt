@@ -1,7 +1,7 @@
 //! That a password isn't shown.
 
 use cred_phc::Password;
-use samples::{SECRET, shows_secret};
+use test_samples::{SECRET, shows_secret};
 
 #[test]
 fn passwords_are_not_shown(rt: HostRuntime) {

@@ -3,10 +3,10 @@
 use super::stored;
 use cred_phc::{Password, Record, TagError, tag_of};
 use cred_pool::NoGate;
-use samples::{A, OLD, SCRYPT};
 use std::alloc::Global;
 use std::process::Abort;
 use std::thread::Threads;
+use test_samples::{A, OLD, SCRYPT};
 
 /// By the reference program of Argon2, as A is, with two lanes.
 const TWO_LANES: &str =

@@ -2,9 +2,9 @@
 
 use super::{A_SCHEME, is_record_text, is_setting_text, stored};
 use cred_phc::{Password, PhcError, Record, Setting, Tag, parse_record, parse_setting};
-use samples::{A, A_SETTING, OLD, OLD_WRITTEN, SCRYPT};
 use std::alloc::Global;
 use std::process::Abort;
+use test_samples::{A, A_SETTING, OLD, OLD_WRITTEN, SCRYPT};
 
 /// A setting whose salt is written with each letter of base64 once, in the order of RFC 4648,
 /// section 4.

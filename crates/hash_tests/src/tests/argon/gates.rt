@@ -4,9 +4,9 @@ use super::vectors::I_TAG;
 use crate::tests::is_hex;
 use cred_argon::{ArgonError, Kind, Params, argon2};
 use cred_pool::NoGate;
-use samples::Meetings;
 use std::alloc::Global;
 use std::thread::Threads;
+use test_samples::Meetings;
 
 /// How often the lanes of two met, of four slices.
 fn met<R: Threads + Sync>(rt: &R, alloc: Global) -> Result<u64, ArgonError> {

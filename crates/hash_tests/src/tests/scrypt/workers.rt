@@ -2,9 +2,9 @@
 
 use cred_pool::Gate;
 use cred_scrypt::{ScryptError, ScryptParams, scrypt};
-use samples::Meetings;
 use std::alloc::Global;
 use std::thread::Threads;
+use test_samples::Meetings;
 
 /// The key of `password` and `NaCl` with N = 16, r = 1 and p = 2, by OpenSSL.
 pub(super) const KEY: [u8; 32] = [

@@ -1,5 +1,5 @@
-use Rattle.login_service.proofs.Answers.{yes_opens}
-use Rattle.login_service.proofs.login.verify.Goals as goal
+use Rattle.example_login_service.proofs.Answers.{yes_opens}
+use Rattle.example_login_service.proofs.login.verify.Goals as goal
 
 -- the work is the verify's, and the answer is the one at the book that the session knows
 pub returns : goal.returns

@@ -9,7 +9,7 @@ use Rattle.cred_book.specs.declared.reply.Reply.{Reply}
 use Rattle.cred_book.specs.declared.reply.Reply.TheVariants as reply
 use Rattle.cred_book.specs.declared.request.Request.TheVariants.{Verify}
 use Rattle.cred_desk.specs.Commits.{reply_of}
-use Rattle.login_service.specs.Doors.{IsOpenedBy, Opens}
+use Rattle.example_login_service.specs.Doors.{IsOpenedBy, Opens}
 
 yes_if_right : (is : Bool) → (if is then reply.Yes else reply.No) ≡ reply.Yes → is ≡ true
 yes_if_right true said = refl

@@ -1,5 +1,5 @@
 use Rattle.std.proofs.Common.{false}
-use Rattle.desk_load.proofs.published.run.Given as goal
+use Rattle.bench_desk.proofs.published.run.Given as goal
 
 -- the list that was just opened, from this book
 abbrev pub ghosts-run_named-J-Naming : goal.ghosts-run_named-J-Naming

@@ -5,7 +5,7 @@ ghost use Rattle.cred_book.specs.Works.{is_for_current};
 ghost use Rattle.cred_book.specs.declared.request.Request.TheVariants.{Verify};
 ghost use Rattle.cred_desk.specs.Commits.{reply_of};
 ghost use Rattle.cred_desk.specs.Histories.{after};
-ghost use Rattle.login_service.specs.Doors.{Opens};
+ghost use Rattle.example_login_service.specs.Doors.{Opens};
 
 use crate::people::Account;
 use cred_book::{Name, Reply, Request, VerifyWorked};

@@ -1,5 +1,5 @@
 use Rattle.std.proofs.Common.{false}
-use Rattle.login_service.proofs.service.serve.Given as goal
+use Rattle.example_login_service.proofs.service.serve.Given as goal
 
 -- the list that was just opened, from this book
 abbrev pub ghosts-serve_named-J-Naming : goal.ghosts-serve_named-J-Naming
