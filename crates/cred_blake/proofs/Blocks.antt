@@ -2,7 +2,7 @@
 use Rattle.std.proofs.Common.{◌≡◌, ℕ, zero, suc, ◌+◌, ◌-◌, ◌*◌, ◌/◌, ◌%◌, ◌^◌, ◌<◌, ◌≤◌, true, false, nat_eq, List, ◌++◌, length, take, drop, refl, ap, sym, ◌∙◌, arith, length-append, length-drop, eq-eqb}
 use Rattle.std.proofs.lemmas.Bool.{ne_eqb}
 use Rattle.std.proofs.lemmas.List.{take-append-le, drop-append-le, append-nil, take_all, length-take-le}
-use Rattle.cred_blake.specs.Blake2b.{compress, padded, block, block_count, counter, state_after}
+use Rattle.cred_blake.specs.Blake2b.{compress, padded_block, block, block_count, counter, state_after}
 
 pub state_after_none : (h d : List ℕ) → state_after h d 0 ≡ h
 unfolding state_after
@@ -26,13 +26,13 @@ state_after_inner h d i more =
 
 -- the last block
 pub state_after_last : (h d : List ℕ) (i : ℕ) → i ≡ (length d - 1) / 128
-    → state_after h d (block_count d) ≡ compress (state_after h d i) (padded (drop (128 * i) d)) (length d % 2 ^ 128) true
+    → state_after h d (block_count d) ≡ compress (state_after h d i) (padded_block (drop (128 * i) d)) (length d % 2 ^ 128) true
 state_after_last h d i at =
     let whole : take 128 (drop (128 * i) d) ≡ drop (128 * i) d = take_all 128 (drop (128 * i) d) (omega (arith, length-drop (128 * i) d)) in
     let counts : counter d i ≡ length d % 2 ^ 128 = omega arith in
     let count : block_count d ≡ i + 1 = omega arith in
     let last : nat_eq (i + 1) (block_count d) ≡ true = eq-eqb (i + 1) (block_count d) (sym count) in
-    rw count (state_after_next h d i ∙ rw (counts, last) (ap (λ (b : List ℕ). compress (state_after h d i) (padded b) (length d % 2 ^ 128) true) whole))
+    rw count (state_after_next h d i ∙ rw (counts, last) (ap (λ (b : List ℕ). compress (state_after h d i) (padded_block b) (length d % 2 ^ 128) true) whole))
 
 -- the blocks that bytes come after do not change when more bytes come
 pub state_after_append : (h d x : List ℕ) (i : ℕ) → 128 * i ≤ length d - 1 → state_after h (d ++ x) i ≡ state_after h d i

@@ -2,7 +2,7 @@
 use Rattle.std.proofs.Common.{◌≡◌, ℕ, ◌+◌, ◌-◌, ◌*◌, ◌/◌, ◌%◌, ◌^◌, ◌<◌, ◌≤◌, true, false, List, [], ◌∷◌, ◌++◌, length, take, drop, replicate, refl, ap, sym, ◌∙◌, arith, add-zero, length-append, length-drop}
 use Rattle.std.proofs.Math.Seq.{take-append-add, drop-append-add}
 use Rattle.std.proofs.lemmas.List.{append-nil, drop-append-le, drop-drop, length-replicate}
-use Rattle.cred_blake.specs.Blake2b.{compress, padded, key_block, initial_state, state_after, block_count}
+use Rattle.cred_blake.specs.Blake2b.{compress, padded_block, key_block, initial_state, state_after, block_count}
 use Rattle.cred_blake.specs.Hasher.{IsTaken, IsFed, Holds}
 use Rattle.cred_blake.specs.declared.hasher.Blake2b.{Blake2b}
 use Rattle.cred_blake.specs.declared.state.State.{State}
@@ -31,7 +31,7 @@ unfolding key_block
 key_block_none [] none = refl
 key_block_none (k ∷ ks) none = absurd (omega arith)
 
-pub key_block_some : (key : List ℕ) → 0 < length key → padded key ≡ key_block key
+pub key_block_some : (key : List ℕ) → 0 < length key → padded_block key ≡ key_block key
 unfolding key_block
 key_block_some [] some = absurd (omega arith)
 key_block_some (k ∷ ks) some = refl
@@ -139,7 +139,7 @@ Fed_long h0 d b x c s t room i fed fills past taken count last =
 -- ---- the last block
 
 pub Fed_last : (h0 d b : List ℕ) (s : State) → IsFed h0 d s b
-    → compress s.h (padded b) ((s.counter + length b) % 2 ^ 128) true ≡ state_after h0 d (block_count d)
+    → compress s.h (padded_block b) ((s.counter + length b) % 2 ^ 128) true ≡ state_after h0 d (block_count d)
 Fed_last h0 d b s fed =
     let blocks : ℕ = (length d - 1) / 128 in
     let counts : (s.counter + length b) % 2 ^ 128 ≡ length d % 2 ^ 128 = omega (arith, fed.0.1, length-last h0 d b s fed) in

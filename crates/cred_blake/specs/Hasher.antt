@@ -17,4 +17,5 @@ IsFed h0 d s b =
 -- the hasher, made for a digest of n bytes under this key, holds the message m
 unfoldable pub Holds : ℕ → List ℕ → Blake2b → List ℕ → Type 0
 Holds n key hasher m =
-    (hasher.out_len ≡ n) × IsFed (initial_state n (length key)) (key_block key ++ m) hasher.state hasher.buffer
+    (hasher.out_len ≡ n)
+    × IsFed (initial_state n (length key)) (key_block key ++ m) hasher.state hasher.buffer

@@ -1,7 +1,7 @@
 //! A block of a message that is being filled.
 
 ghost use Rattle.std.specs.Prelude.{◌≡◌, ◌+◌, ◌≤◌, List, [], ◌++◌, ℕ, length, take};
-ghost use Rattle.cred_blake.specs.Blake2b.{padded};
+ghost use Rattle.cred_blake.specs.Blake2b.{padded_block};
 
 use crate::compress::BLOCK_LEN;
 use std::marker::Model;
@@ -68,7 +68,7 @@ impl Buffer {
 
     /// Fills the block with zeros.
     pub(crate) fn pad(&mut self)
-        ensures { self.new ≡ padded self.old }
+        ensures { self.new ≡ padded_block self.old }
     {
         let room = BLOCK_LEN - self.len();
         self.extend(&ZEROS[..room]);

@@ -2,7 +2,8 @@
 //! the state.
 
 ghost use Rattle.std.specs.Prelude.{◌≡◌, ◌+◌, ◌≤◌, ◌<◌, [], length, slice_index, slice_index_or};
-ghost use Rattle.cred_blake.specs.Blake2b.{compress, mix, mixed, round, rounds, schedule, work_vector};
+ghost use Rattle.cred_blake.specs.Blake2b.{compress, mix, mixing, round, rounds, schedule};
+ghost use Rattle.cred_blake.specs.Blake2b.{work_vector};
 ghost use Rattle.cred_blake.specs.Words.{word_at, words_of};
 
 /// The bytes of a block.
@@ -36,8 +37,8 @@ const SIGMA: [[usize; 16]; 10] = [
 
 /// The mixing function G on four words (RFC 7693, section 3.1).
 #[inline(always)]
-fn mixed(a: u64, b: u64, c: u64, d: u64, x: u64, y: u64) -> (u64, u64, u64, u64)
-    ensures { result ≡ mixed a b c d x y }
+fn mixing(a: u64, b: u64, c: u64, d: u64, x: u64, y: u64) -> (u64, u64, u64, u64)
+    ensures { result ≡ mixing a b c d x y }
 {
     let a = a.wrapping_add(b).wrapping_add(x);
     let d = (d ^ a).rotate_right(32);
@@ -56,7 +57,7 @@ fn mix(v: &mut [u64; 16], i: usize, j: usize, k: usize, l: usize, x: u64, y: u64
     requires { (i < 16) × (j < 16) × (k < 16) × (l < 16) }
     ensures { v.new ≡ mix v.old i j k l x y }
 {
-    let (a, b, c, d) = mixed(v[i], v[j], v[k], v[l], x, y);
+    let (a, b, c, d) = mixing(v[i], v[j], v[k], v[l], x, y);
     v[i] = a;
     v[j] = b;
     v[k] = c;

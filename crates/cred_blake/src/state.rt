@@ -40,7 +40,8 @@ impl State {
     /// Takes in the last block, whose first `len` bytes are the message's; the others are padding.
     pub(crate) fn absorb_last(&mut self, block: &[u8], len: usize)
         requires { length block.now ≡ BLOCK_LEN }
-        ensures { self.new.h ≡ compress self.old.h block.now ((self.old.counter + len) % 2 ^ 128) true }
+        ensures { self.new.h
+            ≡ compress self.old.h block.now ((self.old.counter + len) % 2 ^ 128) true }
     {
         let counter = self.counter.wrapping_add(len as u128);
         compress(&mut self.h, block, counter, true);

@@ -101,16 +101,20 @@ fn run_both<R: Threads + Sync, G: Gate + Sync, C: Sync, P: Part<C> + Send>(
     let mut first = ||
         requires { IsSync G.row × IsSync C.row × IsSend P.row
             × (base + length run.now < 2 ^ 64)
-            × ((i : ℕ) (d : P) → i < length run.now → P.can_work shared.now (slice_index_or run.now i d)) }
+            × ((i : ℕ) (d : P) → i < length run.now
+            → P.can_work shared.now (slice_index_or run.now i d)) }
         ensures { (i : ℕ) (d : P) → i < length run.entry.now
-            → P.works shared.entry.now (slice_index_or run.entry.now i d) (slice_index_or run.exit.now i d) }
+            → P.works shared.entry.now (slice_index_or run.entry.now i d)
+            (slice_index_or run.exit.now i d) }
     { work_run(gate, shared, base, run) };
     let mut others = ||
         requires { IsSync R.row × IsSync G.row × IsSync C.row × IsSend P.row
             × (0 < size) × (next + length rest.now < 2 ^ 64)
-            × ((i : ℕ) (d : P) → i < length rest.now → P.can_work shared.now (slice_index_or rest.now i d)) }
+            × ((i : ℕ) (d : P) → i < length rest.now
+            → P.can_work shared.now (slice_index_or rest.now i d)) }
         ensures { (i : ℕ) (d : P) → i < length rest.entry.now
-            → P.works shared.entry.now (slice_index_or rest.entry.now i d) (slice_index_or rest.exit.now i d) }
+            → P.works shared.entry.now (slice_index_or rest.entry.now i d)
+            (slice_index_or rest.exit.now i d) }
     { run_from(rt, gate, shared, next, size, rest) };
     thread::join_mut(rt, &mut first, &mut others);
 }
