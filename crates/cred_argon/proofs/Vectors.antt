@@ -5,26 +5,26 @@ use Rattle.std.proofs.Common.{◌≡◌, ℕ, List, [], ◌∷◌, refl, replica
 use Rattle.std.specs.Prelude.{slice_index}
 use Rattle.std.specs.List.{range_with_len}
 use Rattle.cred_blake.specs.Words.{word_at, words_of, bytes_of}
-use Rattle.cred_blake.specs.Blake2b.{blake, state_after, compress as blake_compress, rounds, round, mix, mixed as blake_mixed, work_vector, initial_state, key_block}
+use Rattle.cred_blake.specs.Blake2b.{blake, state_after, compress as blake_compress, rounds, round, mix, mixing as blake_mixing, work_vector, initial_state, key_block}
 use Rattle.cred_blake.specs.HashPrime.{hash_prime, halves, chain}
 use Rattle.cred_argon.specs.declared.kind.Kind.TheVariants.{Id}
 use Rattle.cred_argon.specs.declared.kind.Version.TheVariants.{V13}
 use Rattle.cred_argon.specs.Argon.{first_hash}
 use Rattle.cred_argon.specs.Cells.{first_cell, address_block}
-use Rattle.cred_argon.specs.Compress.{mixed, straight, slanted, permuted, rows, columns, xor_words, compress}
+use Rattle.cred_argon.specs.Compress.{mixing, column_step, diagonal_step, permutation, rows, columns, xor_words, compress}
 use Rattle.cred_argon.specs.Parameters.{Parameters, parameters}
 use Rattle.cred_argon.specs.Places.{place, reference_set, reference_place}
 
-mixed_words : mixed 1 2 3 4 ≡ (1099511639303, 6489126338118157830, 3244562069547450371, 3244562056560705536)
-unfolding mixed
+mixed_words : mixing 1 2 3 4 ≡ (1099511639303, 6489126338118157830, 3244562069547450371, 3244562056560705536)
+unfolding mixing
 mixed_words = refl
 
-permuted_words : permuted (range_with_len 0 16)
+permuted_words : permutation (range_with_len 0 16)
     ≡ 4309413561690544949 ∷ 10591790002093387956 ∷ 4054907587149926025 ∷ 12186936810293155319
     ∷ 6987944521133659505 ∷ 11961256884274195702 ∷ 7717811659818223130 ∷ 7145962203480256264
     ∷ 13478285582766688587 ∷ 8998272025916050531 ∷ 15850783893021893847 ∷ 16649433534529282490
     ∷ 16981378724759909900 ∷ 5484704648486101607 ∷ 13959069891332574114 ∷ 5484003764239343556 ∷ []
-unfolding straight slanted mixed
+unfolding column_step diagonal_step mixing
 permuted_words = refl
 
 compressed_block : compress (range_with_len 0 128) (replicate 128 0)
@@ -60,7 +60,7 @@ compressed_block : compress (range_with_len 0 128) (replicate 128 0)
     ∷ 2454982624655109774 ∷ 5974588305540997263 ∷ 17907335093680634475 ∷ 11318479407034864410
     ∷ 12146112513079990525 ∷ 3262713296466362733 ∷ 314989336486798207 ∷ 10703980073527762577
     ∷ 4892754147509670248 ∷ 3885889036906504129 ∷ 10197995410603956175 ∷ 3912917767389101959 ∷ []
-unfolding compress columns rows xor_words straight slanted mixed
+unfolding compress columns rows xor_words column_step diagonal_step mixing
 compressed_block = refl
 
 -- The memory of one lane of eight columns, in segments of two: what the sixth column of the first
@@ -95,15 +95,15 @@ standard_hash =
     ∷ 0x94 ∷ 0xdf ∷ 0x42 ∷ 0x1a ∷ 0x5d ∷ 0xa1 ∷ 0x11 ∷ 0x2f ∷ 0xfa ∷ 0x11 ∷ 0x43 ∷ 0x43 ∷ 0x70 ∷ 0xa1 ∷ 0xe9 ∷ 0x97 ∷ []
 
 first_hash_vector : first_hash standard (replicate 32 1) (replicate 16 2) (replicate 8 3) (replicate 12 4) ≡ standard_hash
-unfolding first_hash blake state_after blake_compress rounds round mix blake_mixed words_of word_at bytes_of work_vector initial_state key_block
+unfolding first_hash blake state_after blake_compress rounds round mix blake_mixing words_of word_at bytes_of work_vector initial_state key_block
 first_hash_vector = refl
 
 -- the first word of block 0 that stands there
 first_cell_word : slice_index (first_cell standard_hash 0 0) 0 ≡ 0x6b2e09f10671bd43
-unfolding first_cell hash_prime halves chain blake state_after blake_compress rounds round mix blake_mixed words_of word_at bytes_of work_vector initial_state key_block
+unfolding first_cell hash_prime halves chain blake state_after blake_compress rounds round mix blake_mixing words_of word_at bytes_of work_vector initial_state key_block
 first_cell_word = refl
 
 -- of the second lane and slice of the first pass
 address_word_vector : slice_index (address_block standard 0 1 1 1) 0 ≡ 4487447645306391564
-unfolding address_block compress columns rows xor_words straight slanted mixed
+unfolding address_block compress columns rows xor_words column_step diagonal_step mixing
 address_word_vector = refl

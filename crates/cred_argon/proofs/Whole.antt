@@ -3,7 +3,7 @@ use Rattle.std.proofs.Common.{◌≡◌, ℕ, ◌<◌, ◌≤◌, ◌+◌, ◌*�
 use Rattle.std.proofs.lemmas.Bool.{cases_lt}
 use Rattle.std.specs.List.{range_with_len}
 use Rattle.std.proofs.lemmas.List.FromFn.{fill_by_all, get_or-map-range_with_len}
-use Rattle.cred_argon.specs.Compress.{permuted, row, column, rows, columns, xor_words, compress}
+use Rattle.cred_argon.specs.Compress.{permutation, row, column, rows, columns, xor_words, compress}
 use Rattle.cred_argon.specs.Quads.{slot_at, row_list, column_list, half_word, IsRows, IsHalf}
 use Rattle.cred_argon.proofs.QuadLemmas.{below_sixteen}
 
@@ -11,15 +11,15 @@ xor_words_at : (x y : List ℕ) (n : ℕ) → n < 128 → slice_index (xor_words
 unfolding xor_words
 xor_words_at x y n h = get_or-map-range_with_len (λ (k : ℕ). bit_xor (slice_index x k) (slice_index y k)) 0 128 n n 0 h (omega arith)
 
-rows_at : (v : List ℕ) (n : ℕ) → n < 128 → slice_index (rows v) n ≡ slice_index (permuted (row v (n / 16))) (n % 16)
+rows_at : (v : List ℕ) (n : ℕ) → n < 128 → slice_index (rows v) n ≡ slice_index (permutation (row v (n / 16))) (n % 16)
 unfolding rows
-rows_at v n h = get_or-map-range_with_len (λ (k : ℕ). slice_index (permuted (row v (k / 16))) (k % 16)) 0 128 n n 0 h (omega arith)
+rows_at v n h = get_or-map-range_with_len (λ (k : ℕ). slice_index (permutation (row v (k / 16))) (k % 16)) 0 128 n n 0 h (omega arith)
 
 columns_at : (v : List ℕ) (n : ℕ) → n < 128
-    → slice_index (columns v) n ≡ slice_index (permuted (column v (n % 16 / 2))) (2 * (n / 16) + n % 2)
+    → slice_index (columns v) n ≡ slice_index (permutation (column v (n % 16 / 2))) (2 * (n / 16) + n % 2)
 unfolding columns
 columns_at v n h =
-    get_or-map-range_with_len (λ (k : ℕ). slice_index (permuted (column v (k % 16 / 2))) (2 * (k / 16) + k % 2)) 0 128 n n 0 h (omega arith)
+    get_or-map-range_with_len (λ (k : ℕ). slice_index (permutation (column v (k % 16 / 2))) (2 * (k / 16) + k % 2)) 0 128 n n 0 h (omega arith)
 
 row_list_at : (j : ℕ) (x : List (List ℕ)) (k : ℕ) → k < 16 → slice_index (row_list j x) k ≡ slot_at x (4 * j + k / 4) (k % 4)
 row_list_at j x = below_sixteen _ refl refl refl refl refl refl refl refl refl refl refl refl refl refl refl refl
@@ -31,7 +31,7 @@ column_list_at j x = below_sixteen _ refl refl refl refl refl refl refl refl ref
 -- the words of four rows under P, from those of the rows
 pub rows_words : (r : List ℕ) (x z : List (List ℕ)) (first : ℕ) → first + 4 ≤ 8
     → ((m : ℕ) → m < 16 → (e : ℕ) → e < 4 → slot_at x m e ≡ slice_index r (16 * first + 4 * m + e))
-    → ((j : ℕ) → j < 4 → row_list j z ≡ permuted (row_list j x))
+    → ((j : ℕ) → j < 4 → row_list j z ≡ permutation (row_list j x))
     → IsRows (rows r) first z
 rows_words r x z first four held by_row m hm e he =
     let j = m / 4 in
@@ -47,13 +47,13 @@ rows_words r x z first four held by_row m hm e he =
     let at_place : n % 16 ≡ k = omega arith in
     ap₂ (λ (a b : ℕ). slot_at z a b) (sym at_m) (sym at_e)
     ∙ sym (row_list_at j z k (omega arith))
-    ∙ ap (λ (v : List ℕ). slice_index v k) (by_row j below ∙ ap permuted row_is)
+    ∙ ap (λ (v : List ℕ). slice_index v k) (by_row j below ∙ ap permutation row_is)
     ∙ rw (rows_at r n (omega arith), at_row, at_place) refl
 
 -- the words of four columns under P, from those of the columns: half h has two vectors of each row
 pub columns_words : (v : List ℕ) (x q : List (List ℕ)) (h : ℕ) → h < 2
     → ((m : ℕ) → m < 16 → (e : ℕ) → e < 4 → slot_at x m e ≡ slice_index v (16 * (m / 2) + 8 * h + 4 * (m % 2) + e))
-    → ((j : ℕ) → j < 4 → column_list j q ≡ permuted (column_list j x))
+    → ((j : ℕ) → j < 4 → column_list j q ≡ permutation (column_list j x))
     → (i : ℕ) → i < 8 → (e : ℕ) → e < 8 → slot_at q (2 * i + e / 4) (e % 4) ≡ slice_index (columns v) (16 * i + 8 * h + e)
 columns_words v x q h two held by_column i hi e he =
     let j = 2 * (e % 4 / 2) + e / 4 in
@@ -70,7 +70,7 @@ columns_words v x q h two held by_column i hi e he =
     let at_place : 2 * (n / 16) + n % 2 ≡ k = omega arith in
     ap₂ (λ (a b : ℕ). slot_at q a b) (sym at_m) (sym at_e)
     ∙ sym (column_list_at j q k (omega arith))
-    ∙ ap (λ (u : List ℕ). slice_index u k) (by_column j below ∙ ap permuted column_is)
+    ∙ ap (λ (u : List ℕ). slice_index u k) (by_column j below ∙ ap permutation column_is)
     ∙ rw (columns_at v n (omega arith), at_column, at_place) refl
 
 -- the words of two blocks under exclusive or

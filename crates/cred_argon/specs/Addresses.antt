@@ -1,5 +1,6 @@
 -- What the code keeps of address blocks, and what it reads of them.
-use Rattle.std.specs.Prelude.{◌≡◌, ℕ, ◌+◌, ◌/◌, List, Bool, true, false, Option, None, Some, slice_index}
+use Rattle.std.specs.Prelude.{◌≡◌, ℕ, ◌+◌, ◌/◌, List, Bool, true, false, Option, None, Some}
+use Rattle.std.specs.Prelude.{slice_index}
 use Rattle.cred_argon.specs.declared.address.AddressBlock.{AddressBlock}
 use Rattle.cred_argon.specs.declared.segment.Shared.{Shared}
 use Rattle.cred_argon.specs.Cells.{is_dependent, address_block}
@@ -13,7 +14,8 @@ follows_blocks c = is_dependent c.params.kind c.pass c.slice
 abbrev pub KeepsAddresses : Shared → ℕ → Option AddressBlock → Type 0
 KeepsAddresses c lane None = Unit {0}
 KeepsAddresses c lane (Some kept) =
-    (follows_blocks c ≡ false) × (kept.block.0 ≡ address_block c.params c.pass lane c.slice kept.number)
+    (follows_blocks c ≡ false)
+    × (kept.block.0 ≡ address_block c.params c.pass lane c.slice kept.number)
 
 -- what serves an offset: nothing where words come from the blocks before, and else the address
 -- block of the offset

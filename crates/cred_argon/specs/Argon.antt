@@ -17,14 +17,18 @@ le32 n = to_le_bytes w32 n
 -- associated data X
 unfoldable pub first_hash : Parameters → List ℕ → List ℕ → List ℕ → List ℕ → List ℕ
 first_hash a pw salt secret assoc =
-    blake 64 [] (le32 a.lanes ++ le32 a.tag_len ++ le32 a.memory ++ le32 a.passes ++ le32 (version_number a.version) ++ le32 (kind_number a.kind)
-    ++ le32 (length pw) ++ pw ++ le32 (length salt) ++ salt ++ le32 (length secret) ++ secret ++ le32 (length assoc) ++ assoc)
+    blake 64 [] (le32 a.lanes ++ le32 a.tag_len ++ le32 a.memory ++ le32 a.passes
+    ++ le32 (version_number a.version) ++ le32 (kind_number a.kind)
+    ++ le32 (length pw) ++ pw ++ le32 (length salt) ++ salt
+    ++ le32 (length secret) ++ secret ++ le32 (length assoc) ++ assoc)
 
 -- the last blocks of the first n lanes under exclusive or
 unfoldable pub last_blocks : Parameters → List ℕ → ℕ → List ℕ
 last_blocks a h zero = replicate 128 0
-last_blocks a h (suc n) = xor_words (last_blocks a h n) (cell a h (place (a.passes - 1) n (4 * segment_len a - 1)))
+last_blocks a h (suc n) =
+    xor_words (last_blocks a h n) (cell a h (place (a.passes - 1) n (4 * segment_len a - 1)))
 
 -- the tag
 unfoldable pub argon : Parameters → List ℕ → List ℕ → List ℕ → List ℕ → List ℕ
-argon a pw salt secret assoc = hash_prime a.tag_len (bytes_of (last_blocks a (first_hash a pw salt secret assoc) a.lanes))
+argon a pw salt secret assoc =
+    hash_prime a.tag_len (bytes_of (last_blocks a (first_hash a pw salt secret assoc) a.lanes))

@@ -1,6 +1,8 @@
 -- The blocks of Argon2's memory on each pass, each by the blocks that it names (RFC 9106, sections
 -- 3.2 and 3.4). There is no memory here, and no order in which it is filled.
-use Rattle.std.specs.Prelude.{ℕ, zero, suc, ◌+◌, ◌-◌, ◌*◌, ◌/◌, ◌%◌, ◌^◌, List, [], ◌∷◌, ◌++◌, Bool, true, false, not, nat_lt, ◌==◌, ◌&&◌, if◌then◌else◌, slice_index, replicate}
+use Rattle.std.specs.Prelude.{ℕ, zero, suc, ◌+◌, ◌-◌, ◌*◌, ◌/◌, ◌%◌, ◌^◌, List, [], ◌∷◌, ◌++◌, Bool}
+use Rattle.std.specs.Prelude.{true, false, not, nat_lt, ◌==◌, ◌&&◌, if◌then◌else◌, slice_index}
+use Rattle.std.specs.Prelude.{replicate}
 use Rattle.std.specs.Int.{w32, to_le_bytes}
 use Rattle.cred_blake.specs.Words.{words_of}
 use Rattle.cred_blake.specs.HashPrime.{hash_prime}
@@ -17,7 +19,8 @@ use Rattle.cred_argon.specs.Times.{time_of}
 
 -- the first two blocks of a lane, from the first hash h
 unfoldable pub first_cell : List ℕ → ℕ → ℕ → List ℕ
-first_cell h lane column = words_of (hash_prime 1024 (h ++ to_le_bytes w32 column ++ to_le_bytes w32 lane)) 128
+first_cell h lane column =
+    words_of (hash_prime 1024 (h ++ to_le_bytes w32 column ++ to_le_bytes w32 lane)) 128
 
 -- whether the words that name a reference come from the block before it (section 3.4.1), else from
 -- the place alone
@@ -30,7 +33,8 @@ is_dependent Id pass slice = not ((pass == 0) && nat_lt slice 2)
 -- (section 3.4.1.2)
 abbrev pub address_input : Parameters → ℕ → ℕ → ℕ → ℕ → List ℕ
 address_input a pass lane slice number =
-    pass ∷ lane ∷ slice ∷ (4 * segment_len a * a.lanes) ∷ a.passes ∷ kind_number a.kind ∷ number ∷ replicate 121 0
+    pass ∷ lane ∷ slice ∷ (4 * segment_len a * a.lanes) ∷ a.passes ∷ kind_number a.kind ∷ number
+    ∷ replicate 121 0
 
 unfoldable pub address_block : Parameters → ℕ → ℕ → ℕ → ℕ → List ℕ
 address_block a pass lane slice number =
@@ -44,7 +48,9 @@ address_word a p =
 
 -- the place before in its lane: before the first column comes the last of the pass before
 abbrev pub previous : ℕ → Place → Place
-previous s p = if p.column == 0 then place (p.pass - 1) p.lane (4 * s - 1) else place p.pass p.lane (p.column - 1)
+previous s p =
+    if p.column == 0 then place (p.pass - 1) p.lane (4 * s - 1)
+    else place p.pass p.lane (p.column - 1)
 
 -- the same place on the pass before
 abbrev pub older : Place → Place
@@ -53,7 +59,9 @@ older p = place (p.pass - 1) p.lane p.column
 -- the word that names the reference of a place, where `cells` gives the blocks
 abbrev pub word_by : Parameters → (Place → List ℕ) → Place → ℕ
 word_by a cells p =
-    if is_dependent a.kind p.pass (p.column / segment_len a) then slice_index (cells (previous (segment_len a) p)) 0 else address_word a p
+    if is_dependent a.kind p.pass (p.column / segment_len a)
+    then slice_index (cells (previous (segment_len a) p)) 0
+    else address_word a p
 
 -- its low half is j1, its high half j2
 abbrev pub reference_by : Parameters → (Place → List ℕ) → Place → Place
@@ -76,7 +84,8 @@ is_fresh V13 pass = pass == 0
 unfoldable pub cell_by : Parameters → List ℕ → (Place → List ℕ) → Place → List ℕ
 cell_by a h cells p =
     if is_first p then first_cell h p.lane p.column
-    else (if is_fresh a.version p.pass then mixed_by a cells p else xor_words (cells (older p)) (mixed_by a cells p))
+    else (if is_fresh a.version p.pass then mixed_by a cells p
+    else xor_words (cells (older p)) (mixed_by a cells p))
 
 -- the recursion, to a depth
 unfoldable pub cell_within : Parameters → List ℕ → ℕ → Place → List ℕ

@@ -8,8 +8,8 @@ abbrev pub add_product : ℕ → ℕ → ℕ
 add_product x y = (x + y + 2 * ((x % 2 ^ 32) * (y % 2 ^ 32))) % 2 ^ 64
 
 -- four words mixed (GB of section 3.6)
-unfoldable pub mixed : ℕ → ℕ → ℕ → ℕ → ℕ × ℕ × ℕ × ℕ
-mixed a b c d =
+unfoldable pub mixing : ℕ → ℕ → ℕ → ℕ → ℕ × ℕ × ℕ × ℕ
+mixing a b c d =
     let a1 = add_product a b in
     let d1 = rotate_right w64 (bit_xor d a1) 32 in
     let c1 = add_product c d1 in
@@ -20,36 +20,36 @@ mixed a b c d =
     let b2 = rotate_right w64 (bit_xor b1 c2) 63 in
     (a2, b2, c2, d2)
 
-abbrev pub mixed_at : List ℕ → ℕ → ℕ → ℕ → ℕ → ℕ × ℕ × ℕ × ℕ
-mixed_at v i j k l = mixed (slice_index v i) (slice_index v j) (slice_index v k) (slice_index v l)
+abbrev pub mixing_at : List ℕ → ℕ → ℕ → ℕ → ℕ → ℕ × ℕ × ℕ × ℕ
+mixing_at v i j k l = mixing (slice_index v i) (slice_index v j) (slice_index v k) (slice_index v l)
 
 -- sixteen words, seen as four rows of four, with each column mixed
-unfoldable pub straight : List ℕ → List ℕ
-straight v =
-    let q0 = mixed_at v 0 4 8 12 in
-    let q1 = mixed_at v 1 5 9 13 in
-    let q2 = mixed_at v 2 6 10 14 in
-    let q3 = mixed_at v 3 7 11 15 in
+unfoldable pub column_step : List ℕ → List ℕ
+column_step v =
+    let q0 = mixing_at v 0 4 8 12 in
+    let q1 = mixing_at v 1 5 9 13 in
+    let q2 = mixing_at v 2 6 10 14 in
+    let q3 = mixing_at v 3 7 11 15 in
     q0.0 ∷ q1.0 ∷ q2.0 ∷ q3.0
     ∷ q0.1 ∷ q1.1 ∷ q2.1 ∷ q3.1
     ∷ q0.2 ∷ q1.2 ∷ q2.2 ∷ q3.2
     ∷ q0.3 ∷ q1.3 ∷ q2.3 ∷ q3.3 ∷ []
 
 -- the same with each diagonal mixed
-unfoldable pub slanted : List ℕ → List ℕ
-slanted v =
-    let q0 = mixed_at v 0 5 10 15 in
-    let q1 = mixed_at v 1 6 11 12 in
-    let q2 = mixed_at v 2 7 8 13 in
-    let q3 = mixed_at v 3 4 9 14 in
+unfoldable pub diagonal_step : List ℕ → List ℕ
+diagonal_step v =
+    let q0 = mixing_at v 0 5 10 15 in
+    let q1 = mixing_at v 1 6 11 12 in
+    let q2 = mixing_at v 2 7 8 13 in
+    let q3 = mixing_at v 3 4 9 14 in
     q0.0 ∷ q1.0 ∷ q2.0 ∷ q3.0
     ∷ q3.1 ∷ q0.1 ∷ q1.1 ∷ q2.1
     ∷ q2.2 ∷ q3.2 ∷ q0.2 ∷ q1.2
     ∷ q1.3 ∷ q2.3 ∷ q3.3 ∷ q0.3 ∷ []
 
 -- the permutation P on sixteen words
-abbrev pub permuted : List ℕ → List ℕ
-permuted v = slanted (straight v)
+abbrev pub permutation : List ℕ → List ℕ
+permutation v = diagonal_step (column_step v)
 
 -- row i of a block: sixteen words that lie together
 abbrev pub row : List ℕ → ℕ → List ℕ
@@ -61,10 +61,12 @@ column v c = map (λ k. slice_index v (16 * (k / 2) + 2 * c + k % 2)) (range_wit
 
 -- the block whose rows, or columns, are those of v under P
 unfoldable pub rows : List ℕ → List ℕ
-rows v = map (λ n. slice_index (permuted (row v (n / 16))) (n % 16)) (range_with_len 0 128)
+rows v = map (λ n. slice_index (permutation (row v (n / 16))) (n % 16)) (range_with_len 0 128)
 
 unfoldable pub columns : List ℕ → List ℕ
-columns v = map (λ n. slice_index (permuted (column v (n % 16 / 2))) (2 * (n / 16) + n % 2)) (range_with_len 0 128)
+columns v =
+    map (λ n. slice_index (permutation (column v (n % 16 / 2))) (2 * (n / 16) + n % 2))
+    (range_with_len 0 128)
 
 -- two blocks under exclusive or, word by word
 unfoldable pub xor_words : List ℕ → List ℕ → List ℕ

@@ -1,9 +1,10 @@
 -- Why parameters are refused: the first of their faults.
 use Rattle.std.specs.Prelude.{◌≡◌, ℕ, ◌*◌, ◌<◌, ◌≤◌, ◌⊎◌}
 use Rattle.cred_argon.specs.Parameters.{Parameters}
-use Rattle.cred_argon.specs.declared.params.TheConstants.{MAX_LANES, MAX_MEMORY, MIN_TAG, MAX_TAG}
+use Rattle.cred_argon.specs.declared.params.TheConstants.{MAX_LANES, MAX_MEMORY, MAX_RAW_TAG, MAX_TAG, MIN_TAG}
 use Rattle.cred_argon.specs.declared.error.ArgonError.{ArgonError}
-use Rattle.cred_argon.specs.declared.error.ArgonError.TheVariants.{Lanes, Cost, Passes, TagLen, InputLen, Memory}
+use Rattle.cred_argon.specs.declared.error.ArgonError.TheVariants.{Lanes, Cost, Passes, TagLen}
+use Rattle.cred_argon.specs.declared.error.ArgonError.TheVariants.{InputLen, Memory}
 
 abbrev pub LanesFit : Parameters → Type 0
 LanesFit a = (1 ≤ a.lanes) × (a.lanes ≤ MAX_LANES)
@@ -16,7 +17,9 @@ abbrev pub IsFaultUpTo : ℕ → Parameters → ArgonError → Type 0
 IsFaultUpTo most a Lanes = (a.lanes ≡ 0) ⊎ (MAX_LANES < a.lanes)
 IsFaultUpTo most a Cost = LanesFit a × ((a.memory < 8 * a.lanes) ⊎ (MAX_MEMORY < a.memory))
 IsFaultUpTo most a Passes = LanesFit a × MemoryFits a × (a.passes ≡ 0)
-IsFaultUpTo most a TagLen = LanesFit a × MemoryFits a × (1 ≤ a.passes) × ((a.tag_len < MIN_TAG) ⊎ (most < a.tag_len))
+IsFaultUpTo most a TagLen =
+    LanesFit a × MemoryFits a × (1 ≤ a.passes)
+    × ((a.tag_len < MIN_TAG) ⊎ (most < a.tag_len))
 IsFaultUpTo most a InputLen = ⊥
 IsFaultUpTo most a Memory = ⊥
 
@@ -26,4 +29,4 @@ IsFirstFault a e = IsFaultUpTo MAX_TAG a e
 
 -- of any tag that RFC 9106 knows
 abbrev pub IsFirstRawFault : Parameters → ArgonError → Type 0
-IsFirstRawFault a e = IsFaultUpTo 4294967295 a e
+IsFirstRawFault a e = IsFaultUpTo MAX_RAW_TAG a e

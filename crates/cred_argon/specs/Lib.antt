@@ -13,3 +13,5 @@ pub mod Segments
 pub mod SegmentWork
 pub mod Argon
 pub mod Slices
+pub use Rattle.cred_blake.specs.Blake2b
+pub use Rattle.cred_blake.specs.HashPrime

@@ -1,6 +1,6 @@
 -- What an Argon2 tag is asked for (RFC 9106, section 3.1), and how the memory is cut (section 3.2).
 use Rattle.std.specs.Prelude.{ℕ, ◌*◌, ◌/◌, ◌≤◌}
-use Rattle.cred_argon.specs.declared.params.TheConstants.{MAX_LANES, MAX_MEMORY, MIN_TAG, MAX_TAG}
+use Rattle.cred_argon.specs.declared.params.TheConstants.{MAX_LANES, MAX_MEMORY, MAX_RAW_TAG, MAX_TAG, MIN_TAG}
 use Rattle.cred_argon.specs.declared.kind.Kind.{Kind}
 use Rattle.cred_argon.specs.declared.kind.Version.{Version}
 
@@ -15,8 +15,14 @@ pub record Parameters : Type 0 where
   pub tag_len : ℕ
 
 abbrev pub parameters : Version → Kind → ℕ → ℕ → ℕ → ℕ → Parameters
-parameters version kind memory passes lanes tag_len =
-    record { version = version; kind = kind; memory = memory; passes = passes; lanes = lanes; tag_len = tag_len }
+parameters version kind memory passes lanes tag_len = record {
+  version = version;
+  kind = kind;
+  memory = memory;
+  passes = passes;
+  lanes = lanes;
+  tag_len = tag_len;
+}
 
 -- the columns of a segment: the memory has m' = 4 * p * floor(m / 4p) blocks, a lane m' / p of
 -- them, in four segments
@@ -39,4 +45,4 @@ IsParameters a = IsUpTo MAX_TAG a
 
 -- with any tag that RFC 9106 knows: its length is written in 32 bits
 abbrev pub IsRaw : Parameters → Type 0
-IsRaw a = IsUpTo 4294967295 a
+IsRaw a = IsUpTo MAX_RAW_TAG a

@@ -1,6 +1,8 @@
 -- Places of blocks, and the blocks that a place may refer to (RFC 9106, section 3.4.2). s is the
 -- number of columns of a segment.
-use Rattle.std.specs.Prelude.{◌≡◌, ℕ, ◌+◌, ◌-◌, ◌*◌, ◌/◌, ◌%◌, ◌^◌, ◌<◌, ◌≤◌, List, Bool, length, map, filter, flat_map, take, nat_le, nat_lt, ◌==◌, ◌&&◌, ◌||◌, if◌then◌else◌, slice_index_or}
+use Rattle.std.specs.Prelude.{◌≡◌, ℕ, ◌+◌, ◌-◌, ◌*◌, ◌/◌, ◌%◌, ◌^◌, ◌<◌, ◌≤◌, List, Bool, length}
+use Rattle.std.specs.Prelude.{map, filter, flat_map, take, nat_le, nat_lt, ◌==◌, ◌&&◌, ◌||◌}
+use Rattle.std.specs.Prelude.{if◌then◌else◌, slice_index_or}
 use Rattle.std.specs.List.{range_with_len}
 use Rattle.cred_argon.specs.declared.place.Place.{Place}
 use Rattle.cred_argon.specs.declared.position.Position.{Position}
@@ -29,7 +31,8 @@ pub record IsComputed (s lanes : ℕ) (p : Place) : Type 0 where
 
 -- the places of a lane on the passes up to one, by pass, then column
 abbrev pub lane_places : ℕ → ℕ → ℕ → List Place
-lane_places s last l = flat_map (λ r. map (λ j. place r l j) (range_with_len 0 (4 * s))) (range_with_len 0 (last + 1))
+lane_places s last l =
+    flat_map (λ r. map (λ j. place r l j) (range_with_len 0 (4 * s))) (range_with_len 0 (last + 1))
 
 -- c lies in one of the three segments before p's, as far as there are three, or in p's own segment
 -- and lane, before p
@@ -59,4 +62,5 @@ pick n j1 = n - 1 - n * (j1 * j1 / 2 ^ 32) / 2 ^ 32
 -- the place that the words j1 and j2 name at p
 unfoldable pub reference_place : ℕ → ℕ → Place → ℕ → ℕ → Place
 reference_place s lanes p j1 j2 =
-    let w = reference_set s p (reference_lane s lanes p j2) in slice_index_or w (pick (length w) j1) p
+    let w = reference_set s p (reference_lane s lanes p j2) in
+    slice_index_or w (pick (length w) j1) p

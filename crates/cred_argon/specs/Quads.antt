@@ -1,6 +1,7 @@
 -- Sixteen-word lists that lie side by side in vectors of four words: how the code holds a block's
 -- rows and columns.
-use Rattle.std.specs.Prelude.{◌≡◌, ℕ, ◌+◌, ◌*◌, ◌/◌, ◌%◌, ◌<◌, List, [], ◌∷◌, bit_xor, slice_index, slice_index_or}
+use Rattle.std.specs.Prelude.{◌≡◌, ℕ, ◌+◌, ◌*◌, ◌/◌, ◌%◌, ◌<◌, List, [], ◌∷◌, bit_xor, slice_index}
+use Rattle.std.specs.Prelude.{slice_index_or}
 
 -- slot j of vector k
 abbrev pub slot_at : List (List ℕ) → ℕ → ℕ → ℕ
@@ -53,4 +54,5 @@ IsHalf v at half =
 -- a word of the XOR of three blocks, the third in the vectors of a half
 abbrev pub half_word : List ℕ → List ℕ → List (List ℕ) → ℕ → ℕ → ℕ → ℕ
 half_word x y half at i e =
-    bit_xor (bit_xor (slice_index x (16 * i + at + e)) (slice_index y (16 * i + at + e))) (slot_at half (2 * i + e / 4) (e % 4))
+    bit_xor (bit_xor (slice_index x (16 * i + at + e)) (slice_index y (16 * i + at + e)))
+    (slot_at half (2 * i + e / 4) (e % 4))

@@ -1,6 +1,7 @@
 -- What the code's memory holds: four slices, each a list of one segment a lane. Segments are
 -- counted over all passes, so that segment g is that of pass g / 4 and slice g % 4.
-use Rattle.std.specs.Prelude.{◌≡◌, ℕ, ◌+◌, ◌-◌, ◌*◌, ◌/◌, ◌%◌, ◌<◌, ◌≤◌, List, length, slice_index_or, vec_len, vec_capacity, ◌==◌, if◌then◌else◌}
+use Rattle.std.specs.Prelude.{◌≡◌, ℕ, ◌+◌, ◌-◌, ◌*◌, ◌/◌, ◌%◌, ◌<◌, ◌≤◌, List, length}
+use Rattle.std.specs.Prelude.{slice_index_or, vec_len, vec_capacity, ◌==◌, if◌then◌else◌}
 use Rattle.cred_argon.specs.declared.block.Block.{Block}
 use Rattle.cred_argon.specs.declared.place.Place.{Place}
 use Rattle.cred_argon.specs.declared.position.Position.{Position}
@@ -17,18 +18,23 @@ use Rattle.cred_argon.specs.Cells.{cell}
 pub record IsSlice (a : Parameters) (g n start : ℕ) (segments : List Segment) : Type 0 where
   pub count : length segments ≡ a.lanes
   pub lane : (l : ℕ) (d : Segment) → l < a.lanes → (slice_index_or segments l d).lane ≡ l
-  pub room : (l : ℕ) (d : Segment) → l < a.lanes → segment_len a ≤ vec_capacity (slice_index_or segments l d).blocks
-  pub full : n ≤ g → (l : ℕ) (d : Segment) → l < a.lanes → vec_len (slice_index_or segments l d).blocks ≡ segment_len a
-  pub begun : g < n → (l : ℕ) (d : Segment) → l < a.lanes → vec_len (slice_index_or segments l d).blocks ≡ start
+  pub room : (l : ℕ) (d : Segment) → l < a.lanes
+      → segment_len a ≤ vec_capacity (slice_index_or segments l d).blocks
+  pub full : n ≤ g → (l : ℕ) (d : Segment) → l < a.lanes
+      → vec_len (slice_index_or segments l d).blocks ≡ segment_len a
+  pub begun : g < n → (l : ℕ) (d : Segment) → l < a.lanes
+      → vec_len (slice_index_or segments l d).blocks ≡ start
 
 -- the blocks of a lane's segment, and of each lane's, are the cells of segment g
 abbrev pub HoldsSegment : Parameters → List ℕ → ℕ → ℕ → List Block → Type 0
 HoldsSegment a h g l blocks =
-    (k : ℕ) (d : Block) → k < segment_len a → (slice_index_or blocks k d).0 ≡ cell a h (place (g / 4) l (g % 4 * segment_len a + k))
+    (k : ℕ) (d : Block) → k < segment_len a
+    → (slice_index_or blocks k d).0 ≡ cell a h (place (g / 4) l (g % 4 * segment_len a + k))
 
 abbrev pub HoldsSlice : Parameters → List ℕ → ℕ → List Segment → Type 0
 HoldsSlice a h g segments =
-    (l : ℕ) (d : Segment) → l < a.lanes → HoldsSegment a h g l (slice_index_or segments l d).blocks.items
+    (l : ℕ) (d : Segment) → l < a.lanes
+    → HoldsSegment a h g l (slice_index_or segments l d).blocks.items
 
 -- the number of the segment that is worked
 abbrev pub number : Shared → ℕ
@@ -62,14 +68,18 @@ place_in c l k = place c.pass l (c.slice * segment_len c.params + k)
 
 -- the blocks of a segment that are done are cells of this pass
 abbrev pub DoneHolds : List ℕ → Shared → ℕ → List Block → Type 0
-DoneHolds h c l blocks = (i : ℕ) (d : Block) → i < length blocks → (slice_index_or blocks i d).0 ≡ cell c.params h (place_in c l i)
+DoneHolds h c l blocks =
+    (i : ℕ) (d : Block) → i < length blocks
+    → (slice_index_or blocks i d).0 ≡ cell c.params h (place_in c l i)
 
 -- a segment that is worked up to k: before it the cells of this pass, behind it those of the pass
 -- before
 pub record OwnHolds (h : List ℕ) (c : Shared) (l k : ℕ) (blocks : List Block) : Type 0 where
-  pub new : (i : ℕ) (d : Block) → i < k → (slice_index_or blocks i d).0 ≡ cell c.params h (place_in c l i)
+  pub new : (i : ℕ) (d : Block) → i < k
+      → (slice_index_or blocks i d).0 ≡ cell c.params h (place_in c l i)
   pub old : (i : ℕ) (d : Block) → k ≤ i → i < segment_len c.params → 0 < c.pass
-      → (slice_index_or blocks i d).0 ≡ cell c.params h (place (c.pass - 1) l (c.slice * segment_len c.params + i))
+      → (slice_index_or blocks i d).0
+      ≡ cell c.params h (place (c.pass - 1) l (c.slice * segment_len c.params + i))
 
 -- a place that the place of an offset may refer to lies at this lane and column
 abbrev pub IsReadable : Shared → ℕ → ℕ → Reference → Type 0

@@ -1,5 +1,6 @@
 -- The memory between two slices.
-use Rattle.std.specs.Prelude.{◌≡◌, ℕ, ◌-◌, ◌<◌, ◌≤◌, List, length, slice_index_or, vec_len, vec_capacity, ◌==◌, if◌then◌else◌}
+use Rattle.std.specs.Prelude.{◌≡◌, ℕ, ◌-◌, ◌<◌, ◌≤◌, List, length, slice_index_or, vec_len}
+use Rattle.std.specs.Prelude.{vec_capacity, ◌==◌, if◌then◌else◌}
 use Rattle.cred_argon.specs.declared.block.Block.{Block}
 use Rattle.cred_argon.specs.declared.segment.Segment.{Segment}
 use Rattle.cred_argon.specs.declared.memory.Memory.{Memory}
@@ -18,7 +19,8 @@ pub record IsMemory (g : ℕ) (m : Memory) : Type 0 where
 -- what they hold: the segment to be worked as it was on the pass before, and the three before it
 pub record MemoryHolds (h : List ℕ) (g : ℕ) (m : Memory) : Type 0 where
   pub begun : g ≡ 0 → (l : ℕ) (d : Segment) (i : ℕ) (e : Block) → l < m.shared.params.lanes → i < 2
-      → (slice_index_or (slice_index_or m.current.items l d).blocks.items i e).0 ≡ cell m.shared.params h (place 0 l i)
+      → (slice_index_or (slice_index_or m.current.items l d).blocks.items i e).0
+      ≡ cell m.shared.params h (place 0 l i)
   pub at_current : 4 ≤ g → HoldsSlice m.shared.params h (g - 4) m.current.items
   pub at_oldest : 3 ≤ g → HoldsSlice m.shared.params h (g - 3) m.shared.oldest.items
   pub at_middle : 2 ≤ g → HoldsSlice m.shared.params h (g - 2) m.shared.middle.items
@@ -35,8 +37,10 @@ pub record IsEmptySlice (s n : ℕ) (segments : List Segment) : Type 0 where
 pub record IsBegun (a : Parameters) (h : List ℕ) (n : ℕ) (segments : List Segment) : Type 0 where
   pub count : length segments ≡ a.lanes
   pub lane : (l : ℕ) (d : Segment) → l < a.lanes → (slice_index_or segments l d).lane ≡ l
-  pub room : (l : ℕ) (d : Segment) → l < a.lanes → segment_len a ≤ vec_capacity (slice_index_or segments l d).blocks
+  pub room : (l : ℕ) (d : Segment) → l < a.lanes
+      → segment_len a ≤ vec_capacity (slice_index_or segments l d).blocks
   pub two : (l : ℕ) (d : Segment) → l < n → vec_len (slice_index_or segments l d).blocks ≡ 2
-  pub none : (l : ℕ) (d : Segment) → n ≤ l → l < a.lanes → vec_len (slice_index_or segments l d).blocks ≡ 0
+  pub none : (l : ℕ) (d : Segment) → n ≤ l → l < a.lanes
+      → vec_len (slice_index_or segments l d).blocks ≡ 0
   pub first : (l : ℕ) (d : Segment) (i : ℕ) (e : Block) → l < n → i < 2
       → (slice_index_or (slice_index_or segments l d).blocks.items i e).0 ≡ first_cell h l i

@@ -1,5 +1,6 @@
 //! Argon2 as a whole (RFC 9106, section 3.2).
-ghost use Rattle.std.specs.Prelude.{◌≡◌, ◌^◌, ◌<◌, ◌≤◌, ◌↔◌, ◌⊎◌, IsTrue, IfOk, IfErr, ℕ, length, slice_index_or};
+ghost use Rattle.std.specs.Prelude.{◌≡◌, ◌^◌, ◌<◌, ◌≤◌, ◌↔◌, ◌⊎◌, IsTrue, IfOk, IfErr, ℕ, length};
+ghost use Rattle.std.specs.Prelude.{slice_index_or};
 ghost use Rattle.cred_argon.specs.Argon.{argon};
 ghost use Rattle.cred_argon.specs.SegmentWork.{CanWork, Works};
 ghost use Rattle.cred_argon.specs.declared.segment.Segment.{Segment};
@@ -49,7 +50,8 @@ pub fn argon2<R: Threads + Sync, G: Gate + Sync>(
             × ((i : ℕ) (d : Segment) → i < length parts.now
             → CanWork shared.now (slice_index_or parts.now i d)) }
         ensures { (i : ℕ) (d : Segment) → i < length parts.entry.now
-            → Works shared.entry.now (slice_index_or parts.entry.now i d) (slice_index_or parts.exit.now i d) }
+            → Works shared.entry.now (slice_index_or parts.entry.now i d)
+            (slice_index_or parts.exit.now i d) }
     { run_parts(rt, workers, gate, shared, parts) };
     argon2_by(
         &CrewFn { work_each },
@@ -62,8 +64,8 @@ pub fn argon2<R: Threads + Sync, G: Gate + Sync>(
     )
 }
 
-/// The same with all the work done on the caller's thread, so that it needs no runtime: each lane of
-/// a slice in turn, behind the gate. The errors are the same.
+/// The same with all the work done on the caller's thread, so that it needs no runtime: each lane
+/// of a slice in turn, behind the gate. The errors are the same.
 pub fn argon2_alone<G: Gate>(
     alloc: Global,
     gate: &G,

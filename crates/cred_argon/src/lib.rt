@@ -30,6 +30,6 @@ pub use block::{Block, compress};
 pub use error::ArgonError;
 pub use kind::{Kind, Version};
 pub use laws::cells_meet_their_equation;
-pub use params::{MAX_LANES, MAX_MEMORY, MAX_TAG, MIN_TAG, Params};
+pub use params::{MAX_LANES, MAX_MEMORY, MAX_PASSES, MAX_RAW_TAG, MAX_TAG, MIN_TAG, Params};
 pub use place::Place;
 pub use reference_block::reference;

@@ -14,11 +14,17 @@ pub const MAX_LANES: u32 = 255;
 /// The most memory, in KiB: 2 GiB.
 pub const MAX_MEMORY: u32 = 2_097_152;
 
+/// The most passes: their number is written in 32 bits (RFC 9106, section 3.1).
+pub const MAX_PASSES: u32 = 4_294_967_295;
+
 /// The fewest bytes of a tag (RFC 9106, section 3.1).
 pub const MIN_TAG: u32 = 4;
 
 /// The most bytes of a tag that a record holds: one BLAKE2b digest has no more.
 pub const MAX_TAG: u32 = 64;
+
+/// The most bytes of any tag: its length is written in 32 bits (RFC 9106, section 3.1).
+pub const MAX_RAW_TAG: u32 = 4_294_967_295;
 
 /// The version, kind, costs and tag length of an Argon2 tag (RFC 9106, section 3.1), always in
 /// range.
@@ -122,7 +128,7 @@ impl Params {
         ensures err { (e : ArgonError) → (result ≡ Err e)
             ↔ IsFirstRawFault (parameters version kind memory passes lanes tag_len) e }
     {
-        Params::up_to(u32::MAX, version, kind, memory, passes, lanes, tag_len)
+        Params::up_to(MAX_RAW_TAG, version, kind, memory, passes, lanes, tag_len)
     }
 
     /// Parameters of a tag of at most `most` bytes.

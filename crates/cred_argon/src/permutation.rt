@@ -2,7 +2,7 @@
 //! of sixteen vectors (RFC 9106, section 3.6).
 ghost use Rattle.std.specs.Prelude.{◌≡◌, ℕ, ◌<◌, bit_xor, slice_index};
 ghost use Rattle.std.specs.Int.{w64, rotate_right};
-ghost use Rattle.cred_argon.specs.Compress.{add_product, mixed, straight, slanted};
+ghost use Rattle.cred_argon.specs.Compress.{add_product, mixing, column_step, diagonal_step};
 ghost use Rattle.cred_argon.specs.Quads.{slot_list};
 
 use std::simd::u64x4;
@@ -38,7 +38,7 @@ fn rotate(x: u64x4, by: u64) -> u64x4
 
 /// Four words mixed (GB of RFC 9106, section 3.6), slot by slot.
 #[inline(always)]
-fn mixed(a: u64x4, b: u64x4, c: u64x4, d: u64x4) -> (u64x4, u64x4, u64x4, u64x4)
+fn mixing(a: u64x4, b: u64x4, c: u64x4, d: u64x4) -> (u64x4, u64x4, u64x4, u64x4)
     ensures { (j : ℕ) → j < 4
         → (
           slice_index result.0 j,
@@ -46,7 +46,7 @@ fn mixed(a: u64x4, b: u64x4, c: u64x4, d: u64x4) -> (u64x4, u64x4, u64x4, u64x4)
           slice_index result.2 j,
           slice_index result.3 j,
         )
-        ≡ mixed (slice_index a j) (slice_index b j) (slice_index c j) (slice_index d j) }
+        ≡ mixing (slice_index a j) (slice_index b j) (slice_index c j) (slice_index d j) }
 {
     let a1 = add_product(a, b);
     let d1 = rotate(xor(d, a1), 32);
@@ -61,13 +61,13 @@ fn mixed(a: u64x4, b: u64x4, c: u64x4, d: u64x4) -> (u64x4, u64x4, u64x4, u64x4)
 
 /// The four words of each column of a list, seen as four rows of four.
 #[inline(always)]
-pub(crate) fn straight(x: [u64x4; 16]) -> [u64x4; 16]
-    ensures { (j : ℕ) → j < 4 → slot_list j result ≡ straight (slot_list j x) }
+pub(crate) fn column_step(x: [u64x4; 16]) -> [u64x4; 16]
+    ensures { (j : ℕ) → j < 4 → slot_list j result ≡ column_step (slot_list j x) }
 {
-    let (x0, x4, x8, x12) = mixed(x[0], x[4], x[8], x[12]);
-    let (x1, x5, x9, x13) = mixed(x[1], x[5], x[9], x[13]);
-    let (x2, x6, x10, x14) = mixed(x[2], x[6], x[10], x[14]);
-    let (x3, x7, x11, x15) = mixed(x[3], x[7], x[11], x[15]);
+    let (x0, x4, x8, x12) = mixing(x[0], x[4], x[8], x[12]);
+    let (x1, x5, x9, x13) = mixing(x[1], x[5], x[9], x[13]);
+    let (x2, x6, x10, x14) = mixing(x[2], x[6], x[10], x[14]);
+    let (x3, x7, x11, x15) = mixing(x[3], x[7], x[11], x[15]);
     [
         x0, x1, x2, x3, x4, x5, x6, x7, x8, x9, x10, x11, x12, x13, x14, x15,
     ]
@@ -75,13 +75,13 @@ pub(crate) fn straight(x: [u64x4; 16]) -> [u64x4; 16]
 
 /// The four words of each diagonal.
 #[inline(always)]
-pub(crate) fn slanted(x: [u64x4; 16]) -> [u64x4; 16]
-    ensures { (j : ℕ) → j < 4 → slot_list j result ≡ slanted (slot_list j x) }
+pub(crate) fn diagonal_step(x: [u64x4; 16]) -> [u64x4; 16]
+    ensures { (j : ℕ) → j < 4 → slot_list j result ≡ diagonal_step (slot_list j x) }
 {
-    let (x0, x5, x10, x15) = mixed(x[0], x[5], x[10], x[15]);
-    let (x1, x6, x11, x12) = mixed(x[1], x[6], x[11], x[12]);
-    let (x2, x7, x8, x13) = mixed(x[2], x[7], x[8], x[13]);
-    let (x3, x4, x9, x14) = mixed(x[3], x[4], x[9], x[14]);
+    let (x0, x5, x10, x15) = mixing(x[0], x[5], x[10], x[15]);
+    let (x1, x6, x11, x12) = mixing(x[1], x[6], x[11], x[12]);
+    let (x2, x7, x8, x13) = mixing(x[2], x[7], x[8], x[13]);
+    let (x3, x4, x9, x14) = mixing(x[3], x[4], x[9], x[14]);
     [
         x0, x1, x2, x3, x4, x5, x6, x7, x8, x9, x10, x11, x12, x13, x14, x15,
     ]

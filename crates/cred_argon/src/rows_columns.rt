@@ -1,10 +1,10 @@
 //! The permutation P on the rows and the columns of a block, four at a time (RFC 9106, section
 //! 3.5). A block's words lie four to a vector, so that a row is four vectors.
 ghost use Rattle.std.specs.Prelude.{◌≡◌, ℕ, ◌<◌, [], ◌∷◌, slice_index};
-ghost use Rattle.cred_argon.specs.Compress.{permuted};
+ghost use Rattle.cred_argon.specs.Compress.{permutation};
 ghost use Rattle.cred_argon.specs.Quads.{slot_list, row_list, column_list};
 
-use crate::permutation::{slanted, straight};
+use crate::permutation::{column_step, diagonal_step};
 use std::simd::u64x4;
 
 /// Four vectors with rows and columns exchanged.
@@ -62,9 +62,9 @@ fn rows_of_slots(w: [u64x4; 16]) -> [u64x4; 16]
 /// P on each of four rows.
 #[inline(always)]
 pub(crate) fn four_rows(x: [u64x4; 16]) -> [u64x4; 16]
-    ensures { (j : ℕ) → j < 4 → row_list j result ≡ permuted (row_list j x) }
+    ensures { (j : ℕ) → j < 4 → row_list j result ≡ permutation (row_list j x) }
 {
-    rows_of_slots(slanted(straight(slots_of_rows(x))))
+    rows_of_slots(diagonal_step(column_step(slots_of_rows(x))))
 }
 
 /// Two vectors of pairs to the vector of the pairs' first words and that of the second words, or
@@ -101,7 +101,7 @@ fn unpaired(x: [u64x4; 16]) -> [u64x4; 16]
 /// P on each of four columns, whose words lie in pairs.
 #[inline(always)]
 pub(crate) fn four_columns(x: [u64x4; 16]) -> [u64x4; 16]
-    ensures { (j : ℕ) → j < 4 → column_list j result ≡ permuted (column_list j x) }
+    ensures { (j : ℕ) → j < 4 → column_list j result ≡ permutation (column_list j x) }
 {
-    unpaired(slanted(straight(unpaired(x))))
+    unpaired(diagonal_step(column_step(unpaired(x))))
 }

@@ -1,6 +1,8 @@
 //! The segments of a slice as parts that threads work, each a lane's own, and the three slices
 //! before that all of them read (RFC 9106, section 3.4).
-ghost use Rattle.std.specs.Prelude.{◌≡◌, ℕ, [], ◌∷◌, ◌++◌, ◌+◌, ◌-◌, ◌*◌, ◌/◌, ◌%◌, ◌^◌, ◌<◌, ◌≤◌, List, length, slice_index, slice_index_or, vec_len, vec_capacity, if◌then◌else◌};
+ghost use Rattle.std.specs.Prelude.{◌≡◌, ℕ, [], ◌∷◌, ◌++◌, ◌+◌, ◌-◌, ◌*◌, ◌/◌, ◌%◌, ◌^◌, ◌<◌, ◌≤◌};
+ghost use Rattle.std.specs.Prelude.{List, length, slice_index, slice_index_or, vec_len};
+ghost use Rattle.std.specs.Prelude.{vec_capacity, if◌then◌else◌};
 ghost use Rattle.cred_argon.specs.declared.block.Block.{Block};
 ghost use Rattle.cred_argon.specs.declared.place.Place.{Place};
 ghost use Rattle.cred_argon.specs.declared.segment.Segment.{Segment};
@@ -10,7 +12,9 @@ ghost use Rattle.cred_argon.specs.Times.{IsBefore};
 ghost use Rattle.cred_argon.specs.Cells.{cell, is_dependent, is_fresh, previous, older};
 ghost use Rattle.cred_argon.specs.Addresses.{KeepsAddresses, ServesOffset, word_from};
 ghost use Rattle.cred_argon.specs.SegmentWork.{CanWork, Works};
-ghost use Rattle.cred_argon.specs.Segments.{IsSlice, HoldsSlice, IsShaped, SharedHolds, OwnHolds, DoneHolds, IsReadable, first_offset, begun_len, number, position_in, place_in};
+ghost use Rattle.cred_argon.specs.Segments.{IsSlice, HoldsSlice, IsShaped, SharedHolds, OwnHolds};
+ghost use Rattle.cred_argon.specs.Segments.{DoneHolds, IsReadable, first_offset, begun_len, number};
+ghost use Rattle.cred_argon.specs.Segments.{position_in, place_in};
 
 use crate::address::AddressBlock;
 use crate::block::{Block, compress_onto, compress_over};

@@ -1,6 +1,7 @@
 //! The memory before it is filled: room for all blocks, and the first two blocks of each lane (RFC
 //! 9106, section 3.2, steps 2 to 4).
-ghost use Rattle.std.specs.Prelude.{◌≡◌, ℕ, ◌+◌, ◌<◌, ◌≤◌, List, [], ◌∷◌, ◌++◌, length, slice_index_or, vec_len, vec_capacity, IfOk};
+ghost use Rattle.std.specs.Prelude.{◌≡◌, ℕ, ◌+◌, ◌<◌, ◌≤◌, List, [], ◌∷◌, ◌++◌, length};
+ghost use Rattle.std.specs.Prelude.{slice_index_or, vec_len, vec_capacity, IfOk};
 ghost use Rattle.cred_argon.specs.declared.block.Block.{Block};
 ghost use Rattle.cred_argon.specs.declared.segment.Segment.{Segment};
 ghost use Rattle.cred_argon.specs.Parameters.{segment_len};

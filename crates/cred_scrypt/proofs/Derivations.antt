@@ -3,20 +3,20 @@ use Rattle.std.proofs.Common.{◌≡◌, ◌≤◌, ℕ, suc, ◌+◌, ◌-◌, 
 use Rattle.std.proofs.lemmas.List.{take_all, take_min}
 use Rattle.std.proofs.Math.Seq.{take-append-add}
 use Rattle.cred_scrypt.specs.Xor.{xor_all}
-use Rattle.cred_scrypt.specs.Pbkdf2.{turn, turns, derived}
+use Rattle.cred_scrypt.specs.Pbkdf2.{iteration, xor_of_iterations, derived_blocks}
 
 -- from n turns to k = n + 1
-pub turns_next : (pw salt all last : List ℕ) (i n k : ℕ) → all ≡ turns pw salt i n → last ≡ turn pw salt i k
-    → k ≡ n + 1 → xor_all all last ≡ turns pw salt i k
-unfolding turns
-turns_next pw salt all last i n k was next step =
+pub iterations_next : (pw salt all last : List ℕ) (i n k : ℕ) → all ≡ xor_of_iterations pw salt i n → last ≡ iteration pw salt i k
+    → k ≡ n + 1 → xor_all all last ≡ xor_of_iterations pw salt i k
+unfolding xor_of_iterations
+iterations_next pw salt all last i n k was next step =
     let after : k ≡ suc n = omega arith in
-    rw after (ap₂ xor_all was (next ∙ ap (turn pw salt i) after))
+    rw after (ap₂ xor_all was (next ∙ ap (iteration pw salt i) after))
 
 -- one block more
-pub derived_next : (pw salt block : List ℕ) (c n : ℕ) → block ≡ turns pw salt (n + 1) (c - 1)
-    → derived pw salt c (n + 1) ≡ derived pw salt c n ++ block
-unfolding derived
+pub derived_next : (pw salt block : List ℕ) (c n : ℕ) → block ≡ xor_of_iterations pw salt (n + 1) (c - 1)
+    → derived_blocks pw salt c (n + 1) ≡ derived_blocks pw salt c n ++ block
+unfolding derived_blocks
 derived_next pw salt block c n next = rw (add-one, next, add-one) refl
 
 -- the last block is cut to what is left of the key

@@ -1,10 +1,10 @@
 -- The definition of HMAC-SHA-256 gives the vectors of RFC 4231, sections 4.2, 4.3 and 4.7, and that
--- of PBKDF2 the first vector of RFC 7914, section 11, and a key of two turns that OpenSSL made.
+-- of PBKDF2 the first vector of RFC 7914, section 11, and a key of two iterations that OpenSSL made.
 use Rattle.std.proofs.Common.{◌≡◌, [], ◌∷◌, refl, replicate, codes}
 use Rattle.std.specs.List.{range_with_len}
 use Rattle.sha2.specs.Sha256.{sha256, digest_bytes, hash_after, compress, rounds, schedule, first_words}
 use Rattle.cred_scrypt.specs.Hmac.{hmac, key_block}
-use Rattle.cred_scrypt.specs.Pbkdf2.{pbkdf2, derived, turns, turn}
+use Rattle.cred_scrypt.specs.Pbkdf2.{pbkdf2, derived_blocks, xor_of_iterations, iteration}
 
 pub short_key_vector : hmac (replicate 20 0x0b) (codes "Hi There") ≡
     0xb0 ∷ 0x34 ∷ 0x4c ∷ 0x61 ∷ 0xd8 ∷ 0xdb ∷ 0x38 ∷ 0x53 ∷ 0x5c ∷ 0xa8 ∷ 0xaf ∷ 0xce ∷
@@ -51,12 +51,12 @@ pub one_turn_vector : pbkdf2 (codes "passwd") (codes "salt") 1 64 ≡
     0xf1 ∷ 0x79 ∷ 0xb6 ∷ 0x45 ∷ 0x99 ∷ 0x16 ∷ 0x64 ∷ 0xb3 ∷ 0x9d ∷ 0x77 ∷ 0xef ∷ 0x31 ∷
     0x7c ∷ 0x71 ∷ 0xb8 ∷ 0x45 ∷ 0xb1 ∷ 0xe3 ∷ 0x0b ∷ 0xd5 ∷ 0x09 ∷ 0x11 ∷ 0x20 ∷ 0x41 ∷
     0xd3 ∷ 0xa1 ∷ 0x97 ∷ 0x83 ∷ []
-unfolding pbkdf2 derived turns turn hmac key_block sha256 digest_bytes hash_after compress rounds schedule first_words
+unfolding pbkdf2 derived_blocks xor_of_iterations iteration hmac key_block sha256 digest_bytes hash_after compress rounds schedule first_words
 one_turn_vector = refl
 
 pub two_turns_vector : pbkdf2 (codes "password") (codes "salt") 2 33 ≡
     0xae ∷ 0x4d ∷ 0x0c ∷ 0x95 ∷ 0xaf ∷ 0x6b ∷ 0x46 ∷ 0xd3 ∷ 0x2d ∷ 0x0a ∷ 0xdf ∷ 0xf9 ∷
     0x28 ∷ 0xf0 ∷ 0x6d ∷ 0xd0 ∷ 0x2a ∷ 0x30 ∷ 0x3f ∷ 0x8e ∷ 0xf3 ∷ 0xc2 ∷ 0x51 ∷ 0xdf ∷
     0xd6 ∷ 0xe2 ∷ 0xd8 ∷ 0x5a ∷ 0x95 ∷ 0x47 ∷ 0x4c ∷ 0x43 ∷ 0x83 ∷ []
-unfolding pbkdf2 derived turns turn hmac key_block sha256 digest_bytes hash_after compress rounds schedule first_words
+unfolding pbkdf2 derived_blocks xor_of_iterations iteration hmac key_block sha256 digest_bytes hash_after compress rounds schedule first_words
 two_turns_vector = refl

@@ -1,7 +1,7 @@
 -- The definitions of Salsa20/8, BlockMix and ROMix give the vectors of RFC 7914, sections 8 to 10.
 use Rattle.std.proofs.Common.{◌≡◌, List, ℕ, [], ◌∷◌, refl}
 use Rattle.cred_scrypt.specs.Salsa.{salsa20_8, double_rounds, row_round, column_round, quarter_round}
-use Rattle.cred_scrypt.specs.Mixing.{block_mix, chain, every_second, integerify, little_endian, mixes, ro_mix, walked}
+use Rattle.cred_scrypt.specs.Mixing.{block_mix, chain, every_second, integerify, little_endian, mixes, ro_mix, second_loop}
 
 -- section 8
 abbrev pub core_input : List ℕ
@@ -62,5 +62,5 @@ blocks_walked =
     0xcb87904e ∷ 0x686a3933 ∷ 0xd2f9e873 ∷ 0x8e4b9a53 ∷ []
 
 pub ro_mix_vector : ro_mix 1 16 blocks ≡ blocks_walked
-unfolding ro_mix walked mixes integerify little_endian block_mix every_second chain salsa20_8 double_rounds row_round column_round quarter_round
+unfolding ro_mix second_loop mixes integerify little_endian block_mix every_second chain salsa20_8 double_rounds row_round column_round quarter_round
 ro_mix_vector = refl

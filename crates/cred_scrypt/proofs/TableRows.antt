@@ -6,7 +6,7 @@ use Rattle.std.proofs.Math.Nat.{add-mul-mod_self_left}
 use Rattle.std.proofs.Math.Seq.{drop-append_seam}
 use Rattle.cred_scrypt.proofs.Cuts.{part_inside}
 use Rattle.cred_scrypt.specs.Xor.{xor_all}
-use Rattle.cred_scrypt.specs.Mixing.{block_at, block_mix, mixes, little_endian, integerify, walked, ro_mix}
+use Rattle.cred_scrypt.specs.Mixing.{block_at, block_mix, mixes, little_endian, integerify, second_loop, ro_mix}
 use Rattle.cred_scrypt.specs.Table.{IsTable, row_at}
 
 pub no_rows : (r : ℕ) (b table : List ℕ) → table ≡ [] → IsTable r b table 0
@@ -63,18 +63,18 @@ integerify_low_word r x ln some h =
     (get_or-take 16 (drop (16 * (2 * r - 1)) x) 0 0 (omega arith)
     ∙ get_or-drop (16 * (2 * r - 1)) x 0 0 ∙ ap (λ k. get_or x k 0) place)
 
-pub walked_none : (r n : ℕ) (b x : List ℕ) → x ≡ mixes r b n → x ≡ walked r n b 0
-unfolding walked
-walked_none r n b x was = was
+pub second_loop_none : (r n : ℕ) (b x : List ℕ) → x ≡ mixes r b n → x ≡ second_loop r n b 0
+unfolding second_loop
+second_loop_none r n b x was = was
 
 -- one step of the second loop, with the row j taken from the table
-pub walked_next : (r n : ℕ) (b table x y z : List ℕ) (j k : ℕ) → IsTable r b table n → j < n
-    → integerify r x % n ≡ j → x ≡ walked r n b k → y ≡ xor_all x (row_at r table j) → z ≡ block_mix r y
-    → z ≡ walked r n b (k + 1)
-unfolding walked
-walked_next r n b table x y z j k t inside named was taken mixed =
+pub second_loop_next : (r n : ℕ) (b table x y z : List ℕ) (j k : ℕ) → IsTable r b table n → j < n
+    → integerify r x % n ≡ j → x ≡ second_loop r n b k → y ≡ xor_all x (row_at r table j) → z ≡ block_mix r y
+    → z ≡ second_loop r n b (k + 1)
+unfolding second_loop
+second_loop_next r n b table x y z j k t inside named was taken mixed =
     rw (add-one, ← was, named, ← t.row j inside, ← taken) mixed
 
-pub walked_all : (r n k : ℕ) (b x : List ℕ) → n ≤ k → k ≤ n → x ≡ walked r n b k → x ≡ ro_mix r n b
+pub second_loop_all : (r n k : ℕ) (b x : List ℕ) → n ≤ k → k ≤ n → x ≡ second_loop r n b k → x ≡ ro_mix r n b
 unfolding ro_mix
-walked_all r n k b x low high was = let all : k ≡ n = omega arith in was ∙ ap (walked r n b) all
+second_loop_all r n k b x low high was = let all : k ≡ n = omega arith in was ∙ ap (second_loop r n b) all

@@ -1,7 +1,8 @@
 -- The numbers and words of the errors.
 use Rattle.std.specs.Prelude.{ℕ, List, codes}
 use Rattle.cred_scrypt.specs.declared.error.ScryptError.{ScryptError}
-use Rattle.cred_scrypt.specs.declared.error.ScryptError.TheVariants.{Cost, BlockSize, Blocks, Len, Memory}
+use Rattle.cred_scrypt.specs.declared.error.ScryptError.TheVariants.{Cost, BlockSize, Blocks, Len}
+use Rattle.cred_scrypt.specs.declared.error.ScryptError.TheVariants.{Memory}
 
 abbrev pub error_number : ScryptError → ℕ
 error_number Cost = 1

@@ -12,15 +12,15 @@ unfoldable pub key_block : List ℕ → List ℕ
 key_block key = short_key key ++ replicate (64 - length (short_key key)) 0
 
 -- a block under exclusive or with one byte, repeated
-abbrev pub padded_by : ℕ → List ℕ → List ℕ
-padded_by byte block = xor_all block (replicate 64 byte)
+abbrev pub xor_with_byte : ℕ → List ℕ → List ℕ
+xor_with_byte byte block = xor_all block (replicate 64 byte)
 
 -- the key under the inner and the outer padding
 abbrev pub inner_pad : List ℕ → List ℕ
-inner_pad key = padded_by 0x36 (key_block key)
+inner_pad key = xor_with_byte 0x36 (key_block key)
 
 abbrev pub outer_pad : List ℕ → List ℕ
-outer_pad key = padded_by 0x5c (key_block key)
+outer_pad key = xor_with_byte 0x5c (key_block key)
 
 -- HMAC-SHA-256
 unfoldable pub hmac : List ℕ → List ℕ → List ℕ

@@ -1,7 +1,8 @@
 -- BlockMix and ROMix (RFC 7914, sections 4 and 5) as functions on lists of words. A block has 64
 -- bytes, which are sixteen little-endian words. There is no table here: row i of the RFC's V is i
 -- BlockMixes of the input.
-use Rattle.std.specs.Prelude.{ℕ, zero, suc, ◌+◌, ◌-◌, ◌*◌, ◌%◌, ◌^◌, List, [], ◌∷◌, ◌++◌, take, drop}
+use Rattle.std.specs.Prelude.{ℕ, zero, suc, ◌+◌, ◌-◌, ◌*◌, ◌%◌, ◌^◌, List, [], ◌∷◌, ◌++◌, take}
+use Rattle.std.specs.Prelude.{drop}
 use Rattle.cred_scrypt.specs.Salsa.{salsa20_8}
 use Rattle.cred_scrypt.specs.Xor.{xor_all}
 
@@ -38,12 +39,12 @@ unfoldable pub integerify : ℕ → List ℕ → ℕ
 integerify r x = little_endian (block_at x (2 * r - 1))
 
 -- X after k steps of ROMix's second loop, with n the RFC's N
-unfoldable pub walked : ℕ → ℕ → List ℕ → ℕ → List ℕ
-walked r n b zero = mixes r b n
-walked r n b (suc k) =
-    let x = walked r n b k in
+unfoldable pub second_loop : ℕ → ℕ → List ℕ → ℕ → List ℕ
+second_loop r n b zero = mixes r b n
+second_loop r n b (suc k) =
+    let x = second_loop r n b k in
     block_mix r (xor_all x (mixes r b (integerify r x % n)))
 
 -- ROMix with block size r and cost n
 unfoldable pub ro_mix : ℕ → ℕ → List ℕ → List ℕ
-ro_mix r n b = walked r n b n
+ro_mix r n b = second_loop r n b n

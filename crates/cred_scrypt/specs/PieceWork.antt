@@ -11,4 +11,5 @@ CanWork shared old = length old.words.items ≡ 32 * shared.params.r
 -- they are mixed, if there was memory
 abbrev pub Works : Mixing → Piece → Piece → Type 0
 Works shared old new =
-    new.refused ≡ false → new.words.items ≡ ro_mix shared.params.r (2 ^ shared.params.ln) old.words.items
+    new.refused ≡ false
+    → new.words.items ≡ ro_mix shared.params.r (2 ^ shared.params.ln) old.words.items

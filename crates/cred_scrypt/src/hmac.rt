@@ -2,7 +2,7 @@
 //! once for many messages.
 ghost use Rattle.std.specs.Prelude.{◌≡◌, ℕ, ◌≤◌, ◌++◌, List, length, drop};
 ghost use Rattle.sha2.specs.Hashers.{Holds256};
-ghost use Rattle.cred_scrypt.specs.Hmac.{hmac, inner_pad, key_block, padded_by};
+ghost use Rattle.cred_scrypt.specs.Hmac.{hmac, inner_pad, key_block, xor_with_byte};
 
 use crate::xor::xor_bytes;
 use sha2::{Digest, Sha256};
@@ -56,7 +56,8 @@ impl Hmac {
 
     /// The HMAC of the message that `hasher` took in after `begin`.
     pub(crate) fn finish(&self, hasher: Sha256) -> [u8; 32]
-        ensures { (key message : List ℕ) → IsKeyed key self.now → Holds256 hasher (inner_pad key ++ message)
+        ensures { (key message : List ℕ) → IsKeyed key self.now
+            → Holds256 hasher (inner_pad key ++ message)
             → result ≡ hmac key message }
     {
         let mut outer = copy_of(&self.outer);
@@ -88,7 +89,7 @@ fn put(block: &mut [u8; 64], piece: &[u8])
 
 /// Each byte of `block` under exclusive or with `mask`.
 fn masked(block: &[u8; 64], mask: u8) -> [u8; 64]
-    ensures { result ≡ padded_by mask block.now }
+    ensures { result ≡ xor_with_byte mask block.now }
 {
     let mut out = *block;
     xor_bytes(&mut out, &[mask; BLOCK]);

@@ -39,7 +39,8 @@ pub fn scrypt<R: Threads + Sync, G: Gate + Sync>(
             × ((i : ℕ) (d : Piece) → i < length parts.now
             → CanWork shared.now (slice_index_or parts.now i d)) }
         ensures { (i : ℕ) (d : Piece) → i < length parts.entry.now
-            → Works shared.entry.now (slice_index_or parts.entry.now i d) (slice_index_or parts.exit.now i d) }
+            → Works shared.entry.now (slice_index_or parts.entry.now i d)
+            (slice_index_or parts.exit.now i d) }
     { run_parts(rt, workers, gate, shared, parts) };
     scrypt_by(&CrewFn { work_each }, alloc, params, pw, salt)
 }

@@ -22,7 +22,7 @@ pub use blockmix::block_mix;
 pub use error::ScryptError;
 pub use hmac::hmac_sha256;
 pub use key_derivation::{scrypt, scrypt_alone};
-pub use params::{MAX_LEN, MAX_LN, MAX_ROWS, MIN_LEN, ScryptParams};
+pub use params::{MAX_BLOCK_SIZE, MAX_BLOCKS, MAX_LEN, MAX_LN, MAX_ROWS, MIN_LEN, ScryptParams};
 pub use pbkdf::pbkdf2;
 pub use romix::ro_mix;
 pub use salsa::salsa20_8;

@@ -11,6 +11,12 @@ pub const MAX_ROWS: u64 = 16_777_216;
 /// The greatest ln, at which a table has 2 GiB with the least block size.
 pub const MAX_LN: u8 = 24;
 
+/// The greatest block size: it is kept in a byte.
+pub const MAX_BLOCK_SIZE: u8 = 255;
+
+/// The most pieces: their number is kept in a byte.
+pub const MAX_BLOCKS: u8 = 255;
+
 /// The shortest key in bytes that a record can hold.
 pub const MIN_LEN: u32 = 4;
 
@@ -51,7 +57,8 @@ impl ScryptParams {
         ensures len { (result ≡ Err ScryptError.Len)
             ↔ ((1 ≤ r) × (1 ≤ p) × (IsCostly ln r → ⊥) × IsBadLen len) }
         ensures memory { result ≡ Err ScryptError.Memory → ⊥ }
-        ensures ok { IfOk result (λ made. (made.ln ≡ ln) × (made.r ≡ r) × (made.p ≡ p) × (made.len ≡ len)) }
+        ensures ok { IfOk result (λ made.
+            (made.ln ≡ ln) × (made.r ≡ r) × (made.p ≡ p) × (made.len ≡ len)) }
     {
         let params = ScryptParams::raw(ln, r, p, len)?;
         if len < MIN_LEN || len > MAX_LEN {
@@ -70,7 +77,8 @@ impl ScryptParams {
         ensures len { (result ≡ Err ScryptError.Len)
             ↔ ((1 ≤ r) × (1 ≤ p) × (IsCostly ln r → ⊥) × (len ≡ 0)) }
         ensures memory { result ≡ Err ScryptError.Memory → ⊥ }
-        ensures ok { IfOk result (λ made. (made.ln ≡ ln) × (made.r ≡ r) × (made.p ≡ p) × (made.len ≡ len)) }
+        ensures ok { IfOk result (λ made.
+            (made.ln ≡ ln) × (made.r ≡ r) × (made.p ≡ p) × (made.len ≡ len)) }
     {
         if r == 0 {
             return Err(ScryptError::BlockSize);

@@ -1,6 +1,6 @@
 //! PBKDF2 with HMAC-SHA-256 (RFC 8018, section 5.2).
 ghost use Rattle.std.specs.Prelude.{◌≡◌, ℕ, ◌+◌, ◌-◌, ◌≤◌, List, IfOk, length};
-ghost use Rattle.cred_scrypt.specs.Pbkdf2.{pbkdf2, turn, turns};
+ghost use Rattle.cred_scrypt.specs.Pbkdf2.{pbkdf2, iteration, xor_of_iterations};
 ghost use Rattle.cred_scrypt.specs.Keyed.{IsKeyed};
 
 use crate::error::ScryptError;
@@ -12,8 +12,8 @@ use std::alloc::Global;
 /// The length of an HMAC in bytes.
 const MAC: usize = 32;
 
-/// PBKDF2 (RFC 8018, section 5.2) with HMAC-SHA-256: `len` bytes, by `c` turns, at least one, for
-/// each 32 of them. Password and salt have any length.
+/// PBKDF2 (RFC 8018, section 5.2) with HMAC-SHA-256: `len` bytes, by `c` iterations, at least one,
+/// for each 32 of them. Password and salt have any length.
 ///
 /// Errors: `Memory` where there is none for the key.
 pub fn pbkdf2(
@@ -39,23 +39,24 @@ pub fn pbkdf2(
     Ok(key)
 }
 
-/// T_i, block i of the key: the exclusive or of `c` turns.
+/// T_i, block i of the key: the exclusive or of `c` iterations.
 fn derived_block(mac: &Hmac, salt: &[u8], c: u32, i: u32) -> [u8; 32]
     requires { 1 ≤ c }
-    ensures { (pw : List ℕ) → IsKeyed pw mac.now → result ≡ turns pw salt.now i (c - 1) }
+    ensures { (pw : List ℕ) → IsKeyed pw mac.now
+        → result ≡ xor_of_iterations pw salt.now i (c - 1) }
 {
-    let mut last = first_turn(mac, salt, i);
+    let mut last = first_iteration(mac, salt, i);
     let mut all = last;
-    'turns: for _turn in 1..c {
-        last = next_turn(mac, &last);
+    'iterations: for _iteration in 1..c {
+        last = next_iteration(mac, &last);
         xor_bytes(&mut all, &last);
     }
     all
 }
 
 /// U_1, of the salt and the number of the block.
-fn first_turn(mac: &Hmac, salt: &[u8], i: u32) -> [u8; 32]
-    ensures { (pw : List ℕ) → IsKeyed pw mac.now → result ≡ turn pw salt.now i 0 }
+fn first_iteration(mac: &Hmac, salt: &[u8], i: u32) -> [u8; 32]
+    ensures { (pw : List ℕ) → IsKeyed pw mac.now → result ≡ iteration pw salt.now i 0 }
 {
     let mut hasher = mac.begin();
     hasher.update(salt);
@@ -63,10 +64,10 @@ fn first_turn(mac: &Hmac, salt: &[u8], i: u32) -> [u8; 32]
     mac.finish(hasher)
 }
 
-/// From one turn to the next.
-fn next_turn(mac: &Hmac, last: &[u8; 32]) -> [u8; 32]
-    ensures { (pw salt : List ℕ) (i n : ℕ) → IsKeyed pw mac.now → last.now ≡ turn pw salt i n
-        → result ≡ turn pw salt i (n + 1) }
+/// From one iteration to the next.
+fn next_iteration(mac: &Hmac, last: &[u8; 32]) -> [u8; 32]
+    ensures { (pw salt : List ℕ) (i n : ℕ) → IsKeyed pw mac.now → last.now ≡ iteration pw salt i n
+        → result ≡ iteration pw salt i (n + 1) }
 {
     let mut hasher = mac.begin();
     hasher.update(last);

@@ -1,5 +1,6 @@
 //! ROMix, with the table of rows that it looks back into (RFC 7914, section 5).
-ghost use Rattle.std.specs.Prelude.{◌≡◌, ℕ, ◌+◌, ◌*◌, ◌^◌, ◌%◌, ◌<◌, ◌≤◌, List, length, OnOk, OnErr, IfOk};
+ghost use Rattle.std.specs.Prelude.{◌≡◌, ℕ, ◌+◌, ◌*◌, ◌^◌, ◌%◌, ◌<◌, ◌≤◌, List, length, OnOk};
+ghost use Rattle.std.specs.Prelude.{OnErr, IfOk};
 ghost use Rattle.cred_scrypt.specs.declared.params.TheConstants.{MAX_LN, MAX_ROWS};
 ghost use Rattle.cred_scrypt.specs.Mixing.{block_mix, integerify, mixes, ro_mix};
 ghost use Rattle.cred_scrypt.specs.Table.{IsTable, row_at};
@@ -12,8 +13,8 @@ use std::alloc::Global;
 use std::mem;
 
 /// ROMix (RFC 7914, section 5) with N = 2^`ln`, in place, on `block`: 2r blocks of sixteen words,
-/// of which each has 32 bits. r is at least 1, `ln` at most 24, and `r * N` at most 16777216, so
-/// the table has 2 GiB at most.
+/// of which each has 32 bits. r is at least 1, `ln` at most 24, and `r * N` at most
+/// [`MAX_ROWS`](crate::MAX_ROWS), so the table has 2 GiB at most.
 ///
 /// Errors: `Memory` where there is none for the table and two pieces more; `block` is then as it
 /// was.

@@ -1,12 +1,13 @@
 //! The Salsa20/8 core, which BlockMix is made of (RFC 7914, section 3).
 ghost use Rattle.std.specs.Prelude.{◌≡◌, ◌<◌};
-ghost use Rattle.cred_scrypt.specs.Salsa.{stirred, quarter_round, column_round, row_round, double_rounds, salsa20_8};
+ghost use Rattle.cred_scrypt.specs.Salsa.{quarter_step, quarter_round, column_round, row_round};
+ghost use Rattle.cred_scrypt.specs.Salsa.{double_rounds, salsa20_8};
 
 /// A step of the quarter round: x ^ ((y + z) <<< n).
 #[inline(always)]
-fn stirred(x: u32, y: u32, z: u32, n: u32) -> u32
+fn quarter_step(x: u32, y: u32, z: u32, n: u32) -> u32
     requires { n < 32 }
-    ensures { result ≡ stirred x y z n }
+    ensures { result ≡ quarter_step x y z n }
 {
     x ^ y.wrapping_add(z).rotate_left(n)
 }
@@ -16,10 +17,10 @@ fn stirred(x: u32, y: u32, z: u32, n: u32) -> u32
 fn quarter_round(a: u32, b: u32, c: u32, d: u32) -> (u32, u32, u32, u32)
     ensures { result ≡ quarter_round a b c d }
 {
-    let b1 = stirred(b, a, d, 7);
-    let c1 = stirred(c, b1, a, 9);
-    let d1 = stirred(d, c1, b1, 13);
-    let a1 = stirred(a, d1, c1, 18);
+    let b1 = quarter_step(b, a, d, 7);
+    let c1 = quarter_step(c, b1, a, 9);
+    let d1 = quarter_step(d, c1, b1, 13);
+    let a1 = quarter_step(a, d1, c1, 18);
     (a1, b1, c1, d1)
 }
 

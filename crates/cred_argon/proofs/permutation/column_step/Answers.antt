@@ -1,12 +1,12 @@
-use Rattle.cred_argon.specs.Compress.{straight}
-use Rattle.cred_argon.proofs.permutation.straight.Goals as goal
+use Rattle.cred_argon.specs.Compress.{column_step}
+use Rattle.cred_argon.proofs.permutation.column_step.Goals as goal
 
 pub returns : goal.returns
-unfolding straight
+unfolding column_step
 returns c j h =
     rw (
-      ← c.mixed.ensures j h,
-      ← c.mixed-2.ensures j h,
-      ← c.mixed-3.ensures j h,
-      ← c.mixed-4.ensures j h,
+      ← c.mixing.ensures j h,
+      ← c.mixing-2.ensures j h,
+      ← c.mixing-3.ensures j h,
+      ← c.mixing-4.ensures j h,
     )

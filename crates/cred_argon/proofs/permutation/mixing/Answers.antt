@@ -1,9 +1,9 @@
 use Rattle.std.proofs.Common.{refl}
-use Rattle.cred_argon.specs.Compress.{mixed}
-use Rattle.cred_argon.proofs.permutation.mixed.Goals as goal
+use Rattle.cred_argon.specs.Compress.{mixing}
+use Rattle.cred_argon.proofs.permutation.mixing.Goals as goal
 
 pub returns : goal.returns
-unfolding mixed
+unfolding mixing
 returns c j h =
     rw (
       c.rotate-b2.ensures j h,

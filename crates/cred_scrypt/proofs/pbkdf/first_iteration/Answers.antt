@@ -1,9 +1,9 @@
 use Rattle.std.proofs.Common.{append_assoc}
-use Rattle.cred_scrypt.specs.Pbkdf2.{turn}
-use Rattle.cred_scrypt.proofs.pbkdf.first_turn.Goals as goal
+use Rattle.cred_scrypt.specs.Pbkdf2.{iteration}
+use Rattle.cred_scrypt.proofs.pbkdf.first_iteration.Goals as goal
 
 pub returns : goal.returns
-unfolding turn
+unfolding iteration
 returns c pw keyed =
     rw (← c.to_be_bytes.ensures)
     (c.finish.ensures pw _ keyed

@@ -1,12 +1,12 @@
 use Rattle.std.proofs.Common.{◌≡◌, ◌*◌, ◌^◌, length, List, ℕ}
-use Rattle.cred_scrypt.specs.Mixing.{mixes, walked}
+use Rattle.cred_scrypt.specs.Mixing.{mixes, second_loop}
 use Rattle.cred_scrypt.specs.Table.{IsTable}
 use Rattle.cred_scrypt.proofs.romix.walk.Given as goal
 
 abbrev pub invariant-steps : goal.invariant-steps
 invariant-steps l = record {
   mixed : (b : List ℕ) → IsTable l.r b l.table (2 ^ l.ln) → l.initial.x.items ≡ mixes l.r b (2 ^ l.ln)
-      → l.x.items ≡ walked l.r (2 ^ l.ln) b l._step;
+      → l.x.items ≡ second_loop l.r (2 ^ l.ln) b l._step;
   size : length l.x.items ≡ 32 * l.r;
   same : length l.y.items ≡ 32 * l.r;
 }
