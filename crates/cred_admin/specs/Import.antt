@@ -1,14 +1,14 @@
 -- What an import makes of its text.
 use Rattle.std.specs.Prelude.{◌≡◌, ◌⊎◌, ℕ, suc, Bool, ◌&&◌, ◌==◌, if◌then◌else◌, nat_lt, List, [], ◌∷◌, ◌++◌, length, codes, Option, Some, None, IfSome, Result, Ok, Err}
 use Rattle.std.specs.FinMap as map
-use Rattle.cred_phc.specs.Fault.{fault_number, fault_word}
+use Rattle.cred_phc.specs.Errors.{error_number as fault_number, error_word as fault_word}
 use Rattle.cred_phc.specs.Pieces.{pieces}
 use Rattle.cred_phc.specs.Reading.{read_record}
 use Rattle.cred_phc.specs.Values.{RecordValue}
 use Rattle.cred_phc.specs.declared.error.PhcError.{PhcError}
 use Rattle.cred_book.specs.Accounts.{Accounts, most_accounts}
 use Rattle.cred_book.specs.Names.{made_name}
-use Rattle.cred_book.specs.Refusals.{refusal_number, refusal_word}
+use Rattle.cred_book.specs.Errors.{error_number as refusal_number, error_word as refusal_word}
 use Rattle.cred_book.specs.declared.error.BookError.{BookError}
 use Rattle.cred_book.specs.declared.error.BookError.TheVariants as error
 use Rattle.cred_admin.specs.declared.entry.LineFault.{LineFault}

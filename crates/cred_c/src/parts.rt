@@ -1,7 +1,7 @@
 //! What is wrong with a text, and what a record's text says of itself.
 ghost use Rattle.std.specs.Prelude.{◌≡◌, None, Some};
 ghost use Rattle.cred_c.specs.Parts.{parts_of, variant_number};
-ghost use Rattle.cred_phc.specs.Fault.{fault_number};
+ghost use Rattle.cred_phc.specs.Errors.{error_number};
 ghost use Rattle.cred_phc.specs.Faults.{record_fault, setting_fault};
 ghost use Rattle.cred_phc.specs.Text.{IsRecordText};
 ghost use Rattle.cred_phc.specs.Values.{IsRecord, RecordValue};
@@ -31,7 +31,7 @@ pub struct Parts {
 /// The number of the first fault of a setting's text, or 0 where it stands for one.
 #[unsafe(no_mangle)]
 pub extern "C" fn cred_setting_fault(text: &[u8]) -> u8
-    ensures fault { (e : PhcError) → setting_fault text.now ≡ Some e → result ≡ fault_number e }
+    ensures fault { (e : PhcError) → setting_fault text.now ≡ Some e → result ≡ error_number e }
     ensures none { setting_fault text.now ≡ None → result ≡ 0 }
 {
     match parse_setting(text) {
@@ -43,7 +43,7 @@ pub extern "C" fn cred_setting_fault(text: &[u8]) -> u8
 /// The number of the first fault of a record's text, or 0 where it stands for one.
 #[unsafe(no_mangle)]
 pub extern "C" fn cred_record_fault(text: &[u8]) -> u8
-    ensures fault { (e : PhcError) → record_fault text.now ≡ Some e → result ≡ fault_number e }
+    ensures fault { (e : PhcError) → record_fault text.now ≡ Some e → result ≡ error_number e }
     ensures none { record_fault text.now ≡ None → result ≡ 0 }
 {
     match parse_record(text) {
@@ -58,7 +58,7 @@ pub extern "C" fn cred_record_fault(text: &[u8]) -> u8
 /// Answers 0, or the number of the text's fault.
 #[unsafe(no_mangle)]
 pub extern "C" fn cred_record_parts(text: &[u8], parts: &mut Parts) -> u8
-    ensures fault { (e : PhcError) → record_fault text.now ≡ Some e → result ≡ fault_number e }
+    ensures fault { (e : PhcError) → record_fault text.now ≡ Some e → result ≡ error_number e }
     ensures read { record_fault text.now ≡ None → (result ≡ 0) × ((v : RecordValue) × IsRecord v
         × IsRecordText text.now v × (parts.new ≡ parts_of v)) }
     ensures kept { (result ≡ 0 → ⊥) → parts.new ≡ parts.old }

@@ -101,11 +101,13 @@ pub extern "C" fn cred_scrypt(
     ensures kept { (result ≡ 0 → ⊥) → out.new ≡ out.old }
     ensures long { 2 ^ 32 ≤ length out.old → result ≡ 22 }
     ensures block_size { length out.old < 2 ^ 32 → (result ≡ 20) ↔ (IsPositiveByte r → ⊥) }
-    ensures blocks { length out.old < 2 ^ 32 → (result ≡ 21) ↔ (IsPositiveByte r × (IsPositiveByte p → ⊥)) }
+    ensures blocks { length out.old < 2 ^ 32
+        → (result ≡ 21) ↔ (IsPositiveByte r × (IsPositiveByte p → ⊥)) }
     ensures cost { length out.old < 2 ^ 32
         → (result ≡ 19) ↔ (IsPositiveByte r × IsPositiveByte p × IsCostly ln r) }
     ensures empty { length out.old < 2 ^ 32
-        → (result ≡ 22) ↔ (IsPositiveByte r × IsPositiveByte p × (IsCostly ln r → ⊥) × (length out.old ≡ 0)) }
+        → (result ≡ 22)
+        ↔ (IsPositiveByte r × IsPositiveByte p × (IsCostly ln r → ⊥) × (length out.old ≡ 0)) }
     ensures fine { IsPositiveByte r → IsPositiveByte p → (IsCostly ln r → ⊥)
         → 1 ≤ length out.old → length out.old < 2 ^ 32 → (result ≡ 0) ⊎ (result ≡ 8) }
 {
@@ -127,8 +129,10 @@ pub extern "C" fn cred_scrypt(
 /// scrypt's numbers, each of which has to be one of a byte.
 fn scrypt_params(ln: u32, r: u32, p: u32, len: u32) -> Result<ScryptParams, ScryptError>
     ensures block_size { (result ≡ Err ScryptError.BlockSize) ↔ (IsPositiveByte r → ⊥) }
-    ensures blocks { (result ≡ Err ScryptError.Blocks) ↔ (IsPositiveByte r × (IsPositiveByte p → ⊥)) }
-    ensures cost { (result ≡ Err ScryptError.Cost) ↔ (IsPositiveByte r × IsPositiveByte p × IsCostly ln r) }
+    ensures blocks { (result ≡ Err ScryptError.Blocks)
+        ↔ (IsPositiveByte r × (IsPositiveByte p → ⊥)) }
+    ensures cost { (result ≡ Err ScryptError.Cost)
+        ↔ (IsPositiveByte r × IsPositiveByte p × IsCostly ln r) }
     ensures len { (result ≡ Err ScryptError.Len)
         ↔ (IsPositiveByte r × IsPositiveByte p × (IsCostly ln r → ⊥) × (len ≡ 0)) }
     ensures memory { result ≡ Err ScryptError.Memory → ⊥ }

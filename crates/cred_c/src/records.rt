@@ -1,7 +1,7 @@
 //! Records: checked against a password, and made under a setting.
 ghost use Rattle.std.specs.Prelude.{◌≡◌, ◌<◌, ◌≤◌, ◌^◌, ◌⊎◌, ◌↔◌, None, Some, drop, length};
 ghost use Rattle.cred_c.specs.Answers.{IsRight, IsVerdict, IsWritten};
-ghost use Rattle.cred_phc.specs.Fault.{fault_number};
+ghost use Rattle.cred_phc.specs.Errors.{error_number};
 ghost use Rattle.cred_phc.specs.Faults.{record_fault, setting_fault};
 ghost use Rattle.cred_phc.specs.Tags.{tag};
 ghost use Rattle.cred_phc.specs.Text.{IsRecordText, IsSettingText, record_text};
@@ -21,7 +21,7 @@ use std::alloc::Global;
 /// to 9; else 18 where the password has 2^32 bytes or more, or 8 where memory is short.
 #[unsafe(no_mangle)]
 pub extern "C" fn cred_check(alloc: Global, text: &[u8], pw: &[u8]) -> u8
-    ensures fault { (e : PhcError) → record_fault text.now ≡ Some e → result ≡ fault_number e }
+    ensures fault { (e : PhcError) → record_fault text.now ≡ Some e → result ≡ error_number e }
     ensures verdict { record_fault text.now ≡ None → (v : RecordValue) × IsRecord v
         × IsRecordText text.now v × IsVerdict v pw.now result }
 {
@@ -68,14 +68,15 @@ pub extern "C" fn cred_hash(
     out: &mut [u8],
     len: &mut usize,
 ) -> u8
-    ensures fault { (e : PhcError) → setting_fault text.now ≡ Some e → result ≡ fault_number e }
+    ensures fault { (e : PhcError) → setting_fault text.now ≡ Some e → result ≡ error_number e }
     ensures tag { setting_fault text.now ≡ None
         → (result ≡ 7) ↔ ((tag_len < 4) ⊎ (64 < tag_len)) }
     ensures long { setting_fault text.now ≡ None → 4 ≤ tag_len → tag_len ≤ 64
         → (result ≡ 18) ↔ (2 ^ 32 ≤ length pw.now) }
     ensures made { setting_fault text.now ≡ None → 4 ≤ tag_len → tag_len ≤ 64
         → length pw.now < 2 ^ 32 → (s : SettingValue) × IsSetting s × IsSettingText text.now s
-        × IsWritten (record_text (record_of s (tag s tag_len pw.now))) result out.old out.new len.new }
+        × IsWritten (record_text (record_of s (tag s tag_len pw.now)))
+        result out.old out.new len.new }
     ensures kept { (result ≡ 0 → ⊥) → (len.new ≡ 0) × (out.new ≡ out.old) }
     ensures rest { drop len.new out.new ≡ drop len.new out.old }
 {

@@ -4,7 +4,7 @@ ghost use Rattle.cred_argon.specs.Numbers.{kind_number, version_number};
 ghost use Rattle.cred_argon.specs.declared.kind.Version.{Version};
 ghost use Rattle.cred_c.specs.Answers.{IsWritten};
 ghost use Rattle.cred_c.specs.Inputs.{IsKind, IsVersion, made_of_parts};
-ghost use Rattle.cred_phc.specs.Fault.{fault_number};
+ghost use Rattle.cred_phc.specs.Errors.{error_number};
 ghost use Rattle.cred_phc.specs.Tags.{argon_kind};
 ghost use Rattle.cred_phc.specs.Text.{record_text};
 ghost use Rattle.cred_phc.specs.Values.{RecordValue};
@@ -41,7 +41,7 @@ pub extern "C" fn cred_write(
     ensures fault { (x : Variant) (v : Version) (e : PhcError)
         → kind ≡ kind_number (argon_kind x) → version ≡ version_number v
         → made_of_parts (Argon2 v x memory passes lanes) salt.now tag.now ≡ Err e
-        → result ≡ fault_number e }
+        → result ≡ error_number e }
     ensures written { (x : Variant) (v : Version) (r : RecordValue)
         → kind ≡ kind_number (argon_kind x) → version ≡ version_number v
         → made_of_parts (Argon2 v x memory passes lanes) salt.now tag.now ≡ Ok r

@@ -12,7 +12,7 @@ use Rattle.std.specs.Cmp.{first_so, second_so}
 use Rattle.cred_phc.proofs.CaseLaws.{if_some}
 use Rattle.cred_phc.proofs.PieceLaws.{lacks}
 use Rattle.cred_phc.specs.Ranges.{between}
-use Rattle.cred_phc.specs.Base64.{base64, unbase64, sized, bytes_of}
+use Rattle.cred_phc.specs.Base64.{base64, unbase64, bytes_within, bytes_of}
 
 pub length-base64 : (bytes : List ℕ) → length (base64 bytes) ≡ (4 * length bytes + 2) / 3
 unfolding base64
@@ -28,7 +28,7 @@ pub unbase64-base64 : (bytes : List ℕ) → IsBytes bytes → unbase64 (base64 
 unfolding base64 unbase64
 unbase64-base64 bytes h = decode_of-encode_of standard_no_pad bytes refl h
 
-sized_long : (low high : ℕ) (text : List ℕ) (r : Result (List ℕ) DecodeError) → high ≤ 256 → 342 < length text → ((b : List ℕ) → r ≡ Ok b → length text ≡ (4 * length b + 2) / 3) → None ≡ sized low high r
+sized_long : (low high : ℕ) (text : List ℕ) (r : Result (List ℕ) DecodeError) → high ≤ 256 → 342 < length text → ((b : List ℕ) → r ≡ Ok b → length text ≡ (4 * length b + 2) / 3) → None ≡ bytes_within low high r
 sized_long low high text (Err e) fits long size = refl
 sized_long low high text (Ok b) fits long size = let n = size b refl in grind (arith, nat_tests)
 
@@ -56,7 +56,7 @@ unfolding base64
 lacks-base64 bytes =
     rw append-nil (symbols_lack 36 (engine_symbols standard_no_pad) bytes (λ i. symbol_other 35 (engine_symbols standard_no_pad) i refl))
 
-found_sized : (low high : ℕ) (r : Result (List ℕ) DecodeError) (bytes : List ℕ) → sized low high r ≡ Some bytes → (r ≡ Ok bytes) × (between low high (length bytes) ≡ true)
+found_sized : (low high : ℕ) (r : Result (List ℕ) DecodeError) (bytes : List ℕ) → bytes_within low high r ≡ Some bytes → (r ≡ Ok bytes) × (between low high (length bytes) ≡ true)
 found_sized low high (Err e) bytes h = cc h
 found_sized low high (Ok b) bytes h = let is = if_some _ _ _ h in (ap Ok is.1, rw is.1 at is.0)
 

@@ -12,7 +12,7 @@ use Rattle.cred_phc.specs.declared.scheme.Variant.{Variant}
 use Rattle.cred_phc.specs.declared.scheme.Name.{Name}
 use Rattle.cred_phc.specs.declared.scheme.Name.TheVariants.{Argon2 as NamesArgon2, Scrypt as NamesScrypt}
 use Rattle.cred_phc.specs.Base64.{bytes_of}
-use Rattle.cred_phc.specs.Faults.{Judge, unless, numbers_fault, bytes_fault, judges_of, first, judged, version_fault, named_fault, fields_fault, setting_fault, record_fault}
+use Rattle.cred_phc.specs.Faults.{Judge, unless, numbers_fault, bytes_fault, judges_of, first, judgement, version_fault, named_fault, fields_fault, setting_fault, record_fault}
 use Rattle.cred_phc.specs.Fields.{name_of, numbers_of}
 use Rattle.cred_phc.specs.Pieces.{pieces}
 use Rattle.cred_phc.specs.Ranges.{argon_fits, scrypt_fits, salt_low}
@@ -29,31 +29,31 @@ bind_assoc (Err fault) f g = refl
 
 -- What follows a field agrees with the judges that are left.
 abbrev Agrees : {A B : Type 0} → (A × List (List ℕ) → Result B PhcError) → A → List Judge → Type 0
-Agrees follow x judges = (rest : List (List ℕ)) → fault_in (follow (x, rest)) ≡ judged judges rest
+Agrees follow x judges = (rest : List (List ℕ)) → fault_in (follow (x, rest)) ≡ judgement judges rest
 
 bytes_step : {A B : Type 0} (fault : PhcError) (pack : List ℕ → A) (follow : A × List (List ℕ) → Result B PhcError) (judges : List Judge)
     → ((bytes : List ℕ) → Agrees follow (pack bytes) judges) → (o : Option (List ℕ)) (rest : List (List ℕ))
-    → fault_in ((ok_or o fault >>= (λ bytes. Ok (pack bytes, rest))) >>= follow) ≡ first (unless (is_some o) fault) (judged judges rest)
+    → fault_in ((ok_or o fault >>= (λ bytes. Ok (pack bytes, rest))) >>= follow) ≡ first (unless (is_some o) fault) (judgement judges rest)
 bytes_step fault pack follow judges h (Some bytes) rest = h bytes rest
 bytes_step fault pack follow judges h None rest = refl
 
 -- a field of letters, and what follows it
 bytes_law : {A B : Type 0} (low high : ℕ) (fault : PhcError) (pack : List ℕ → A) (follow : A × List (List ℕ) → Result B PhcError) (judges : List Judge)
     → ((bytes : List ℕ) → Agrees follow (pack bytes) judges) → (fields : List (List ℕ))
-    → fault_in ((next fields >>= (λ field. ok_or (bytes_of low high field.0) fault >>= (λ bytes. Ok (pack bytes, field.1)))) >>= follow) ≡ judged (bytes_fault low high fault ∷ judges) fields
+    → fault_in ((next fields >>= (λ field. ok_or (bytes_of low high field.0) fault >>= (λ bytes. Ok (pack bytes, field.1)))) >>= follow) ≡ judgement (bytes_fault low high fault ∷ judges) fields
 bytes_law low high fault pack follow judges h [] = refl
 bytes_law low high fault pack follow judges h (field ∷ fields) = bytes_step fault pack follow judges h (bytes_of low high field) fields
 
 range_step : {B : Type 0} (scheme : Scheme) (follow : Scheme × List (List ℕ) → Result B PhcError) (judges : List Judge) → Agrees follow scheme judges
     → (fits : Bool) (rest : List (List ℕ))
-    → fault_in ((ok_or (if fits then Some scheme else None) Range >>= (λ made. Ok (made, rest))) >>= follow) ≡ first (unless fits Range) (judged judges rest)
+    → fault_in ((ok_or (if fits then Some scheme else None) Range >>= (λ made. Ok (made, rest))) >>= follow) ≡ first (unless fits Range) (judgement judges rest)
 range_step scheme follow judges h true rest = h rest
 range_step scheme follow judges h false rest = refl
 
 numbers_step : {B : Type 0} (fits : ℕ → ℕ → ℕ → Bool) (scheme_of : ℕ × ℕ × ℕ → Scheme) (follow : Scheme × List (List ℕ) → Result B PhcError) (judges : List Judge)
     → ((n : ℕ × ℕ × ℕ) → Agrees follow (scheme_of n) judges) → (o : Option (ℕ × ℕ × ℕ)) (rest : List (List ℕ))
     → fault_in ((ok_or o Params >>= (λ n. ok_or (if fits n.0 n.1 n.2 then Some (scheme_of n) else None) Range >>= (λ made. Ok (made, rest)))) >>= follow)
-    ≡ first (numbers_fault fits o) (judged judges rest)
+    ≡ first (numbers_fault fits o) (judgement judges rest)
 numbers_step fits scheme_of follow judges h (Some n) rest = range_step (scheme_of n) follow judges (h n) (fits n.0 n.1 n.2) rest
 numbers_step fits scheme_of follow judges h None rest = refl
 
@@ -61,7 +61,7 @@ numbers_step fits scheme_of follow judges h None rest = refl
 numbers_law : {B : Type 0} (x y z : List ℕ) (fits : ℕ → ℕ → ℕ → Bool) (scheme_of : ℕ × ℕ × ℕ → Scheme) (follow : Scheme × List (List ℕ) → Result B PhcError) (judges : List Judge)
     → ((n : ℕ × ℕ × ℕ) → Agrees follow (scheme_of n) judges) → (fields : List (List ℕ))
     → fault_in (numbers_at x y z (λ n. if fits n.0 n.1 n.2 then Some (scheme_of n) else None) fields >>= follow)
-    ≡ judged ((λ field. numbers_fault fits (numbers_of x y z field)) ∷ judges) fields
+    ≡ judgement ((λ field. numbers_fault fits (numbers_of x y z field)) ∷ judges) fields
 unfolding numbers_at
 numbers_law x y z fits scheme_of follow judges h [] = refl
 numbers_law x y z fits scheme_of follow judges h (field ∷ fields) = numbers_step fits scheme_of follow judges h (numbers_of x y z field) fields
@@ -77,10 +77,10 @@ version_read new old written named fields behind =
 
 abbrev version_judged : Bool → Bool → Bool → Bool → List Judge → List (List ℕ) → List (List ℕ) → Option PhcError
 version_judged new old written named judges fields behind =
-    if new then judged judges behind else if not old then Some WrongVersion else if written then judged judges behind else if named then Some WrongVersion else judged judges fields
+    if new then judgement judges behind else if not old then Some WrongVersion else if written then judgement judges behind else if named then Some WrongVersion else judgement judges fields
 
 argon_follows : {B : Type 0} (variant : Variant) (follow : Scheme × List (List ℕ) → Result B PhcError) (last : List Judge) → FollowsScheme follow last → (version : Version) (fields : List (List ℕ))
-    → fault_in (numbers_at (codes "m=") (codes "t=") (codes "p=") (argon_of version variant) fields >>= follow) ≡ judged (judges_of (NamesArgon2 variant) ++ last) fields
+    → fault_in (numbers_at (codes "m=") (codes "t=") (codes "p=") (argon_of version variant) fields >>= follow) ≡ judgement (judges_of (NamesArgon2 variant) ++ last) fields
 argon_follows variant follow last h version fields =
     numbers_law (codes "m=") (codes "t=") (codes "p=") argon_fits (λ n. Argon2 version variant n.0 n.1 n.2) follow (bytes_fault 8 48 Salt ∷ last) (λ n. h (Argon2 version variant n.0 n.1 n.2)) fields
 
@@ -102,7 +102,7 @@ argon_law old variant follow last h (field ∷ fields) =
     version_step variant follow last h (bytes_eq field (codes "v=19")) old (bytes_eq field (codes "v=16")) (bytes_eq (take 2 field) (codes "v=")) (field ∷ fields) fields
 
 scrypt_law : {B : Type 0} (follow : Scheme × List (List ℕ) → Result B PhcError) (last : List Judge) → FollowsScheme follow last → (fields : List (List ℕ))
-    → fault_in (scrypt_at fields >>= follow) ≡ judged (judges_of NamesScrypt ++ last) fields
+    → fault_in (scrypt_at fields >>= follow) ≡ judgement (judges_of NamesScrypt ++ last) fields
 unfolding scrypt_at
 scrypt_law follow last h fields =
     numbers_law (codes "ln=") (codes "r=") (codes "p=") scrypt_fits (λ n. Scrypt n.0 n.1 n.2) follow (bytes_fault 1 48 Salt ∷ last) (λ n. h (Scrypt n.0 n.1 n.2)) fields
@@ -137,11 +137,11 @@ setting_law old follow last h fields =
     ap fault_in (bind_assoc (scheme_at old fields) _ follow)
     ∙ scheme_law old _ last (λ scheme rest. bytes_law (salt_low scheme) 48 Salt (setting_of scheme) follow last (λ salt. h (setting_of scheme salt)) rest) fields
 
-end_law : {A : Type 0} (x : A) (fields : List (List ℕ)) → fault_in (end fields >>= (λ _. Ok x)) ≡ judged [] fields
+end_law : {A : Type 0} (x : A) (fields : List (List ℕ)) → fault_in (end fields >>= (λ _. Ok x)) ≡ judgement [] fields
 end_law x [] = refl
 end_law x (field ∷ fields) = refl
 
-tag_law : {A : Type 0} (record_with : List ℕ → A) (fields : List (List ℕ)) → fault_in (tag_at fields >>= (λ tag. end tag.1 >>= (λ _. Ok (record_with tag.0)))) ≡ judged (bytes_fault 4 64 Tag ∷ []) fields
+tag_law : {A : Type 0} (record_with : List ℕ → A) (fields : List (List ℕ)) → fault_in (tag_at fields >>= (λ tag. end tag.1 >>= (λ _. Ok (record_with tag.0)))) ≡ judgement (bytes_fault 4 64 Tag ∷ []) fields
 unfolding tag_at
 tag_law record_with fields = bytes_law 4 64 Tag (λ tag. tag) _ [] (λ tag rest. end_law (record_with tag) rest) fields
 
@@ -169,7 +169,7 @@ fault_back (Err other) fault e = cc e
 
 pub fault_is : {A : Type 0} (read : Result A PhcError) (found : Option PhcError) (fault : PhcError) → fault_in read ≡ found
     → ((read ≡ Err fault) → (found ≡ Some fault)) × ((found ≡ Some fault) → (read ≡ Err fault))
-fault_is read found fault law = (λ refused. sym law ∙ ap fault_in refused, λ judged. fault_back read fault (law ∙ judged))
+fault_is read found fault law = (λ refused. sym law ∙ ap fault_in refused, λ found. fault_back read fault (law ∙ found))
 
 -- what a reader answers is judged by the table
 pub refused_with : {A : Type 0} (r read : Result A PhcError) (fault : Option PhcError) → r ≡ read → fault_in read ≡ fault → IfErr r (λ e. fault ≡ Some e)

@@ -5,7 +5,7 @@ use Rattle.std.proofs.lemmas.Slice.Eq.{bytes_eq-Decides}
 use Rattle.std.proofs.Math.Seq.{take-append_seam, drop-append_seam}
 use Rattle.std.specs.Char.{is_ascii_digit}
 use Rattle.std.specs.Str.{bytes_eq}
-use Rattle.cred_phc.specs.Fields.{labelled, labelled_pieces, triple, numbers_of}
+use Rattle.cred_phc.specs.Fields.{labelled_number, labelled_numbers, triple, numbers_of}
 use Rattle.cred_phc.specs.Number.{number_of}
 use Rattle.cred_phc.specs.Pieces.{pieces}
 use Rattle.cred_phc.specs.Text.{label, numbers_text}
@@ -19,10 +19,10 @@ same_bytes xs ys = (bytes_eq-Decides xs ys).0
 pub bytes_eq_refl : (xs : List ℕ) → bytes_eq xs xs ≡ true
 bytes_eq_refl xs = (bytes_eq-Decides xs xs).1 refl
 
-labelled-label : (name : List ℕ) (n : ℕ) → n < 2 ^ 64 → labelled name (label name n) ≡ Some n
-labelled-label name n fits = rw (take-append_seam, drop-append_seam, bytes_eq_refl name) (number_of-decimal n fits)
+labelled_number-label : (name : List ℕ) (n : ℕ) → n < 2 ^ 64 → labelled_number name (label name n) ≡ Some n
+labelled_number-label name n fits = rw (take-append_seam, drop-append_seam, bytes_eq_refl name) (number_of-decimal n fits)
 
-labelled_is : (name piece : List ℕ) (n : ℕ) → labelled name piece ≡ Some n → n < 2 ^ 64 → piece ≡ label name n
+labelled_is : (name piece : List ℕ) (n : ℕ) → labelled_number name piece ≡ Some n → n < 2 ^ 64 → piece ≡ label name n
 labelled_is name piece n e fits =
     let is = if_read (bytes_eq (take (length name) piece) name) (number_of (drop (length name) piece)) n e in
     sym (take-append-drop (length name) piece) ∙ ap (λ xs. xs ++ drop (length name) piece) (same_bytes _ _ is.0) ∙ ap (λ xs. name ++ xs) (number_is _ n is.1 fits)
@@ -36,7 +36,7 @@ pub numbers_of-text : (x y z : List ℕ) (a b c : ℕ) → lacks 44 x ≡ true �
 unfolding numbers_of
 numbers_of-text x y z a b c hx hy hz fa fb fc =
     let parts = pieces-join 44 (label x a) (label y b ∷ label z c ∷ []) (lacks-label 44 x a refl hx fa, (lacks-label 44 y b refl hy fb, (lacks-label 44 z c refl hz fc, tt))) in
-    rw (parts, labelled-label x a fa, labelled-label y b fb, labelled-label z c fc) refl
+    rw (parts, labelled_number-label x a fa, labelled_number-label y b fb, labelled_number-label z c fc) refl
 
 triple_is : (p q r : Option ℕ) (n : ℕ × ℕ × ℕ) → triple p q r ≡ Some n → (p ≡ Some n.0) × (q ≡ Some n.1) × (r ≡ Some n.2)
 triple_is (Some a) (Some b) (Some c) n e =
@@ -45,10 +45,10 @@ triple_is None q r n e = cc e
 triple_is (Some a) None r n e = cc e
 triple_is (Some a) (Some b) None n e = cc e
 
-numbers_from : (x y z : List ℕ) (parts : List (List ℕ)) (n : ℕ × ℕ × ℕ) → labelled_pieces x y z parts ≡ Some n
+numbers_from : (x y z : List ℕ) (parts : List (List ℕ)) (n : ℕ × ℕ × ℕ) → labelled_numbers x y z parts ≡ Some n
     → n.0 < 2 ^ 64 → n.1 < 2 ^ 64 → n.2 < 2 ^ 64 → parts ≡ label x n.0 ∷ label y n.1 ∷ label z n.2 ∷ []
 numbers_from x y z (a ∷ b ∷ c ∷ []) n e f0 f1 f2 =
-    let is = triple_is (labelled x a) (labelled y b) (labelled z c) n e in
+    let is = triple_is (labelled_number x a) (labelled_number y b) (labelled_number z c) n e in
     rw (labelled_is x a n.0 is.0 f0, labelled_is y b n.1 is.1 f1, labelled_is z c n.2 is.2 f2) refl
 numbers_from x y z [] n e f0 f1 f2 = cc e
 numbers_from x y z (a ∷ []) n e f0 f1 f2 = cc e

@@ -9,7 +9,7 @@ use Rattle.std.specs.List.{list_all}
 use Rattle.std.specs.Str.Parse.{digits_value}
 use Rattle.std.proofs.lemmas.Str.Parse.{IsNumeralModel, numerals_by_value}
 use Rattle.std.proofs.lemmas.Fmt.{digits_decimal, digits_value-decimal, decimal-digits_value, decimal_nonempty, first_decimal, decimal_digit}
-use Rattle.cred_phc.specs.Number.{capped, is_numeral, number_of}
+use Rattle.cred_phc.specs.Number.{saturation, is_numeral, number_of}
 use Rattle.cred_phc.proofs.CaseLaws.{both_true, if_some}
 use Rattle.cred_phc.proofs.PieceLaws.{lacks}
 
@@ -24,7 +24,7 @@ value_of_digit c h = grind (arith, nat_tests)
 digits_of_numeral : (ds : List ℕ) → is_numeral ds ≡ true → list_all is_ascii_digit ds ≡ true
 digits_of_numeral ds h = second_so _ _ (first_so _ _ h)
 
-cap_once : (v d : ℕ) → capped (v * 10 + d) ≡ min (min (capped v * 10) (2 ^ 64 - 1) + d) (2 ^ 64 - 1)
+cap_once : (v d : ℕ) → saturation (v * 10 + d) ≡ min (min (saturation v * 10) (2 ^ 64 - 1) + d) (2 ^ 64 - 1)
 cap_once v d = omega arith
 
 unlike : (d byte : ℕ) → is_ascii_digit d ≡ true → is_ascii_digit byte ≡ false → not (d == byte) ≡ true
@@ -32,7 +32,7 @@ unlike d byte h k = grind (arith, nat_tests)
 
 -- one more digit is read
 pub push_digit : (ds : List ℕ) (i : ℕ) → is_numeral ds ≡ true → i < length ds
-    → capped (digits_value 10 (take (i + 1) ds)) ≡ min (min (capped (digits_value 10 (take i ds)) * 10) (2 ^ 64 - 1) + (get_or ds i 0 - 48)) (2 ^ 64 - 1)
+    → saturation (digits_value 10 (take (i + 1) ds)) ≡ min (min (saturation (digits_value 10 (take i ds)) * 10) (2 ^ 64 - 1) + (get_or ds i 0 - 48)) (2 ^ 64 - 1)
 push_digit ds i numeral within =
     rw (digits_value_more 10 ds i within, value_of_digit _ (digit_at ds i (digits_of_numeral ds numeral) within))
     (cap_once (digits_value 10 (take i ds)) (get_or ds i 0 - 48))

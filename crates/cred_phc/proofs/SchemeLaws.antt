@@ -4,8 +4,8 @@ use borrow.Author.Tests.{leb-true, eqb-true, not-false}
 use Rattle.std.specs.Cmp.{first_so, second_so}
 use Rattle.std.specs.Str.{bytes_eq}
 use Rattle.std.specs.Option.{ok_or}
-use Rattle.cred_argon.specs.declared.params.TheConstants.{MAX_LANES, MAX_MEMORY}
-use Rattle.cred_scrypt.specs.declared.params.TheConstants.{MAX_LN, MAX_ROWS}
+use Rattle.cred_argon.specs.declared.params.TheConstants.{MAX_LANES, MAX_MEMORY, MAX_PASSES}
+use Rattle.cred_scrypt.specs.declared.params.TheConstants.{MAX_BLOCK_SIZE, MAX_BLOCKS, MAX_LN, MAX_ROWS}
 use Rattle.cred_phc.specs.declared.error.PhcError.TheVariants.{Shape, Version as WrongVersion, Params, Range, Scheme as NoScheme}
 use Rattle.cred_phc.specs.declared.scheme.Scheme.{Scheme}
 use Rattle.cred_phc.specs.declared.scheme.Scheme.TheVariants.{Argon2, Scrypt}
@@ -95,19 +95,19 @@ between_high low high n h = leb-true n high (second_so (nat_le low n) (nat_le n 
 
 pub argon_small : (m t p : ℕ) → argon_fits m t p ≡ true → (m < 2 ^ 64) × (t < 2 ^ 64) × (p < 2 ^ 64)
 argon_small m t p h =
-    let front = first_so (between 1 MAX_LANES p && between 1 4294967295 t) (between (8 * p) MAX_MEMORY m) h in
-    let m_high = between_high (8 * p) MAX_MEMORY m (second_so (between 1 MAX_LANES p && between 1 4294967295 t) _ h) in
-    let t_high = between_high 1 4294967295 t (second_so (between 1 MAX_LANES p) _ front) in
-    let p_high = between_high 1 MAX_LANES p (first_so _ (between 1 4294967295 t) front) in
+    let front = first_so (between 1 MAX_LANES p && between 1 MAX_PASSES t) (between (8 * p) MAX_MEMORY m) h in
+    let m_high = between_high (8 * p) MAX_MEMORY m (second_so (between 1 MAX_LANES p && between 1 MAX_PASSES t) _ h) in
+    let t_high = between_high 1 MAX_PASSES t (second_so (between 1 MAX_LANES p) _ front) in
+    let p_high = between_high 1 MAX_LANES p (first_so _ (between 1 MAX_PASSES t) front) in
     (omega arith, omega arith, omega arith)
 
 pub scrypt_small : (ln r p : ℕ) → scrypt_fits ln r p ≡ true → (ln < 2 ^ 64) × (r < 2 ^ 64) × (p < 2 ^ 64)
 scrypt_small ln r p h =
-    let three = first_so (between 1 MAX_LN ln && between 1 255 r && between 1 255 p) (nat_lt ln (16 * r)) (first_so _ (nat_le (r * 2 ^ ln) MAX_ROWS) h) in
-    let two = first_so (between 1 MAX_LN ln && between 1 255 r) (between 1 255 p) three in
-    let ln_high = between_high 1 MAX_LN ln (first_so _ (between 1 255 r) two) in
-    let r_high = between_high 1 255 r (second_so (between 1 MAX_LN ln) _ two) in
-    let p_high = between_high 1 255 p (second_so (between 1 MAX_LN ln && between 1 255 r) _ three) in
+    let three = first_so (between 1 MAX_LN ln && between 1 MAX_BLOCK_SIZE r && between 1 MAX_BLOCKS p) (nat_lt ln (16 * r)) (first_so _ (nat_le (r * 2 ^ ln) MAX_ROWS) h) in
+    let two = first_so (between 1 MAX_LN ln && between 1 MAX_BLOCK_SIZE r) (between 1 MAX_BLOCKS p) three in
+    let ln_high = between_high 1 MAX_LN ln (first_so _ (between 1 MAX_BLOCK_SIZE r) two) in
+    let r_high = between_high 1 MAX_BLOCK_SIZE r (second_so (between 1 MAX_LN ln) _ two) in
+    let p_high = between_high 1 MAX_BLOCKS p (second_so (between 1 MAX_LN ln && between 1 MAX_BLOCK_SIZE r) _ three) in
     (omega arith, omega arith, omega arith)
 
 argon_front : (old : Bool) (variant : Variant) (version : Version) (m t p : ℕ) (fields behind rest : List (List ℕ)) → VersionIs old fields version behind → behind ≡ argon_numbers m t p ∷ rest

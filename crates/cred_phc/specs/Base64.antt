@@ -15,10 +15,10 @@ unfoldable pub unbase64 : List ℕ → Result (List ℕ) DecodeError
 unbase64 text = decode_of standard_no_pad text
 
 -- bytes, if there are from low to high of them
-abbrev pub sized : ℕ → ℕ → Result (List ℕ) DecodeError → Option (List ℕ)
-sized low high (Err e) = None
-sized low high (Ok bytes) = if between low high (length bytes) then Some bytes else None
+abbrev pub bytes_within : ℕ → ℕ → Result (List ℕ) DecodeError → Option (List ℕ)
+bytes_within low high (Err e) = None
+bytes_within low high (Ok bytes) = if between low high (length bytes) then Some bytes else None
 
 -- the bytes that the letters stand for, if there are from low to high of them
 abbrev pub bytes_of : ℕ → ℕ → List ℕ → Option (List ℕ)
-bytes_of low high text = sized low high (unbase64 text)
+bytes_of low high text = bytes_within low high (unbase64 text)

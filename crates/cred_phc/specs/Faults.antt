@@ -1,13 +1,18 @@
 -- The fault of a text: its fields are judged from left to right, and the first fault is the answer.
-use Rattle.std.specs.Prelude.{ℕ, List, [], ◌∷◌, ◌++◌, length, take, not, Option, Some, None, is_some, Bool, true, false, nat_lt, ◌==◌, if◌then◌else◌}
+use Rattle.std.specs.Prelude.{ℕ, List, [], ◌∷◌, ◌++◌, length, take, not, Option, Some, None}
+use Rattle.std.specs.Prelude.{is_some, Bool, true, false, nat_lt, ◌==◌, if◌then◌else◌}
 use Rattle.std.specs.Str.{bytes_eq}
 use Rattle.cred_phc.specs.declared.error.PhcError.{PhcError}
-use Rattle.cred_phc.specs.declared.error.PhcError.TheVariants.{Shape, Version as WrongVersion, Params, Range, Salt, Tag, TooLong, Scheme as NoScheme}
+use Rattle.cred_phc.specs.declared.error.PhcError.TheVariants.{Shape, Version as WrongVersion}
+use Rattle.cred_phc.specs.declared.error.PhcError.TheVariants.{Params, Range, Salt, Tag, TooLong}
+use Rattle.cred_phc.specs.declared.error.PhcError.TheVariants.{Scheme as NoScheme}
 use Rattle.cred_phc.specs.declared.scheme.Name.{Name}
 use Rattle.cred_phc.specs.declared.scheme.Name.TheVariants.{Argon2, Scrypt}
-use Rattle.cred_phc.specs.Ranges.{argon_fits, scrypt_fits, MIN_ARGON2_SALT, MIN_SCRYPT_SALT, MAX_SALT, MIN_TAG, MAX_TAG, MAX_TEXT}
+use Rattle.cred_phc.specs.Ranges.{argon_fits, scrypt_fits, MIN_ARGON2_SALT, MIN_SCRYPT_SALT}
+use Rattle.cred_phc.specs.Ranges.{MAX_SALT, MIN_TAG, MAX_TAG, MAX_TEXT}
 use Rattle.cred_argon.specs.declared.kind.Version.TheVariants.{V10, V13}
-use Rattle.cred_phc.specs.Names.{version_text, version_label, memory_label, passes_label, cost_label, block_size_label, parallelism_label}
+use Rattle.cred_phc.specs.Names.{version_text, version_label, memory_label, passes_label}
+use Rattle.cred_phc.specs.Names.{cost_label, block_size_label, parallelism_label}
 use Rattle.cred_phc.specs.Pieces.{pieces}
 use Rattle.cred_phc.specs.Base64.{bytes_of}
 use Rattle.cred_phc.specs.Fields.{name_of, numbers_of}
@@ -30,10 +35,12 @@ bytes_fault low high e field = unless (is_some (bytes_of low high field)) e
 -- the numbers and the salt
 abbrev pub judges_of : Name → List Judge
 judges_of (Argon2 variant) =
-    (λ field. numbers_fault argon_fits (numbers_of memory_label passes_label parallelism_label field))
+    (λ field. numbers_fault argon_fits
+    (numbers_of memory_label passes_label parallelism_label field))
     ∷ bytes_fault MIN_ARGON2_SALT MAX_SALT Salt ∷ []
 judges_of Scrypt =
-    (λ field. numbers_fault scrypt_fits (numbers_of cost_label block_size_label parallelism_label field))
+    (λ field. numbers_fault scrypt_fits
+    (numbers_of cost_label block_size_label parallelism_label field))
     ∷ bytes_fault MIN_SCRYPT_SALT MAX_SALT Salt ∷ []
 
 -- the fault that comes first
@@ -42,27 +49,28 @@ first (Some e) later = Some e
 first None later = later
 
 -- each field by its judge; one that is missing, or one too many, is a fault of the shape
-abbrev pub judged : List Judge → List (List ℕ) → Option PhcError
-judged [] [] = None
-judged [] (field ∷ fields) = Some Shape
-judged (judge ∷ judges) [] = Some Shape
-judged (judge ∷ judges) (field ∷ fields) = first (judge field) (judged judges fields)
+abbrev pub judgement : List Judge → List (List ℕ) → Option PhcError
+judgement [] [] = None
+judgement [] (field ∷ fields) = Some Shape
+judgement (judge ∷ judges) [] = Some Shape
+judgement (judge ∷ judges) (field ∷ fields) = first (judge field) (judgement judges fields)
 
 -- the version; a record may be old, and then its version may be left out
 abbrev pub version_fault : Bool → List Judge → List (List ℕ) → Option PhcError
 version_fault old judges [] = Some Shape
 version_fault old judges (field ∷ fields) =
-    if bytes_eq field (version_text V13) then judged judges fields
+    if bytes_eq field (version_text V13) then judgement judges fields
     else if not old then Some WrongVersion
-    else if bytes_eq field (version_text V10) then judged judges fields
+    else if bytes_eq field (version_text V10) then judgement judges fields
     else if bytes_eq (take 2 field) version_label then Some WrongVersion
-    else judged judges (field ∷ fields)
+    else judgement judges (field ∷ fields)
 
 -- the fields that the name asks for, and those at the end
 abbrev pub named_fault : Bool → List Judge → Option Name → List (List ℕ) → Option PhcError
 named_fault old last None fields = Some NoScheme
-named_fault old last (Some (Argon2 variant)) fields = version_fault old (judges_of (Argon2 variant) ++ last) fields
-named_fault old last (Some Scrypt) fields = judged (judges_of Scrypt ++ last) fields
+named_fault old last (Some (Argon2 variant)) fields =
+    version_fault old (judges_of (Argon2 variant) ++ last) fields
+named_fault old last (Some Scrypt) fields = judgement (judges_of Scrypt ++ last) fields
 
 -- nothing stands before the first `$`, and the name behind it
 abbrev pub fields_fault : Bool → List Judge → List (List ℕ) → Option PhcError

@@ -1,5 +1,6 @@
 -- What one field of a text stands for.
-use Rattle.std.specs.Prelude.{ℕ, List, [], ◌∷◌, length, drop, take, Option, Some, None, if◌then◌else◌}
+use Rattle.std.specs.Prelude.{ℕ, List, [], ◌∷◌, length, drop, take, Option, Some, None}
+use Rattle.std.specs.Prelude.{if◌then◌else◌}
 use Rattle.std.specs.Str.{bytes_eq}
 use Rattle.cred_phc.specs.declared.scheme.Variant.TheVariants.{D, I, Id}
 use Rattle.cred_phc.specs.declared.scheme.Name.{Name}
@@ -17,9 +18,10 @@ name_of field =
     else None
 
 -- the number behind a label
-abbrev pub labelled : List ℕ → List ℕ → Option ℕ
-labelled label piece =
-    if bytes_eq (take (length label) piece) label then number_of (drop (length label) piece) else None
+abbrev pub labelled_number : List ℕ → List ℕ → Option ℕ
+labelled_number label piece =
+    if bytes_eq (take (length label) piece) label then number_of (drop (length label) piece)
+    else None
 
 abbrev pub triple : Option ℕ → Option ℕ → Option ℕ → Option (ℕ × ℕ × ℕ)
 triple (Some a) (Some b) (Some c) = Some (a, b, c)
@@ -27,10 +29,10 @@ triple None _ _ = None
 triple (Some a) None _ = None
 triple (Some a) (Some b) None = None
 
-abbrev pub labelled_pieces : List ℕ → List ℕ → List ℕ → List (List ℕ) → Option (ℕ × ℕ × ℕ)
-labelled_pieces x y z (a ∷ b ∷ c ∷ []) = triple (labelled x a) (labelled y b) (labelled z c)
-labelled_pieces x y z _ = None
+abbrev pub labelled_numbers : List ℕ → List ℕ → List ℕ → List (List ℕ) → Option (ℕ × ℕ × ℕ)
+labelled_numbers x y z (a ∷ b ∷ c ∷ []) = triple (labelled_number x a) (labelled_number y b) (labelled_number z c)
+labelled_numbers x y z _ = None
 
 -- three numbers, each behind its label, with commas (byte 44) between
 unfoldable pub numbers_of : List ℕ → List ℕ → List ℕ → List ℕ → Option (ℕ × ℕ × ℕ)
-numbers_of x y z field = labelled_pieces x y z (pieces 44 field)
+numbers_of x y z field = labelled_numbers x y z (pieces 44 field)

@@ -3,7 +3,7 @@
 pub mod Padded
 pub mod Ranges
 pub mod Values
-pub mod Fault
+pub mod Errors
 pub mod Base64
 pub mod Number
 pub mod Pieces
@@ -15,3 +15,7 @@ pub mod Faults
 pub mod Vectors
 pub mod Tags
 pub mod Functions
+pub use Rattle.cred_argon.specs.Argon
+pub use Rattle.cred_argon.specs.Numbers
+pub use Rattle.cred_argon.specs.Parameters
+pub use Rattle.cred_scrypt.specs.Scrypt

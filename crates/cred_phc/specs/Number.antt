@@ -1,5 +1,6 @@
 -- Decimal numbers.
-use Rattle.std.specs.Prelude.{ℕ, ◌==◌, ◌-◌, ◌^◌, min, nat_lt, Bool, not, ◌&&◌, ◌||◌, if◌then◌else◌, List, length, slice_index, Option, Some, None}
+use Rattle.std.specs.Prelude.{ℕ, ◌==◌, ◌-◌, ◌^◌, min, nat_lt, Bool, not, ◌&&◌, ◌||◌, if◌then◌else◌}
+use Rattle.std.specs.Prelude.{List, length, slice_index, Option, Some, None}
 use Rattle.std.specs.Char.{is_ascii_digit}
 use Rattle.std.specs.List.{list_all}
 use Rattle.std.specs.Str.Parse.{digits_value}
@@ -7,15 +8,16 @@ use Rattle.std.specs.Str.Parse.{digits_value}
 -- digits, with no zero in front of others
 abbrev pub is_numeral : List ℕ → Bool
 is_numeral ds =
-    nat_lt 0 (length ds) && list_all is_ascii_digit ds && (not (slice_index ds 0 == 48) || (length ds == 1))
+    nat_lt 0 (length ds) && list_all is_ascii_digit ds
+    && (not (slice_index ds 0 == 48) || (length ds == 1))
 
 -- the number that the digits write
 unfoldable pub number_of : List ℕ → Option ℕ
 number_of ds = if is_numeral ds then Some (digits_value 10 ds) else None
 
 -- the number, or the greatest one of 64 bits
-abbrev pub capped : ℕ → ℕ
-capped n = min n (2 ^ 64 - 1)
+abbrev pub saturation : ℕ → ℕ
+saturation n = min n (2 ^ 64 - 1)
 
-abbrev pub capped_each : ℕ × ℕ × ℕ → ℕ × ℕ × ℕ
-capped_each n = (capped n.0, capped n.1, capped n.2)
+abbrev pub saturation_each : ℕ × ℕ × ℕ → ℕ × ℕ × ℕ
+saturation_each n = (saturation n.0, saturation n.1, saturation n.2)

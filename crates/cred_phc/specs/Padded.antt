@@ -13,5 +13,6 @@ pub record IsPadded (cap n : ℕ) (cells : List ℕ) : Type 0 where
 pub len_back : (cap n : ℕ) (cells : List ℕ) → IsPadded cap n cells → length (take n cells) ≡ n
 len_back cap n cells h = length-take-le n cells (omega (arith, h.all, h.used))
 
-pub cells_back : (cap n : ℕ) (cells : List ℕ) → IsPadded cap n cells → take n cells ++ replicate (cap - length (take n cells)) 0 ≡ cells
+pub cells_back : (cap n : ℕ) (cells : List ℕ) → IsPadded cap n cells
+    → take n cells ++ replicate (cap - length (take n cells)) 0 ≡ cells
 cells_back cap n cells h = rw (len_back cap n cells h, ← h.zeros) (take-append-drop n cells)

@@ -1,7 +1,7 @@
 -- The ranges of the numbers, and how long salts, tags, passwords and texts may be.
 use Rattle.std.specs.Prelude.{ℕ, ◌*◌, ◌^◌, nat_le, nat_lt, Bool, true, false, ◌&&◌}
-use Rattle.cred_argon.specs.declared.params.TheConstants.{MAX_LANES, MAX_MEMORY}
-use Rattle.cred_scrypt.specs.declared.params.TheConstants.{MAX_LN, MAX_ROWS}
+use Rattle.cred_argon.specs.declared.params.TheConstants.{MAX_LANES, MAX_MEMORY, MAX_PASSES}
+use Rattle.cred_scrypt.specs.declared.params.TheConstants.{MAX_BLOCK_SIZE, MAX_BLOCKS, MAX_LN, MAX_ROWS}
 pub use Rattle.cred_phc.specs.declared.scheme.TheConstants.{MIN_ARGON2_SALT, MIN_SCRYPT_SALT}
 pub use Rattle.cred_phc.specs.declared.setting.TheConstants.{MAX_SALT}
 pub use Rattle.cred_phc.specs.declared.tag.TheConstants.{MIN_TAG, MAX_TAG}
@@ -17,13 +17,15 @@ between low high n = nat_le low n && nat_le n high
 -- RFC 9106, section 3.1: lanes p, passes t, memory m in KiB, of which each lane has at least 8.
 -- The RFC allows more than 255 lanes and 2 GiB, which are the most here.
 abbrev pub argon_fits : ℕ → ℕ → ℕ → Bool
-argon_fits m t p = between 1 MAX_LANES p && between 1 4294967295 t && between (8 * p) MAX_MEMORY m
+argon_fits m t p =
+    between 1 MAX_LANES p && between 1 MAX_PASSES t && between (8 * p) MAX_MEMORY m
 
 -- RFC 7914, section 2: the cost 2 ^ ln is above 1 and below 2 ^ (16 * r).
 -- It allows greater r and p, and more memory than 2 GiB (128 * r * 2 ^ ln bytes), which are the
 -- most here.
 abbrev pub scrypt_fits : ℕ → ℕ → ℕ → Bool
-scrypt_fits ln r p = between 1 MAX_LN ln && between 1 255 r && between 1 255 p
+scrypt_fits ln r p =
+    between 1 MAX_LN ln && between 1 MAX_BLOCK_SIZE r && between 1 MAX_BLOCKS p
     && nat_lt ln (16 * r) && nat_le (r * 2 ^ ln) MAX_ROWS
 
 abbrev pub scheme_fits : Scheme → Bool

@@ -1,11 +1,14 @@
 -- Reading as a function: the value that a text stands for, or its fault. Contracts say of the
 -- readers that they compute it, and that it agrees with the texts of values and with the table of
 -- faults.
-use Rattle.std.specs.Prelude.{◌≡◌, ℕ, List, [], ◌∷◌, length, take, Option, Some, None, Result, Ok, Err, Bool, true, false, nat_lt, ◌==◌, not, if◌then◌else◌}
+use Rattle.std.specs.Prelude.{◌≡◌, ℕ, List, [], ◌∷◌, length, take, Option, Some, None, Result, Ok}
+use Rattle.std.specs.Prelude.{Err, Bool, true, false, nat_lt, ◌==◌, not, if◌then◌else◌}
 use Rattle.std.specs.Option.{ok_or}
 use Rattle.std.specs.Str.{bytes_eq}
 use Rattle.cred_phc.specs.declared.error.PhcError.{PhcError}
-use Rattle.cred_phc.specs.declared.error.PhcError.TheVariants.{Shape, Version as WrongVersion, Params, Range, Salt, Tag, TooLong, Scheme as NoScheme}
+use Rattle.cred_phc.specs.declared.error.PhcError.TheVariants.{Shape, Version as WrongVersion}
+use Rattle.cred_phc.specs.declared.error.PhcError.TheVariants.{Params, Range, Salt, Tag, TooLong}
+use Rattle.cred_phc.specs.declared.error.PhcError.TheVariants.{Scheme as NoScheme}
 use Rattle.cred_phc.specs.declared.scheme.Scheme.{Scheme}
 use Rattle.cred_phc.specs.declared.scheme.Scheme.TheVariants.{Argon2, Scrypt}
 use Rattle.cred_argon.specs.declared.kind.Version.{Version}
@@ -14,10 +17,13 @@ use Rattle.cred_phc.specs.declared.scheme.Variant.{Variant}
 use Rattle.cred_phc.specs.declared.parse.Form.{Form}
 use Rattle.cred_phc.specs.declared.parse.Form.TheVariants.{Setting, Record}
 use Rattle.cred_phc.specs.declared.scheme.Name.{Name}
-use Rattle.cred_phc.specs.declared.scheme.Name.TheVariants.{Argon2 as NamesArgon2, Scrypt as NamesScrypt}
-use Rattle.cred_phc.specs.Ranges.{argon_fits, scrypt_fits, salt_low, MAX_SALT, MIN_TAG, MAX_TAG, MAX_TEXT}
+use Rattle.cred_phc.specs.declared.scheme.Name.TheVariants.{Argon2 as NamesArgon2}
+use Rattle.cred_phc.specs.declared.scheme.Name.TheVariants.{Scrypt as NamesScrypt}
+use Rattle.cred_phc.specs.Ranges.{argon_fits, scrypt_fits, salt_low, MAX_SALT, MIN_TAG, MAX_TAG}
+use Rattle.cred_phc.specs.Ranges.{MAX_TEXT}
 use Rattle.cred_phc.specs.Values.{SettingValue, setting_of, RecordValue, record_of}
-use Rattle.cred_phc.specs.Names.{version_text, version_label, memory_label, passes_label, cost_label, block_size_label, parallelism_label}
+use Rattle.cred_phc.specs.Names.{version_text, version_label, memory_label, passes_label}
+use Rattle.cred_phc.specs.Names.{cost_label, block_size_label, parallelism_label}
 use Rattle.cred_phc.specs.Pieces.{pieces}
 use Rattle.cred_phc.specs.Base64.{bytes_of}
 use Rattle.cred_phc.specs.Fields.{name_of, numbers_of}
@@ -49,13 +55,15 @@ end (field ∷ fields) = Err Shape
 
 -- the scheme of these numbers, where they are in their ranges
 abbrev pub argon_of : Version → Variant → ℕ × ℕ × ℕ → Option Scheme
-argon_of version variant n = if argon_fits n.0 n.1 n.2 then Some (Argon2 version variant n.0 n.1 n.2) else None
+argon_of version variant n =
+    if argon_fits n.0 n.1 n.2 then Some (Argon2 version variant n.0 n.1 n.2) else None
 
 abbrev pub scrypt_of : ℕ × ℕ × ℕ → Option Scheme
 scrypt_of n = if scrypt_fits n.0 n.1 n.2 then Some (Scrypt n.0 n.1 n.2) else None
 
 -- the version, and the fields behind it; a record may be old, and then its version may be left out
-abbrev pub version_of : Bool → List (List ℕ) → List ℕ × List (List ℕ) → Result (Version × List (List ℕ)) PhcError
+abbrev pub version_of : Bool → List (List ℕ) → List ℕ × List (List ℕ)
+    → Result (Version × List (List ℕ)) PhcError
 version_of old fields field =
     if bytes_eq field.0 (version_text V13) then Ok (V13, field.1)
     else if not old then Err WrongVersion
@@ -67,7 +75,8 @@ unfoldable pub version_at : Bool → List (List ℕ) → Result (Version × List
 version_at old fields = next fields >>= version_of old fields
 
 -- the numbers behind these labels, as a scheme
-unfoldable pub numbers_at : List ℕ → List ℕ → List ℕ → (ℕ × ℕ × ℕ → Option Scheme) → List (List ℕ) → Result (Scheme × List (List ℕ)) PhcError
+unfoldable pub numbers_at : List ℕ → List ℕ → List ℕ → (ℕ × ℕ × ℕ → Option Scheme)
+    → List (List ℕ) → Result (Scheme × List (List ℕ)) PhcError
 numbers_at x y z scheme_of fields =
     next fields >>= λ field.
     ok_or (numbers_of x y z field.0) Params >>= λ numbers.

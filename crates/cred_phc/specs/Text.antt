@@ -4,7 +4,8 @@ use Rattle.std.specs.Prelude.{◌≡◌, ℕ, List, [], ◌∷◌, ◌++◌, ◌
 use Rattle.std.specs.List.{join_with_byte}
 use Rattle.cred_phc.specs.declared.scheme.Scheme.{Scheme}
 use Rattle.cred_phc.specs.declared.scheme.Scheme.TheVariants.{Argon2, Scrypt}
-use Rattle.cred_phc.specs.Names.{variant_name, version_text, scrypt_name, memory_label, passes_label, cost_label, block_size_label, parallelism_label}
+use Rattle.cred_phc.specs.Names.{variant_name, version_text, scrypt_name, memory_label}
+use Rattle.cred_phc.specs.Names.{passes_label, cost_label, block_size_label, parallelism_label}
 use Rattle.cred_phc.specs.Ranges.{is_current}
 use Rattle.cred_phc.specs.Values.{SettingValue, RecordValue}
 use Rattle.cred_phc.specs.Base64.{base64}

@@ -31,4 +31,5 @@ scrypt_record = record_of (setting_of (Scrypt 10 8 16) (codes "NaCl"))
 unfoldable pub argon2d_record : RecordValue
 argon2d_record = record_of (setting_of (Argon2 V13 D 32 3 4) (replicate 16 2))
     (81 ∷ 43 ∷ 57 ∷ 27 ∷ 111 ∷ 17 ∷ 98 ∷ 151 ∷ 83 ∷ 113 ∷ 211 ∷ 9 ∷ 25 ∷ 115 ∷ 66 ∷ 148
-    ∷ 248 ∷ 104 ∷ 227 ∷ 190 ∷ 57 ∷ 132 ∷ 243 ∷ 193 ∷ 161 ∷ 58 ∷ 77 ∷ 185 ∷ 250 ∷ 190 ∷ 74 ∷ 203 ∷ [])
+    ∷ 248 ∷ 104 ∷ 227 ∷ 190 ∷ 57 ∷ 132 ∷ 243 ∷ 193 ∷ 161 ∷ 58 ∷ 77 ∷ 185 ∷ 250 ∷ 190 ∷ 74
+    ∷ 203 ∷ [])

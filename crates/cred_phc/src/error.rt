@@ -1,7 +1,7 @@
 //! Why a text is no setting or record, and why one can't be made or written.
 
 ghost use Rattle.std.specs.Prelude.{◌≡◌};
-ghost use Rattle.cred_phc.specs.Fault.{fault_number, fault_word};
+ghost use Rattle.cred_phc.specs.Errors.{error_number, error_word};
 ghost use Rattle.cred_phc.specs.declared.error.PhcError.TheVariants.{Memory as OutOfMemory};
 
 use std::alloc::AllocError;
@@ -10,30 +10,39 @@ use thiserror::Error;
 /// The fault of a text or of a value's parts: the first from the left, where there are several.
 #[derive(Clone, Copy, Debug, PartialEq, Eq, Error)]
 pub enum PhcError {
+    /// A field is missing, or there is one too many.
     #[error("a field is missing, or there is one too many")]
     Shape,
+    /// The name is none of argon2d, argon2i, argon2id and scrypt.
     #[error("the name is none of argon2d, argon2i, argon2id and scrypt")]
     Scheme,
+    /// The version isn't one that can be read here.
     #[error("the version is not one that can be read here")]
     Version,
+    /// The numbers aren't written in the form of the scheme.
     #[error("the numbers are not written in the form of the scheme")]
     Params,
+    /// A number is outside its range.
     #[error("a number is outside its range")]
     Range,
+    /// The salt isn't base64, or has a length outside its range.
     #[error("the salt is not base64, or has a length outside its range")]
     Salt,
+    /// The tag isn't base64, or has a length outside its range.
     #[error("the tag is not base64, or has a length outside its range")]
     Tag,
+    /// There was no memory for the value or its text.
     #[error("out of memory")]
     Memory,
+    /// The text has over 512 bytes.
     #[error("the text has over 512 bytes")]
     TooLong,
 }
 
 impl PhcError {
-    /// The number of the fault, from 1 to 9.
+    /// The number of the error, from 1 to 9.
     pub fn number(self) -> u8
-        ensures { result ≡ fault_number self }
+        ensures { result ≡ error_number self }
     {
         match self {
             PhcError::Shape => 1,
@@ -48,9 +57,9 @@ impl PhcError {
         }
     }
 
-    /// The name of the fault in lower case, as `toolong`.
+    /// The name of the error in lower case, as `toolong`.
     pub fn word(self) -> &'static str
-        ensures { result.now ≡ fault_word self }
+        ensures { result.now ≡ error_word self }
     {
         match self {
             PhcError::Shape => "shape",

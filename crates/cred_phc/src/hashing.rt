@@ -22,12 +22,13 @@ use thiserror::Error;
 /// Why a password has no tag.
 #[derive(Clone, Copy, Debug, PartialEq, Eq, Error)]
 pub enum TagError {
+    /// There was no memory for the work or the tag.
     #[error("out of memory")]
     Memory,
 }
 
 impl TagError {
-    /// The error's number: 1.
+    /// The number of the error: 1.
     pub fn number(self) -> u8
         ensures { result ≡ 1 }
     {
@@ -36,7 +37,7 @@ impl TagError {
         }
     }
 
-    /// The error's name in lower case: `memory`.
+    /// The name of the error in lower case: `memory`.
     pub fn word(self) -> &'static str
         ensures { result.now ≡ codes "memory" }
     {

@@ -6,8 +6,10 @@ ghost use Rattle.base64.specs.GeneralPurpose.{IsBytes};
 ghost use Rattle.cred_phc.specs.Faults.{record_fault, setting_fault};
 ghost use Rattle.cred_phc.specs.Ranges.{is_current};
 ghost use Rattle.cred_phc.specs.Reading.{read_record, read_setting};
-ghost use Rattle.cred_phc.specs.Text.{IsRecordText, IsSettingText, bare_text, record_text, setting_text};
-ghost use Rattle.cred_phc.specs.Vectors.{argon2d_record, argon2id_record, old_argon2i_record, scrypt_record};
+ghost use Rattle.cred_phc.specs.Text.{IsRecordText, IsSettingText, bare_text, record_text};
+ghost use Rattle.cred_phc.specs.Text.{setting_text};
+ghost use Rattle.cred_phc.specs.Vectors.{argon2d_record, argon2id_record, old_argon2i_record};
+ghost use Rattle.cred_phc.specs.Vectors.{scrypt_record};
 ghost use Rattle.cred_phc.specs.Values.{IsRecord, IsSetting, RecordValue, SettingValue};
 
 use crate::error::PhcError;
@@ -117,15 +119,19 @@ pub fn old_not_read()
 /// The texts that other programs write of these records, and of the setting of one.
 pub fn known_texts()
     ensures argon2id { record_text argon2id_record
-        ≡ codes "$argon2id$v=19$m=256,t=2,p=1$c29tZXNhbHQ$nf65EOgLrQMR/uIPnA4rEsF5h7TKyQwu9U1bMCHGi/4" }
+        ≡ codes
+        "$argon2id$v=19$m=256,t=2,p=1$c29tZXNhbHQ$nf65EOgLrQMR/uIPnA4rEsF5h7TKyQwu9U1bMCHGi/4" }
     ensures argon2d { record_text argon2d_record
-        ≡ codes "$argon2d$v=19$m=32,t=3,p=4$AgICAgICAgICAgICAgICAg$USs5G28RYpdTcdMJGXNClPho4745hPPBoTpNufq+Sss" }
+        ≡ codes
+        "$argon2d$v=19$m=32,t=3,p=4$AgICAgICAgICAgICAgICAg$USs5G28RYpdTcdMJGXNClPho4745hPPBoTpNufq+Sss" }
     ensures old_argon2i { bare_text old_argon2i_record
         ≡ codes "$argon2i$m=256,t=2,p=1$c29tZXNhbHQ$/U3YPXYsSb3q9XxHvc0MLxur+GP960kN9j7emXX8zwY" }
     ensures written_old_argon2i { record_text old_argon2i_record
-        ≡ codes "$argon2i$v=16$m=256,t=2,p=1$c29tZXNhbHQ$/U3YPXYsSb3q9XxHvc0MLxur+GP960kN9j7emXX8zwY" }
+        ≡ codes
+        "$argon2i$v=16$m=256,t=2,p=1$c29tZXNhbHQ$/U3YPXYsSb3q9XxHvc0MLxur+GP960kN9j7emXX8zwY" }
     ensures scrypt { record_text scrypt_record
-        ≡ codes "$scrypt$ln=10,r=8,p=16$TmFDbA$/bq+HJ00cgB4VucZDQHp/nxq18vII3gw53N2Y0s3MWIurzDZLiKjiG/xCSedmDDaxyevuUqD7m2DYMvfoswGQA" }
+        ≡ codes
+        "$scrypt$ln=10,r=8,p=16$TmFDbA$/bq+HJ00cgB4VucZDQHp/nxq18vII3gw53N2Y0s3MWIurzDZLiKjiG/xCSedmDDaxyevuUqD7m2DYMvfoswGQA" }
     ensures setting { setting_text argon2id_record.setting
         ≡ codes "$argon2id$v=19$m=256,t=2,p=1$c29tZXNhbHQ" }
 {}
@@ -134,17 +140,22 @@ pub fn known_texts()
 /// that leaves its version out.
 pub fn known_faults()
     ensures only_a_dollar { record_fault (codes "$") ≡ Some PhcError.Scheme }
-    ensures no_version_number { record_fault (codes "$argon2id$v=$m=256,t=2,p=1$c29tZXNhbHQ$nf65EOgLrQM")
+    ensures no_version_number { record_fault (codes
+        "$argon2id$v=$m=256,t=2,p=1$c29tZXNhbHQ$nf65EOgLrQM")
         ≡ Some PhcError.Version }
     ensures memory_below_no_salt { record_fault (codes "$argon2id$v=19$m=7,t=2,p=1")
         ≡ Some PhcError.Range }
-    ensures thirty_digits { setting_fault (codes "$argon2id$v=19$m=100000000000000000000000000000,t=2,p=1$c29tZXNhbHQ")
+    ensures thirty_digits { setting_fault (codes
+        "$argon2id$v=19$m=100000000000000000000000000000,t=2,p=1$c29tZXNhbHQ")
         ≡ Some PhcError.Range }
-    ensures leading_zero { record_fault (codes "$argon2id$v=19$m=0256,t=2,p=1$c29tZXNhbHQ$nf65EOgLrQM")
+    ensures leading_zero { record_fault (codes
+        "$argon2id$v=19$m=0256,t=2,p=1$c29tZXNhbHQ$nf65EOgLrQM")
         ≡ Some PhcError.Params }
-    ensures trailing_bits { record_fault (codes "$argon2id$v=19$m=256,t=2,p=1$c29tZXNhbHQ$nf65EOgLrQN")
+    ensures trailing_bits { record_fault (codes
+        "$argon2id$v=19$m=256,t=2,p=1$c29tZXNhbHQ$nf65EOgLrQN")
         ≡ Some PhcError.Tag }
-    ensures no_version_record { record_fault (codes "$argon2i$m=256,t=2,p=1$c29tZXNhbHQ$/U3YPXYsSb3q9XxHvc0MLxur+GP960kN9j7emXX8zwY")
+    ensures no_version_record { record_fault (codes
+        "$argon2i$m=256,t=2,p=1$c29tZXNhbHQ$/U3YPXYsSb3q9XxHvc0MLxur+GP960kN9j7emXX8zwY")
         ≡ None }
     ensures no_version_setting { setting_fault (codes "$argon2i$m=256,t=2,p=1$c29tZXNhbHQ")
         ≡ Some PhcError.Version }

@@ -4,8 +4,8 @@ ghost use Rattle.std.specs.Prelude.{◌≡◌};
 ghost use Rattle.std.specs.Char.{is_ascii_digit};
 ghost use Rattle.std.specs.List.{list_all};
 ghost use Rattle.std.specs.Option.{option_map};
-ghost use Rattle.cred_phc.specs.Fields.{labelled, numbers_of};
-ghost use Rattle.cred_phc.specs.Number.{capped, capped_each, is_numeral, number_of};
+ghost use Rattle.cred_phc.specs.Fields.{labelled_number, numbers_of};
+ghost use Rattle.cred_phc.specs.Number.{saturation, saturation_each, is_numeral, number_of};
 
 use crate::pieces::Pieces;
 
@@ -28,9 +28,13 @@ fn all_digits(text: &[u8]) -> bool
 
 /// The number that decimal digits write, with no zero in front of others; the greatest `u64` in the
 /// place of a greater one. None where the bytes write no number so.
-#[tactic(auto, using(crate::proofs::NumberLaws::push_digit), unfolding(crate::specs::Number::number_of))]
+#[tactic(
+    auto,
+    using(crate::proofs::NumberLaws::push_digit),
+    unfolding(crate::specs::Number::number_of)
+)]
 pub fn decimal(digits: &[u8]) -> Option<u64>
-    ensures { result ≡ option_map capped (number_of digits.now) }
+    ensures { result ≡ option_map saturation (number_of digits.now) }
 {
     if !is_numeral(digits) {
         return None;
@@ -44,8 +48,8 @@ pub fn decimal(digits: &[u8]) -> Option<u64>
     Some(number)
 }
 
-fn labelled(piece: &[u8], label: &str) -> Option<u64>
-    ensures { result ≡ option_map capped (labelled label.now piece.now) }
+fn labelled_number(piece: &[u8], label: &str) -> Option<u64>
+    ensures { result ≡ option_map saturation (labelled_number label.now piece.now) }
 {
     decimal(piece.strip_prefix(label.as_bytes())?)
 }
@@ -59,7 +63,7 @@ pub(crate) fn numbers(
     third: &str,
 ) -> Option<(u64, u64, u64)>
     ensures { result
-        ≡ option_map capped_each (numbers_of first.now second.now third.now field.now) }
+        ≡ option_map saturation_each (numbers_of first.now second.now third.now field.now) }
 {
     let mut pieces = Pieces::new(field, b',');
     let a = pieces.next()?;
@@ -69,8 +73,8 @@ pub(crate) fn numbers(
         return None;
     }
     Some((
-        labelled(a, first)?,
-        labelled(b, second)?,
-        labelled(c, third)?,
+        labelled_number(a, first)?,
+        labelled_number(b, second)?,
+        labelled_number(c, third)?,
     ))
 }

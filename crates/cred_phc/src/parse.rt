@@ -4,7 +4,9 @@ ghost use Rattle.std.specs.Prelude.{◌≡◌, IfOk, IfErr, OnOk, IsTrue};
 ghost use Rattle.cred_phc.specs.Faults.{record_fault, setting_fault};
 ghost use Rattle.cred_phc.specs.Fields.{name_of};
 ghost use Rattle.cred_phc.specs.Ranges.{scheme_fits};
-ghost use Rattle.cred_phc.specs.Reading.{Gives, argon_at, end, fields_of, may_be_old, next, read_record, read_setting, scheme_at, scrypt_at, setting_at, tag_at, version_at};
+ghost use Rattle.cred_phc.specs.Reading.{Gives, argon_at, end, fields_of, may_be_old, next};
+ghost use Rattle.cred_phc.specs.Reading.{read_record, read_setting, scheme_at, scrypt_at};
+ghost use Rattle.cred_phc.specs.Reading.{setting_at, tag_at, version_at};
 ghost use Rattle.cred_phc.specs.Text.{IsRecordText, IsSettingText};
 ghost use Rattle.cred_phc.specs.Values.{IsRecord, IsSetting, RecordValue, SettingValue};
 
@@ -142,7 +144,8 @@ fn name(field: &[u8]) -> Option<Name>
 /// The version of Argon2.
 #[tactic(auto, unfolding(crate::specs::Reading::version_at))]
 fn version(fields: &mut Pieces<'_>, form: Form) -> Result<Version, PhcError>
-    ensures { Gives (λ version. (version, fields.new)) result (version_at (may_be_old form) fields.old) }
+    ensures { Gives (λ version. (version, fields.new)) result
+        (version_at (may_be_old form) fields.old) }
 {
     let field = fields.peek().ok_or(PhcError::Shape)?;
     if field == version_text(Version::V13).as_bytes() {
@@ -164,7 +167,8 @@ fn version(fields: &mut Pieces<'_>, form: Form) -> Result<Version, PhcError>
 
 #[tactic(auto, unfolding(crate::specs::Reading::argon_at, crate::specs::Reading::numbers_at))]
 fn argon(fields: &mut Pieces<'_>, form: Form, variant: Variant) -> Result<Scheme, PhcError>
-    ensures read { Gives (λ scheme. (scheme, fields.new)) result (argon_at (may_be_old form) variant fields.old) }
+    ensures read { Gives (λ scheme. (scheme, fields.new)) result
+        (argon_at (may_be_old form) variant fields.old) }
     ensures ranges { IfOk result (λ scheme. IsTrue (scheme_fits scheme)) }
 {
     let version = version(fields, form)?;
@@ -187,7 +191,8 @@ fn scrypt(fields: &mut Pieces<'_>) -> Result<Scheme, PhcError>
 
 #[tactic(auto, unfolding(crate::specs::Reading::scheme_at))]
 fn scheme(fields: &mut Pieces<'_>, form: Form) -> Result<Scheme, PhcError>
-    ensures read { Gives (λ scheme. (scheme, fields.new)) result (scheme_at (may_be_old form) fields.old) }
+    ensures read { Gives (λ scheme. (scheme, fields.new)) result
+        (scheme_at (may_be_old form) fields.old) }
     ensures ranges { IfOk result (λ scheme. IsTrue (scheme_fits scheme)) }
 {
     let front = next_field(fields)?;
@@ -203,7 +208,8 @@ fn scheme(fields: &mut Pieces<'_>, form: Form) -> Result<Scheme, PhcError>
 
 #[tactic(auto, unfolding(crate::specs::Reading::setting_at))]
 fn setting(fields: &mut Pieces<'_>, form: Form) -> Result<Setting, PhcError>
-    ensures { Gives (λ setting. (setting, fields.new)) result (setting_at (may_be_old form) fields.old) }
+    ensures { Gives (λ setting. (setting, fields.new)) result
+        (setting_at (may_be_old form) fields.old) }
 {
     let scheme = scheme(fields, form)?;
     let field = next_field(fields)?;

@@ -16,7 +16,8 @@ pub struct ShortBytes<const CAP: usize> {
 }
 
 impl<const CAP: usize> Model for ShortBytes<CAP> {
-    ghost use Rattle.std.specs.Prelude.{◌≡◌, ◌-◌, ◌≤◌, ◌++◌, List, ℕ, length, take, drop, replicate};
+    ghost use Rattle.std.specs.Prelude.{◌≡◌, ◌-◌, ◌≤◌, ◌++◌, List, ℕ, length, take, drop};
+    ghost use Rattle.std.specs.Prelude.{replicate};
     ghost use Rattle.cred_phc.specs.Padded.{IsPadded, cells_back, len_back};
 
     ghost Value = { List ℕ };
