@@ -8,7 +8,7 @@ use Rattle.std.specs.declared.cmp.Ordering.TheVariants.{Less, Equal, Greater}
 use Rattle.cred_phc.specs.Values.{RecordValue}
 use Rattle.cred_book.specs.Accounts.{Accounts}
 use Rattle.cred_book.specs.Changes.{change_with, change_of, judged_book}
-use Rattle.cred_book.specs.Commits.{committed, committed_at, committed_if, judged, judged_at, judged_if}
+use Rattle.cred_book.specs.Commits.{committed, committed_at, committed_if, judgement, judgement_at, judgement_if}
 use Rattle.cred_book.specs.Names.{name_cmp}
 use Rattle.cred_book.specs.Works.{Task, name_of, same, same_scheme, whole, makes_change, right}
 use Rattle.cred_book.specs.declared.reply.Reply.{Reply}
@@ -90,7 +90,7 @@ module _ (book : Accounts) (work : Task) where
     by_change true is = refl
     by_change false is = stays_whole is
 
-    by_copy : (fresh : Bool) → committed_if book work now fresh ≡ ((judged_if work now fresh).0, judged_book book work (judged_if work now fresh))
+    by_copy : (fresh : Bool) → committed_if book work now fresh ≡ ((judgement_if work now fresh).0, judged_book book work (judgement_if work now fresh))
     by_copy true = ap (λ b. ((whole work.0 now).0, b)) (by_change (makes_change (whole work.0 now).0) refl)
     by_copy false = refl
 
@@ -103,10 +103,10 @@ module _ (book : Accounts) (work : Task) where
   stays = stays_at (map.get book (name_of work.0)) refl
 
   by_record : (found : Option (Option RecordValue)) → map.get book (name_of work.0) ≡ found
-      → committed_at book work found ≡ ((judged_at work found).0, judged_book book work (judged_at work found))
+      → committed_at book work found ≡ ((judgement_at work found).0, judged_book book work (judgement_at work found))
   by_record None is = refl
   by_record (Some now) is = by_copy now is (same now work.1)
 
-  pub committed_as_judged : committed book work ≡ ((judged book work).0, judged_book book work (judged book work))
-  unfolding committed judged
+  pub committed_as_judged : committed book work ≡ ((judgement book work).0, judged_book book work (judgement book work))
+  unfolding committed judgement
   committed_as_judged = by_record (map.get book (name_of work.0)) refl

@@ -7,7 +7,7 @@ use Rattle.cred_book.specs.Accounts.{Accounts}
 use Rattle.cred_book.specs.Calls.{Loads, Shows}
 use Rattle.cred_book.specs.declared.error.BookError.{BookError}
 use Rattle.cred_book.specs.declared.error.BookError.TheVariants as error
-use Rattle.cred_book.specs.Commits.{Sets, committed, committed_at, committed_if, judged, judged_at, judged_if}
+use Rattle.cred_book.specs.Commits.{Sets, committed, committed_at, committed_if, judgement, judgement_at, judgement_if}
 use Rattle.cred_book.specs.Works.{Task, name_of, same, whole, makes_change}
 use Rattle.cred_book.specs.declared.reply.Reply.{Reply}
 use Rattle.cred_book.specs.declared.reply.Reply.TheVariants as reply
@@ -16,11 +16,11 @@ use Rattle.cred_book.proofs.Equality.{same-Decides}
 
 -- the answer at a record, by the test whether it is the copied one
 module _ (work : Task) (now : Option RecordValue) where
-  pub judges_changed : same now work.1 ≡ false → (reply.Changed now, now, false) ≡ judged_at work (Some now)
+  pub judges_changed : same now work.1 ≡ false → (reply.Changed now, now, false) ≡ judgement_at work (Some now)
   judges_changed stale = rw stale refl
 
   pub judges_whole : same now work.1 ≡ true → (answer : Reply) (after : Option RecordValue) → answer ≡ (whole work.0 work.1).0 → after ≡ (whole work.0 work.1).1 → (change : Bool) → change ≡ makes_change answer
-      → (answer, after, change) ≡ judged_at work (Some now)
+      → (answer, after, change) ≡ judgement_at work (Some now)
   judges_whole fresh answer after said made change is_change =
       let copied = (same-Decides now work.1).0 fresh in
       sym (rw (fresh, copied, ← said, ← made, ← is_change) refl)
@@ -31,22 +31,22 @@ module _ (book : Accounts) (work : Task) (name : List ℕ) (is : name ≡ name_o
   unfolding committed
   committed_found entry found = ap (λ n. committed_at book work (map.get book n)) (sym is) ∙ ap (committed_at book work) found
 
-  pub judged_found : (entry : Option (Option RecordValue)) → map.get book name ≡ entry → judged_at work entry ≡ judged book work
-  unfolding judged
-  judged_found entry found = sym (ap (λ n. judged_at work (map.get book n)) (sym is) ∙ ap (judged_at work) found)
+  pub judged_found : (entry : Option (Option RecordValue)) → map.get book name ≡ entry → judgement_at work entry ≡ judgement book work
+  unfolding judgement
+  judged_found entry found = sym (ap (λ n. judgement_at work (map.get book n)) (sym is) ∙ ap (judgement_at work) found)
 
   pub commits_nothing : map.get book name ≡ None → (reply.NoAccount, book) ≡ committed book work
   commits_nothing found = sym (committed_found None found)
 
   by_test : (now : Option RecordValue) → map.get book (name_of work.0) ≡ Some now → (fresh : Bool)
-      → committed_if book work now fresh ≡ ((judged_if work now fresh).0, map.insert book (name_of work.0) (judged_if work now fresh).1)
+      → committed_if book work now fresh ≡ ((judgement_if work now fresh).0, map.insert book (name_of work.0) (judgement_if work now fresh).1)
   by_test now found true = refl
   by_test now found false = ap (λ b. (reply.Changed now, b)) (sym (insert_again book work now found))
 
   -- what was judged is put at the name, which changes nothing where the judgement is no change
-  pub commits_judged : (now : Option RecordValue) → map.get book name ≡ Some now → (judgement : Reply × Option RecordValue × Bool) → judgement ≡ judged_at work (Some now)
-      → (later : Accounts) → later ≡ map.insert book name judgement.1 → (judgement.0, later) ≡ committed book work
-  commits_judged now found judgement judges later put =
+  pub commits_judged : (now : Option RecordValue) → map.get book name ≡ Some now → (told : Reply × Option RecordValue × Bool) → told ≡ judgement_at work (Some now)
+      → (later : Accounts) → later ≡ map.insert book name told.1 → (told.0, later) ≡ committed book work
+  commits_judged now found told judges later put =
       let there = ap (map.get book) (sym is) ∙ found in
       let whole_commit = committed_found (Some now) found ∙ by_test now there (same now work.1) in
       sym (whole_commit ∙ rw (← judges, ← is, ← put) refl)

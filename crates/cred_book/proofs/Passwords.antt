@@ -6,7 +6,7 @@ use Rattle.std.proofs.lemmas.Slice.Eq.{bytes_eq-Decides}
 use Rattle.cred_phc.specs.Tags.{tag}
 use Rattle.cred_phc.specs.Values.{RecordValue}
 use Rattle.cred_book.specs.Accounts.{Accounts}
-use Rattle.cred_book.specs.Commits.{judged, judged_at, judged_if}
+use Rattle.cred_book.specs.Commits.{judgement, judgement_at, judgement_if}
 use Rattle.cred_book.specs.Passwords.{IsPasswordAt, IsPasswordOf}
 use Rattle.cred_book.specs.Works.{right, same, whole}
 use Rattle.cred_book.specs.declared.reply.Reply.TheVariants as reply
@@ -28,15 +28,15 @@ yes_at_copy name pw stored = yes_if (right stored pw) (IsPasswordOf stored pw) (
 abbrev IsFoundBy : List ℕ → Option (Option RecordValue) → Type 0
 IsFoundBy pw found = (stored : RecordValue) × (found ≡ Some (Some stored)) × IsPasswordOf stored pw
 
-yes_now : (name pw : List ℕ) (copy now : Option RecordValue) (fresh : Bool) → (judged_if (Verify name pw, copy) now fresh).0 ≡ reply.Yes → IsFoundBy pw (Some now)
+yes_now : (name pw : List ℕ) (copy now : Option RecordValue) (fresh : Bool) → (judgement_if (Verify name pw, copy) now fresh).0 ≡ reply.Yes → IsFoundBy pw (Some now)
 yes_now name pw copy None true said = absurd cc
 yes_now name pw copy (Some stored) true said = (stored, refl, (yes_at_copy name pw stored).0 said)
 yes_now name pw copy now false said = absurd cc
 
-yes_found : (name pw : List ℕ) (copy : Option RecordValue) (found : Option (Option RecordValue)) → (judged_at (Verify name pw, copy) found).0 ≡ reply.Yes → IsFoundBy pw found
+yes_found : (name pw : List ℕ) (copy : Option RecordValue) (found : Option (Option RecordValue)) → (judgement_at (Verify name pw, copy) found).0 ≡ reply.Yes → IsFoundBy pw found
 yes_found name pw copy None said = absurd cc
 yes_found name pw copy (Some now) said = yes_now name pw copy now (same now copy) said
 
-pub yes_at_judgement : (book : Accounts) (name pw : List ℕ) (copy : Option RecordValue) → (judged book (Verify name pw, copy)).0 ≡ reply.Yes → IsPasswordAt book name pw
-unfolding judged
+pub yes_at_judgement : (book : Accounts) (name pw : List ℕ) (copy : Option RecordValue) → (judgement book (Verify name pw, copy)).0 ≡ reply.Yes → IsPasswordAt book name pw
+unfolding judgement
 yes_at_judgement book name pw copy said = yes_found name pw copy (map.get book name) said

@@ -13,7 +13,9 @@ most_accounts = 4096
 
 -- a record or none is put at a name; a new name is added while there is room
 abbrev pub with_entry : Accounts → List ℕ → Option RecordValue → Accounts
-with_entry book name now = if map.contains_key book name || nat_lt (map.len book) most_accounts then map.insert book name now else book
+with_entry book name now =
+    if map.contains_key book name || nat_lt (map.len book) most_accounts
+    then map.insert book name now else book
 
 -- how the code keeps it: entries in the order of their names, with room for all that may come
 pub record IsKept (entries : List (List ℕ × Option RecordValue)) (capacity : ℕ) : Type 0 where

@@ -1,5 +1,6 @@
 -- What beginnings and commits do, by their answers.
-use Rattle.std.specs.Prelude.{◌≡◌, ℕ, List, Bool, true, false, if◌then◌else◌, Option, Some, None, Result, Ok, Err}
+use Rattle.std.specs.Prelude.{◌≡◌, ℕ, List, Bool, true, false, if◌then◌else◌, Option, Some, None}
+use Rattle.std.specs.Prelude.{Result, Ok, Err}
 use Rattle.std.specs.FinMap as map
 use Rattle.cred_phc.specs.Values.{RecordValue}
 use Rattle.cred_book.specs.Accounts.{Accounts}
@@ -12,22 +13,25 @@ use Rattle.cred_book.specs.declared.request.Request.{Request}
 
 -- a ticket is the request with the record of its name
 abbrev pub Begins : Accounts → Request → Result Task (Request × BookError) → Type 0
-Begins book request (Ok ticket) = (ticket.0 ≡ request) × (map.get book (name_of request) ≡ Some ticket.1)
-Begins book request (Err e) = (e ≡ (request, error.NoAccount)) × (map.get book (name_of request) ≡ None)
+Begins book request (Ok ticket) =
+    (ticket.0 ≡ request) × (map.get book (name_of request) ≡ Some ticket.1)
+Begins book request (Err e) =
+    (e ≡ (request, error.NoAccount)) × (map.get book (name_of request) ≡ None)
 
--- the reply where this record stands, which is the copied one or not, with the record after and whether that is a change
-abbrev pub judged_if : Task → Option RecordValue → Bool → Reply × Option RecordValue × Bool
-judged_if work now is_copy =
+-- the reply where this record stands, which is the copied one or not, with the record after and
+-- whether that is a change
+abbrev pub judgement_if : Task → Option RecordValue → Bool → Reply × Option RecordValue × Bool
+judgement_if work now is_copy =
     if is_copy
     then ((whole work.0 now).0, (whole work.0 now).1, makes_change (whole work.0 now).0)
     else (reply.Changed now, now, false)
 
-abbrev pub judged_at : Task → Option (Option RecordValue) → Reply × Option RecordValue × Bool
-judged_at work None = (reply.NoAccount, None, false)
-judged_at work (Some now) = judged_if work now (same now work.1)
+abbrev pub judgement_at : Task → Option (Option RecordValue) → Reply × Option RecordValue × Bool
+judgement_at work None = (reply.NoAccount, None, false)
+judgement_at work (Some now) = judgement_if work now (same now work.1)
 
-unfoldable pub judged : Accounts → Task → Reply × Option RecordValue × Bool
-judged book work = judged_at work (map.get book (name_of work.0))
+unfoldable pub judgement : Accounts → Task → Reply × Option RecordValue × Bool
+judgement book work = judgement_at work (map.get book (name_of work.0))
 
 -- the reply likewise, with the book after
 abbrev pub committed_if : Accounts → Task → Option RecordValue → Bool → Reply × Accounts
@@ -52,7 +56,8 @@ Commits old new work (Err (back, error.Name)) = ⊥
 Commits old new work (Err (back, error.NoAccount)) = ⊥
 
 -- an entry is put at a name that is there
-abbrev pub Sets : Accounts → Accounts → List ℕ → Option RecordValue → Result (Unit {0}) BookError → Type 0
+abbrev pub Sets : Accounts → Accounts → List ℕ → Option RecordValue
+    → Result (Unit {0}) BookError → Type 0
 Sets old new name now (Ok _) = (map.contains_key old name ≡ true) × (new ≡ map.insert old name now)
 Sets old new name now (Err error.NoAccount) = (map.contains_key old name ≡ false) × (new ≡ old)
 Sets old new name now (Err error.Memory) = ⊥

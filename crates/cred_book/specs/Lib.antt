@@ -3,8 +3,11 @@ pub mod Accounts
 pub mod Calls
 pub mod Changes
 pub mod Commits
+pub mod Errors
 pub mod Names
 pub mod Passwords
 pub mod Places
-pub mod Refusals
 pub mod Works
+pub use Rattle.cred_phc.specs.Ranges
+pub use Rattle.cred_phc.specs.Tags
+pub use Rattle.cred_phc.specs.Values

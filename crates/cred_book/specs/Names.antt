@@ -1,5 +1,6 @@
 -- The names of accounts, and their order.
-use Rattle.std.specs.Prelude.{ℕ, List, length, Bool, ◌&&◌, ◌||◌, ◌==◌, nat_le, if◌then◌else◌, Result, Ok, Err}
+use Rattle.std.specs.Prelude.{ℕ, List, length, Bool, ◌&&◌, ◌||◌, ◌==◌, nat_le, if◌then◌else◌}
+use Rattle.std.specs.Prelude.{Result, Ok, Err}
 use Rattle.std.specs.List.{list_all}
 use Rattle.std.specs.Ordering.{nat_cmp}
 use Rattle.std.specs.Cmp.Lexicographic.{slice_cmp}
@@ -9,7 +10,9 @@ use Rattle.cred_book.specs.declared.error.BookError.TheVariants as error
 
 -- a small letter, a digit, a full stop, a low line or a hyphen
 abbrev pub is_name_byte : ℕ → Bool
-is_name_byte b = (nat_le 97 b && nat_le b 122) || ((nat_le 48 b && nat_le b 57) || ((b == 46) || ((b == 95) || (b == 45))))
+is_name_byte b =
+    (nat_le 97 b && nat_le b 122)
+    || ((nat_le 48 b && nat_le b 57) || ((b == 46) || ((b == 95) || (b == 45))))
 
 -- 1 to 32 of them
 abbrev pub is_name : List ℕ → Bool

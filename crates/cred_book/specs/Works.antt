@@ -1,5 +1,6 @@
 -- One whole operation, done at the record that stands.
-use Rattle.std.specs.Prelude.{ℕ, List, length, Bool, true, false, ◌&&◌, not, ◌==◌, if◌then◌else◌, Option, Some, None}
+use Rattle.std.specs.Prelude.{ℕ, List, length, Bool, true, false, ◌&&◌, not, ◌==◌, if◌then◌else◌}
+use Rattle.std.specs.Prelude.{Option, Some, None}
 use Rattle.std.specs.Str.{bytes_eq}
 use Rattle.std.specs.FinMap as map
 use Rattle.cred_phc.specs.declared.scheme.Scheme.{Scheme}
@@ -12,7 +13,8 @@ use Rattle.cred_phc.specs.Tags.{tag}
 use Rattle.cred_phc.specs.Values.{SettingValue, RecordValue, record_of}
 use Rattle.cred_book.specs.Accounts.{Accounts}
 use Rattle.cred_book.specs.declared.request.Request.{Request}
-use Rattle.cred_book.specs.declared.request.Request.TheVariants.{Enrol, Verify, Change, Upgrade, Remove}
+use Rattle.cred_book.specs.declared.request.Request.TheVariants.{Enrol, Verify, Change, Upgrade}
+use Rattle.cred_book.specs.declared.request.Request.TheVariants.{Remove}
 use Rattle.cred_book.specs.declared.reply.Reply.{Reply}
 use Rattle.cred_book.specs.declared.reply.Reply.TheVariants as reply
 
@@ -31,13 +33,16 @@ same_variant Id Id = true
 same_variant _ _ = false
 
 abbrev pub same_scheme : Scheme → Scheme → Bool
-same_scheme (Argon2 v k m t p) (Argon2 v' k' m' t' p') = same_version v v' && (same_variant k k' && ((m == m') && ((t == t') && (p == p'))))
+same_scheme (Argon2 v k m t p) (Argon2 v' k' m' t' p') =
+    same_version v v' && (same_variant k k' && ((m == m') && ((t == t') && (p == p'))))
 same_scheme (Scrypt ln r p) (Scrypt ln' r' p') = (ln == ln') && ((r == r') && (p == p'))
 same_scheme (Argon2 v k m t p) (Scrypt ln r p') = false
 same_scheme (Scrypt ln r p) (Argon2 v k m t p') = false
 
 abbrev pub same_record : RecordValue → RecordValue → Bool
-same_record a b = same_scheme a.setting.scheme b.setting.scheme && (bytes_eq a.setting.salt b.setting.salt && bytes_eq a.tag b.tag)
+same_record a b =
+    same_scheme a.setting.scheme b.setting.scheme
+    && (bytes_eq a.setting.salt b.setting.salt && bytes_eq a.tag b.tag)
 
 abbrev pub same : Option RecordValue → Option RecordValue → Bool
 same None None = true
@@ -79,8 +84,8 @@ is_for_current (Remove name pw) = true
 
 -- an upgrade judges the password first; salt and tag length play no part in whether the record is
 -- kept
-abbrev pub upgraded : RecordValue → List ℕ → SettingValue → Reply × Option RecordValue
-upgraded stored pw setting =
+abbrev pub upgrade_outcome : RecordValue → List ℕ → SettingValue → Reply × Option RecordValue
+upgrade_outcome stored pw setting =
     if not (right stored pw) then (reply.Wrong, Some stored)
     else if same_scheme stored.setting.scheme setting.scheme then (reply.Kept, Some stored)
     else (reply.Upgraded, Some (made setting pw))
@@ -90,14 +95,17 @@ abbrev pub whole : Request → Option RecordValue → Reply × Option RecordValu
 whole (Enrol name pw setting) (Some stored) = (reply.Exists, Some stored)
 whole (Enrol name pw setting) None = (reply.Enrolled, Some (made setting pw))
 whole (Verify name pw) None = (reply.Absent, None)
-whole (Verify name pw) (Some stored) = (if right stored pw then reply.Yes else reply.No, Some stored)
+whole (Verify name pw) (Some stored) =
+    (if right stored pw then reply.Yes else reply.No, Some stored)
 whole (Change name pw new setting) None = (reply.Absent, None)
 whole (Change name pw new setting) (Some stored) =
-    if right stored pw then (reply.Replaced, Some (made setting new)) else (reply.Wrong, Some stored)
+    if right stored pw then (reply.Replaced, Some (made setting new))
+    else (reply.Wrong, Some stored)
 whole (Upgrade name pw setting) None = (reply.Absent, None)
-whole (Upgrade name pw setting) (Some stored) = upgraded stored pw setting
+whole (Upgrade name pw setting) (Some stored) = upgrade_outcome stored pw setting
 whole (Remove name pw) None = (reply.Absent, None)
-whole (Remove name pw) (Some stored) = if right stored pw then (reply.Removed, None) else (reply.Wrong, Some stored)
+whole (Remove name pw) (Some stored) =
+    if right stored pw then (reply.Removed, None) else (reply.Wrong, Some stored)
 
 -- the replies to operations that make a change
 abbrev pub makes_change : Reply → Bool
@@ -111,7 +119,8 @@ makes_change _ = false
 
 abbrev pub seq_at : Accounts → Request → Option (Option RecordValue) → Reply × Accounts
 seq_at book request None = (reply.NoAccount, book)
-seq_at book request (Some now) = ((whole request now).0, map.insert book (name_of request) (whole request now).1)
+seq_at book request (Some now) =
+    ((whole request now).0, map.insert book (name_of request) (whole request now).1)
 
 -- a whole operation on the record of the request's name
 unfoldable pub seq : Accounts → Request → Reply × Accounts

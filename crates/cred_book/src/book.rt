@@ -1,11 +1,12 @@
 //! The book: the names of all accounts, and the record that stands at each.
 
-ghost use Rattle.std.specs.Prelude.{◌≡◌, ◌<◌, ◌≤◌, IfOk, IfErr, IsTrue, MatchBool, MatchResult, true};
+ghost use Rattle.std.specs.Prelude.{◌≡◌, ◌<◌, ◌≤◌, IfOk, IfErr, IsTrue, MatchBool, MatchResult};
+ghost use Rattle.std.specs.Prelude.{true};
 ghost use Rattle.std.specs.FinMap as map;
 ghost use Rattle.std.specs.Slice.Iter.{iter_rest};
 ghost use Rattle.cred_book.specs.Accounts.{most_accounts, with_entry};
 ghost use Rattle.cred_book.specs.Calls.{Admits, Loads, Shows};
-ghost use Rattle.cred_book.specs.Commits.{Begins, Sets, committed, judged};
+ghost use Rattle.cred_book.specs.Commits.{Begins, Sets, committed, judgement};
 ghost use Rattle.cred_book.specs.Names.{name_cmp};
 ghost use Rattle.cred_book.specs.Places.{IsGapFor, IsPlaceOf};
 ghost use Rattle.cred_book.specs.Works.{is_for_current};
@@ -140,7 +141,7 @@ impl Book {
     {
         match place_of(&self.accounts, &worked.request().name()) {
             Ok(place) => {
-                let (reply, after, _) = worked.judged_at(self.accounts[place].1);
+                let (reply, after, _) = worked.judgement_at(self.accounts[place].1);
                 self.accounts[place].1 = after;
                 reply
             }
@@ -151,10 +152,10 @@ impl Book {
     /// What `commit` would answer, the record that would stand then (none where the name isn't
     /// there), and whether that would be a change.
     pub fn judge(&self, worked: &Worked) -> (Reply, Option<Record>, bool)
-        ensures { result ≡ judged self.now worked.now }
+        ensures { result ≡ judgement self.now worked.now }
     {
         match self.show(&worked.request().name()) {
-            Ok(now) => worked.judged_at(now),
+            Ok(now) => worked.judgement_at(now),
             Err(_) => (Reply::NoAccount, None, false),
         }
     }

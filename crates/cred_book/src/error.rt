@@ -1,7 +1,7 @@
 //! Why a call on a book is refused.
 
 ghost use Rattle.std.specs.Prelude.{◌≡◌};
-ghost use Rattle.cred_book.specs.Refusals.{refusal_number, refusal_word};
+ghost use Rattle.cred_book.specs.Errors.{error_number, error_word};
 ghost use Rattle.cred_book.specs.declared.error.BookError.TheVariants.{Memory as OutOfMemory};
 
 use std::alloc::AllocError;
@@ -10,22 +10,27 @@ use thiserror::Error;
 /// Why a name isn't one, or why a book doesn't do what it is asked.
 #[derive(Clone, Copy, Debug, PartialEq, Eq, Error)]
 pub enum BookError {
+    /// The name is there already.
     #[error("the name is there already")]
     Exists,
+    /// The book has 4096 names.
     #[error("the book has 4096 names")]
     Full,
+    /// The bytes aren't a name.
     #[error("the bytes are not a name")]
     Name,
+    /// There was no memory for the book or the work.
     #[error("out of memory")]
     Memory,
+    /// The name isn't there.
     #[error("the name is not there")]
     NoAccount,
 }
 
 impl BookError {
-    /// The number of the refusal, from 1 to 5.
+    /// The number of the error, from 1 to 5.
     pub fn number(self) -> u8
-        ensures { result ≡ refusal_number self }
+        ensures { result ≡ error_number self }
     {
         match self {
             BookError::Exists => 1,
@@ -36,9 +41,9 @@ impl BookError {
         }
     }
 
-    /// The name of the refusal in lower case, as `noaccount`.
+    /// The name of the error in lower case, as `noaccount`.
     pub fn word(self) -> &'static str
-        ensures { result.now ≡ refusal_word self }
+        ensures { result.now ≡ error_word self }
     {
         match self {
             BookError::Exists => "exists",

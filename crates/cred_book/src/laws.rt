@@ -6,7 +6,7 @@ ghost use Rattle.std.specs.FinMap as map;
 ghost use Rattle.cred_phc.specs.Values.{RecordValue};
 ghost use Rattle.cred_book.specs.Accounts.{Accounts};
 ghost use Rattle.cred_book.specs.Changes.{change_of, judged_book};
-ghost use Rattle.cred_book.specs.Commits.{committed, judged};
+ghost use Rattle.cred_book.specs.Commits.{committed, judgement};
 ghost use Rattle.cred_book.specs.Passwords.{IsPasswordAt, IsPasswordOf};
 ghost use Rattle.cred_book.specs.Works.{Task, makes_change, whole};
 
@@ -23,7 +23,7 @@ pub fn change_is_committed()
     ensures no_change { (book : Accounts) (work : Task)
         → makes_change (committed book work).0 ≡ false → (committed book work).1 ≡ book }
     ensures judgement { (book : Accounts) (work : Task)
-        → committed book work ≡ ((judged book work).0, judged_book book work (judged book work)) }
+        → committed book work ≡ ((judgement book work).0, judged_book book work (judgement book work)) }
 {}
 
 /// `Yes` is answered exactly where the password's tag is the record's, and only where that record
@@ -35,6 +35,6 @@ pub fn yes_is_the_password()
         → (committed book (Request.Verify name pw, copy)).0 ≡ Reply.Yes
         → IsPasswordAt book name pw }
     ensures at_judgement { (book : Accounts) (name pw : List ℕ) (copy : Option RecordValue)
-        → (judged book (Request.Verify name pw, copy)).0 ≡ Reply.Yes
+        → (judgement book (Request.Verify name pw, copy)).0 ≡ Reply.Yes
         → IsPasswordAt book name pw }
 {}

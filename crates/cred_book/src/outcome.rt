@@ -2,7 +2,7 @@
 
 ghost use Rattle.std.specs.Prelude.{◌≡◌, ◌≤◌, IfOk, if◌then◌else◌};
 ghost use Rattle.cred_phc.specs.Tags.{tag};
-ghost use Rattle.cred_book.specs.Works.{made, right, upgraded, whole};
+ghost use Rattle.cred_book.specs.Works.{made, right, upgrade_outcome, whole};
 
 use crate::reply::Reply;
 use crate::request::Request;
@@ -107,7 +107,7 @@ impl<R: Threads + Sync, G: Gate + Sync> Hashing<'_, R, G> {
         pw: &Password,
         setting: &Setting,
     ) -> Result<Outcome, TagError>
-        ensures { IfOk result (λ outcome. outcome ≡ upgraded stored.now pw.now setting.now) }
+        ensures { IfOk result (λ outcome. outcome ≡ upgrade_outcome stored.now pw.now setting.now) }
     {
         if !self.is_right(stored, pw)? {
             return Ok((Reply::Wrong, Some(*stored)));
@@ -121,7 +121,8 @@ impl<R: Threads + Sync, G: Gate + Sync> Hashing<'_, R, G> {
 
     fn remove(&self, stored: &Record, pw: &Password) -> Result<Outcome, TagError>
         ensures { IfOk result (λ outcome. outcome
-            ≡ (if right stored.now pw.now then (Reply.Removed, None) else (Reply.Wrong, Some stored.now))) }
+            ≡ (if right stored.now pw.now then (Reply.Removed, None)
+            else (Reply.Wrong, Some stored.now))) }
     {
         if !self.is_right(stored, pw)? {
             return Ok((Reply::Wrong, Some(*stored)));

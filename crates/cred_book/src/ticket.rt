@@ -3,7 +3,7 @@
 
 ghost use Rattle.std.specs.Prelude.{◌≡◌, IfErr, IfOk, true, false};
 ghost use Rattle.cred_book.specs.Changes.{change_of};
-ghost use Rattle.cred_book.specs.Commits.{judged_at};
+ghost use Rattle.cred_book.specs.Commits.{judgement_at};
 ghost use Rattle.cred_book.specs.Works.{is_verify, whole};
 
 use crate::change::Change;
@@ -132,8 +132,8 @@ impl Worked {
     }
 
     /// What a commit answers where `now` stands, the record after it, and whether that is a change.
-    pub(crate) fn judged_at(&self, now: Option<Record>) -> (Reply, Option<Record>, bool)
-        ensures { result ≡ judged_at self.now (Some now) }
+    pub(crate) fn judgement_at(&self, now: Option<Record>) -> (Reply, Option<Record>, bool)
+        ensures { result ≡ judgement_at self.now (Some now) }
     {
         if !is_same(&now, &self.copy()) {
             return (Reply::Changed { now }, now, false);
@@ -142,8 +142,8 @@ impl Worked {
         (reply, self.after(), reply.makes_change())
     }
 
-    /// What a commit of this work changes, where it makes a change at all: `None` where it makes none
-    /// even at the copied record. A commit that finds another record makes none.
+    /// What a commit of this work changes, where it makes a change at all: `None` where it makes
+    /// none even at the copied record. A commit that finds another record makes none.
     #[tactic(auto, unfolding(crate::specs::Changes::change_of))]
     pub fn change(&self) -> Option<Change>
         ensures { result ≡ change_of self.now }

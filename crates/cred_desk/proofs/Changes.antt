@@ -9,7 +9,7 @@ use Rattle.std.specs.declared.cmp.Ordering.TheVariants.{Less, Equal, Greater}
 use Rattle.cred_phc.specs.Values.{RecordValue}
 use Rattle.cred_book.specs.Accounts.{Accounts}
 use Rattle.cred_book.specs.Names.{name_cmp}
-use Rattle.cred_book.specs.Commits.{committed, committed_at, committed_if, judged, judged_at, judged_if}
+use Rattle.cred_book.specs.Commits.{committed, committed_at, committed_if, judgement, judgement_at, judgement_if}
 use Rattle.cred_book.specs.Works.{Task, name_of, same, same_scheme, whole, makes_change, right}
 use Rattle.cred_book.specs.declared.reply.Reply.{Reply}
 use Rattle.cred_book.specs.declared.reply.Reply.TheVariants as reply
@@ -79,17 +79,17 @@ whole_stays (Remove name pw) (Some stored) stays = two (IsStill (Some stored)) (
 
 -- ---- commits
 
-judged_if_follows : (work : Task) → HavePasswords work.0 → (now : Option RecordValue) (fresh : Bool) → (judged_if work now fresh).2 ≡ true → Follows now (judged_if work now fresh).1
+judged_if_follows : (work : Task) → HavePasswords work.0 → (now : Option RecordValue) (fresh : Bool) → (judgement_if work now fresh).2 ≡ true → Follows now (judgement_if work now fresh).1
 judged_if_follows work held now true change = whole_follows work.0 held now change
 judged_if_follows work held now false change = absurd cc
 
-judged_at_follows : (work : Task) → HavePasswords work.0 → (found : Option (Option RecordValue)) → (judged_at work found).2 ≡ true → FollowsAt found (judged_at work found).1
+judged_at_follows : (work : Task) → HavePasswords work.0 → (found : Option (Option RecordValue)) → (judgement_at work found).2 ≡ true → FollowsAt found (judgement_at work found).1
 judged_at_follows work held None change = absurd cc
 judged_at_follows work held (Some now) change = judged_if_follows work held now (same now work.1) change
 
 -- the entry of a commit is one that some operation makes
-pub entry_made : (book : Accounts) (work : Task) → HavePasswords work.0 → (judged book work).2 ≡ true → FollowsAt (map.get book (name_of work.0)) (judged book work).1
-unfolding judged
+pub entry_made : (book : Accounts) (work : Task) → HavePasswords work.0 → (judgement book work).2 ≡ true → FollowsAt (map.get book (name_of work.0)) (judgement book work).1
+unfolding judgement
 entry_made book work held change = judged_at_follows work held (map.get book (name_of work.0)) change
 
 -- ---- books after commits
@@ -122,16 +122,16 @@ module _ (book : Accounts) (work : Task) where
     by_change true is = refl
     by_change false is = sym (ap (map.insert book (name_of work.0)) (whole_stays work.0 now is) ∙ insert_again)
 
-    by_copy : (fresh : Bool) → ((judged_if work now fresh).0, after_entry book (entry_if work (judged_if work now fresh))) ≡ committed_if book work now fresh
+    by_copy : (fresh : Bool) → ((judgement_if work now fresh).0, after_entry book (entry_if work (judgement_if work now fresh))) ≡ committed_if book work now fresh
     by_copy true = ap (λ b. ((whole work.0 now).0, b)) (by_change (makes_change (whole work.0 now).0) refl)
     by_copy false = refl
 
-  by_record : (found : Option (Option RecordValue)) → map.get book (name_of work.0) ≡ found → ((judged_at work found).0, after_entry book (entry_if work (judged_at work found))) ≡ committed_at book work found
+  by_record : (found : Option (Option RecordValue)) → map.get book (name_of work.0) ≡ found → ((judgement_at work found).0, after_entry book (entry_if work (judgement_at work found))) ≡ committed_at book work found
   by_record None is = refl
   by_record (Some now) is = by_copy now is (same now work.1)
 
   committed_entry : (reply_of book work, after_entry book (entry_of book work)) ≡ committed book work
-  unfolding committed judged
+  unfolding committed judgement
   committed_entry = by_record (map.get book (name_of work.0)) refl
 
 -- a commit answers and changes the book as by the list's new entry

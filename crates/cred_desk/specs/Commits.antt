@@ -2,7 +2,7 @@
 use Rattle.std.specs.Prelude.{ℕ, List, [], ◌∷◌, ◌++◌, if◌then◌else◌, Option, Some, None}
 use Rattle.cred_phc.specs.Values.{IsPassword}
 use Rattle.cred_book.specs.Accounts.{Accounts}
-use Rattle.cred_book.specs.Commits.{judged}
+use Rattle.cred_book.specs.Commits.{judgement}
 use Rattle.cred_book.specs.Works.{Task, name_of}
 use Rattle.cred_book.specs.declared.reply.Reply.{Reply}
 use Rattle.cred_book.specs.declared.request.Request.{Request}
@@ -12,12 +12,12 @@ use Rattle.cred_desk.specs.declared.entry.Entry.{Entry}
 
 -- the answer at this book
 abbrev pub reply_of : Accounts → Task → Reply
-reply_of book work = (judged book work).0
+reply_of book work = (judgement book work).0
 
 -- the entry that the commit makes, if it is a change
 abbrev pub entry_of : Accounts → Task → Option Entry
-entry_of book work = if (judged book work).2 then Some
-    (entry (name_of work.0) (judged book work).1) else None
+entry_of book work = if (judgement book work).2 then Some
+    (entry (name_of work.0) (judgement book work).1) else None
 
 -- the list after it
 abbrev pub list_after : List Entry → Option Entry → List Entry

@@ -215,7 +215,7 @@ fn is_empty(schema: &Schema) -> bool
 impl<S: Alter> Keeper for FileBook<S> {
     ghost use Rattle.std.specs.Prelude.{◌≡◌, OnOk, IfOk, IfSome, Some, None, is_ok, not, true};
     ghost use Rattle.cred_book.specs.Calls.{Admits, Loads};
-    ghost use Rattle.cred_book.specs.Commits.{Commits, judged};
+    ghost use Rattle.cred_book.specs.Commits.{Commits, judgement};
     ghost use Rattle.cred_book.specs.Works.{makes_change};
 
     ghost book = { λ b. b.0 };
@@ -270,7 +270,7 @@ impl<S: Alter> Keeper for FileBook<S> {
     fn commit<R: Wait>(&mut self, _rt: &R, worked: Worked) -> Result<Reply, (Worked, BookError)>
         ensures done { Commits self.old.0 self.new.0 worked result }
         ensures refused { IfSome self.old.1.0 (λ _.
-            is_ok result ≡ not (judged self.old.0 worked).2) }
+            is_ok result ≡ not (judgement self.old.0 worked).2) }
         ensures written { OnOk result (self.new.1.0 ≡ self.old.1.0) }
         ensures remembered { IfSome self.old.1.0 (λ l. self.new.1.0 ≡ Some l) }
     {

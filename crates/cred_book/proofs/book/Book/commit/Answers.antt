@@ -13,7 +13,7 @@ pub returns-in-Ok : goal.returns-in-Ok
 returns-in-Ok c =
     let place = rw c.deref.ensures.value at c.in-Ok.ensures in
     let found = get_there _ _ c.self.invariant _ c.self.view_is _ _ place c.index.result.now ∙ ap (λ entry. Some entry.1) (sym c.index.ensures) in
-    commits_judged c.args.self.now c.args.worked _ (c.name.ensures ∙ ap name_of c.request.ensures) _ found _ c.judged_at-reply.ensures _
+    commits_judged c.args.self.now c.args.worked _ (c.name.ensures ∙ ap name_of c.request.ensures) _ found _ c.judgement_at-reply.ensures _
     (rw c.index_mut.ensures.value (set_there _ _ c.self.invariant _ c.self.view_is _ _ place c.index_mut.result.now _))
 
 pub returns-in-Err : goal.returns-in-Err
