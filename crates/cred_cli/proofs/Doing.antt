@@ -12,7 +12,7 @@ use Rattle.cred_cli.specs.declared.answer.AnswerLine.{AnswerLine}
 use Rattle.cred_cli.specs.declared.refusal.Refusal.TheVariants.{Book, Busy, Idle}
 use Rattle.cred_cli.specs.Answers.{IsDone, line_bytes}
 use Rattle.cred_cli.specs.History.{Answer, Begun, Refused}
-use Rattle.cred_cli.specs.Steps.{Step, stay, slot, begun, begun_at, committing, reply_answer}
+use Rattle.cred_cli.specs.Steps.{Step, stay, slot, begin_step, begin_step_at, commit_step, reply_answer}
 use Rattle.cred_cli.specs.Texts.{line_of}
 use Rattle.cred_cli.proofs.Simulation.{begun-at, committing-at}
 
@@ -22,11 +22,11 @@ pub stays_done : (line : AnswerLine) (step : Step) (answer : Answer) (book : Acc
 stays_done line step answer book slots is said = rw is (said, refl, refl)
 
 opened : (task : Option Task) → is_some task ≡ true → (book : Accounts) (slots : List (Option Task)) (key : ℕ) (request : Request) (entry : Option (Option RecordValue)) →
-    begun_at book slots key request task entry ≡ stay (Refused Busy) book slots
+    begin_step_at book slots key request task entry ≡ stay (Refused Busy) book slots
 opened None busy book slots key request entry = cc
 opened (Some task) busy book slots key request entry = refl
 
-pub begun_busy : (book : Accounts) (slots : List (Option Task)) (key : ℕ) (request : Request) → is_some (slot slots key) ≡ true → begun book slots key request ≡ stay (Refused Busy) book slots
+pub begun_busy : (book : Accounts) (slots : List (Option Task)) (key : ℕ) (request : Request) → is_some (slot slots key) ≡ true → begin_step book slots key request ≡ stay (Refused Busy) book slots
 begun_busy book slots key request busy = begun-at book slots key request (slot slots key) _ refl refl ∙ opened (slot slots key) busy book slots key request _
 
 not_open : (task : Option Task) → is_some task ≡ false → task ≡ None
@@ -34,14 +34,14 @@ not_open None free = refl
 not_open (Some task) free = cc
 
 pub begun_absent : (book : Accounts) (slots : List (Option Task)) (key : ℕ) (request : Request) → is_some (slot slots key) ≡ false → map.get book (name_of request) ≡ None →
-    begun book slots key request ≡ stay (Refused (Book error.NoAccount)) book slots
+    begin_step book slots key request ≡ stay (Refused (Book error.NoAccount)) book slots
 begun_absent book slots key request free found = begun-at book slots key request None None (not_open _ free) found
 
 pub refused_with : {A B : Type 0} (a c : A) (b d : B) → ◌≡◌ {A = A × B} (a, b) (c, d) → b ≡ d
 refused_with {A} {B} a c b d same = ap {A = A × B} (λ p. p.1) same
 
 pub begun_fresh : (book : Accounts) (slots : List (Option Task)) (key : ℕ) (request : Request) (ticket : Task) → is_some (slot slots key) ≡ false → Begins book request (Ok ticket) →
-    begun book slots key request ≡ record { answer = Begun; book = book; slots = set slots (key - 1) (Some ticket) }
+    begin_step book slots key request ≡ record { answer = Begun; book = book; slots = set slots (key - 1) (Some ticket) }
 begun_fresh book slots key request ticket free begins =
     begun-at book slots key request None (Some ticket.1) (not_open _ free) begins.1 ∙ ap (λ r. record { answer = Begun; book = book; slots = set slots (key - 1) (Some (r, ticket.1)) }) (sym begins.0)
 
@@ -52,12 +52,12 @@ set_none [] i none = refl
 set_none (t ∷ ts) zero none = ap (λ s. s ∷ ts) (sym none)
 set_none (t ∷ ts) (suc i) none = ap (λ s. t ∷ s) (set_none ts i none)
 
-pub commits_idle : (book : Accounts) (slots left : List (Option Task)) (key : ℕ) → None ≡ slot slots key → left ≡ set slots (key - 1) None → committing book slots key ≡ stay (Refused Idle) book left
+pub commits_idle : (book : Accounts) (slots left : List (Option Task)) (key : ℕ) → None ≡ slot slots key → left ≡ set slots (key - 1) None → commit_step book slots key ≡ stay (Refused Idle) book left
 commits_idle book slots left key none closed =
     committing-at book slots key None (sym none) ∙ ap (stay (Refused Idle) book) (sym (set_none slots (key - 1) (sym none)) ∙ sym closed)
 
 pub commits_done : (old new : Accounts) (slots left : List (Option Task)) (key : ℕ) (task work : Task) (reply : Reply) → Some task ≡ slot slots key → left ≡ set slots (key - 1) None → work ≡ task →
-    Commits old new work (Ok reply) → committing old slots key ≡ record { answer = reply_answer reply; book = new; slots = left }
+    Commits old new work (Ok reply) → commit_step old slots key ≡ record { answer = reply_answer reply; book = new; slots = left }
 commits_done old new slots left key task work reply some closed is commits =
     let done : committed old task ≡ (reply, new) = ap (committed old) (sym is) ∙ sym commits in
     committing-at old slots key (Some task) (sym some) ∙ ap (λ c. record { answer = reply_answer c.0; book = c.1; slots = set slots (key - 1) None }) done ∙ ap (λ s. record { answer = reply_answer reply; book = new; slots = s }) (sym closed)

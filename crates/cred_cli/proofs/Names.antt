@@ -16,7 +16,7 @@ use Rattle.cred_book.specs.Works.{name_of, seq, seq_at, whole}
 use Rattle.cred_book.specs.declared.request.Request.{Request}
 use Rattle.cred_cli.specs.declared.event.Event.{Event}
 use Rattle.cred_cli.specs.declared.event.Event.TheVariants.{Account, Load, Show, Begin, Commit, Bad}
-use Rattle.cred_cli.specs.History.{is_among, names_after, names_at, Opened, open_at, Deed, Admission, Loading, Whole, closing, is_stale, deed_of, done, after, book_after, book_at}
+use Rattle.cred_cli.specs.History.{is_among, names_after, names_at, Opened, open_at, Deed, Admission, Loading, Whole, commit_deed, is_stale, deed_of, deeds_before, after, book_after, book_at}
 
 -- the names are those of the book
 pub record SameNames (names : List (List ℕ)) (book : Accounts) : Type 0 where
@@ -75,7 +75,7 @@ whole_done names book request same = by_entry (map.get book (name_of request)) r
     by_entry None e = same
     by_entry (Some now) e = put names book (name_of request) (whole request now).1 same (sym (same.among (name_of request)) ∙ ap is_some e)
 
-closed_one : (names : List (List ℕ)) (opening book : Accounts) (past : List (Option Deed)) (opened : Option Opened) → SameNames names book → SameNames names (after book (closing opening past opened))
+closed_one : (names : List (List ℕ)) (opening book : Accounts) (past : List (Option Deed)) (opened : Option Opened) → SameNames names book → SameNames names (after book (commit_deed opening past opened))
 closed_one names opening book past None same = same
 closed_one names opening book past (Some opened) same = by_case (is_stale opening past opened)
   where
@@ -106,12 +106,12 @@ next opening book events i past (Some (Load name stored)) same = by_case (is_amo
 
 -- ---- the recursion on the place
 
-pub done-zero : (book : Accounts) (events : List Event) → done book events 0 ≡ []
-unfolding done
+pub done-zero : (book : Accounts) (events : List Event) → deeds_before book events 0 ≡ []
+unfolding deeds_before
 done-zero book events = refl
 
-pub done-suc : (book : Accounts) (events : List Event) (i : ℕ) → done book events (suc i) ≡ done book events i ++ deed_of book events i (done book events i) (slice_get events i) ∷ []
-unfolding done
+pub done-suc : (book : Accounts) (events : List Event) (i : ℕ) → deeds_before book events (suc i) ≡ deeds_before book events i ++ deed_of book events i (deeds_before book events i) (slice_get events i) ∷ []
+unfolding deeds_before
 done-suc book events i = refl
 
 names_at-zero : (book : Accounts) (events : List Event) → names_at book events 0 ≡ map.keys book
@@ -134,28 +134,28 @@ book_after-more book (d ∷ ds) deed = book_after-more (after book d) ds deed
 pub book_at-zero : (book : Accounts) (events : List Event) → book_at book events 0 ≡ book
 book_at-zero book events = ap (book_after book) (done-zero book events) ∙ book_after-none book
 
-pub book_at-suc : (book : Accounts) (events : List Event) (i : ℕ) → book_at book events (suc i) ≡ after (book_at book events i) (deed_of book events i (done book events i) (slice_get events i))
-book_at-suc book events i = ap (book_after book) (done-suc book events i) ∙ book_after-more book (done book events i) (deed_of book events i (done book events i) (slice_get events i))
+pub book_at-suc : (book : Accounts) (events : List Event) (i : ℕ) → book_at book events (suc i) ≡ after (book_at book events i) (deed_of book events i (deeds_before book events i) (slice_get events i))
+book_at-suc book events i = ap (book_after book) (done-suc book events i) ∙ book_after-more book (deeds_before book events i) (deed_of book events i (deeds_before book events i) (slice_get events i))
 
 -- the names at each place are those of the book there
 pub same_names : (book : Accounts) (events : List Event) (i : ℕ) → SameNames (names_at book events i) (book_at book events i)
 same_names book events zero = rw (names_at-zero book events, book_at-zero book events) (at_first book)
-same_names book events (suc i) = rw (names_at-suc book events i, book_at-suc book events i) (next book (book_at book events i) events i (done book events i) (slice_get events i) (same_names book events i))
+same_names book events (suc i) = rw (names_at-suc book events i, book_at-suc book events i) (next book (book_at book events i) events i (deeds_before book events i) (slice_get events i) (same_names book events i))
 
-length-done : (book : Accounts) (events : List Event) (i : ℕ) → length (done book events i) ≡ i
+length-done : (book : Accounts) (events : List Event) (i : ℕ) → length (deeds_before book events i) ≡ i
 length-done book events zero = ap length (done-zero book events)
-length-done book events (suc i) = ap length (done-suc book events i) ∙ length-append (done book events i) _ ∙ omega (arith, length-done book events i)
+length-done book events (suc i) = ap length (done-suc book events i) ∙ length-append (deeds_before book events i) _ ∙ omega (arith, length-done book events i)
 
 -- a front of a history is the earlier history
-pub take-done : (book : Accounts) (events : List Event) (j i : ℕ) → j ≤ i → take j (done book events i) ≡ done book events j
+pub take-done : (book : Accounts) (events : List Event) (j i : ℕ) → j ≤ i → take j (deeds_before book events i) ≡ deeds_before book events j
 take-done book events zero i le = sym (done-zero book events)
 take-done book events (suc j) zero le = absurd (omega (arith, le))
 take-done book events (suc j) (suc i) le = elim (cases_lt i (suc j)) [
   | inl last ↦
       let same : j ≡ i = omega (arith, last, le) in
-      rw same (take_all (suc i) (done book events (suc i)) (omega (arith, length-done book events (suc i))))
+      rw same (take_all (suc i) (deeds_before book events (suc i)) (omega (arith, length-done book events (suc i))))
   | inr earlier ↦
       ap (take (suc j)) (done-suc book events i)
-      ∙ take-append-le (suc j) (done book events i) _ (omega (arith, earlier, length-done book events i))
+      ∙ take-append-le (suc j) (deeds_before book events i) _ (omega (arith, earlier, length-done book events i))
       ∙ take-done book events (suc j) i earlier
 ]

@@ -21,8 +21,8 @@ use Rattle.cred_cli.specs.declared.event.Event.{Event}
 use Rattle.cred_cli.specs.declared.event.Event.TheVariants.{Account, Load, Show, Begin, Commit, Bad}
 use Rattle.cred_cli.specs.declared.refusal.Refusal.TheVariants.{Book, Busy, Idle}
 use Rattle.cred_cli.specs.Events.{IsSound}
-use Rattle.cred_cli.specs.History.{Answer, Done, Replied, Refused, Deed, Admission, Loading, Whole, Opened, open_after, open_at, answer_of, answer_at, book_at, book_after, names_at, deed_of, done, after, closing, closed, is_stale, is_among, same_entry}
-use Rattle.cred_cli.specs.Steps.{Step, step, stay, slot, begun, begun_at, committing, committing_at, reply_answer}
+use Rattle.cred_cli.specs.History.{Answer, Done, Replied, Refused, Deed, Admission, Loading, Whole, Opened, open_after, open_at, answer_of, answer_at, book_at, book_after, names_at, deed_of, deeds_before, after, commit_deed, commit_answer, is_stale, is_among, same_entry}
+use Rattle.cred_cli.specs.Steps.{Step, step, stay, slot, begin_step, begin_step_at, commit_step, commit_step_at, reply_answer}
 use Rattle.cred_cli.specs.Tickets.{HoldTickets, IsTicketOf}
 use Rattle.cred_cli.proofs.Names.{same_names, book_at-suc, take-done}
 use Rattle.cred_cli.proofs.Openings.{IsKnown, known_at, open_at-suc}
@@ -83,17 +83,17 @@ module _ (book : Accounts) (events : List Event) (i : ℕ) (slots : List (Option
     ];
   }
 
-  stays : (answer : Answer) → answer ≡ answer_of book events i (Some event) → deed_of book events i (done book events i) (Some event) ≡ None → HoldTickets book events (suc i) slots → IsStep book events i (stay answer (book_at book events i) slots)
+  stays : (answer : Answer) → answer ≡ answer_of book events i (Some event) → deed_of book events i (deeds_before book events i) (Some event) ≡ None → HoldTickets book events (suc i) slots → IsStep book events i (stay answer (book_at book events i) slots)
   stays answer said none tickets = record {
     answer = said ∙ ap (answer_of book events i) (sym here);
-    book_is = sym (book_at-suc book events i ∙ ap (λ e. after (book_at book events i) (deed_of book events i (done book events i) e)) here ∙ ap (after (book_at book events i)) none);
+    book_is = sym (book_at-suc book events i ∙ ap (λ e. after (book_at book events i) (deed_of book events i (deeds_before book events i) e)) here ∙ ap (after (book_at book events i)) none);
     tickets = tickets;
   }
 
-  moves : (step : Step) → step.answer ≡ answer_of book events i (Some event) → step.book ≡ after (book_at book events i) (deed_of book events i (done book events i) (Some event)) → HoldTickets book events (suc i) step.slots → IsStep book events i step
+  moves : (step : Step) → step.answer ≡ answer_of book events i (Some event) → step.book ≡ after (book_at book events i) (deed_of book events i (deeds_before book events i) (Some event)) → HoldTickets book events (suc i) step.slots → IsStep book events i step
   moves step said put tickets = record {
     answer = said ∙ ap (answer_of book events i) (sym here);
-    book_is = put ∙ ap (λ e. after (book_at book events i) (deed_of book events i (done book events i) e)) (sym here) ∙ sym (book_at-suc book events i);
+    book_is = put ∙ ap (λ e. after (book_at book events i) (deed_of book events i (deeds_before book events i) e)) (sym here) ∙ sym (book_at-suc book events i);
     tickets = tickets;
   }
 
@@ -127,9 +127,9 @@ loading book slots name stored false false e = (refl, refl, refl)
 -- ---- begins
 
 pub begun-at : (book : Accounts) (slots : List (Option Task)) (key : ℕ) (request : Request) (task : Option Task) (entry : Option (Option RecordValue)) →
-    slot slots key ≡ task → map.get book (name_of request) ≡ entry → begun book slots key request ≡ begun_at book slots key request task entry
-unfolding begun
-begun-at book slots key request task entry is found = ap (λ t. begun_at book slots key request t (map.get book (name_of request))) is ∙ ap (begun_at book slots key request task) found
+    slot slots key ≡ task → map.get book (name_of request) ≡ entry → begin_step book slots key request ≡ begin_step_at book slots key request task entry
+unfolding begin_step
+begun-at book slots key request task entry is found = ap (λ t. begin_step_at book slots key request t (map.get book (name_of request))) is ∙ ap (begin_step_at book slots key request task) found
 
 -- a begin that isn't accepted opens nothing
 abbrev Refuses : Accounts → List Event → ℕ → ℕ → Request → Type 0
@@ -162,25 +162,25 @@ module _ (book : Accounts) (events : List Event) (i : ℕ) (slots : List (Option
   begin_absent is found = begin_refused (Refused (Book NoAccount)) (rw (is, among, found) refl) (rw (is, among, found) refl)
 
   begin_done : (copy : Option RecordValue) → open_at book events i key ≡ None → map.get (book_at book events i) (name_of request) ≡ Some copy →
-      IsStep book events i (begun_at (book_at book events i) slots key request None (Some copy))
+      IsStep book events i (begin_step_at (book_at book events i) slots key request None (Some copy))
   begin_done copy is found =
       let there : is_among (names_at book events i) (name_of request) ≡ true = among ∙ ap is_some found in
       let opens : open_at book events (suc i) key ≡ Some (record { place = i; request = request }) =
       open_next book events i slots held (Begin key request) here key ∙ rw (eq-eqb key key refl, is, there) refl in
-      moves book events i slots held (Begin key request) here (begun_at (book_at book events i) slots key request None (Some copy)) (rw (is, there) refl) refl
+      moves book events i slots held (Begin key request) here (begin_step_at (book_at book events i) slots key request None (Some copy)) (rw (is, there) refl) refl
       (tickets_set book events i slots held (Begin key request) here key low high (Some (request, copy)) (rw opens (refl, found))
       (λ k apart. open_next book events i slots held (Begin key request) here k ∙ rw (ne_eqb key k apart) refl))
 
-  begins : IsStep book events i (begun (book_at book events i) slots key request)
+  begins : IsStep book events i (begin_step (book_at book events i) slots key request)
   begins = by_opened (open_at book events i key) refl (slot slots key) refl (held.each key low high)
     where
       by_entry : open_at book events i key ≡ None → slot slots key ≡ None → (entry : Option (Option RecordValue)) → map.get (book_at book events i) (name_of request) ≡ entry →
-          IsStep book events i (begun (book_at book events i) slots key request)
+          IsStep book events i (begin_step (book_at book events i) slots key request)
       by_entry is none None found = rw (begun-at (book_at book events i) slots key request None None none found) (begin_absent is found)
       by_entry is none (Some copy) found = rw (begun-at (book_at book events i) slots key request None (Some copy) none found) (begin_done copy is found)
 
       by_opened : (opened : Option Opened) → open_at book events i key ≡ opened → (task : Option Task) → slot slots key ≡ task → IsTicketOf book events opened task →
-          IsStep book events i (begun (book_at book events i) slots key request)
+          IsStep book events i (begin_step (book_at book events i) slots key request)
       by_opened None is None none h = by_entry is none (map.get (book_at book events i) (name_of request)) refl
       by_opened None is (Some task) none h = absurd h
       by_opened (Some opened) is None none h = absurd h
@@ -192,9 +192,9 @@ seq-at : (book : Accounts) (request : Request) (entry : Option (Option RecordVal
 unfolding seq
 seq-at book request entry found = ap (seq_at book request) found
 
-pub committing-at : (book : Accounts) (slots : List (Option Task)) (key : ℕ) (task : Option Task) → slot slots key ≡ task → committing book slots key ≡ committing_at book slots key task
-unfolding committing
-committing-at book slots key task is = ap (committing_at book slots key) is
+pub committing-at : (book : Accounts) (slots : List (Option Task)) (key : ℕ) (task : Option Task) → slot slots key ≡ task → commit_step book slots key ≡ commit_step_at book slots key task
+unfolding commit_step
+committing-at book slots key task is = ap (commit_step_at book slots key) is
 
 stale-at : (book : Accounts) (past : List (Option Deed)) (opened : Opened) (now copy : Option RecordValue) → map.get (book_after book past) (name_of opened.request) ≡ Some now →
     map.get (book_after book (take opened.place past)) (name_of opened.request) ≡ Some copy → is_stale book past opened ≡ not (same now copy)
@@ -227,51 +227,51 @@ module _ (book : Accounts) (events : List Event) (i : ℕ) (slots : List (Option
     known : IsKnown book events i opened
     known = known_at book events i key opened is
 
-    began : map.get (book_after book (take opened.place (done book events i))) (name_of opened.request) ≡ Some task.1
+    began : map.get (book_after book (take opened.place (deeds_before book events i))) (name_of opened.request) ≡ Some task.1
     began = ap (λ past. map.get (book_after book past) (name_of opened.request)) (take-done book events opened.place i (omega (arith, known.earlier))) ∙ copied
 
-    stale : is_stale book (done book events i) opened ≡ not (same now task.1)
-    stale = stale-at book (done book events i) opened now task.1 found began
+    stale : is_stale book (deeds_before book events i) opened ≡ not (same now task.1)
+    stale = stale-at book (deeds_before book events i) opened now task.1 found began
 
     commits : committed (book_at book events i) task ≡ committed_at (book_at book events i) task (Some now)
     commits = committed_found (book_at book events i) task (name_of opened.request) (sym (ap name_of asked)) (Some now) found
 
-    told : answer_of book events i (Some (Commit key)) ≡ closed book (done book events i) (Some opened)
-    told = ap (closed book (done book events i)) is
+    told : answer_of book events i (Some (Commit key)) ≡ commit_answer book (deeds_before book events i) (Some opened)
+    told = ap (commit_answer book (deeds_before book events i)) is
 
-    deed : deed_of book events i (done book events i) (Some (Commit key)) ≡ closing book (done book events i) (Some opened)
-    deed = ap (closing book (done book events i)) is
+    deed : deed_of book events i (deeds_before book events i) (Some (Commit key)) ≡ commit_deed book (deeds_before book events i) (Some opened)
+    deed = ap (commit_deed book (deeds_before book events i)) is
 
     seq_now : seq (book_at book events i) opened.request ≡ seq_at (book_at book events i) opened.request (Some now)
     seq_now = seq-at (book_at book events i) opened.request (Some now) found
 
-    deed_stale : same now task.1 ≡ false → deed_of book events i (done book events i) (Some (Commit key)) ≡ None
+    deed_stale : same now task.1 ≡ false → deed_of book events i (deeds_before book events i) (Some (Commit key)) ≡ None
     deed_stale e = deed ∙ rw (stale, e) refl
 
-    deed_fresh : same now task.1 ≡ true → deed_of book events i (done book events i) (Some (Commit key)) ≡ Some (Whole opened.request)
+    deed_fresh : same now task.1 ≡ true → deed_of book events i (deeds_before book events i) (Some (Commit key)) ≡ Some (Whole opened.request)
     deed_fresh e = deed ∙ rw (stale, e) refl
 
-    commit_stale : same now task.1 ≡ false → IsStep book events i (committing_at (book_at book events i) slots key (Some task))
+    commit_stale : same now task.1 ≡ false → IsStep book events i (commit_step_at (book_at book events i) slots key (Some task))
     commit_stale e =
         let done : committed (book_at book events i) task ≡ (reply.Changed now, book_at book events i) = commits ∙ rw e refl in
-        moves book events i slots held (Commit key) here (committing_at (book_at book events i) slots key (Some task))
+        moves book events i slots held (Commit key) here (commit_step_at (book_at book events i) slots key (Some task))
         (ap (λ c. reply_answer c.0) done ∙ sym (told ∙ rw (stale, e) refl))
         (ap (λ c. c.1) done ∙ sym (ap (after (book_at book events i)) (deed_stale e)))
         closed_tickets
 
-    commit_fresh : same now task.1 ≡ true → IsStep book events i (committing_at (book_at book events i) slots key (Some task))
+    commit_fresh : same now task.1 ≡ true → IsStep book events i (commit_step_at (book_at book events i) slots key (Some task))
     commit_fresh e =
         let done : committed (book_at book events i) task ≡ seq (book_at book events i) opened.request = commits ∙ rw (e, asked) (sym seq_now) in
         let replied : reply_answer (seq (book_at book events i) opened.request).0 ≡ Replied (seq (book_at book events i) opened.request).0 = rw seq_now (whole_replies opened.request now) in
-        moves book events i slots held (Commit key) here (committing_at (book_at book events i) slots key (Some task))
+        moves book events i slots held (Commit key) here (commit_step_at (book_at book events i) slots key (Some task))
         (ap (λ c. reply_answer c.0) done ∙ replied ∙ sym (told ∙ rw (stale, e) refl))
         (ap (λ c. c.1) done ∙ sym (ap (after (book_at book events i)) (deed_fresh e)))
         closed_tickets
 
-    commit_at : IsStep book events i (committing_at (book_at book events i) slots key (Some task))
+    commit_at : IsStep book events i (commit_step_at (book_at book events i) slots key (Some task))
     commit_at = by_case (same now task.1) refl
       where
-        by_case : (b : Bool) → same now task.1 ≡ b → IsStep book events i (committing_at (book_at book events i) slots key (Some task))
+        by_case : (b : Bool) → same now task.1 ≡ b → IsStep book events i (commit_step_at (book_at book events i) slots key (Some task))
         by_case true e = commit_fresh e
         by_case false e = commit_stale e
 
@@ -279,16 +279,16 @@ module _ (book : Accounts) (events : List Event) (i : ℕ) (slots : List (Option
   entry_there : (opened : Opened) → open_at book events i key ≡ Some opened → is_some (map.get (book_at book events i) (name_of opened.request)) ≡ true
   entry_there opened is = (same_names book events i).among (name_of opened.request) ∙ (known_at book events i key opened is).there
 
-  commits_all : IsStep book events i (committing (book_at book events i) slots key)
+  commits_all : IsStep book events i (commit_step (book_at book events i) slots key)
   commits_all = by_opened (open_at book events i key) refl (slot slots key) refl (held.each key low high)
     where
       by_entry : (opened : Opened) (task : Task) → open_at book events i key ≡ Some opened → slot slots key ≡ Some task → IsTicketOf book events (Some opened) (Some task) →
-          (entry : Option (Option RecordValue)) → map.get (book_at book events i) (name_of opened.request) ≡ entry → is_some entry ≡ true → IsStep book events i (committing (book_at book events i) slots key)
+          (entry : Option (Option RecordValue)) → map.get (book_at book events i) (name_of opened.request) ≡ entry → is_some entry ≡ true → IsStep book events i (commit_step (book_at book events i) slots key)
       by_entry opened task is some h None found there = cc
       by_entry opened task is some h (Some now) found there = rw (committing-at (book_at book events i) slots key (Some task) some) (commit_at opened task is h.0 h.1 now found)
 
       by_opened : (opened : Option Opened) → open_at book events i key ≡ opened → (task : Option Task) → slot slots key ≡ task → IsTicketOf book events opened task →
-          IsStep book events i (committing (book_at book events i) slots key)
+          IsStep book events i (commit_step (book_at book events i) slots key)
       by_opened None is None none h = rw (committing-at (book_at book events i) slots key None none) (commit_idle is)
       by_opened None is (Some task) none h = absurd h
       by_opened (Some opened) is None none h = absurd h

@@ -28,15 +28,19 @@ abbrev pub one_app : Text → Rule → App
 one_app word what = with_rule (with_rule (with_rule (new_app word) what) password_rule) workers_rule
 
 -- with `run` alone; `--version` is taken too
-abbrev pub running : App
-running = let app = new_app (codes "credbook") in
+abbrev pub base_app : App
+base_app = let app = new_app (codes "credbook") in
     with_subcommand
     (record app {
-      top = record app.top { no_binary_name = true; subcommand_required = true; has_version = true };
+      top = record app.top {
+        no_binary_name = true;
+        subcommand_required = true;
+        has_version = true;
+      };
     }) run_app.top
 
 abbrev pub credbook : App
 credbook =
     with_subcommand
-    (with_subcommand running (one_app (codes "hash") (needed_rule (codes "setting"))).top)
+    (with_subcommand base_app (one_app (codes "hash") (needed_rule (codes "setting"))).top)
     (one_app (codes "check") (needed_rule (codes "record"))).top

@@ -1,5 +1,7 @@
 -- What the program does, by its words.
-use Rattle.std.specs.Prelude.{◌≡◌, ◌⊎◌, ℕ, ◌≤◌, Bool, true, false, if◌then◌else◌, Option, Some, None, IfSome, Result, Ok, List, [], ◌∷◌, ◌++◌, length, codes, MatchBool, MatchResult}
+use Rattle.std.specs.Prelude.{◌≡◌, ◌⊎◌, ℕ, ◌≤◌, Bool, true, false, if◌then◌else◌, Option, Some}
+use Rattle.std.specs.Prelude.{None, IfSome, Result, Ok, List, [], ◌∷◌, ◌++◌, length, codes}
+use Rattle.std.specs.Prelude.{MatchBool, MatchResult}
 use Rattle.std.specs.Option.{ok_or}
 use Rattle.std.specs.Str.{bytes_eq}
 use Rattle.std.specs.FinMap as map
@@ -14,7 +16,8 @@ use Rattle.cred_cli.specs.declared.fault.ScriptFault.{ScriptFault}
 use Rattle.cred_cli.specs.declared.refusal.Refusal.{Refusal}
 use Rattle.cred_cli.specs.declared.refusal.Refusal.TheVariants.{Password}
 use Rattle.cred_cli.specs.declared.status.Status.{Status}
-use Rattle.cred_cli.specs.declared.status.Status.TheVariants.{Done, Refused, Failed, OutOfMemory, No}
+use Rattle.cred_cli.specs.declared.status.Status.TheVariants.{Done, Refused, Failed, OutOfMemory}
+use Rattle.cred_cli.specs.declared.status.Status.TheVariants.{No}
 use Rattle.cred_cli.specs.Statuses.{status_number, status_of}
 use Rattle.cred_cli.specs.Events.{record_field, setting_field}
 use Rattle.cred_cli.specs.Outcome.{FrontWritten, HasCause, ScriptFails, longest_script}

@@ -1,10 +1,12 @@
 -- The line of an event: its word, then its fields. Each field is one that the value is read from.
 use Rattle.std.specs.Prelude.{◌≡◌, ℕ, List, [], ◌∷◌, Ok, codes}
 use Rattle.cred_book.specs.declared.request.Request.{Request}
-use Rattle.cred_book.specs.declared.request.Request.TheVariants.{Enrol, Verify, Change, Upgrade, Remove}
+use Rattle.cred_book.specs.declared.request.Request.TheVariants.{Enrol, Verify, Change, Upgrade}
+use Rattle.cred_book.specs.declared.request.Request.TheVariants.{Remove}
 use Rattle.cred_cli.specs.declared.event.Event.{Event}
 use Rattle.cred_cli.specs.declared.event.Event.TheVariants.{Account, Load, Show, Begin, Commit, Bad}
-use Rattle.cred_cli.specs.Events.{key_field, name_field, password_field, record_field, setting_field}
+use Rattle.cred_cli.specs.Events.{key_field, name_field, password_field, record_field}
+use Rattle.cred_cli.specs.Events.{setting_field}
 
 -- behind the number of a `begin`: the operation's word and its fields
 abbrev pub IsRequestOf : Request → List (List ℕ) → Type 0
@@ -35,8 +37,8 @@ IsLineOf (Load name stored) words =
 IsLineOf (Show name) words =
     (x : List ℕ) × (words ≡ codes "show" ∷ x ∷ []) × (name_field x ≡ Ok name)
 IsLineOf (Begin key request) words =
-    (k : List ℕ) × (asked : List (List ℕ)) × (words ≡ codes "begin" ∷ k ∷ asked)
-    × (key_field k ≡ Ok key) × IsRequestOf request asked
+    (k : List ℕ) × (fields : List (List ℕ)) × (words ≡ codes "begin" ∷ k ∷ fields)
+    × (key_field k ≡ Ok key) × IsRequestOf request fields
 IsLineOf (Commit key) words =
     (k : List ℕ) × (words ≡ codes "commit" ∷ k ∷ []) × (key_field k ≡ Ok key)
 IsLineOf (Bad why) words = Unit {0}

@@ -1,5 +1,6 @@
 -- What a line of a script asks for.
-use Rattle.std.specs.Prelude.{◌≡◌, ℕ, ◌+◌, ◌≤◌, List, [], ◌∷◌, length, nat_lt, if◌then◌else◌, Option, Some, None, Result, Ok, Err, true, codes}
+use Rattle.std.specs.Prelude.{◌≡◌, ℕ, ◌+◌, ◌≤◌, List, [], ◌∷◌, length, nat_lt, if◌then◌else◌}
+use Rattle.std.specs.Prelude.{Option, Some, None, Result, Ok, Err, true, codes}
 use Rattle.std.specs.Option.{ok_or}
 use Rattle.std.specs.Str.{bytes_eq}
 use Rattle.cred_phc.specs.Base64.{bytes_of}
@@ -13,13 +14,15 @@ use Rattle.cred_book.specs.Names.{made_name}
 use Rattle.cred_book.specs.Works.{is_for_current}
 use Rattle.cred_book.specs.declared.error.BookError.{BookError}
 use Rattle.cred_book.specs.declared.request.Request.{Request}
-use Rattle.cred_book.specs.declared.request.Request.TheVariants.{Enrol, Verify, Change, Upgrade, Remove}
+use Rattle.cred_book.specs.declared.request.Request.TheVariants.{Enrol, Verify, Change, Upgrade}
+use Rattle.cred_book.specs.declared.request.Request.TheVariants.{Remove}
 use Rattle.cred_cli.specs.declared.event.Event.{Event}
 use Rattle.cred_cli.specs.declared.event.Event.TheVariants.{Account, Load, Show, Begin, Commit, Bad}
 use Rattle.cred_cli.specs.declared.event.Operation.{Operation}
 use Rattle.cred_cli.specs.declared.event.Operation.TheVariants as operation
 use Rattle.cred_cli.specs.declared.refusal.Refusal.{Refusal}
-use Rattle.cred_cli.specs.declared.refusal.Refusal.TheVariants.{Long, Line, Key, Password, Text, Book}
+use Rattle.cred_cli.specs.declared.refusal.Refusal.TheVariants.{Long, Line, Key, Password, Text}
+use Rattle.cred_cli.specs.declared.refusal.Refusal.TheVariants.{Book}
 
 -- ---- the fields; the first from the left that stands for no value refuses the line
 

@@ -1,6 +1,8 @@
 -- The history that a list of events makes: which names there are, which numbers are open, what was
 -- done, and the book that it leaves.
-use Rattle.std.specs.Prelude.{ℕ, zero, suc, ◌==◌, ◌&&◌, if◌then◌else◌, Bool, true, false, not, Option, Some, None, is_none, List, [], ◌∷◌, ◌++◌, length, take, fold, nat_lt, slice_get}
+use Rattle.std.specs.Prelude.{ℕ, zero, suc, ◌==◌, ◌&&◌, if◌then◌else◌, Bool, true, false, not}
+use Rattle.std.specs.Prelude.{Option, Some, None, is_none, List, [], ◌∷◌, ◌++◌, length, take, fold}
+use Rattle.std.specs.Prelude.{nat_lt, slice_get}
 use Rattle.std.specs.List.{list_any}
 use Rattle.std.specs.Str.{bytes_eq}
 use Rattle.std.specs.FinMap as map
@@ -83,9 +85,9 @@ is_stale book past opened =
     not (same_entry (map.get (book_after book past) (name_of opened.request))
     (map.get (book_after book (take opened.place past)) (name_of opened.request)))
 
-abbrev pub closing : Accounts → List (Option Deed) → Option Opened → Option Deed
-closing book past None = None
-closing book past (Some opened) =
+abbrev pub commit_deed : Accounts → List (Option Deed) → Option Opened → Option Deed
+commit_deed book past None = None
+commit_deed book past (Some opened) =
     if is_stale book past opened then None else Some (Whole opened.request)
 
 -- an account event whose name is new, while there is room; a load on a name that is there; the
@@ -97,17 +99,17 @@ deed_of book events i past (Some (Account name)) =
     else None
 deed_of book events i past (Some (Load name stored)) =
     if is_among (names_at book events i) name then Some (Loading name stored) else None
-deed_of book events i past (Some (Commit key)) = closing book past (open_at book events i key)
+deed_of book events i past (Some (Commit key)) = commit_deed book past (open_at book events i key)
 deed_of book events i past _ = None
 
 -- what was done before place i: at each place one deed or none
-unfoldable pub done : Accounts → List Event → ℕ → List (Option Deed)
-done book events zero = []
-done book events (suc i) =
-    done book events i ++ deed_of book events i (done book events i) (slice_get events i) ∷ []
+unfoldable pub deeds_before : Accounts → List Event → ℕ → List (Option Deed)
+deeds_before book events zero = []
+deeds_before book events (suc i) =
+    deeds_before book events i ++ deed_of book events i (deeds_before book events i) (slice_get events i) ∷ []
 
 abbrev pub book_at : Accounts → List Event → ℕ → Accounts
-book_at book events i = book_after book (done book events i)
+book_at book events i = book_after book (deeds_before book events i)
 
 -- ---- the answers
 
@@ -119,14 +121,14 @@ pub data Answer : Type 0 where
   Replied : (reply : Reply) → Answer
   Refused : (why : Refusal) → Answer
 
-abbrev pub shown : Option (Option RecordValue) → Answer
-shown None = Refused (Book NoAccount)
-shown (Some stored) = Shown stored
+abbrev pub show_answer : Option (Option RecordValue) → Answer
+show_answer None = Refused (Book NoAccount)
+show_answer (Some stored) = Shown stored
 
 -- a stale commit does nothing; another is answered by the whole operation at its own moment
-abbrev pub closed : Accounts → List (Option Deed) → Option Opened → Answer
-closed book past None = Refused Idle
-closed book past (Some opened) =
+abbrev pub commit_answer : Accounts → List (Option Deed) → Option Opened → Answer
+commit_answer book past None = Refused Idle
+commit_answer book past (Some opened) =
     if is_stale book past opened then Changed
     else Replied (seq (book_after book past) opened.request).0
 
@@ -137,13 +139,13 @@ answer_of book events i (Some (Account name)) =
     else Refused (Book Full)
 answer_of book events i (Some (Load name stored)) =
     if is_among (names_at book events i) name then Done else Refused (Book NoAccount)
-answer_of book events i (Some (Show name)) = shown (map.get (book_at book events i) name)
+answer_of book events i (Some (Show name)) = show_answer (map.get (book_at book events i) name)
 answer_of book events i (Some (Begin key request)) =
     if not (is_none (open_at book events i key)) then Refused Busy
     else if is_among (names_at book events i) (name_of request) then Begun
     else Refused (Book NoAccount)
 answer_of book events i (Some (Commit key)) =
-    closed book (done book events i) (open_at book events i key)
+    commit_answer book (deeds_before book events i) (open_at book events i key)
 answer_of book events i (Some (Bad why)) = Refused why
 answer_of book events i None = Done
 

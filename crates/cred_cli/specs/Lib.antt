@@ -9,8 +9,13 @@ pub mod Faults
 pub mod Feeding
 pub mod History
 pub mod Outcome
+pub mod Refusals
 pub mod Script
 pub mod Steps
 pub mod Texts
 pub mod Tickets
 pub mod Watched
+pub use Rattle.cred_book.specs.Accounts
+pub use Rattle.cred_book.specs.Works
+pub use Rattle.cred_phc.specs.Text
+pub use Rattle.cred_phc.specs.Values

@@ -1,5 +1,6 @@
 -- How a script ends, and what stands then.
-use Rattle.std.specs.Prelude.{◌≡◌, ◌⊎◌, ℕ, suc, ◌+◌, ◌<◌, Option, Some, Bool, true, List, ◌++◌, length, take}
+use Rattle.std.specs.Prelude.{◌≡◌, ◌⊎◌, ℕ, suc, ◌+◌, ◌<◌, Option, Some, Bool, true, List, ◌++◌}
+use Rattle.std.specs.Prelude.{length, take}
 use Rattle.std.specs.Io.KnownBytes.{Appends, Consumes}
 use Rattle.cred_book.specs.Accounts.{Accounts}
 use Rattle.cred_cli.specs.declared.event.Event.{Event}
@@ -44,8 +45,8 @@ pub record StopsIn (book : Accounts) (events : List Event) (i : ℕ) (before now
       ++ take n (line_of (answer_at book events i)))
   pub accounts_are : accounts ≡ book_at book events (suc i)
 
--- what stands after a fault; left is what the reader has left. Memory was refused to the line behind
--- those that are answered, or before the first line
+-- what stands after a fault; left is what the reader has left. Memory was refused to the line
+-- behind those that are answered, or before the first line
 abbrev pub ScriptFails : Accounts → List ℕ → Option (List ℕ) → Option (List ℕ) → Option (List ℕ)
     → Accounts → ScriptFault → Type 0
 ScriptFails book bytes left before now accounts Read =

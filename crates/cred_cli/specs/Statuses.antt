@@ -3,7 +3,8 @@ use Rattle.std.specs.Prelude.{ℕ}
 use Rattle.cred_cli.specs.declared.fault.ScriptFault.{ScriptFault}
 use Rattle.cred_cli.specs.declared.fault.ScriptFault.TheVariants.{Read, Write, Memory, TooLong}
 use Rattle.cred_cli.specs.declared.status.Status.{Status}
-use Rattle.cred_cli.specs.declared.status.Status.TheVariants.{Done, Refused, Failed, OutOfMemory, No}
+use Rattle.cred_cli.specs.declared.status.Status.TheVariants.{Done, Refused, Failed, OutOfMemory}
+use Rattle.cred_cli.specs.declared.status.Status.TheVariants.{No}
 
 abbrev pub status_number : Status → ℕ
 status_number Done = 0

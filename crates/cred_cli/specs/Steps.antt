@@ -1,5 +1,6 @@
 -- How one event is done on the book that stands, with the tickets that are open.
-use Rattle.std.specs.Prelude.{◌≡◌, ℕ, ◌-◌, if◌then◌else◌, true, Bool, Option, Some, None, List, nat_lt, slice_index_or, slice_set}
+use Rattle.std.specs.Prelude.{◌≡◌, ℕ, ◌-◌, if◌then◌else◌, true, Bool, Option, Some, None, List}
+use Rattle.std.specs.Prelude.{nat_lt, slice_index_or, slice_set}
 use Rattle.std.specs.FinMap as map
 use Rattle.cred_phc.specs.Values.{RecordValue}
 use Rattle.cred_book.specs.Accounts.{Accounts, most_accounts}
@@ -14,7 +15,7 @@ use Rattle.cred_cli.specs.declared.event.Event.TheVariants.{Account, Load, Show,
 use Rattle.cred_cli.specs.declared.fault.ScriptFault.{ScriptFault}
 use Rattle.cred_cli.specs.declared.fault.ScriptFault.TheVariants.{Read, Write, Memory, TooLong}
 use Rattle.cred_cli.specs.declared.refusal.Refusal.TheVariants.{Book, Busy, Idle}
-use Rattle.cred_cli.specs.History.{Answer, Done, Begun, Changed, Replied, Refused, shown}
+use Rattle.cred_cli.specs.History.{Answer, Done, Begun, Changed, Replied, Refused, show_answer}
 use Rattle.cred_cli.specs.Outcome.{FrontWritten, StandsAfter, StopsIn}
 
 -- the answer, the book after, and the open tickets after
@@ -29,16 +30,16 @@ stay answer book slots = record { answer = answer; book = book; slots = slots }
 abbrev pub slot : List (Option Task) → ℕ → Option Task
 slot slots key = slice_index_or slots (key - 1) None
 
-abbrev pub begun_at : Accounts → List (Option Task) → ℕ → Request → Option Task
+abbrev pub begin_step_at : Accounts → List (Option Task) → ℕ → Request → Option Task
     → Option (Option RecordValue) → Step
-begun_at book slots key request (Some task) entry = stay (Refused Busy) book slots
-begun_at book slots key request None None = stay (Refused (Book NoAccount)) book slots
-begun_at book slots key request None (Some copy) =
+begin_step_at book slots key request (Some task) entry = stay (Refused Busy) book slots
+begin_step_at book slots key request None None = stay (Refused (Book NoAccount)) book slots
+begin_step_at book slots key request None (Some copy) =
     record { answer = Begun; book = book; slots = slice_set slots (key - 1) (Some (request, copy)) }
 
-unfoldable pub begun : Accounts → List (Option Task) → ℕ → Request → Step
-begun book slots key request =
-    begun_at book slots key request (slot slots key) (map.get book (name_of request))
+unfoldable pub begin_step : Accounts → List (Option Task) → ℕ → Request → Step
+begin_step book slots key request =
+    begin_step_at book slots key request (slot slots key) (map.get book (name_of request))
 
 abbrev pub reply_answer : Reply → Answer
 reply_answer (reply.Changed now) = Changed
@@ -54,16 +55,16 @@ reply_answer reply.Kept = Replied reply.Kept
 reply_answer reply.Removed = Replied reply.Removed
 reply_answer reply.NoAccount = Replied reply.NoAccount
 
-abbrev pub committing_at : Accounts → List (Option Task) → ℕ → Option Task → Step
-committing_at book slots key None = stay (Refused Idle) book slots
-committing_at book slots key (Some task) = record {
+abbrev pub commit_step_at : Accounts → List (Option Task) → ℕ → Option Task → Step
+commit_step_at book slots key None = stay (Refused Idle) book slots
+commit_step_at book slots key (Some task) = record {
   answer = reply_answer (committed book task).0;
   book = (committed book task).1;
   slots = slice_set slots (key - 1) None;
 }
 
-unfoldable pub committing : Accounts → List (Option Task) → ℕ → Step
-committing book slots key = committing_at book slots key (slot slots key)
+unfoldable pub commit_step : Accounts → List (Option Task) → ℕ → Step
+commit_step book slots key = commit_step_at book slots key (slot slots key)
 
 abbrev pub step : Accounts → List (Option Task) → Event → Step
 step book slots (Account name) =
@@ -73,9 +74,9 @@ step book slots (Account name) =
 step book slots (Load name stored) =
     if map.contains_key book name then stay Done (map.insert book name (Some stored)) slots
     else stay (Refused (Book NoAccount)) book slots
-step book slots (Show name) = stay (shown (map.get book name)) book slots
-step book slots (Begin key request) = begun book slots key request
-step book slots (Commit key) = committing book slots key
+step book slots (Show name) = stay (show_answer (map.get book name)) book slots
+step book slots (Begin key request) = begin_step book slots key request
+step book slots (Commit key) = commit_step book slots key
 step book slots (Bad why) = stay (Refused why) book slots
 
 -- what stands where a line met a fault

@@ -1,7 +1,7 @@
 -- The text of each answer.
 use Rattle.std.specs.Prelude.{ℕ, List, [], ◌∷◌, ◌++◌, codes, decimal, Some, None}
 use Rattle.cred_phc.specs.Text.{record_text}
-use Rattle.cred_cli.specs.Faults.{number_of, word_of}
+use Rattle.cred_cli.specs.Refusals.{error_number, error_word}
 use Rattle.cred_book.specs.declared.reply.Reply.{Reply}
 use Rattle.cred_book.specs.declared.reply.Reply.TheVariants as reply
 use Rattle.cred_cli.specs.History.{Answer, Done, Shown, Begun, Changed, Replied, Refused}
@@ -9,7 +9,7 @@ use Rattle.cred_cli.specs.declared.refusal.Refusal.{Refusal}
 
 -- `bad N WORD`
 abbrev pub refusal_text : Refusal → List ℕ
-refusal_text why = codes "bad " ++ decimal (number_of why) ++ codes " " ++ word_of why
+refusal_text why = codes "bad " ++ decimal (error_number why) ++ codes " " ++ error_word why
 
 -- the reply's name in lower case
 abbrev pub reply_text : Reply → List ℕ

@@ -6,7 +6,7 @@ ghost use Rattle.cred_book.specs.Works.{is_for_current};
 ghost use Rattle.cred_cli.specs.Answers.{IsDone, line_bytes};
 ghost use Rattle.cred_cli.specs.Events.{IsSound};
 ghost use Rattle.cred_cli.specs.History.{Done, Refused, Shown};
-ghost use Rattle.cred_cli.specs.Steps.{WriteFails, begun, committing, reply_answer, step};
+ghost use Rattle.cred_cli.specs.Steps.{WriteFails, begin_step, commit_step, reply_answer, step};
 ghost use Rattle.cred_cli.specs.Texts.{line_of};
 ghost use Rattle.cred_cli.specs.Watched.{failed_of, inner_of};
 
@@ -86,7 +86,7 @@ pub(crate) fn do_event<T: Threads + Wait + Sync, K: Keeper>(
 
 fn begin<K: Keeper>(keeper: &K, tickets: &mut Tickets, key: Key, request: Request) -> AnswerLine
     requires { is_for_current request ≡ true }
-    ensures { IsDone (begun (K.book keeper.now) tickets.old key request)
+    ensures { IsDone (begin_step (K.book keeper.now) tickets.old key request)
         (K.book keeper.now) tickets.new result }
 {
     if tickets.is_open(key) {
@@ -108,7 +108,7 @@ fn commit<T: Threads + Wait + Sync, K: Keeper>(
     key: Key,
 ) -> Result<AnswerLine, AllocError>
     ensures done { IfOk result
-        (IsDone (committing (K.book keeper.old) tickets.old key) (K.book keeper.new) tickets.new) }
+        (IsDone (commit_step (K.book keeper.old) tickets.old key) (K.book keeper.new) tickets.new) }
     ensures refused { OnErr result (K.book keeper.new ≡ K.book keeper.old) }
 {
     let Some(ticket) = tickets.close(key) else {

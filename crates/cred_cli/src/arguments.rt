@@ -1,9 +1,11 @@
 //! The command line of `credbook`.
 
 ghost use Rattle.std.specs.Prelude.{◌≡◌, IfOk, codes, false, map, option_map};
-ghost use Rattle.clap.specs.Words.{FailsBy, app_of, fault_of, first_of, found_of, rows_of, rule_of, subcommand_of, subcommand_rows_of, with_rule, with_subcommand};
+ghost use Rattle.clap.specs.Words.{FailsBy, app_of, fault_of, first_of, found_of, rows_of, rule_of};
+ghost use Rattle.clap.specs.Words.{subcommand_of, subcommand_rows_of, with_rule, with_subcommand};
 ghost use Rattle.clap.specs.declared.builder.command.Command.TheViews.{out-Command};
-ghost use Rattle.cred_cli.specs.Arguments.{credbook, needed_rule, one_app, password_rule, run_app, running, workers_rule};
+ghost use Rattle.cred_cli.specs.Arguments.{credbook, needed_rule, one_app, password_rule, run_app};
+ghost use Rattle.cred_cli.specs.Arguments.{base_app, workers_rule};
 
 use clap::{Arg, ArgMatches, Command, Error};
 use std::alloc::{AllocError, Global};
@@ -78,7 +80,7 @@ fn credbook<'a>(alloc: Global) -> Result<Command<'a>, AllocError>
 {
     let hash = of_one(alloc, "hash", &HASH, setting(alloc))?;
     let check = of_one(alloc, "check", &CHECK, stored(alloc))?;
-    let command = with_command(running(alloc)?, hash)?;
+    let command = with_command(base_app(alloc)?, hash)?;
     with_command(command, check)
 }
 
@@ -93,8 +95,8 @@ fn with_command<'a>(command: Command<'a>, below: Command<'a>) -> Result<Command<
     command.subcommand(below)
 }
 
-fn running<'a>(alloc: Global) -> Result<Command<'a>, AllocError>
-    ensures app { IfOk result (λ c. app_of c ≡ running) }
+fn base_app<'a>(alloc: Global) -> Result<Command<'a>, AllocError>
+    ensures app { IfOk result (λ c. app_of c ≡ base_app) }
     ensures local { IfOk result (λ c. (out-Command c).has_globals ≡ false) }
 {
     let run = run(alloc)?;

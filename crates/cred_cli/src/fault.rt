@@ -1,7 +1,7 @@
 //! Why a script ended before its last line was answered.
 
 ghost use Rattle.std.specs.Prelude.{◌≡◌};
-ghost use Rattle.cred_cli.specs.Faults.{script_number, script_word};
+ghost use Rattle.cred_cli.specs.Faults.{error_number, error_word};
 ghost use Rattle.cred_cli.specs.declared.fault.ScriptFault.TheVariants.{Memory as OutOfMemory};
 
 use std::alloc::AllocError;
@@ -10,12 +10,16 @@ use thiserror::Error;
 /// The fault that ended a script.
 #[derive(Clone, Copy, Debug, PartialEq, Eq, Error)]
 pub enum ScriptFault {
+    /// The reader failed.
     #[error("the reader failed")]
     Read,
+    /// The writer failed, or took no byte.
     #[error("the writer failed, or took no byte")]
     Write,
+    /// There was no memory for the script.
     #[error("out of memory")]
     Memory,
+    /// The script has over 1048576 bytes.
     #[error("the script has over 1048576 bytes")]
     TooLong,
 }
@@ -29,9 +33,9 @@ impl From<AllocError> for ScriptFault {
 }
 
 impl ScriptFault {
-    /// The number of the fault, from 1 to 4.
+    /// The number of the error, from 1 to 4.
     pub fn number(self) -> u8
-        ensures { result ≡ script_number self }
+        ensures { result ≡ error_number self }
     {
         match self {
             ScriptFault::Read => 1,
@@ -41,9 +45,9 @@ impl ScriptFault {
         }
     }
 
-    /// The name of the fault in lower case, as `toolong`.
+    /// The name of the error in lower case, as `toolong`.
     pub fn word(self) -> &'static str
-        ensures { result.now ≡ script_word self }
+        ensures { result.now ≡ error_word self }
     {
         match self {
             ScriptFault::Read => "read",

@@ -7,7 +7,7 @@ ghost use Rattle.cred_book.specs.Accounts.{Accounts};
 ghost use Rattle.cred_cli.specs.declared.event.Event.{Event};
 ghost use Rattle.cred_cli.specs.EventLines.{IsLineOf};
 ghost use Rattle.cred_cli.specs.Events.{event_of};
-ghost use Rattle.cred_cli.specs.History.{book_at, done, is_among, names_at};
+ghost use Rattle.cred_cli.specs.History.{book_at, deeds_before, is_among, names_at};
 
 /// The law that the names that a history counts are those of the book that it leaves, at every
 /// place.
@@ -22,7 +22,7 @@ pub fn names_are_the_books()
 /// one.
 pub fn history_is_a_front()
     ensures { (book : Accounts) (events : List Event) (j i : ℕ) → j ≤ i
-        → take j (done book events i) ≡ done book events j }
+        → take j (deeds_before book events i) ≡ deeds_before book events j }
 {}
 
 /// The law that a line that asks for something is its event's word and fields with one space

@@ -1,6 +1,7 @@
 //! One line of a script: what it asks for is done, and answered.
 
-ghost use Rattle.std.specs.Prelude.{◌≡◌, ℕ, suc, false, List, Option, Some, IfErr, MatchResult, slice_get};
+ghost use Rattle.std.specs.Prelude.{◌≡◌, ℕ, suc, false, List, Option, Some, IfErr, MatchResult};
+ghost use Rattle.std.specs.Prelude.{slice_get};
 ghost use Rattle.cred_book.specs.Accounts.{Accounts};
 ghost use Rattle.cred_cli.specs.declared.event.Event.{Event};
 ghost use Rattle.cred_cli.specs.Events.{event_of};

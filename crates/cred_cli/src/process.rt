@@ -1,5 +1,5 @@
-//! The program as its process runs it: on the words that it was started with, and with a status that
-//! the shell sees.
+//! The program as its process runs it: on the words that it was started with, and with a status
+//! that the shell sees.
 
 ghost use Rattle.std.specs.Prelude.{◌≡◌, ◌⊎◌, MatchResult};
 ghost use Rattle.std.specs.Process.{exit_status};
@@ -16,7 +16,8 @@ use std::thread::Threads;
 use std::{env, io};
 
 /// Runs [`command`] on the words that the process was started with, and gives its status to the
-/// shell. A word that isn't UTF-8 is named on `faults`, and is 1; want of memory for the words is 3.
+/// shell. A word that isn't UTF-8 is named on `faults`, and is 1; want of memory for the words is
+/// 3.
 pub fn run_program<R, I, O, F>(rt: &R, input: I, output: O, faults: &mut F) -> ExitCode
 where
     R: Env + AllocGlobal + Threads + Wait + Sync,

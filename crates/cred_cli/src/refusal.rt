@@ -1,7 +1,7 @@
 //! Why a line is refused.
 
 ghost use Rattle.std.specs.Prelude.{◌≡◌};
-ghost use Rattle.cred_cli.specs.Faults.{number_of, word_of};
+ghost use Rattle.cred_cli.specs.Refusals.{error_number, error_word};
 ghost use Rattle.cred_cli.specs.History.{Refused};
 ghost use Rattle.cred_cli.specs.Texts.{line_of};
 ghost use Rattle.cred_cli.specs.declared.refusal.Refusal.TheVariants.{Book, Text};
@@ -32,7 +32,7 @@ pub(crate) enum Refusal {
 
 impl Refusal {
     pub(crate) fn number(self) -> u8
-        ensures { result ≡ number_of self }
+        ensures { result ≡ error_number self }
     {
         match self {
             Refusal::Long => 16,
@@ -47,7 +47,7 @@ impl Refusal {
     }
 
     pub(crate) fn word(self) -> &'static str
-        ensures { result.now ≡ word_of self }
+        ensures { result.now ≡ error_word self }
     {
         match self {
             Refusal::Long => "long",

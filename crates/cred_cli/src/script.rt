@@ -1,7 +1,8 @@
 //! A whole script: read to its end, each line done and answered in turn.
 
 ghost use Rattle.std.specs.Prelude.{◌≤◌, length, IfErr, IfOk, IfSome, OnOk};
-ghost use Rattle.cred_cli.specs.Outcome.{HasCause, IsAnswered, ScriptFails, longest_script, most_calls};
+ghost use Rattle.cred_cli.specs.Outcome.{HasCause, IsAnswered, ScriptFails, longest_script};
+ghost use Rattle.cred_cli.specs.Outcome.{most_calls};
 ghost use Rattle.cred_cli.specs.Watched.{IsNew, calls_of, failed_of, inner_of};
 
 use crate::fault::ScriptFault;

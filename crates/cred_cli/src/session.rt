@@ -1,9 +1,12 @@
-//! A script that is being run: its bytes are read and taken in turn, and each whole line is answered.
+//! A script that is being run: its bytes are read and taken in turn, and each whole line is
+//! answered.
 
-ghost use Rattle.std.specs.Prelude.{◌≡◌, ◌+◌, ◌≤◌, ℕ, false, List, [], ◌∷◌, ◌++◌, length, Option, Some, IfErr, OnOk, MatchResult};
+ghost use Rattle.std.specs.Prelude.{◌≡◌, ◌+◌, ◌≤◌, ℕ, false, List, [], ◌∷◌, ◌++◌, length, Option};
+ghost use Rattle.std.specs.Prelude.{Some, IfErr, OnOk, MatchResult};
 ghost use Rattle.cred_book.specs.Accounts.{Accounts};
 ghost use Rattle.cred_cli.specs.Feeding.{IsAt};
-ghost use Rattle.cred_cli.specs.Outcome.{HasCause, IsAnswered, ScriptFails, longest_script, most_calls};
+ghost use Rattle.cred_cli.specs.Outcome.{HasCause, IsAnswered, ScriptFails, longest_script};
+ghost use Rattle.cred_cli.specs.Outcome.{most_calls};
 ghost use Rattle.cred_cli.specs.Watched.{calls_of, failed_of, inner_of};
 
 use crate::fault::ScriptFault;

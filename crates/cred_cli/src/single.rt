@@ -4,7 +4,8 @@ ghost use Rattle.std.specs.Prelude.{◌≡◌, IfOk, codes, option_map};
 ghost use Rattle.std.specs.Io.KnownBytes.{Keeps};
 ghost use Rattle.clap.specs.Words.{first_of, found_of, rows_of};
 ghost use Rattle.cred_book.specs.Works.{made};
-ghost use Rattle.cred_cli.specs.Commands.{Checks, Hashes, password_word, record_line, to_check, to_hash};
+ghost use Rattle.cred_cli.specs.Commands.{Checks, Hashes, password_word, record_line, to_check};
+ghost use Rattle.cred_cli.specs.Commands.{to_hash};
 ghost use Rattle.cred_cli.specs.Statuses.{status_number};
 ghost use Rattle.cred_cli.specs.Watched.{failed_of, inner_of};
 
