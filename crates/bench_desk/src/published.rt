@@ -1,6 +1,7 @@
 //! The load on a desk: each thread has a session.
 
 ghost use Rattle.std.specs.Prelude.{◌≡◌, ◌+◌, false};
+ghost use Rattle.cred_desk.specs.Names.{IsNamed, StartsAt};
 
 use crate::figures::{Figures, Ran};
 use crate::load::Load;
@@ -35,8 +36,9 @@ fn run_named<J: Naming + Send + Sync, R: Threads + Wait + Clock + Sync>(
     sessions: u8,
     load: &Load,
 ) -> Option<Ran>
-    requires name { (opened.seen.book ≡ J.book) × (opened.blank.name ≡ J.name) × (opened.blank.parts ≡ J.parts) }
-    requires opening { (book.now ≡ J.opening) × (J.parts ≡ sessions) × (J.loads ≡ false) }
+    requires name { IsNamed J.Naming opened }
+    requires opening { StartsAt J.Naming book.now sessions }
+    requires loads { J.loads ≡ false }
 {
     let mut figures = Vec::with_capacity(alloc, usize::from(sessions)).ok()?;
     let mut seats = Vec::with_capacity(alloc, usize::from(sessions)).ok()?;

@@ -2,6 +2,7 @@
 pub mod Additions
 pub mod Commits
 pub mod Histories
+pub mod Names
 pub mod Published
 pub mod Refusals
 pub mod Rules

@@ -14,25 +14,18 @@ use crate::closed::{Closed, Kept, Remains};
 use crate::entry::Entry;
 use crate::error::DeskError;
 use crate::naming::Naming;
-use crate::published::{Published, Shown};
 use crate::publisher::Publisher;
 use crate::session::Session;
 use crate::told::Told;
 use crate::writer::{EntryWriter, KeepError};
 use cred_book::{BookError, Name, Reply, Worked};
 use cred_phc::Record;
-use crossbeam_utils::rule::Protocol;
-use left_right::Absorb;
 use std::marker::Model;
 use std::sync::Wait;
 use std::sync::ledger::{Book as Total, Share};
 
 /// Settles one work after another, and counts the changes. Contracts see it as its list.
-pub(crate) struct Clerk<J: Naming, W: EntryWriter>
-where
-    Shown<J>: Absorb<(), State = ()>,
-    Published<J>: Protocol<Shown<J>, ()>,
-{
+pub(crate) struct Clerk<J: Naming, W: EntryWriter> {
     publisher: Publisher<J>,
     /// Keeps each entry before anybody sees it.
     writer: W,
@@ -46,11 +39,7 @@ where
     additions: u64,
 }
 
-impl<J: Naming, W: EntryWriter> Model for Clerk<J, W>
-where
-    Shown<J>: Absorb<(), State = ()>,
-    Published<J>: Protocol<Shown<J>, ()>,
-{
+impl<J: Naming, W: EntryWriter> Model for Clerk<J, W> {
     ghost use Rattle.std.specs.Prelude.{◌≡◌, ◌+◌, ◌≤◌, List, [], false, length, vec_capacity};
     ghost use Rattle.cred_desk.specs.declared.entry.Entry.{Entry};
 
@@ -58,11 +47,15 @@ where
 
     ghost view = { λ c. c.publisher };
 
-    ghost invariant = { λ c. ((c.total.total + c.additions ≡ length c.publisher)
-        × (J.loads ≡ false → c.additions ≡ 0))
-        × ((c.spare.parts ≡ 0) × (c.spare.amount ≡ 0))
-        × ((c.counts.items ≡ []) × (c.sessions ≤ vec_capacity c.counts) × (J.parts ≡ c.sessions))
-        × W.keeps c.writer c.publisher };
+    ghost invariant = { λ c. record {
+      all_counted : c.total.total + c.additions ≡ length c.publisher;
+      additions_allowed : J.loads ≡ false → c.additions ≡ 0;
+      spare_is_empty : (c.spare.parts ≡ 0) × (c.spare.amount ≡ 0);
+      no_counts : c.counts.items ≡ [];
+      room_for_counts : c.sessions ≤ vec_capacity c.counts;
+      all_sessions : J.parts ≡ c.sessions;
+      kept : W.keeps c.writer c.publisher;
+    } };
 }
 
 impl<J: Naming, W: EntryWriter> Clerk<J, W> {

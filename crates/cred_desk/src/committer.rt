@@ -6,6 +6,7 @@ ghost use Rattle.cred_book.specs.Calls.{Admits, Loads};
 ghost use Rattle.cred_book.specs.Commits.{Commits};
 ghost use Rattle.cred_desk.specs.Commits.{entry_of, list_after, reply_of};
 ghost use Rattle.cred_desk.specs.Histories.{IsLawful, IsLegal, after, entry};
+ghost use Rattle.cred_desk.specs.Names.{IsNamed, StartsAt};
 ghost use Rattle.cred_desk.specs.Refusals.{IsRefusedToMake};
 ghost use Rattle.cred_desk.specs.declared.error.DeskError.TheVariants as error;
 
@@ -13,15 +14,12 @@ use crate::entry::Entry;
 use crate::error::DeskError;
 use crate::making::{MOST_SESSIONS, Made, make};
 use crate::naming::{Naming, Opened};
-use crate::published::{Published, Shown};
 use crate::publisher::Publisher;
 use crate::session::Session;
 use crate::told::Told;
 use crate::writer::Unkept;
 use cred_book::{Book, BookError, Keeper, Name, Reply, Request, Ticket, Worked};
 use cred_phc::Record;
-use crossbeam_utils::rule::Protocol;
-use left_right::Absorb;
 use std::alloc::Global;
 use std::fmt;
 use std::marker::Model;
@@ -30,19 +28,11 @@ use std::sync::Wait;
 /// Keeps a book that sessions read while it changes. It isn't `Drop`: end it by `end`.
 ///
 /// Contracts see it as the list of entries that it has published.
-pub struct Committer<J: Naming>
-where
-    Shown<J>: Absorb<(), State = ()>,
-    Published<J>: Protocol<Shown<J>, ()>,
-{
+pub struct Committer<J: Naming> {
     publisher: Publisher<J>,
 }
 
-impl<J: Naming> Model for Committer<J>
-where
-    Shown<J>: Absorb<(), State = ()>,
-    Published<J>: Protocol<Shown<J>, ()>,
-{
+impl<J: Naming> Model for Committer<J> {
     ghost use Rattle.std.specs.Prelude.{◌≡◌, List, true};
     ghost use Rattle.cred_desk.specs.declared.entry.Entry.{Entry};
     ghost use Rattle.cred_desk.specs.Histories.{IsLawful};
@@ -76,9 +66,9 @@ impl<J: Naming> Committer<J> {
         book: &Book,
         sessions: u8,
     ) -> Result<(Committer<J>, Vec<Session<J>>), DeskError>
-        requires name { (opened.seen.book ≡ J.book) × (opened.blank.name ≡ J.name)
-            × (opened.blank.parts ≡ J.parts) }
-        requires opening { (book.now ≡ J.opening) × (J.parts ≡ sessions) × (J.loads ≡ true) }
+        requires name { IsNamed J.Naming opened }
+        requires opening { StartsAt J.Naming book.now sessions }
+        requires loads { J.loads ≡ true }
         ensures list { IfOk result (λ made. made.0 ≡ []) }
         ensures sessions { IfOk result
             (λ made. (vec_len made.1 ≡ sessions)

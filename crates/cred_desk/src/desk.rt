@@ -3,6 +3,7 @@
 ghost use Rattle.std.specs.Prelude.{◌≡◌, ◌&&◌, [], All, IfErr, IfOk, MatchResult, false, length, map, nat_le, sum, true, vec_len};
 ghost use mathlib.Core.List.{IsPrefix};
 ghost use Rattle.cred_desk.specs.Histories.{IsLegal, after};
+ghost use Rattle.cred_desk.specs.Names.{IsNamed, StartsAt};
 ghost use Rattle.cred_desk.specs.Refusals.{IsRefusedToMake};
 ghost use Rattle.cred_desk.specs.Standing.{IsMissed, Settles};
 
@@ -12,13 +13,10 @@ use crate::entry::Entry;
 use crate::error::DeskError;
 use crate::making::{MOST_SESSIONS, Made, make};
 use crate::naming::{Naming, Opened};
-use crate::published::{Published, Shown};
 use crate::session::Session;
 use crate::told::Told;
 use crate::writer::Unkept;
 use cred_book::{Book, Reply, Worked};
-use crossbeam_utils::rule::Protocol;
-use left_right::Absorb;
 use std::alloc::Global;
 use std::fmt;
 use std::marker::Model;
@@ -26,19 +24,11 @@ use std::sync::{Mutex, MutexGuard, Wait};
 
 /// Keeps a book that sessions read while they change it, and a journal of all changes. It isn't
 /// `Drop`: end it by `close` or `end`.
-pub struct Desk<J: Naming>
-where
-    Shown<J>: Absorb<(), State = ()>,
-    Published<J>: Protocol<Shown<J>, ()>,
-{
+pub struct Desk<J: Naming> {
     clerk: Mutex<Clerk<J, Unkept>>,
 }
 
-impl<J: Naming> Model for Desk<J>
-where
-    Shown<J>: Absorb<(), State = ()>,
-    Published<J>: Protocol<Shown<J>, ()>,
-{
+impl<J: Naming> Model for Desk<J> {
     ghost use Rattle.std.specs.Prelude.{◌≡◌, false};
 
     ghost Value = { Unit {0} };
@@ -67,9 +57,9 @@ impl<J: Naming> Desk<J> {
         book: &Book,
         sessions: u8,
     ) -> Result<(Desk<J>, Vec<Session<J>>), DeskError>
-        requires name { (opened.seen.book ≡ J.book) × (opened.blank.name ≡ J.name)
-            × (opened.blank.parts ≡ J.parts) }
-        requires opening { (book.now ≡ J.opening) × (J.parts ≡ sessions) × (J.loads ≡ false) }
+        requires name { IsNamed J.Naming opened }
+        requires opening { StartsAt J.Naming book.now sessions }
+        requires loads { J.loads ≡ false }
         ensures sessions { IfOk result
             (λ made. (vec_len made.1 ≡ sessions)
             × All (λ s. (s.known ≡ []) × (s.count ≡ 0)) made.1.items) }

@@ -33,9 +33,13 @@ impl<J: Naming> Model for History<J> {
 
     ghost view = { λ h. h.front };
 
-    ghost invariant = { λ h. (h.head ≡ head_of J.book)
-        × ((h.pen.book ≡ J.book) × IsPenAfter h.seen.log h.pen.nib)
-        × ((h.seen.book ≡ J.book) × (h.front ≡ entries_of h.seen.log)) };
+    ghost invariant = { λ h. record {
+      head_is : h.head ≡ head_of J.book;
+      pen_is_here : h.pen.book ≡ J.book;
+      pen_is_last : IsPenAfter h.seen.log h.pen.nib;
+      seen_here : h.seen.book ≡ J.book;
+      front_is_all : h.front ≡ entries_of h.seen.log;
+    } };
 }
 
 impl<J: Naming> History<J> {

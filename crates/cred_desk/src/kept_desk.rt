@@ -6,6 +6,7 @@ ghost use Rattle.cred_book.specs.Calls.{Admits, Loads};
 ghost use Rattle.cred_book.specs.declared.error.BookError.TheVariants.{Memory as memory};
 ghost use Rattle.cred_desk.specs.Additions.{IsAdded, IsAt, IsSettled, IsUnsettled, refusal_of};
 ghost use Rattle.cred_desk.specs.Histories.{IsAdmitted, IsListed, IsLoaded, after, entry};
+ghost use Rattle.cred_desk.specs.Names.{IsNamed, StartsAt};
 ghost use Rattle.cred_desk.specs.Refusals.{IsRefusedToMake};
 ghost use Rattle.cred_desk.specs.Standing.{IsMissed};
 
@@ -15,14 +16,11 @@ use crate::entry::Entry;
 use crate::error::DeskError;
 use crate::making::{MOST_SESSIONS, Made, make};
 use crate::naming::{Naming, Opened};
-use crate::published::{Published, Shown};
 use crate::session::Session;
 use crate::told::Told;
 use crate::writer::{EntryWriter, KeepError, Unsettled};
 use cred_book::{Book, Name, Reply, Worked};
 use cred_phc::Record;
-use crossbeam_utils::rule::Protocol;
-use left_right::Absorb;
 use std::alloc::Global;
 use std::fmt;
 use std::sync::{Mutex, MutexGuard, Wait};
@@ -32,11 +30,7 @@ use std::sync::{Mutex, MutexGuard, Wait};
 ///
 /// Where its naming allows loads, names are admitted and records loaded while sessions live. It
 /// isn't `Drop`: end it by `close` or `give_up`.
-pub struct KeptDesk<J: Naming, W: EntryWriter>
-where
-    Shown<J>: Absorb<(), State = ()>,
-    Published<J>: Protocol<Shown<J>, ()>,
-{
+pub struct KeptDesk<J: Naming, W: EntryWriter> {
     clerk: Mutex<Clerk<J, W>>,
 }
 
@@ -59,9 +53,8 @@ impl<J: Naming, W: EntryWriter> KeptDesk<J, W> {
         sessions: u8,
         writer: W,
     ) -> Result<(KeptDesk<J, W>, Vec<Session<J>>), (W, DeskError)>
-        requires name { (opened.seen.book ≡ J.book) × (opened.blank.name ≡ J.name)
-            × (opened.blank.parts ≡ J.parts) }
-        requires opening { (book.now ≡ J.opening) × (J.parts ≡ sessions) }
+        requires name { IsNamed J.Naming opened }
+        requires opening { StartsAt J.Naming book.now sessions }
         requires kept { W.keeps writer [] }
         ensures sessions { IfOk result (λ made. (vec_len made.1 ≡ sessions)
             × All (λ s. (s.known ≡ []) × (s.count ≡ 0)) made.1.items) }

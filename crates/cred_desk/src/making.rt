@@ -1,17 +1,16 @@
 //! How a publisher and its sessions are made of a book.
 
 ghost use Rattle.std.specs.Prelude.{◌≡◌, [], All, IfErr, IfOk, true, vec_len};
+ghost use Rattle.cred_desk.specs.Names.{IsNamed, StartsAt};
 ghost use Rattle.cred_desk.specs.Refusals.{IsRefusedToMake};
 
 use crate::error::DeskError;
 use crate::front::Front;
 use crate::naming::{Naming, Opened};
-use crate::published::{BookWriter, Published, Shown, show_copy};
+use crate::published::{BookWriter, Shown, show_copy};
 use crate::publisher::Publisher;
 use crate::session::Session;
 use cred_book::Book;
-use crossbeam_utils::rule::Protocol;
-use left_right::Absorb;
 use std::alloc::{AllocError, Global};
 use std::sync::Wait;
 use std::sync::ledger::{Book as Total, Share};
@@ -20,11 +19,7 @@ use std::sync::ledger::{Book as Total, Share};
 pub(crate) const MOST_SESSIONS: u8 = 32;
 
 /// A publisher with its sessions, and the tokens that count what they do.
-pub(crate) struct Made<J: Naming>
-where
-    Shown<J>: Absorb<(), State = ()>,
-    Published<J>: Protocol<Shown<J>, ()>,
-{
+pub(crate) struct Made<J: Naming> {
     pub(crate) publisher: Publisher<J>,
     pub(crate) sessions: Vec<Session<J>>,
     pub(crate) total: Total<J>,
@@ -42,9 +37,8 @@ pub(crate) fn make<J: Naming, R: Wait>(
     book: &Book,
     sessions: u8,
 ) -> Result<Made<J>, DeskError>
-    requires name { (opened.seen.book ≡ J.book) × (opened.blank.name ≡ J.name)
-        × (opened.blank.parts ≡ J.parts) }
-    requires opening { (book.now ≡ J.opening) × (J.parts ≡ sessions) }
+    requires name { IsNamed J.Naming opened }
+    requires opening { StartsAt J.Naming book.now sessions }
     ensures list { IfOk result (λ made. made.publisher ≡ []) }
     ensures sessions { IfOk result
         (λ made. (vec_len made.sessions ≡ sessions)

@@ -1,13 +1,12 @@
 //! Which list of entries it is, and from which book it starts.
 
 ghost use Rattle.std.specs.Prelude.{◌≡◌, [], IfSome};
-ghost use Rattle.cred_desk.specs.Rules.{head_of};
 
 use crate::history::History;
 use crate::link::Link;
 use crate::rule::Law;
 use logbook::{Seen, Start, Word};
-use std::marker::Brand;
+use std::marker::{Brand, Model};
 use std::sync::ledger::{Blank, Ledger};
 
 /// Names one desk or one committer. A function that is generic over it is called with `Brand`, and
@@ -44,14 +43,28 @@ pub struct Opened {
     head: Word<Link, u64, Law>,
     seen: Seen<Link, u64, Law>,
     blank: Blank,
-    pub ghost empty: { seen.log ≡ [] },
-    pub ghost head_is: { head ≡ head_of seen.book },
+}
+
+impl Model for Opened {
+    ghost use Rattle.std.specs.Prelude.{◌≡◌, []};
+    ghost use Rattle.cred_desk.specs.Names.{Opening};
+    ghost use Rattle.cred_desk.specs.Rules.{head_of};
+
+    ghost Value = { Opening };
+
+    ghost view = { λ o. record {
+      list = o.seen.book;
+      ledger = o.blank.name;
+      sessions = o.blank.parts;
+    } };
+
+    ghost invariant = { λ o. (o.seen.log ≡ []) × (o.head ≡ head_of o.seen.book) };
 }
 
 impl Opened {
     /// For a desk or a committer with so many sessions.
     pub fn new(sessions: u8) -> Opened
-        ensures { result.blank.parts ≡ sessions }
+        ensures { result.sessions ≡ sessions }
     {
         let (seen, mut first, _second) = Seen::open(Start::alone(), 0, 0);
         Opened {
@@ -63,9 +76,9 @@ impl Opened {
 
     /// The list under a name, if nobody holds it yet.
     pub(crate) fn named<J: Naming>(self) -> (Option<History<J>>, Blank)
-        requires { self.seen.book ≡ J.book }
+        requires { self.list ≡ J.book }
         ensures list { IfSome result.0 (λ list. list ≡ []) }
-        ensures blank { result.1 ≡ self.blank }
+        ensures blank { (result.1.name ≡ self.ledger) × (result.1.parts ≡ self.sessions) }
     {
         let Opened { head, seen, blank } = self;
         (History::open(head, seen), blank)

@@ -13,11 +13,10 @@ use crate::entry::Entry;
 use crate::front::Front;
 use crate::history::History;
 use crate::naming::Naming;
-use crate::published::{BookWriter, Published, Shown, Step, show};
+use crate::published::{BookWriter, Shown, Step, show};
 use crate::told::Told;
 use crate::writer::{EntryWriter, KeepError};
 use cred_book::{Book, Reply, Worked};
-use crossbeam_utils::rule::Protocol;
 use left_right::Absorb;
 use std::alloc::Global;
 use std::marker::Model;
@@ -27,7 +26,6 @@ use std::sync::Wait;
 pub(crate) struct Publisher<J: Naming>
 where
     Shown<J>: Absorb<(), State = ()>,
-    Published<J>: Protocol<Shown<J>, ()>,
 {
     writer: BookWriter<J>,
     /// The entry that the spare copy lacks.
@@ -39,7 +37,6 @@ where
 impl<J: Naming> Model for Publisher<J>
 where
     Shown<J>: Absorb<(), State = ()>,
-    Published<J>: Protocol<Shown<J>, ()>,
 {
     ghost use Rattle.std.specs.Prelude.{◌≡◌, List};
     ghost use Rattle.cred_desk.specs.declared.entry.Entry.{Entry};
@@ -50,11 +47,14 @@ where
 
     ghost view = { λ p. p.history };
 
-    ghost invariant = { λ p. (p.journal.items ≡ p.history)
-        × (p.writer.desk.shown.value.front ≡ p.history)
-        × (p.writer.desk.shown.value.book ≡ after J.opening p.history)
-        × (with_step p.writer.desk.spare.value.book p.last ≡ after J.opening p.history)
-        × IsListed J.loads J.opening p.history };
+    ghost invariant = { λ p. record {
+      journal_is_list : p.journal.items ≡ p.history;
+      shown_list : p.writer.desk.shown.value.front ≡ p.history;
+      shown_book : p.writer.desk.shown.value.book ≡ after J.opening p.history;
+      spare_book : with_step p.writer.desk.spare.value.book p.last
+          ≡ after J.opening p.history;
+      listed : IsListed J.loads J.opening p.history;
+    } };
 }
 
 impl<J: Naming> Publisher<J> {

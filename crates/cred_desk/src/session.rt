@@ -12,11 +12,10 @@ ghost use Rattle.cred_desk.specs.Standing.{BeginsAt, ClosesAt};
 use crate::error::DeskError;
 use crate::front::Front;
 use crate::naming::Naming;
-use crate::published::{BookReader, Published, Sees, Shown};
+use crate::published::{BookReader, Sees};
 use crate::told::Told;
 use core::mem::replace_with;
 use cred_book::{BookError, Reply, Request, Ticket, VerifyWorked};
-use crossbeam_utils::rule::Protocol;
 use std::fmt;
 use std::marker::Model;
 use std::sync::ledger::{Book as Total, Share};
@@ -27,20 +26,14 @@ use std::sync::ledger::{Book as Total, Share};
 /// Contracts see it as the list of entries that it knows, and the number of changes that its
 /// settles made.
 #[derive(Drop)]
-pub struct Session<J: Naming>
-where
-    Published<J>: Protocol<Shown<J>, ()>,
-{
+pub struct Session<J: Naming> {
     reader: BookReader<J>,
     known: Front<J>,
     settled: u64,
     share: Share<J>,
 }
 
-impl<J: Naming> Model for Session<J>
-where
-    Published<J>: Protocol<Shown<J>, ()>,
-{
+impl<J: Naming> Model for Session<J> {
     ghost use Rattle.std.specs.Prelude.{◌≡◌};
     ghost use Rattle.cred_desk.specs.Histories.{IsListed};
     ghost use Rattle.cred_desk.specs.Standing.{Standing};

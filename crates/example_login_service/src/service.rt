@@ -1,6 +1,7 @@
 //! The desk, its three sessions, and the thread of each.
 
 ghost use Rattle.std.specs.Prelude.{◌≡◌, ◌+◌, false};
+ghost use Rattle.cred_desk.specs.Names.{IsNamed, StartsAt};
 
 use crate::login::{Login, log_in, move_record};
 use crate::people::Account;
@@ -65,8 +66,9 @@ fn serve_named<J: Naming + Send + Sync, R: Threads + Wait + Sync>(
     book: &Book,
     accounts: &[Account; 3],
 ) -> Option<Served>
-    requires name { (opened.seen.book ≡ J.book) × (opened.blank.name ≡ J.name) × (opened.blank.parts ≡ J.parts) }
-    requires opening { (book.now ≡ J.opening) × (J.parts ≡ 3) × (J.loads ≡ false) }
+    requires name { IsNamed J.Naming opened }
+    requires opening { StartsAt J.Naming book.now 3 }
+    requires loads { J.loads ≡ false }
 {
     let mut seats = Vec::with_capacity(alloc, usize::from(THREADS)).ok()?;
     let mut tallies = Vec::with_capacity(alloc, usize::from(THREADS)).ok()?;

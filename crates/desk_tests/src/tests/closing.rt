@@ -1,5 +1,6 @@
 //! What a closed desk leaves, and what it takes to make and to close one.
 ghost use Rattle.std.specs.Prelude.{◌≡◌, false};
+ghost use Rattle.cred_desk.specs.Names.{IsNamed, StartsAt};
 
 use super::scene::{Act, Answer, Closing, Setup, judge_closed, show};
 use super::{NONE_STANDS, book_of, enrol, entry, name, remove, stored, upgrade, verify};
@@ -70,8 +71,9 @@ fn make_and_end<J: Naming, R: Wait>(
     book: &Book,
     sessions: u8,
 ) -> Option<DeskError>
-    requires name { (opened.seen.book ≡ J.book) × (opened.blank.name ≡ J.name) × (opened.blank.parts ≡ J.parts) }
-    requires opening { (book.now ≡ J.opening) × (J.parts ≡ sessions) × (J.loads ≡ false) }
+    requires name { IsNamed J.Naming opened }
+    requires opening { StartsAt J.Naming book.now sessions }
+    requires loads { J.loads ≡ false }
 {
     match Desk::<J>::new(rt, alloc, opened, book, sessions) {
         Ok((desk, _)) => {

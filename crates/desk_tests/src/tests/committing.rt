@@ -1,5 +1,6 @@
 //! A committer: the calls of a keeper, what a session reads of them, and its end.
 ghost use Rattle.std.specs.Prelude.{◌≡◌, true};
+ghost use Rattle.cred_desk.specs.Names.{IsNamed, StartsAt};
 
 use super::scene::{Answer, begin, close, read, worked};
 use super::{Accounts, book_of, enrol, name, stored, upgrade, verify};
@@ -145,8 +146,9 @@ fn committed<J: Naming, R: Threads + Wait + Abort + Sync>(
     opened: Opened,
     book: &Book,
 ) -> Result<(Outcome, [Answer; 2]), DeskError>
-    requires name { (opened.seen.book ≡ J.book) × (opened.blank.name ≡ J.name) × (opened.blank.parts ≡ J.parts) }
-    requires opening { (book.now ≡ J.opening) × (J.parts ≡ 1) × (J.loads ≡ true) }
+    requires name { IsNamed J.Naming opened }
+    requires opening { StartsAt J.Naming book.now 1 }
+    requires loads { J.loads ≡ true }
 {
     let (mut committer, sessions) = Committer::<J>::new(rt, alloc, opened, book, 1)?;
     let mut session = sessions.into_iter().next().expect(rt, "a session");
@@ -200,8 +202,9 @@ fn make_and_end<J: Naming, R: Wait>(
     book: &Book,
     sessions: u8,
 ) -> Option<DeskError>
-    requires name { (opened.seen.book ≡ J.book) × (opened.blank.name ≡ J.name) × (opened.blank.parts ≡ J.parts) }
-    requires opening { (book.now ≡ J.opening) × (J.parts ≡ sessions) × (J.loads ≡ true) }
+    requires name { IsNamed J.Naming opened }
+    requires opening { StartsAt J.Naming book.now sessions }
+    requires loads { J.loads ≡ true }
 {
     match Committer::<J>::new(rt, alloc, opened, book, sessions) {
         Ok((committer, _)) => {

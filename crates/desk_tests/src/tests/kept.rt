@@ -1,5 +1,6 @@
 //! A desk whose entries a log keeps, and at which people sign up.
 ghost use Rattle.std.specs.Prelude.{◌≡◌, [], true};
+ghost use Rattle.cred_desk.specs.Names.{IsNamed, StartsAt};
 
 use super::scene::{Answer, begin, close, worked};
 use super::{NONE_STANDS, book_of, enrol, entry, name, remove, verify};
@@ -132,8 +133,9 @@ fn signed_up<J: Naming, R: Threads + Wait + Abort + Sync>(
     book: &Book,
     log: Log,
 ) -> Option<(Answers, Kept<Log>)>
-    requires name { (opened.seen.book ≡ J.book) × (opened.blank.name ≡ J.name) × (opened.blank.parts ≡ J.parts) }
-    requires opening { (book.now ≡ J.opening) × (J.parts ≡ 1) × (J.loads ≡ true) }
+    requires name { IsNamed J.Naming opened }
+    requires opening { StartsAt J.Naming book.now 1 }
+    requires loads { J.loads ≡ true }
     requires empty { log.entries.items ≡ [] }
 {
     let made = KeptDesk::<J, Log>::new(rt, alloc, opened, book, 1, log);

@@ -1,5 +1,6 @@
 //! A desk one of whose sessions is lost.
 ghost use Rattle.std.specs.Prelude.{◌≡◌, false};
+ghost use Rattle.cred_desk.specs.Names.{IsNamed, StartsAt};
 
 use super::scene::{begin, worked};
 use super::{NONE_STANDS, book_of, enrol, entry, name, stored};
@@ -34,8 +35,9 @@ fn given_up<J: Naming, R: Threads + Wait + Abort + Sync>(
     opened: Opened,
     book: &Book,
 ) -> Option<(Option<Reply>, Remains)>
-    requires name { (opened.seen.book ≡ J.book) × (opened.blank.name ≡ J.name) × (opened.blank.parts ≡ J.parts) }
-    requires opening { (book.now ≡ J.opening) × (J.parts ≡ 2) × (J.loads ≡ false) }
+    requires name { IsNamed J.Naming opened }
+    requires opening { StartsAt J.Naming book.now 2 }
+    requires loads { J.loads ≡ false }
 {
     let (desk, mut sessions) = Desk::<J>::new(rt, alloc, opened, book, 2).ok()?;
     let reply = enrol_first(rt, alloc, &desk, &mut sessions);

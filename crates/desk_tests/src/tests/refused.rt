@@ -1,6 +1,7 @@
 //! What want of memory leaves. The tests hold whichever request is refused: tools/refuse_memory.py
 //! refuses each in turn.
 ghost use Rattle.std.specs.Prelude.{◌≡◌, false, true};
+ghost use Rattle.cred_desk.specs.Names.{IsNamed, StartsAt};
 
 use super::scene::{Answer, begin, close_desk, judge_closed, read};
 use super::{ONE_STANDS, book_of, entry, name, stored, upgrade, verify};
@@ -119,8 +120,9 @@ fn settled<J: Naming, R: Threads + Wait + Abort + Sync>(
     opened: Opened,
     book: &Book,
 ) -> Result<(Result<Closed, DeskError>, u64), DeskError>
-    requires name { (opened.seen.book ≡ J.book) × (opened.blank.name ≡ J.name) × (opened.blank.parts ≡ J.parts) }
-    requires opening { (book.now ≡ J.opening) × (J.parts ≡ 2) × (J.loads ≡ false) }
+    requires name { IsNamed J.Naming opened }
+    requires opening { StartsAt J.Naming book.now 2 }
+    requires loads { J.loads ≡ false }
 {
     let (desk, mut sessions) = Desk::<J>::new(rt, alloc, opened, book, 2)?;
     let done = settle_all(rt, alloc, &desk, &mut sessions);
@@ -213,8 +215,9 @@ fn committed<J: Naming, R: Threads + Wait + Abort + Sync>(
     opened: Opened,
     book: &Book,
 ) -> Result<u64, DeskError>
-    requires name { (opened.seen.book ≡ J.book) × (opened.blank.name ≡ J.name) × (opened.blank.parts ≡ J.parts) }
-    requires opening { (book.now ≡ J.opening) × (J.parts ≡ 2) × (J.loads ≡ true) }
+    requires name { IsNamed J.Naming opened }
+    requires opening { StartsAt J.Naming book.now 2 }
+    requires loads { J.loads ≡ true }
 {
     let (mut committer, mut sessions) = Committer::<J>::new(rt, alloc, opened, book, 2)?;
     let done = commit_all(rt, alloc, &mut committer, &mut sessions);

@@ -1,6 +1,7 @@
 //! Scenes at a desk: what its sessions do one after another, and in threads, and how each call is
 //! to answer.
 ghost use Rattle.std.specs.Prelude.{◌≡◌, false};
+ghost use Rattle.cred_desk.specs.Names.{IsNamed, StartsAt};
 
 use super::{Accounts, book_of};
 use cred_book::{Book, Name, Reply, Request, Ticket, Worked};
@@ -308,8 +309,9 @@ fn played<J: Naming + Send + Sync, R: Threads + Wait + Sync>(
     sessions: u8,
     scene: &Scene,
 ) -> Result<(Closed, Option<Slip>), DeskError>
-    requires name { (opened.seen.book ≡ J.book) × (opened.blank.name ≡ J.name) × (opened.blank.parts ≡ J.parts) }
-    requires opening { (book.now ≡ J.opening) × (J.parts ≡ sessions) × (J.loads ≡ false) }
+    requires name { IsNamed J.Naming opened }
+    requires opening { StartsAt J.Naming book.now sessions }
+    requires loads { J.loads ≡ false }
 {
     let (desk, mut seats) = Desk::<J>::new(rt, alloc, opened, book, sessions)?;
     let slip = play_all(rt, alloc, &desk, &mut seats, scene);

@@ -1,6 +1,7 @@
 //! The same scripts on a committer, which publishes its book.
 ghost use Rattle.std.specs.Prelude.{◌≡◌, true};
 ghost use Rattle.cred_cli.specs.Watched.{IsNew};
+ghost use Rattle.cred_desk.specs.Names.{IsNamed, StartsAt};
 
 use cred_book::Book;
 use cred_cli::{End, ScriptFault, Watched, run_script};
@@ -21,8 +22,9 @@ fn run_published<J: Naming, R: Threads + Wait + Sync>(
     writer: &mut Watched<Vec<u8>>,
 ) -> Result<Result<End, ScriptFault>, DeskError>
     requires new_writer { IsNew writer.old }
-    requires name { (opened.seen.book ≡ J.book) × (opened.blank.name ≡ J.name) × (opened.blank.parts ≡ J.parts) }
-    requires opening { (book.now ≡ J.opening) × (J.parts ≡ 0) × (J.loads ≡ true) }
+    requires name { IsNamed J.Naming opened }
+    requires opening { StartsAt J.Naming book.now 0 }
+    requires loads { J.loads ≡ true }
 {
     let (mut committer, _sessions) = Committer::<J>::new(rt, alloc, opened, book, 0)?;
     let mut reader = Watched::new(script);

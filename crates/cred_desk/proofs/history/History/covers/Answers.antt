@@ -9,15 +9,13 @@ use Rattle.cred_desk.proofs.history.History.covers.Goals as goal
 
 pub compare_exchange-requires : goal.compare_exchange-requires
 compare_exchange-requires g c =
-    let h = c.self.invariant.0 in
-    let pen = c.self.invariant.1 in
-    let own = c.self.invariant.2 in
+    let h = c.self.invariant.head_is in
     let offer = c.plain-offer.ensures in (
       ap (λ w. w.tracked) h,
-      c.learn.ensures.0 ∙ (ap (λ s. s.book) c.again-seen.ensures ∙ (own.0 ∙ sym (ap (λ w. w.book) h))),
-      pen.0 ∙ sym (ap (λ w. w.book) h),
+      c.learn.ensures.0 ∙ (ap (λ s. s.book) c.again-seen.ensures ∙ (c.self.invariant.seen_here ∙ sym (ap (λ w. w.book) h))),
+      c.self.invariant.pen_is_here ∙ sym (ap (λ w. w.book) h),
       offer.0,
-      rw (ap (λ w. w.key) h, offer.3) (looks_moves c.learn.new.self.log c.plain-offer.result.ask c.self.inside.pen.nib pen.1.0),
+      rw (ap (λ w. w.key) h, offer.3) (looks_moves c.learn.new.self.log c.plain-offer.result.ask c.self.inside.pen.nib c.self.invariant.pen_is_last.0),
     )
 
 pub returns-clause-begins : goal.returns-clause-begins
@@ -25,7 +23,7 @@ returns-clause-begins g c =
     let both = c.learn.new.self.log in
     let links = c.self.inside.seen.log in
     let this : IsPrefix links both = subst (λ (l : List Link). IsPrefix l both) (ap (λ s. s.log) c.again-seen.ensures) c.learn.ensures.2 in
-    let whole : links ≡ both = c.compare_exchange.ensures.7.1 links this c.self.invariant.1.1.1 in
-    let entries : entries_of both ≡ c.self.inside.front = ap entries_of (sym whole) ∙ sym c.self.invariant.2.1 in
+    let whole : links ≡ both = c.compare_exchange.ensures.7.1 links this c.self.invariant.pen_is_last.1 in
+    let entries : entries_of both ≡ c.self.inside.front = ap entries_of (sym whole) ∙ sym c.self.invariant.front_is_all in
     subst (λ (l : List Entry). IsPrefix l c.self.inside.front) c.seen.ensures.entries
     (subst (λ (l : List Entry). IsPrefix (entries_of c.seen.result.log) l) entries (entries_prefix _ both c.learn.ensures.3))

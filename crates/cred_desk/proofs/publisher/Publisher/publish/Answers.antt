@@ -8,17 +8,18 @@ show-requires g c =
     let list = c.self.inside.history in
     let allowed : Allowed g.J.Naming.loads (after g.J.Naming.opening list) c.args.entry = rw c.self.view_is c.requires in
     let grown : c.again.result ≡ list ++ c.args.entry ∷ [] = c.again.ensures.same ∙ (c.front.ensures ∙ c.add.ensures) in
-    rw (grown, c.self.invariant.3) (with_allowed _ _ _ allowed ∙ sym (after_snoc _ list c.args.entry))
+    rw (grown, c.self.invariant.spare_book) (with_allowed _ _ _ allowed ∙ sym (after_snoc _ list c.args.entry))
 
 pub invariant_of-self-2 : goal.invariant_of-self-2
 invariant_of-self-2 g c =
     let list = c.self.inside.history in
     let allowed : Allowed g.J.Naming.loads (after g.J.Naming.opening list) c.args.entry = rw c.self.view_is c.requires in
     let grown : c.add.new.self ≡ list ++ c.args.entry ∷ [] = c.add.ensures in
-    let front : c.again.result ≡ c.add.new.self = c.again.ensures.same ∙ c.front.ensures in (
-      cc (c.push_reserved.ensures.items, c.in_ok-reserve.ensures.items, c.self.invariant.0, grown),
-      c.show.ensures.front ∙ front,
-      c.show.ensures.book ∙ ap (after g.J.Naming.opening) front,
-      rw (c.show.ensures.spare, c.self.invariant.2, grown) (with_allowed _ _ _ allowed ∙ sym (after_snoc _ list c.args.entry)),
-      subst (IsListed g.J.Naming.loads g.J.Naming.opening) c.front.ensures c.again.ensures.listed,
-    )
+    let front : c.again.result ≡ c.add.new.self = c.again.ensures.same ∙ c.front.ensures in
+    record {
+      journal_is_list = cc (c.push_reserved.ensures.items, c.in_ok-reserve.ensures.items, c.self.invariant.journal_is_list, grown);
+      shown_list = c.show.ensures.front ∙ front;
+      shown_book = c.show.ensures.book ∙ ap (after g.J.Naming.opening) front;
+      spare_book = rw (c.show.ensures.spare, c.self.invariant.shown_book, grown) (with_allowed _ _ _ allowed ∙ sym (after_snoc _ list c.args.entry));
+      listed = subst (IsListed g.J.Naming.loads g.J.Naming.opening) c.front.ensures c.again.ensures.listed;
+    }
