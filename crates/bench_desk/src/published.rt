@@ -1,7 +1,7 @@
 //! The load on a desk: each thread has a session.
 
 ghost use Rattle.std.specs.Prelude.{◌≡◌, ◌+◌, false};
-ghost use Rattle.cred_desk.specs.Names.{IsNamed, StartsAt};
+ghost use Rattle.cred_desk.specs.Naming.{IsNamed, StartsAt};
 
 use crate::figures::{Figures, Ran};
 use crate::load::Load;

@@ -11,7 +11,7 @@ use Rattle.cred_book.specs.Accounts.{Accounts, with_entry}
 use Rattle.cred_book.proofs.Kept.{with_known, with_new}
 use Rattle.cred_desk.specs.declared.entry.Entry.{Entry}
 use Rattle.cred_desk.specs.Commits.{list_after, weight}
-use Rattle.cred_desk.specs.Histories.{put, after, FollowsAt, Allowed, IsLegal, IsListed, IsMade}
+use Rattle.cred_desk.specs.Histories.{put, after, FollowsAt, IsAllowed, IsLegal, IsListed, IsMade}
 use Rattle.cred_desk.specs.Rules.{IsLonger}
 
 -- of two beginnings of one list the shorter begins the longer
@@ -51,7 +51,7 @@ after_snoc book [] entry = refl
 after_snoc book (e ∷ list) entry = after_snoc (put book e) list entry
 
 -- a list goes on with what is allowed after it
-pub listed_snoc : (loads : Bool) (book : Accounts) (list : List Entry) (entry : Entry) → IsListed loads book list → Allowed loads (after book list) entry → IsListed loads book (list ++ entry ∷ [])
+pub listed_snoc : (loads : Bool) (book : Accounts) (list : List Entry) (entry : Entry) → IsListed loads book list → IsAllowed loads (after book list) entry → IsListed loads book (list ++ entry ∷ [])
 listed_snoc loads book [] entry listed allowed = (allowed, tt)
 listed_snoc loads book (e ∷ list) entry listed allowed = (listed.0, listed_snoc loads (put book e) list entry listed.1 allowed)
 
@@ -60,7 +60,7 @@ there : (found : Option (Option RecordValue)) (now : Option RecordValue) → Fol
 there None now follows = absurd follows
 there (Some old) now follows = refl
 
-pub with_allowed : (loads : Bool) (book : Accounts) (entry : Entry) → Allowed loads book entry → with_entry book entry.name entry.now ≡ put book entry
+pub with_allowed : (loads : Bool) (book : Accounts) (entry : Entry) → IsAllowed loads book entry → with_entry book entry.name entry.now ≡ put book entry
 with_allowed false book entry made = with_known book entry.name entry.now (there (map.get book entry.name) entry.now made)
 with_allowed true book entry (inl made) = with_known book entry.name entry.now (there (map.get book entry.name) entry.now made)
 with_allowed true book entry (inr (inl admitted)) = with_new book entry.name entry.now admitted.0 admitted.1

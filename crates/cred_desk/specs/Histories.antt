@@ -63,14 +63,14 @@ IsLoaded book entry = (map.contains_key book entry.name ≡ true)
 
 -- an entry that may come next: of an operation, and where loads may stand in the list, of one who
 -- keeps the book
-abbrev pub Allowed : Bool → Accounts → Entry → Type 0
-Allowed false book entry = IsMade book entry
-Allowed true book entry = IsMade book entry ⊎ (IsAdmitted book entry ⊎ IsLoaded book entry)
+abbrev pub IsAllowed : Bool → Accounts → Entry → Type 0
+IsAllowed false book entry = IsMade book entry
+IsAllowed true book entry = IsMade book entry ⊎ (IsAdmitted book entry ⊎ IsLoaded book entry)
 
 -- each entry was allowed at the book of those before it
 abbrev pub IsListed : Bool → Accounts → List Entry → Type 0
 IsListed loads book [] = Unit {0}
-IsListed loads book (entry ∷ entries) = Allowed loads book entry
+IsListed loads book (entry ∷ entries) = IsAllowed loads book entry
     × IsListed loads (put book entry) entries
 
 -- operations alone made the list

@@ -2,7 +2,7 @@
 pub mod Additions
 pub mod Commits
 pub mod Histories
-pub mod Names
+pub mod Naming
 pub mod Published
 pub mod Refusals
 pub mod Rules

@@ -7,7 +7,7 @@ ghost use Rattle.cred_book.specs.Calls.{Admits, Loads};
 ghost use Rattle.cred_book.specs.declared.error.BookError.TheVariants.{Memory as memory};
 ghost use Rattle.cred_desk.specs.Additions.{IsAdded, IsAt, refusal_of};
 ghost use Rattle.cred_desk.specs.Commits.{entry_of, list_after, reply_of, weight};
-ghost use Rattle.cred_desk.specs.Histories.{Allowed, IsAdmitted, IsListed, IsLoaded, after, entry};
+ghost use Rattle.cred_desk.specs.Histories.{IsAdmitted, IsAllowed, IsListed, IsLoaded, after, entry};
 ghost use Rattle.cred_desk.specs.Standing.{IsMissed};
 
 use crate::closed::{Closed, Kept, Remains};
@@ -190,7 +190,7 @@ impl<J: Naming, W: EntryWriter> Clerk<J, W> {
         session: &mut Session<J>,
         entry: Entry,
     ) -> Result<Told<J>, KeepError<W::Error>>
-        requires allowed { Allowed J.loads (after J.opening self.old) entry }
+        requires allowed { IsAllowed J.loads (after J.opening self.old) entry }
         requires loads { J.loads ≡ true }
         ensures listed { IsListed J.loads J.opening self.old }
         ensures behind { IsPrefix session.old.known self.old }

@@ -6,7 +6,7 @@ ghost use Rattle.cred_book.specs.Calls.{Admits, Loads};
 ghost use Rattle.cred_book.specs.Commits.{Commits};
 ghost use Rattle.cred_desk.specs.Commits.{entry_of, list_after, reply_of};
 ghost use Rattle.cred_desk.specs.Histories.{IsLawful, IsLegal, after, entry};
-ghost use Rattle.cred_desk.specs.Names.{IsNamed, StartsAt};
+ghost use Rattle.cred_desk.specs.Naming.{IsNamed, StartsAt};
 ghost use Rattle.cred_desk.specs.Refusals.{IsRefusedToMake};
 ghost use Rattle.cred_desk.specs.declared.error.DeskError.TheVariants as error;
 

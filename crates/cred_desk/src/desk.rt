@@ -3,7 +3,7 @@
 ghost use Rattle.std.specs.Prelude.{◌≡◌, ◌&&◌, [], All, IfErr, IfOk, MatchResult, false, length, map, nat_le, sum, true, vec_len};
 ghost use mathlib.Core.List.{IsPrefix};
 ghost use Rattle.cred_desk.specs.Histories.{IsLegal, after};
-ghost use Rattle.cred_desk.specs.Names.{IsNamed, StartsAt};
+ghost use Rattle.cred_desk.specs.Naming.{IsNamed, StartsAt};
 ghost use Rattle.cred_desk.specs.Refusals.{IsRefusedToMake};
 ghost use Rattle.cred_desk.specs.Standing.{IsMissed, Settles};
 

@@ -10,14 +10,19 @@ use thiserror::Error;
 /// Why a desk, a committer or a session isn't made, or doesn't do what it is asked.
 #[derive(Clone, Copy, Debug, PartialEq, Eq, Error)]
 pub enum DeskError {
+    /// No memory.
     #[error("out of memory")]
     Memory,
+    /// Too few or too many sessions.
     #[error("the number of sessions is none that can be had")]
     Sessions,
+    /// Missing sessions.
     #[error("sessions of the desk are missing")]
     Session,
+    /// No book to read.
     #[error("the reader got no place, or was let in to no book")]
     Reader,
+    /// Unknown name.
     #[error("the name isn't there")]
     NoAccount,
 }

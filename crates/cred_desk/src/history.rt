@@ -3,7 +3,7 @@
 ghost use Rattle.std.specs.Prelude.{◌≡◌, ◌+◌, ◌<◌, ◌^◌, ◌++◌, ◌∷◌, [], length, IfSome};
 ghost use mathlib.Core.List.{IsPrefix};
 ghost use Rattle.logbook.specs.Pages.{may_write};
-ghost use Rattle.cred_desk.specs.Histories.{Allowed, after};
+ghost use Rattle.cred_desk.specs.Histories.{IsAllowed, after};
 ghost use Rattle.cred_desk.specs.Rules.{head_of};
 
 use crate::entry::Entry;
@@ -34,11 +34,11 @@ impl<J: Naming> Model for History<J> {
     ghost view = { λ h. h.front };
 
     ghost invariant = { λ h. record {
-      head_is : h.head ≡ head_of J.book;
-      pen_is_here : h.pen.book ≡ J.book;
-      pen_is_last : IsPenAfter h.seen.log h.pen.nib;
-      seen_here : h.seen.book ≡ J.book;
-      front_is_all : h.front ≡ entries_of h.seen.log;
+      head_of_list : h.head ≡ head_of J.book;
+      pen_of_list : h.pen.book ≡ J.book;
+      pen_at_end : IsPenAfter h.seen.log h.pen.nib;
+      seen_of_list : h.seen.book ≡ J.book;
+      front_is_whole : h.front ≡ entries_of h.seen.log;
     } };
 }
 
@@ -95,7 +95,7 @@ impl<J: Naming> History<J> {
     /// Adds an entry.
     pub(crate) fn add(&mut self, new: &Entry)
         requires room { length self.old + 1 < 2 ^ 64 }
-        requires allowed { Allowed J.loads (after J.opening self.old) new.now }
+        requires allowed { IsAllowed J.loads (after J.opening self.old) new.now }
         ensures { self.new ≡ self.old ++ new.entry.now ∷ [] }
     {
         let mut seen = self.seen.again();

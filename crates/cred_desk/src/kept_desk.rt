@@ -6,7 +6,7 @@ ghost use Rattle.cred_book.specs.Calls.{Admits, Loads};
 ghost use Rattle.cred_book.specs.declared.error.BookError.TheVariants.{Memory as memory};
 ghost use Rattle.cred_desk.specs.Additions.{IsAdded, IsAt, IsSettled, IsUnsettled, refusal_of};
 ghost use Rattle.cred_desk.specs.Histories.{IsAdmitted, IsListed, IsLoaded, after, entry};
-ghost use Rattle.cred_desk.specs.Names.{IsNamed, StartsAt};
+ghost use Rattle.cred_desk.specs.Naming.{IsNamed, StartsAt};
 ghost use Rattle.cred_desk.specs.Refusals.{IsRefusedToMake};
 ghost use Rattle.cred_desk.specs.Standing.{IsMissed};
 

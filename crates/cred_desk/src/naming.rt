@@ -47,10 +47,10 @@ pub struct Opened {
 
 impl Model for Opened {
     ghost use Rattle.std.specs.Prelude.{◌≡◌, []};
-    ghost use Rattle.cred_desk.specs.Names.{Opening};
+    ghost use Rattle.cred_desk.specs.Naming.{NewList};
     ghost use Rattle.cred_desk.specs.Rules.{head_of};
 
-    ghost Value = { Opening };
+    ghost Value = { NewList };
 
     ghost view = { λ o. record {
       list = o.seen.book;

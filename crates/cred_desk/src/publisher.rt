@@ -5,7 +5,7 @@ ghost use mathlib.Core.List.{IsPrefix};
 ghost use Rattle.cred_book.specs.declared.error.BookError.TheVariants.{Memory as memory};
 ghost use Rattle.cred_desk.specs.Additions.{refusal_of};
 ghost use Rattle.cred_desk.specs.Commits.{entry_of, list_after, reply_of};
-ghost use Rattle.cred_desk.specs.Histories.{Allowed, IsLegal, IsListed, IsMade, after};
+ghost use Rattle.cred_desk.specs.Histories.{IsAllowed, IsLegal, IsListed, IsMade, after};
 
 use crate::change::judge;
 use crate::closed::Remains;
@@ -117,7 +117,7 @@ impl<J: Naming> Publisher<J> {
         entry: Entry,
         writer: &mut W,
     ) -> Result<(), KeepError<W::Error>>
-        requires { Allowed J.loads (after J.opening self.old) entry }
+        requires { IsAllowed J.loads (after J.opening self.old) entry }
         ensures done { MatchResult result (λ _. self.new ≡ self.old ++ entry ∷ [])
             (λ e. (self.new ≡ self.old) × (refusal_of e ≡ memory)) }
         ensures kept { W.keeps writer.old self.old → W.keeps writer.new self.new }

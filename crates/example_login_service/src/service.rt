@@ -1,7 +1,7 @@
 //! The desk, its three sessions, and the thread of each.
 
 ghost use Rattle.std.specs.Prelude.{◌≡◌, ◌+◌, false};
-ghost use Rattle.cred_desk.specs.Names.{IsNamed, StartsAt};
+ghost use Rattle.cred_desk.specs.Naming.{IsNamed, StartsAt};
 
 use crate::login::{Login, log_in, move_record};
 use crate::people::Account;

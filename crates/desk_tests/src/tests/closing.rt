@@ -1,6 +1,6 @@
 //! What a closed desk leaves, and what it takes to make and to close one.
 ghost use Rattle.std.specs.Prelude.{◌≡◌, false};
-ghost use Rattle.cred_desk.specs.Names.{IsNamed, StartsAt};
+ghost use Rattle.cred_desk.specs.Naming.{IsNamed, StartsAt};
 
 use super::scene::{Act, Answer, Closing, Setup, judge_closed, show};
 use super::{NONE_STANDS, book_of, enrol, entry, name, remove, stored, upgrade, verify};

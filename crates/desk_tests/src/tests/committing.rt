@@ -1,6 +1,6 @@
 //! A committer: the calls of a keeper, what a session reads of them, and its end.
 ghost use Rattle.std.specs.Prelude.{◌≡◌, true};
-ghost use Rattle.cred_desk.specs.Names.{IsNamed, StartsAt};
+ghost use Rattle.cred_desk.specs.Naming.{IsNamed, StartsAt};
 
 use super::scene::{Answer, begin, close, read, worked};
 use super::{Accounts, book_of, enrol, name, stored, upgrade, verify};

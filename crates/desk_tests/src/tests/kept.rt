@@ -1,6 +1,6 @@
 //! A desk whose entries a log keeps, and at which people sign up.
 ghost use Rattle.std.specs.Prelude.{◌≡◌, [], true};
-ghost use Rattle.cred_desk.specs.Names.{IsNamed, StartsAt};
+ghost use Rattle.cred_desk.specs.Naming.{IsNamed, StartsAt};
 
 use super::scene::{Answer, begin, close, worked};
 use super::{NONE_STANDS, book_of, enrol, entry, name, remove, verify};

@@ -1,6 +1,6 @@
 //! A desk one of whose sessions is lost.
 ghost use Rattle.std.specs.Prelude.{◌≡◌, false};
-ghost use Rattle.cred_desk.specs.Names.{IsNamed, StartsAt};
+ghost use Rattle.cred_desk.specs.Naming.{IsNamed, StartsAt};
 
 use super::scene::{begin, worked};
 use super::{NONE_STANDS, book_of, enrol, entry, name, stored};

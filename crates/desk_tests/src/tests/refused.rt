@@ -1,7 +1,7 @@
 //! What want of memory leaves. The tests hold whichever request is refused: tools/refuse_memory.py
 //! refuses each in turn.
 ghost use Rattle.std.specs.Prelude.{◌≡◌, false, true};
-ghost use Rattle.cred_desk.specs.Names.{IsNamed, StartsAt};
+ghost use Rattle.cred_desk.specs.Naming.{IsNamed, StartsAt};
 
 use super::scene::{Answer, begin, close_desk, judge_closed, read};
 use super::{ONE_STANDS, book_of, entry, name, stored, upgrade, verify};

@@ -1,7 +1,7 @@
 //! Scenes at a desk: what its sessions do one after another, and in threads, and how each call is
 //! to answer.
 ghost use Rattle.std.specs.Prelude.{◌≡◌, false};
-ghost use Rattle.cred_desk.specs.Names.{IsNamed, StartsAt};
+ghost use Rattle.cred_desk.specs.Naming.{IsNamed, StartsAt};
 
 use super::{Accounts, book_of};
 use cred_book::{Book, Name, Reply, Request, Ticket, Worked};

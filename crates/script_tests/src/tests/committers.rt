@@ -1,7 +1,7 @@
 //! The same scripts on a committer, which publishes its book.
 ghost use Rattle.std.specs.Prelude.{◌≡◌, true};
 ghost use Rattle.cred_cli.specs.Watched.{IsNew};
-ghost use Rattle.cred_desk.specs.Names.{IsNamed, StartsAt};
+ghost use Rattle.cred_desk.specs.Naming.{IsNamed, StartsAt};
 
 use cred_book::Book;
 use cred_cli::{End, ScriptFault, Watched, run_script};

@@ -1,6 +1,6 @@
 use Rattle.std.proofs.Common.{◌≡◌, ◌∷◌, ◌++◌, [], length, List, Some, subst, sym, ◌∙◌, ap, arith, length-append}
 use Rattle.cred_desk.specs.declared.entry.Entry.{Entry}
-use Rattle.cred_desk.specs.Histories.{Allowed, IsListed, after}
+use Rattle.cred_desk.specs.Histories.{IsAllowed, IsListed, after}
 use Rattle.cred_desk.specs.Rules.{entries_of, first_place, link, place_after}
 use Rattle.cred_desk.proofs.Adding.{fills_moves}
 use Rattle.cred_desk.proofs.Links.{entries_snoc, place_snoc}
@@ -9,13 +9,13 @@ use Rattle.cred_desk.proofs.history.History.add.Goals as goal
 
 pub compare_exchange-requires : goal.compare_exchange-requires
 compare_exchange-requires g c =
-    let h = c.self.invariant.head_is in
+    let h = c.self.invariant.head_of_list in
     let offer = c.plain-offer.ensures in (
       ap (λ w. w.tracked) h,
-      ap (λ s. s.book) c.again-seen.ensures ∙ (c.self.invariant.seen_here ∙ sym (ap (λ w. w.book) h)),
-      c.self.invariant.pen_is_here ∙ sym (ap (λ w. w.book) h),
+      ap (λ s. s.book) c.again-seen.ensures ∙ (c.self.invariant.seen_of_list ∙ sym (ap (λ w. w.book) h)),
+      c.self.invariant.pen_of_list ∙ sym (ap (λ w. w.book) h),
       offer.0,
-      rw (ap (λ w. w.key) h, offer.3, c.again-seen.ensures) (fills_moves c.self.inside.seen.log c.plain-offer.result.ask c.self.inside.pen.nib c.self.invariant.pen_is_last),
+      rw (ap (λ w. w.key) h, offer.3, c.again-seen.ensures) (fills_moves c.self.inside.seen.log c.plain-offer.result.ask c.self.inside.pen.nib c.self.invariant.pen_at_end),
     )
 
 pub of-requires-clause-length : goal.of-requires-clause-length
@@ -23,7 +23,7 @@ of-requires-clause-length g c =
     let front = c.self.inside.front in
     let new = c.args.new.now in
     let grown : c.again-2.result.log ≡ c.self.inside.seen.log ++ link (Some new) c.make_place-next.result.nib.key ∷ [] = cc (ap (λ s. s.log) c.again-2.ensures, c.compare_exchange.ensures.7, ap (λ s. s.log) c.again-seen.ensures, c.plain-offer.ensures.1) in
-    let entries : entries_of c.again-2.result.log ≡ front ++ new ∷ [] = ap entries_of grown ∙ (entries_snoc c.self.inside.seen.log new c.make_place-next.result.nib.key ∙ ap (λ (l : List Entry). l ++ new ∷ []) (sym c.self.invariant.front_is_all)) in
+    let entries : entries_of c.again-2.result.log ≡ front ++ new ∷ [] = ap entries_of grown ∙ (entries_snoc c.self.inside.seen.log new c.make_place-next.result.nib.key ∙ ap (λ (l : List Entry). l ++ new ∷ []) (sym c.self.invariant.front_is_whole)) in
     omega (arith, c.len.ensures.length, ap length entries, length-append front (new ∷ []))
 
 pub of-requires-clause-listed : goal.of-requires-clause-listed
@@ -31,8 +31,8 @@ of-requires-clause-listed g c =
     let front = c.self.inside.front in
     let new = c.args.new.now in
     let grown : c.again-2.result.log ≡ c.self.inside.seen.log ++ link (Some new) c.make_place-next.result.nib.key ∷ [] = cc (ap (λ s. s.log) c.again-2.ensures, c.compare_exchange.ensures.7, ap (λ s. s.log) c.again-seen.ensures, c.plain-offer.ensures.1) in
-    let entries : entries_of c.again-2.result.log ≡ front ++ new ∷ [] = ap entries_of grown ∙ (entries_snoc c.self.inside.seen.log new c.make_place-next.result.nib.key ∙ ap (λ (l : List Entry). l ++ new ∷ []) (sym c.self.invariant.front_is_all)) in
-    let allowed : Allowed g.J.Naming.loads (after g.J.Naming.opening front) new = rw c.self.view_is c.requires.allowed in
+    let entries : entries_of c.again-2.result.log ≡ front ++ new ∷ [] = ap entries_of grown ∙ (entries_snoc c.self.inside.seen.log new c.make_place-next.result.nib.key ∙ ap (λ (l : List Entry). l ++ new ∷ []) (sym c.self.invariant.front_is_whole)) in
+    let allowed : IsAllowed g.J.Naming.loads (after g.J.Naming.opening front) new = rw c.self.view_is c.requires.allowed in
     subst (IsListed g.J.Naming.loads g.J.Naming.opening) (sym entries) (listed_snoc _ _ _ _ c.len.ensures.listed allowed)
 
 pub invariant_of-self : goal.invariant_of-self
@@ -42,11 +42,11 @@ invariant_of-self g c =
     let place = c.make_place-next in
     let grown : c.compare_exchange.new.seen.log ≡ links ++ link (Some new) place.result.nib.key ∷ [] = cc (c.compare_exchange.ensures.7, ap (λ s. s.log) c.again-seen.ensures, c.plain-offer.ensures.1) in
     record {
-      head_is = c.self.invariant.head_is;
-      pen_is_here = place.ensures.pen.0 ∙ (ap (λ s. s.book) c.again.ensures ∙ c.self.invariant.seen_here);
-      pen_is_last = (place.ensures.pen.1, sym (ap (place_after first_place) grown ∙ place_snoc first_place links (link (Some new) place.result.nib.key)));
-      seen_here = c.compare_exchange.ensures.0 ∙ (ap (λ s. s.book) c.again-seen.ensures ∙ c.self.invariant.seen_here);
-      front_is_all = c.of.ensures ∙ ap (λ s. entries_of s.log) c.again-2.ensures;
+      head_of_list = c.self.invariant.head_of_list;
+      pen_of_list = place.ensures.pen.0 ∙ (ap (λ s. s.book) c.again.ensures ∙ c.self.invariant.seen_of_list);
+      pen_at_end = (place.ensures.pen.1, sym (ap (place_after first_place) grown ∙ place_snoc first_place links (link (Some new) place.result.nib.key)));
+      seen_of_list = c.compare_exchange.ensures.0 ∙ (ap (λ s. s.book) c.again-seen.ensures ∙ c.self.invariant.seen_of_list);
+      front_is_whole = c.of.ensures ∙ ap (λ s. entries_of s.log) c.again-2.ensures;
     }
 
 pub returns : goal.returns
@@ -54,5 +54,5 @@ returns g c =
     let front = c.self.inside.front in
     let new = c.args.new.now in
     let grown : c.again-2.result.log ≡ c.self.inside.seen.log ++ link (Some new) c.make_place-next.result.nib.key ∷ [] = cc (ap (λ s. s.log) c.again-2.ensures, c.compare_exchange.ensures.7, ap (λ s. s.log) c.again-seen.ensures, c.plain-offer.ensures.1) in
-    let entries : entries_of c.again-2.result.log ≡ front ++ new ∷ [] = ap entries_of grown ∙ (entries_snoc c.self.inside.seen.log new c.make_place-next.result.nib.key ∙ ap (λ (l : List Entry). l ++ new ∷ []) (sym c.self.invariant.front_is_all)) in
+    let entries : entries_of c.again-2.result.log ≡ front ++ new ∷ [] = ap entries_of grown ∙ (entries_snoc c.self.inside.seen.log new c.make_place-next.result.nib.key ∙ ap (λ (l : List Entry). l ++ new ∷ []) (sym c.self.invariant.front_is_whole)) in
     rw (← c.self.view_is) (c.of.ensures ∙ entries)

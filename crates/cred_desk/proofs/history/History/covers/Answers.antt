@@ -9,13 +9,13 @@ use Rattle.cred_desk.proofs.history.History.covers.Goals as goal
 
 pub compare_exchange-requires : goal.compare_exchange-requires
 compare_exchange-requires g c =
-    let h = c.self.invariant.head_is in
+    let h = c.self.invariant.head_of_list in
     let offer = c.plain-offer.ensures in (
       ap (λ w. w.tracked) h,
-      c.learn.ensures.0 ∙ (ap (λ s. s.book) c.again-seen.ensures ∙ (c.self.invariant.seen_here ∙ sym (ap (λ w. w.book) h))),
-      c.self.invariant.pen_is_here ∙ sym (ap (λ w. w.book) h),
+      c.learn.ensures.0 ∙ (ap (λ s. s.book) c.again-seen.ensures ∙ (c.self.invariant.seen_of_list ∙ sym (ap (λ w. w.book) h))),
+      c.self.invariant.pen_of_list ∙ sym (ap (λ w. w.book) h),
       offer.0,
-      rw (ap (λ w. w.key) h, offer.3) (looks_moves c.learn.new.self.log c.plain-offer.result.ask c.self.inside.pen.nib c.self.invariant.pen_is_last.0),
+      rw (ap (λ w. w.key) h, offer.3) (looks_moves c.learn.new.self.log c.plain-offer.result.ask c.self.inside.pen.nib c.self.invariant.pen_at_end.0),
     )
 
 pub returns-clause-begins : goal.returns-clause-begins
@@ -23,7 +23,7 @@ returns-clause-begins g c =
     let both = c.learn.new.self.log in
     let links = c.self.inside.seen.log in
     let this : IsPrefix links both = subst (λ (l : List Link). IsPrefix l both) (ap (λ s. s.log) c.again-seen.ensures) c.learn.ensures.2 in
-    let whole : links ≡ both = c.compare_exchange.ensures.7.1 links this c.self.invariant.pen_is_last.1 in
-    let entries : entries_of both ≡ c.self.inside.front = ap entries_of (sym whole) ∙ sym c.self.invariant.front_is_all in
+    let whole : links ≡ both = c.compare_exchange.ensures.7.1 links this c.self.invariant.pen_at_end.1 in
+    let entries : entries_of both ≡ c.self.inside.front = ap entries_of (sym whole) ∙ sym c.self.invariant.front_is_whole in
     subst (λ (l : List Entry). IsPrefix l c.self.inside.front) c.seen.ensures.entries
     (subst (λ (l : List Entry). IsPrefix (entries_of c.seen.result.log) l) entries (entries_prefix _ both c.learn.ensures.3))

@@ -1,19 +1,19 @@
 use Rattle.std.proofs.Common.{◌≡◌, ◌∷◌, ◌++◌, [], ap, subst, sym, ◌∙◌}
-use Rattle.cred_desk.specs.Histories.{Allowed, IsListed, after}
+use Rattle.cred_desk.specs.Histories.{IsAllowed, IsListed, after}
 use Rattle.cred_desk.proofs.Lists.{after_snoc, with_allowed}
 use Rattle.cred_desk.proofs.publisher.Publisher.publish.Goals as goal
 
 pub show-requires : goal.show-requires
 show-requires g c =
     let list = c.self.inside.history in
-    let allowed : Allowed g.J.Naming.loads (after g.J.Naming.opening list) c.args.entry = rw c.self.view_is c.requires in
+    let allowed : IsAllowed g.J.Naming.loads (after g.J.Naming.opening list) c.args.entry = rw c.self.view_is c.requires in
     let grown : c.again.result ≡ list ++ c.args.entry ∷ [] = c.again.ensures.same ∙ (c.front.ensures ∙ c.add.ensures) in
     rw (grown, c.self.invariant.spare_book) (with_allowed _ _ _ allowed ∙ sym (after_snoc _ list c.args.entry))
 
 pub invariant_of-self-2 : goal.invariant_of-self-2
 invariant_of-self-2 g c =
     let list = c.self.inside.history in
-    let allowed : Allowed g.J.Naming.loads (after g.J.Naming.opening list) c.args.entry = rw c.self.view_is c.requires in
+    let allowed : IsAllowed g.J.Naming.loads (after g.J.Naming.opening list) c.args.entry = rw c.self.view_is c.requires in
     let grown : c.add.new.self ≡ list ++ c.args.entry ∷ [] = c.add.ensures in
     let front : c.again.result ≡ c.add.new.self = c.again.ensures.same ∙ c.front.ensures in
     record {

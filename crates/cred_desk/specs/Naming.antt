@@ -4,11 +4,11 @@ use Rattle.logbook.specs.Pages.{Book}
 use Rattle.cred_book.specs.Accounts.{Accounts}
 
 -- the members of `Naming`, with those of `Ledger` above it
-abbrev pub Name : Type 0
-Name = record { name : ℕ; parts : ℕ; book : Book; opening : Accounts; loads : Bool }
+abbrev pub Naming : Type 0
+Naming = record { name : ℕ; parts : ℕ; book : Book; opening : Accounts; loads : Bool }
 
 -- what a clause sees of a list that was opened, before it has a name
-pub record Opening : Type 0 where
+pub record NewList : Type 0 where
   -- which list it is
   pub list : Book
   -- which ledger counts what its sessions do
@@ -16,10 +16,10 @@ pub record Opening : Type 0 where
   pub sessions : ℕ
 
 -- the name is that of this list
-abbrev pub IsNamed : Name → Opening → Type 0
+abbrev pub IsNamed : Naming → NewList → Type 0
 IsNamed name opened = (opened.list ≡ name.book) × (opened.ledger ≡ name.name)
     × (opened.sessions ≡ name.parts)
 
 -- its list starts from this book, and has so many sessions
-abbrev pub StartsAt : Name → Accounts → ℕ → Type 0
+abbrev pub StartsAt : Naming → Accounts → ℕ → Type 0
 StartsAt name book sessions = (book ≡ name.opening) × (name.parts ≡ sessions)
