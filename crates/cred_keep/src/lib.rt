@@ -1,6 +1,14 @@
-//! What people do with a book that is kept in a database.
+//! What people do with a book that is kept in a database: the orders of the program `credkeep`.
 #![tactic(auto)]
 
+mod failure;
+mod order;
+mod performing;
+mod report;
 mod script;
 
+pub use failure::Failure;
+pub use order::Order;
+pub use performing::perform;
+pub use report::explain;
 pub use script::run_on_file;

@@ -1,0 +1,125 @@
+-- What an order makes of a kept book.
+use Rattle.std.specs.Prelude.{◌≡◌, ℕ, ◌≤◌, Bool, true, false, List, length, Option, Some, None, IfSome, Result, Ok, Err}
+use Rattle.std.specs.FinMap as map
+use Rattle.std.specs.Io.KnownBytes.{Keeps}
+use Rattle.cred_book.specs.Accounts.{Accounts}
+use Rattle.cred_book.specs.declared.request.Request.TheVariants as request
+use Rattle.cred_admin.specs.Commands.{Adds, Asks, AsksTwice}
+use Rattle.cred_admin.specs.Import.{Imports}
+use Rattle.cred_admin.specs.Listing.{Prints, lines_text, name_line, passwd_line}
+use Rattle.cred_admin.specs.Statuses.{status_of_fault}
+use Rattle.cred_admin.specs.declared.fault.Fault.{Fault}
+use Rattle.cred_admin.specs.declared.loading.ImportFault.{ImportFault}
+use Rattle.cred_admin.specs.declared.loading.ImportFault.TheVariants as import
+use Rattle.cred_admin.specs.declared.status.Status.{Status}
+use Rattle.cred_admin.specs.declared.status.Status.TheVariants.{Done, Io, Memory, Database, Data}
+use Rattle.cred_cli.specs.Outcome.{HasCause, IsAnswered, ScriptFails, longest_script}
+use Rattle.cred_cli.specs.declared.fault.ScriptFault.{ScriptFault}
+use Rattle.cred_cli.specs.declared.fault.ScriptFault.TheVariants as script
+use Rattle.cred_cli.specs.declared.script.End.{End}
+use Rattle.cred_file.specs.declared.fault.Lost.{Lost}
+use Rattle.cred_keep.specs.declared.failure.Failure.{Failure}
+use Rattle.cred_keep.specs.declared.failure.Failure.TheVariants as failure
+use Rattle.cred_keep.specs.declared.order.Order.{Order}
+use Rattle.cred_keep.specs.declared.order.Order.TheVariants.{Run, Add, Check, Change, Upgrade, Remove, List as Names, Export, Import}
+
+-- ---- how it ends
+
+abbrev pub commanded : Result Status Fault → Result Status Failure
+commanded (Ok status) = Ok status
+commanded (Err e) = Err (failure.Command e)
+
+abbrev pub imported : Result Status ImportFault → Result Status Failure
+imported (Ok status) = Ok status
+imported (Err e) = Err (failure.Import e)
+
+abbrev pub ran : Result End ScriptFault → Result Status Failure
+ran (Ok end) = Ok Done
+ran (Err e) = Err (failure.Script e)
+
+-- once a change is lost, it is the database that failed
+abbrev pub unless_lost : Option Lost → Result Status Failure → Result Status Failure
+unless_lost None ended = ended
+unless_lost (Some l) ended = Err failure.Database
+
+abbrev pub status_of_import : ImportFault → Status
+status_of_import import.Read = Io
+status_of_import import.Memory = Memory
+status_of_import (import.Line n why) = Data
+
+abbrev pub status_of_script : ScriptFault → Status
+status_of_script script.Read = Io
+status_of_script script.Write = Io
+status_of_script script.Memory = Memory
+status_of_script script.TooLong = Data
+
+abbrev pub status_of_failure : Failure → Status
+status_of_failure (failure.Command e) = status_of_fault e
+status_of_failure (failure.Import e) = status_of_import e
+status_of_failure (failure.Script e) = status_of_script e
+status_of_failure failure.Database = Database
+
+-- ---- what it does
+
+-- a reader, a writer and a book before and after: what the reader has and what is left of it, what
+-- is written before and now, the old book and the new one, and whether a call failed
+pub record Seen : Type 0 where
+  pub input : Option (List ℕ)
+  pub left : Option (List ℕ)
+  pub before : Option (List ℕ)
+  pub now : Option (List ℕ)
+  pub old : Accounts
+  pub new : Accounts
+  pub reader_failed : Bool
+  pub writer_failed : Bool
+
+-- the script was answered whole, or it met a fault
+abbrev pub Runs : Seen → Result End ScriptFault → Type 0
+Runs s (Ok end) = IfSome s.input (λ bytes. (length bytes ≤ longest_script)
+    × IsAnswered s.old bytes s.before s.now s.new end.lines)
+Runs s (Err e) = HasCause s.reader_failed s.writer_failed e
+    × IfSome s.input (λ bytes. ScriptFails s.old bytes s.left s.before s.now s.new e)
+
+-- a command, of which this holds at its end, ends so
+abbrev pub Commands : (Result Status Fault → Type 0) → Result Status Failure → Type 0
+Commands Holds ended = (r : Result Status Fault) × Holds r × (ended ≡ commanded r)
+
+-- what is written of the book, which stays as it is
+abbrev pub Shows : List ℕ → Seen → Result Status Failure → Type 0
+Shows text s ended = Commands (Prints text s.before s.now) ended × (s.new ≡ s.old)
+
+abbrev pub Performs : Order → Seen → Result Status Failure → Type 0
+Performs Run s ended = (r : Result End ScriptFault) × Runs s r × (ended ≡ ran r)
+Performs (Add name setting) s ended =
+    Commands (Adds name setting s.input s.old s.new s.before s.now) ended
+Performs (Check name) s ended =
+    Commands (Asks (λ pw. request.Verify name pw) s.input s.old s.new s.before s.now) ended
+Performs (Change name setting) s ended =
+    Commands (AsksTwice (λ pw new_pw. request.Change name pw new_pw setting)
+    s.input s.old s.new s.before s.now) ended
+Performs (Upgrade name setting) s ended =
+    Commands (Asks (λ pw. request.Upgrade name pw setting) s.input s.old s.new s.before s.now) ended
+Performs (Remove name) s ended =
+    Commands (Asks (λ pw. request.Remove name pw) s.input s.old s.new s.before s.now) ended
+Performs Names s ended = Shows (lines_text name_line (map.entries s.old)) s ended
+Performs Export s ended = Shows (lines_text passwd_line (map.entries s.old)) s ended
+Performs Import s ended =
+    ((r : Result Status ImportFault) × Imports s.input s.old s.new r × (ended ≡ imported r))
+    × Keeps s.before s.now
+
+-- as it ends for the shell: Ok means that no change is lost
+abbrev pub Ends : Order → Seen → Option Lost → Result Status Failure → Type 0
+Ends order s lost ended =
+    (r : Result Status Failure) × Performs order s r × (ended ≡ unless_lost lost r)
+
+-- the order reads nothing
+abbrev pub is_unread : Order → Bool
+is_unread Names = true
+is_unread Export = true
+is_unread Run = false
+is_unread (Add name setting) = false
+is_unread (Check name) = false
+is_unread (Change name setting) = false
+is_unread (Upgrade name setting) = false
+is_unread (Remove name) = false
+is_unread Import = false

@@ -1,0 +1,68 @@
+//! Why an order ends without what was asked.
+
+ghost use Rattle.std.specs.Prelude.{◌≡◌};
+ghost use Rattle.cred_keep.specs.Orders.{commanded, imported, ran, status_of_failure};
+
+use cred_admin::{Fault, ImportFault, Status};
+use cred_cli::{End, ScriptFault};
+
+/// What ended an order.
+#[derive(Clone, Copy, Debug)]
+pub enum Failure {
+    /// A command on one account, a list or an export met this fault.
+    Command(Fault),
+    /// An import met this fault.
+    Import(ImportFault),
+    /// A script met this fault.
+    Script(ScriptFault),
+    /// The database failed; the book's `lost` tells of the change that was under way.
+    Database,
+}
+
+impl Failure {
+    /// The exit status that tells of it.
+    pub fn status(self) -> Status
+        ensures { result ≡ status_of_failure self }
+    {
+        match self {
+            Failure::Command(fault) => fault.status(),
+            Failure::Import(ImportFault::Read) => Status::Io,
+            Failure::Script(ScriptFault::Read | ScriptFault::Write) => Status::Io,
+            Failure::Import(ImportFault::Memory) => Status::Memory,
+            Failure::Script(ScriptFault::Memory) => Status::Memory,
+            Failure::Import(ImportFault::Line { .. }) => Status::Data,
+            Failure::Script(ScriptFault::TooLong) => Status::Data,
+            Failure::Database => Status::Database,
+        }
+    }
+}
+
+/// How a command's end is that of an order.
+pub(crate) fn commanded(ended: Result<Status, Fault>) -> Result<Status, Failure>
+    ensures { result ≡ commanded ended }
+{
+    match ended {
+        Ok(status) => Ok(status),
+        Err(fault) => Err(Failure::Command(fault)),
+    }
+}
+
+/// How an import's end is that of an order.
+pub(crate) fn imported(ended: Result<Status, ImportFault>) -> Result<Status, Failure>
+    ensures { result ≡ imported ended }
+{
+    match ended {
+        Ok(status) => Ok(status),
+        Err(fault) => Err(Failure::Import(fault)),
+    }
+}
+
+/// How a script's end is that of an order.
+pub(crate) fn ran(ended: Result<End, ScriptFault>) -> Result<Status, Failure>
+    ensures { result ≡ ran ended }
+{
+    match ended {
+        Ok(_) => Ok(Status::Done),
+        Err(fault) => Err(Failure::Script(fault)),
+    }
+}

@@ -1,0 +1,135 @@
+//! Doing what is asked of a kept book.
+
+ghost use Rattle.std.specs.Prelude.{◌≡◌, None, OnOk, true};
+ghost use Rattle.cred_admin.specs.Import.{Imports};
+ghost use Rattle.cred_cli.specs.Watched.{IsNew, failed_of, inner_of};
+ghost use Rattle.cred_file.specs.Keeps.{IsOrWith, IsTableOf, LeavesOnly};
+ghost use Rattle.cred_keep.specs.Orders.{Ends, Performs, Runs, is_unread};
+ghost use Rattle.sqlite.specs.State.{HasCleanDisk};
+ghost use Rattle.sqlite.specs.Held.{state};
+
+use crate::failure::{Failure, commanded, imported, ran};
+use crate::order::Order;
+use crate::script::run_on_file;
+use cred_admin::{
+    ImportFault, Status, Tools, add, change, check, export, import, list, remove, upgrade,
+};
+use cred_cli::{End, ScriptFault, Watched};
+use cred_file::FileBook;
+use sqlite::Alter;
+use std::io::{Read, Write};
+use std::sync::Wait;
+use std::thread::Threads;
+
+/// Does what is asked of a book that is kept. No call was made on the reader or the writer before.
+///
+/// Ok is the status that the shell sees, and then the table stands for the book, and a crash leaves
+/// it. Errors: what ended the order; `Database` where the database failed, whatever came of it.
+pub fn perform<T: Threads + Wait + Sync, S: Alter, R: Read, W: Write>(
+    tools: &Tools<'_, T>,
+    book: &mut FileBook<S>,
+    order: &Order,
+    reader: &mut Watched<R>,
+    writer: &mut Watched<W>,
+) -> Result<Status, Failure>
+    requires new_reader { IsNew reader.old }
+    requires new_writer { IsNew writer.old }
+    ensures done { Ends order.now (record {
+      input = R.remaining (inner_of reader.old);
+      left = R.remaining (inner_of reader.new);
+      before = W.contents (inner_of writer.old);
+      now = W.contents (inner_of writer.new);
+      old = book.old.0;
+      new = book.new.0;
+      reader_failed = failed_of reader.new;
+      writer_failed = failed_of writer.new;
+    }) book.new.1.0 result }
+    ensures unread { is_unread order.now ≡ true → reader.new ≡ reader.old }
+    ensures kept { OnOk result (HasCleanDisk (state S.Store book.new.1.1)
+        → IsTableOf (state S.Store book.new.1.1) book.new.0) }
+    ensures crash { HasCleanDisk (state S.Store book.new.1.1)
+        → LeavesOnly (state S.Store book.new.1.1) (IsOrWith book.new.0 book.new.1.0) }
+{
+    let ended = obey(tools, book, order, reader, writer);
+    book.keeps();
+    if book.lost().is_some() {
+        return Err(Failure::Database);
+    }
+    ended
+}
+
+fn obey<T: Threads + Wait + Sync, S: Alter, R: Read, W: Write>(
+    tools: &Tools<'_, T>,
+    book: &mut FileBook<S>,
+    order: &Order,
+    reader: &mut Watched<R>,
+    writer: &mut Watched<W>,
+) -> Result<Status, Failure>
+    requires new_reader { IsNew reader.old }
+    requires new_writer { IsNew writer.old }
+    ensures done { Performs order.now (record {
+      input = R.remaining (inner_of reader.old);
+      left = R.remaining (inner_of reader.new);
+      before = W.contents (inner_of writer.old);
+      now = W.contents (inner_of writer.new);
+      old = book.old.0;
+      new = book.new.0;
+      reader_failed = failed_of reader.new;
+      writer_failed = failed_of writer.new;
+    }) result }
+    ensures unread { is_unread order.now ≡ true → reader.new ≡ reader.old }
+{
+    match order {
+        Order::Run => ran(run(tools, book, reader, writer)),
+        Order::Add { name, setting } => {
+            commanded(add(tools, book, name, setting, reader, writer))
+        }
+        Order::Check { name } => commanded(check(tools, book, name, reader, writer)),
+        Order::Change { name, setting } => {
+            commanded(change(tools, book, name, setting, reader, writer))
+        }
+        Order::Upgrade { name, setting } => {
+            commanded(upgrade(tools, book, name, setting, reader, writer))
+        }
+        Order::Remove { name } => commanded(remove(tools, book, name, reader, writer)),
+        Order::List => commanded(list(tools.alloc, book.book(), writer)),
+        Order::Export => commanded(export(tools.alloc, book.book(), writer)),
+        Order::Import => imported(take_in(tools, book, reader)),
+    }
+}
+
+fn run<T: Threads + Wait + Sync, S: Alter, R: Read, W: Write>(
+    tools: &Tools<'_, T>,
+    book: &mut FileBook<S>,
+    reader: &mut Watched<R>,
+    writer: &mut Watched<W>,
+) -> Result<End, ScriptFault>
+    requires new_reader { IsNew reader.old }
+    requires new_writer { IsNew writer.old }
+    ensures { Runs (record {
+      input = R.remaining (inner_of reader.old);
+      left = R.remaining (inner_of reader.new);
+      before = W.contents (inner_of writer.old);
+      now = W.contents (inner_of writer.new);
+      old = book.old.0;
+      new = book.new.0;
+      reader_failed = failed_of reader.new;
+      writer_failed = failed_of writer.new;
+    }) result }
+{
+    run_on_file(tools.rt, tools.alloc, tools.workers, book, reader, writer)
+}
+
+/// Imports over the book, tried first on a copy of it.
+fn take_in<T: Threads + Wait + Sync, S: Alter, R: Read>(
+    tools: &Tools<'_, T>,
+    book: &mut FileBook<S>,
+    reader: &mut Watched<R>,
+) -> Result<Status, ImportFault>
+    ensures { Imports (R.remaining (inner_of reader.old)) book.old.0 book.new.0 result }
+{
+    match book.book().copy() {
+        Ok(copy) => import(tools.rt, tools.alloc, book, copy, reader),
+        Err(_) => Err(ImportFault::Memory),
+    }
+}
