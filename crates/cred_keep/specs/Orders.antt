@@ -18,6 +18,12 @@ use Rattle.cred_cli.specs.declared.fault.ScriptFault.{ScriptFault}
 use Rattle.cred_cli.specs.declared.fault.ScriptFault.TheVariants as script
 use Rattle.cred_cli.specs.declared.script.End.{End}
 use Rattle.cred_file.specs.declared.fault.Lost.{Lost}
+use Rattle.cred_file.specs.declared.fault.OpenFault.{OpenFault}
+use Rattle.cred_file.specs.declared.fault.OpenFault.TheVariants as open_fault
+use Rattle.sqlite.specs.declared.error.Error.{Error}
+use Rattle.sqlite.specs.declared.error.Error.TheVariants as sqlite
+use Rattle.sqlite.specs.declared.error.ErrorCode.{ErrorCode}
+use Rattle.sqlite.specs.declared.error.ErrorCode.TheVariants as code
 use Rattle.cred_keep.specs.declared.failure.Failure.{Failure}
 use Rattle.cred_keep.specs.declared.failure.Failure.TheVariants as failure
 use Rattle.cred_keep.specs.declared.order.Order.{Order}
@@ -58,6 +64,20 @@ status_of_failure (failure.Command e) = status_of_fault e
 status_of_failure (failure.Import e) = status_of_import e
 status_of_failure (failure.Script e) = status_of_script e
 status_of_failure failure.Database = Database
+
+abbrev pub status_of_code : ErrorCode → Status
+status_of_code code.OutOfMemory = Memory
+status_of_code _ = Database
+
+abbrev pub status_of_error : Error → Status
+status_of_error (sqlite.SqliteFailure c) = status_of_code c
+status_of_error _ = Database
+
+-- that of a book that isn't begun or opened
+abbrev pub status_of_open : OpenFault → Status
+status_of_open open_fault.Memory = Memory
+status_of_open (open_fault.Database e) = status_of_error e
+status_of_open _ = Database
 
 -- ---- what it does
 

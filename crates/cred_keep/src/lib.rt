@@ -10,5 +10,5 @@ mod script;
 pub use failure::Failure;
 pub use order::Order;
 pub use performing::perform;
-pub use report::explain;
+pub use report::{explain, refuse};
 pub use script::run_on_file;

@@ -1,8 +1,10 @@
 //! What is said on standard error.
 
+ghost use Rattle.std.specs.Prelude.{◌≡◌};
+ghost use Rattle.cred_keep.specs.Orders.{status_of_open};
+
 use crate::failure::Failure;
-use cred_admin::ImportFault;
-use cred_book::Name;
+use cred_admin::{ImportFault, Status};
 use cred_file::{Lost, OpenFault};
 use sqlite::{Error, ErrorCode};
 use std::io;
@@ -34,5 +36,48 @@ fn tell_import<F: Write>(faults: &mut F, fault: ImportFault) -> io::Result<()> {
             let (fault, word) = (why.number(), why.word());
             writeln!(faults, "credkeep: line {number}: {fault} {word}")
         }
+    }
+}
+
+/// Says why no book was begun or opened, and gives the exit status that tells of it.
+pub fn refuse<F: Write>(faults: &mut F, why: &OpenFault) -> Status
+    ensures { result ≡ status_of_open why.now }
+{
+    let _ = match why {
+        OpenFault::NoName(row) => writeln!(faults, "credkeep: row {row}: no name stands there"),
+        OpenFault::NoRecord(row) => writeln!(faults, "credkeep: row {row}: no record stands there"),
+        OpenFault::Twice(row) => writeln!(faults, "credkeep: row {row}: another has its name"),
+        OpenFault::Database(error) => tell_database(faults, *error),
+        _ => writeln!(faults, "credkeep: {}", words_of(why)),
+    };
+    status_of_open(why)
+}
+
+fn tell_database<F: Write>(faults: &mut F, error: Error) -> io::Result<()> {
+    match error {
+        Error::SqliteFailure(ErrorCode::DatabaseBusy) => {
+            writeln!(faults, "credkeep: busy: another process has the file open")
+        }
+        _ => writeln!(faults, "credkeep: {error}"),
+    }
+}
+
+fn words_of(why: &OpenFault) -> &'static str {
+    match why {
+        OpenFault::NotEmpty => "the file has tables already",
+        OpenFault::NoBook => "the file holds no book",
+        OpenFault::TooMany => "the book has over 4096 accounts",
+        _ => "out of memory",
+    }
+}
+
+fn status_of_open(why: &OpenFault) -> Status
+    ensures { result ≡ status_of_open why.now }
+{
+    match why {
+        OpenFault::Memory | OpenFault::Database(Error::SqliteFailure(ErrorCode::OutOfMemory)) => {
+            Status::Memory
+        }
+        _ => Status::Database,
     }
 }

@@ -1,0 +1,14 @@
+//! `credkeep`, a credential store in a database file. What an order does is `cred_keep`'s; here the
+//! words are read, the file is opened, and the status is told.
+#![tactic(auto)]
+
+mod arguments;
+mod files;
+mod order;
+mod program;
+
+use std::process::ExitCode;
+
+fn main(rt: HostRuntime) -> ExitCode {
+    ExitCode::from(program::run(&rt, &rt).number())
+}
