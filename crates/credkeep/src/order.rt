@@ -18,11 +18,13 @@ const DEFAULT_SETTING: &str = "$argon2id$v=19$m=65536,t=3,p=4";
 const LANES: u8 = 4;
 
 /// A file, and what is to be done with it.
+#[derive(Drop)]
 pub(crate) struct Asked<'a> {
     pub(crate) file: &'a str,
     pub(crate) act: Act,
 }
 
+#[derive(Drop)]
 pub(crate) enum Act {
     /// Begins a book.
     Init,
