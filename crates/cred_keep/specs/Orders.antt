@@ -65,6 +65,11 @@ status_of_failure (failure.Import e) = status_of_import e
 status_of_failure (failure.Script e) = status_of_script e
 status_of_failure failure.Database = Database
 
+-- the exit status
+abbrev pub status_of_end : Result Status Failure → Status
+status_of_end (Ok status) = status
+status_of_end (Err e) = status_of_failure e
+
 abbrev pub status_of_code : ErrorCode → Status
 status_of_code code.OutOfMemory = Memory
 status_of_code _ = Database

@@ -9,6 +9,6 @@ mod script;
 
 pub use failure::Failure;
 pub use order::Order;
-pub use performing::perform;
-pub use report::{explain, refuse};
+pub use performing::{perform, serve};
+pub use report::refuse;
 pub use script::run_on_file;

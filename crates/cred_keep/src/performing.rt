@@ -4,12 +4,13 @@ ghost use Rattle.std.specs.Prelude.{◌≡◌, None, OnOk, true};
 ghost use Rattle.cred_admin.specs.Import.{Imports};
 ghost use Rattle.cred_cli.specs.Watched.{IsNew, failed_of, inner_of};
 ghost use Rattle.cred_file.specs.Keeps.{IsOrWith, IsTableOf, LeavesOnly};
-ghost use Rattle.cred_keep.specs.Orders.{Ends, Performs, Runs, is_unread};
+ghost use Rattle.cred_keep.specs.Orders.{Ends, Performs, Runs, is_unread, status_of_end};
 ghost use Rattle.sqlite.specs.State.{HasCleanDisk};
 ghost use Rattle.sqlite.specs.Held.{state};
 
 use crate::failure::{Failure, commanded, imported, ran};
 use crate::order::Order;
+use crate::report::explain;
 use crate::script::run_on_file;
 use cred_admin::{
     ImportFault, Status, Tools, add, change, check, export, import, list, remove, upgrade,
@@ -20,6 +21,44 @@ use sqlite::Alter;
 use std::io::{Read, Write};
 use std::sync::Wait;
 use std::thread::Threads;
+
+/// Does what is asked, as [`perform`] does, says on `faults` what ended it if something did, and
+/// gives the exit status: `Database` wherever a change is lost. Whether `faults` takes its text
+/// changes nothing.
+pub fn serve<T: Threads + Wait + Sync, S: Alter, R: Read, W: Write, F: Write>(
+    tools: &Tools<'_, T>,
+    book: &mut FileBook<S>,
+    order: &Order,
+    reader: &mut Watched<R>,
+    writer: &mut Watched<W>,
+    faults: &mut F,
+) -> Status
+    requires new_reader { IsNew reader.old }
+    requires new_writer { IsNew writer.old }
+    ensures done { (ended : _) × Ends order.now (record {
+      input = R.remaining (inner_of reader.old);
+      left = R.remaining (inner_of reader.new);
+      before = W.contents (inner_of writer.old);
+      now = W.contents (inner_of writer.new);
+      old = book.old.0;
+      new = book.new.0;
+      reader_failed = failed_of reader.new;
+      writer_failed = failed_of writer.new;
+    }) book.new.1.0 ended × (result ≡ status_of_end ended) }
+    ensures unread { is_unread order.now ≡ true → reader.new ≡ reader.old }
+    ensures table { HasCleanDisk (state S.Store book.new.1.1) → book.new.1.0 ≡ None
+        → IsTableOf (state S.Store book.new.1.1) book.new.0 }
+    ensures crash { HasCleanDisk (state S.Store book.new.1.1)
+        → LeavesOnly (state S.Store book.new.1.1) (IsOrWith book.new.0 book.new.1.0) }
+{
+    match perform(tools, book, order, reader, writer) {
+        Ok(status) => status,
+        Err(failure) => {
+            explain(faults, failure, book.lost());
+            failure.status()
+        }
+    }
+}
 
 /// Does what is asked of a book that is kept. No call was made on the reader or the writer before.
 ///
@@ -47,6 +86,8 @@ pub fn perform<T: Threads + Wait + Sync, S: Alter, R: Read, W: Write>(
     ensures unread { is_unread order.now ≡ true → reader.new ≡ reader.old }
     ensures kept { OnOk result (HasCleanDisk (state S.Store book.new.1.1)
         → IsTableOf (state S.Store book.new.1.1) book.new.0) }
+    ensures table { HasCleanDisk (state S.Store book.new.1.1) → book.new.1.0 ≡ None
+        → IsTableOf (state S.Store book.new.1.1) book.new.0 }
     ensures crash { HasCleanDisk (state S.Store book.new.1.1)
         → LeavesOnly (state S.Store book.new.1.1) (IsOrWith book.new.0 book.new.1.0) }
 {

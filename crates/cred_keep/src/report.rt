@@ -12,7 +12,7 @@ use std::io::Write;
 
 /// Says why an order failed; the book's lost change is named where the database failed. Whether
 /// `faults` takes its text changes nothing.
-pub fn explain<F: Write>(faults: &mut F, failure: Failure, lost: Option<&Lost>) {
+pub(crate) fn explain<F: Write>(faults: &mut F, failure: Failure, lost: Option<&Lost>) {
     let _ = match (failure, lost) {
         (Failure::Database, Some(lost)) => tell_lost(faults, lost),
         (Failure::Database, None) => writeln!(faults, "credkeep: the database failed"),

@@ -136,7 +136,6 @@ fn top<'a>(alloc: Global) -> Result<Command<'a>, AllocError> {
         .version("0.1.0")
         .about(ABOUT)
         .after_help(AFTER_HELP)
-        .no_binary_name(true)
         .subcommand_required(true)
         .disable_help_subcommand(true)
         .override_usage("credkeep <FILE> <COMMAND>")

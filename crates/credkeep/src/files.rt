@@ -1,5 +1,6 @@
 //! The database file.
 
+use cred_file::FileBook;
 use sqlite::{Connection, Error, ErrorCode, FileFrom, FileStore, Wary};
 use std::fs;
 use std::fs::OpenOptions;
@@ -9,6 +10,9 @@ use std::os::unix::fs::OpenOptionsExt;
 
 /// A connection to a file, of which nothing is supposed but that it was synced where it said so.
 pub(crate) type Database = Connection<FileStore<FileFrom<Wary>>>;
+
+/// A book in such a file.
+pub(crate) type Kept = FileBook<FileStore<FileFrom<Wary>>>;
 
 /// The file may be read and written by its owner alone. Its log gets the same mode.
 const OWNER_ALONE: u32 = 0o600;

@@ -59,10 +59,10 @@ impl From<AllocError> for Refusal {
     }
 }
 
-/// What the words behind the program's name ask for.
+/// What the process's words ask for.
 pub(crate) fn asked_by<'a, R: RandomSource + AllocGlobal>(
     rt: &R,
-    words: &'a [&'a str],
+    words: &'a [String],
 ) -> Result<Asked<'a>, Refusal> {
     let matches = credkeep(rt.alloc())?.try_get_matches_from(words)?;
     let file = matches.get_str("file").unwrap_or("");

@@ -1,12 +1,12 @@
 //! The program behind `main`. The runtime comes twice: the handles to threads are `main`'s alone.
 
-use crate::files::{Database, make_file, open_file};
+use crate::files::{Database, Kept, make_file, open_file};
 use crate::order::{Act, Asked, Refusal, asked_by};
 use clap::error::ErrorKind as WordsKind;
 use cred_admin::{Status, Tools};
 use cred_cli::Watched;
 use cred_file::{FileBook, OpenFault};
-use cred_keep::{Order, explain, perform, refuse};
+use cred_keep::{Order, refuse, serve};
 use std::io;
 use std::io::{ErrorKind, Write};
 use std::sync::Wait;
@@ -25,15 +25,14 @@ pub(crate) fn run<T: Threads + Wait + Sync>(host: &HostRuntime, rt: &T) -> Statu
 }
 
 fn run_words<T: Threads + Wait + Sync>(host: &HostRuntime, rt: &T) -> io::Result<Status> {
-    let args: Vec<String> = env::args(host)?.skip(1).collect(host.alloc())?;
-    let words: Vec<&str> = args.iter().map(|word| word.as_str()).collect(host.alloc())?;
+    let words: Vec<String> = env::args(host)?.collect(host.alloc())?;
     match asked_by(host, &words) {
-        Ok(asked) => Ok(serve(host, rt, &asked)),
+        Ok(asked) => Ok(act(host, rt, &asked)),
         Err(refusal) => Ok(answer_refusal(host, &refusal)),
     }
 }
 
-fn serve<T: Threads + Wait + Sync>(host: &HostRuntime, rt: &T, asked: &Asked<'_>) -> Status {
+fn act<T: Threads + Wait + Sync>(host: &HostRuntime, rt: &T, asked: &Asked<'_>) -> Status {
     match &asked.act {
         Act::Init => init(host, asked.file),
         Act::Perform { order, workers } => {
@@ -59,7 +58,10 @@ fn init(host: &HostRuntime, path: &str) -> Status {
     };
     match FileBook::create(host.alloc(), conn) {
         Ok(book) => close(host, book.close(), Status::Done),
-        Err((fault, _)) => refuse(&mut host.stderr(), &fault),
+        Err((why, conn)) => {
+            let status = refuse(&mut host.stderr(), &why);
+            close(host, conn, status)
+        }
     }
 }
 
@@ -75,14 +77,15 @@ fn perform_on<T: Threads + Wait + Sync>(
         Err(error) => return refuse(&mut host.stderr(), &OpenFault::Database(error)),
     };
     match FileBook::open(host.alloc(), conn) {
-        Ok(book) => perform_and_close(host, tools, book, order),
-        Err((fault, _)) => refuse(&mut host.stderr(), &fault),
+        Ok(book) => serve_and_close(host, tools, book, order),
+        Err((why, conn)) => {
+            let status = refuse(&mut host.stderr(), &why);
+            close(host, conn, status)
+        }
     }
 }
 
-type Kept = FileBook<sqlite::FileStore<sqlite::FileFrom<sqlite::Wary>>>;
-
-fn perform_and_close<T: Threads + Wait + Sync>(
+fn serve_and_close<T: Threads + Wait + Sync>(
     host: &HostRuntime,
     tools: &Tools<'_, T>,
     mut book: Kept,
@@ -90,13 +93,9 @@ fn perform_and_close<T: Threads + Wait + Sync>(
 ) -> Status {
     let mut reader = Watched::new(host.stdin());
     let mut writer = Watched::new(host.stdout());
-    match perform(tools, &mut book, order, &mut reader, &mut writer) {
-        Ok(status) => close(host, book.close(), status),
-        Err(failure) => {
-            explain(&mut host.stderr(), failure, book.lost());
-            close(host, book.close(), failure.status())
-        }
-    }
+    let mut faults = host.stderr();
+    let status = serve(tools, &mut book, order, &mut reader, &mut writer, &mut faults);
+    close(host, book.close(), status)
 }
 
 /// Copies the log into the file and closes both. Where that fails nothing is lost, as the log stays.
