@@ -3,8 +3,8 @@
 
     /usr/bin/python3 tools/credkeep_tests.py [--kills N] [PROGRAM]
 
-PROGRAM is by default crates/credkeep/out/credkeep, which `rt run` in crates/credkeep builds. It wants the program sqlite3, the
-modules argon2 and passlib for records that are not ours, and, for the full disk and the files of another owner, root. What is
+PROGRAM is by default crates/credkeep/out/credkeep, which `rt run` in crates/credkeep builds. It wants the programs sqlite3 and strace,
+the modules argon2 and passlib for records that are not ours, and, for the full disk and the files of another owner, root. What is
 missing is named and counts as a failure. The last line is `N passed, M failed`, and the status is 1 where one failed.
 """
 
@@ -27,7 +27,6 @@ TOP = pathlib.Path(__file__).resolve().parent.parent
 CHEAP = "$argon2id$v=19$m=8,t=1,p=1"
 DEFAULT_RECORD = "$argon2id$v=19$m=65536,t=3,p=4$"
 
-# argon2-cffi's and passlib's; made by these modules, where they are there.
 PASSWORD = b"correct horse battery staple"
 
 
@@ -220,10 +219,10 @@ def scripts(room: Room) -> None:
     keep = begun(room)
     with keep.script() as run:
         assert run.stdin and run.stdout
-        for line, answer in ((b"account ann\n", b"1 "), (b"show ann\n", b"2 "), (b"frob\n", b"3 ")):
-            run.stdin.write(line)
+        for line, answer in ((b"account ann", b"ok"), (b"show ann", b"none"), (b"frob", b"bad 11 line")):
+            run.stdin.write(line + b"\n")
             run.stdin.flush()
-            holds(bool(run.stdout.readline().strip()), f"no answer to {line!r}, {answer!r}")
+            same(run.stdout.readline(), answer + b"\n")
         # The change is on the disk before the script is at its end.
         run.send_signal(signal.SIGKILL)
     same(keep.names(), ["ann"])
@@ -300,11 +299,14 @@ def modes(room: Room) -> None:
     try:
         keep = begun(room)
         same(stat.S_IMODE(keep.path.stat().st_mode), 0o600)
-        run = keep.script()
-        time.sleep(0.3)
-        log = pathlib.Path(f"{keep.path}-wal")
-        same(stat.S_IMODE(log.stat().st_mode), 0o600)
-        run.communicate(b"")
+        with keep.script() as run:
+            assert run.stdin and run.stdout
+            run.stdin.write(b"account ann\n")
+            run.stdin.flush()
+            run.stdout.readline()
+            log = pathlib.Path(f"{keep.path}-wal")
+            same(stat.S_IMODE(log.stat().st_mode), 0o600)
+            run.communicate(b"")
     finally:
         os.umask(old)
 
@@ -394,14 +396,14 @@ def read_only(room: Room) -> None:
 
 
 def damaged(room: Room) -> None:
-    """A file that is cut or has a bit turned opens with an error, or with the book, or with a book
-    that differs where the bit lies in a name or a record: SQLite's format has no sum over a row."""
+    """A file that is cut is refused. One with a bit turned is refused, or is the same book, or one in
+    which one account differs: SQLite's format has no sum over a row."""
     keep = begun(room)
     lines = "".join(f"a{at}:\n" for at in range(200))
     same(keep("import", given=lines.encode()).status, 0)
     keep.add("ann")
-    whole, names = keep.path.read_bytes(), keep.names()
-    refused = seen = wrong = 0
+    whole, book = keep.path.read_bytes(), keep("export").written.split()
+    refused = equal = other = 0
     chance = random.Random(17)
     hurt = room.keep("hurt.db")
     pieces = [whole[: chance.randrange(1, len(whole))] for _ in range(60)]
@@ -414,17 +416,16 @@ def damaged(room: Room) -> None:
         for file in room.folder.glob("hurt.db*"):
             file.unlink()
         hurt.path.write_bytes(piece)
-        ended = hurt("list")
-        if ended.status == 0:
-            holds(at >= 60, "a cut file opened")
-            is_same = ended.written.decode().split() == names
-            seen, wrong = seen + is_same, wrong + (not is_same)
-            # A bit of a name may give another good name, in which one character differs.
-            holds(is_same or len(ended.written.split()) == len(names), "a book with other accounts")
-        else:
+        ended = hurt("export")
+        if ended.status:
             same((ended.status, ended.written), (5, b""))
             refused += 1
-    print(f"      {refused} refused, {seen} the same book, {wrong} with another name of 300")
+            continue
+        holds(at >= 60, "a cut file opened")
+        differs = set(book) ^ set(ended.written.split())
+        holds(len(differs) <= 2, f"another book: {differs}")
+        equal, other = equal + (not differs), other + bool(differs)
+    print(f"      of 300: {refused} refused, {equal} the same book, {other} with one account that differs")
 
 
 # ---- kills, and disks that are full
@@ -436,7 +437,8 @@ def kills(room: Room) -> None:
     chance, at = random.Random(), 0
     for turn in range(room.kills):
         if at > 3000:
-            keep.path.unlink()
+            for file in room.folder.glob("users.db*"):
+                file.unlink()
             same(keep("init").status, 0)
             at = 0
         run = keep.script()
@@ -453,8 +455,8 @@ def kills(room: Room) -> None:
         run.send_signal(signal.SIGKILL)
         answers = run.communicate()[0]
         os.waitpid(feeder, 0)
-        answered = [line for line in answers.split(b"\n")[:-1]]
-        holds(all(b"err" not in line for line in answered), f"{answered[:1]!r}")
+        answered = answers.split(b"\n")[:-1]
+        holds(set(answered) <= {b"ok"}, f"{set(answered)!r}")
         at += len(answered)
         there = set(keep.names())
         holds({f"n{i}" for i in range(at)} <= there, f"turn {turn}: an answered change is gone")
@@ -491,6 +493,30 @@ def full_disk(room: Room) -> None:
         copied.is_sound()
     finally:
         subprocess.run(["umount", str(mount)], check=True)
+
+
+def refused_calls(room: Room) -> None:
+    """Each write, sync and cut of a script's run is refused in turn, by strace."""
+    names, lines = ["a", "b", "c"], b"account a\naccount b\naccount c\n"
+    for call in ("pwrite64", "write", "fsync", "fdatasync", "ftruncate"):
+        refused = 0
+        for nth in range(1, 100):
+            for file in room.folder.iterdir():
+                file.unlink()
+            keep, trace = begun(room), room.folder / "trace"
+            strace = ["strace", "-f", "-o", str(trace), "-e", f"inject={call}:error=EIO:when={nth}"]
+            command = [*strace, str(keep.program), str(keep.path), "run"]
+            done = subprocess.run(command, input=lines, capture_output=True, timeout=60)
+            if "INJECTED" not in trace.read_text():
+                break
+            refused += 1
+            answered = done.stdout.count(b"ok\n")
+            holds(done.returncode in (0, 2, 5), f"{call} {nth}: status {done.returncode}")
+            holds(done.returncode != 0 or answered == 3, f"{call} {nth}: {answered} answered")
+            there = keep.names()
+            holds(there in (names[:answered], names[: answered + 1]), f"{call} {nth}: {there}")
+            keep.is_sound()
+        print(f"      {call}: {refused} refused")
 
 
 # ---- passwords
@@ -535,6 +561,7 @@ TESTS: list[Callable[[Room], None]] = [
     damaged,
     kills,
     full_disk,
+    refused_calls,
     passwords_are_not_shown,
 ]
 
