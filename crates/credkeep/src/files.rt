@@ -1,5 +1,7 @@
 //! The database file.
 
+ghost use Rattle.std.specs.Prelude.{◌≡◌, IfOk, false};
+
 use cred_file::FileBook;
 use sqlite::{Connection, Error, ErrorCode, FileFrom, FileStore, Wary};
 use std::fs;
@@ -28,8 +30,10 @@ pub(crate) fn make_file(rt: &HostRuntime, path: &str) -> io::Result<()> {
     }
 }
 
-/// Opens the file, if it is there.
-pub(crate) fn open_file(rt: &HostRuntime, path: &str) -> Result<Database, Error> {
+/// Opens the file, if it is there, outside a transaction.
+pub(crate) fn open_file(rt: &HostRuntime, path: &str) -> Result<Database, Error>
+    ensures { IfOk result (λ conn. conn.in_transaction ≡ false) }
+{
     if fs::metadata(rt, path).is_err() {
         return Err(Error::SqliteFailure(ErrorCode::CannotOpen));
     }
