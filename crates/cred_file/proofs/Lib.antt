@@ -11,3 +11,4 @@ pub mod Selected
 pub mod FoundAgain
 pub mod Catalogued
 pub mod NoFault
+pub mod Opened

@@ -12,10 +12,24 @@ abbrev pub create_text : List ℕ
 create_text = codes "CREATE TABLE account (name TEXT NOT NULL PRIMARY KEY, record TEXT) STRICT"
 
 abbrev pub name_column : Column
-name_column = record { name = codes "name"; kind = Text; is_strict = true; not_null = true; default = Null; collation = Binary }
+name_column = record {
+  name = codes "name";
+  kind = Text;
+  is_strict = true;
+  not_null = true;
+  default = Null;
+  collation = Binary;
+}
 
 abbrev pub record_column : Column
-record_column = record { name = codes "record"; kind = Text; is_strict = true; not_null = false; default = Null; collation = Binary }
+record_column = record {
+  name = codes "record";
+  kind = Text;
+  is_strict = true;
+  not_null = false;
+  default = Null;
+  collation = Binary;
+}
 
 -- what the text above defines
 abbrev pub account : Table

@@ -1,5 +1,6 @@
 -- When the rows of the table stand for a book.
-use Rattle.std.specs.Prelude.{◌≡◌, ℕ, ℤ, Bool, false, List, [], ◌∷◌, map, Option, Some, None, Ok, IsTrue, ⊤}
+use Rattle.std.specs.Prelude.{◌≡◌, ℕ, ℤ, Bool, false, List, [], ◌∷◌, map, Option, Some, None, Ok}
+use Rattle.std.specs.Prelude.{IsTrue, ⊤}
 use Rattle.std.specs.List.{AllZip, list_any}
 use Rattle.std.specs.Ordering.{is_eq, eq_by_cmp}
 use Rattle.std.specs.FinMap as fin
@@ -41,7 +42,8 @@ has_name name l = eq_by_cmp name_cmp name l.name
 -- no rowid and no name comes twice
 abbrev pub AreApart : List Line → Type 0
 AreApart [] = ⊤
-AreApart (l ∷ ls) = (list_any (has_id l.id) ls ≡ false) × (list_any (has_name l.name) ls ≡ false) × AreApart ls
+AreApart (l ∷ ls) =
+    (list_any (has_id l.id) ls ≡ false) × (list_any (has_name l.name) ls ≡ false) × AreApart ls
 
 -- each row says a line, no two lines have one name, and their entries are the book
 pub record StandsFor (rows : List Row) (book : Accounts) : Type 0 where

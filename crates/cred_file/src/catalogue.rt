@@ -2,7 +2,8 @@
 
 ghost use Rattle.std.specs.Prelude.{◌≡◌, ◌≢◌, [], ◌∷◌, IfOk, MatchBool};
 ghost use Rattle.cred_file.specs.Schema.{HasAccountKey, HasNoRules, IsPlainText};
-ghost use Rattle.cred_file.specs.Schema.{account, account_schema, key_index, name_column, record_column};
+ghost use Rattle.cred_file.specs.Schema.{account, account_schema, key_index, name_column};
+ghost use Rattle.cred_file.specs.Schema.{record_column};
 
 use sqlite_schema::code::Terms;
 use sqlite_schema::schema::{Column, Index, Kind, Schema, Table};

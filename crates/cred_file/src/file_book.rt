@@ -6,7 +6,8 @@ ghost use Rattle.cred_file.specs.Keeps.{Keeps, MayBegin};
 ghost use Rattle.cred_file.specs.Opening.{IsFound, IsUnopened};
 ghost use Rattle.cred_file.specs.Table.{Tells};
 ghost use Rattle.sqlite_value.specs.Value.{owned};
-ghost use Rattle.std.specs.Prelude.{◌≡◌, true, false, IfErr, IfOk, IfSome, MatchBool, None, OnOk, Some, option_map};
+ghost use Rattle.std.specs.Prelude.{◌≡◌, true, false, IfErr, IfOk, IfSome, MatchBool, None, OnOk};
+ghost use Rattle.std.specs.Prelude.{Some, option_map};
 ghost use Rattle.std.specs.FinMap as fin;
 ghost use Rattle.cred_book.specs.Calls.{Admits, Loads, Shows};
 ghost use Rattle.cred_book.specs.Commits.{Begins, Commits};
@@ -266,7 +267,11 @@ impl<S: Alter> Keeper for FileBook<S> {
         self.book.begin(request)
     }
 
-    #[tactic(auto, using(crate::proofs::Judged::judged_change, crate::proofs::Judged::judged_still, crate::proofs::Judged::judged_there))]
+    #[tactic(auto, using(
+        crate::proofs::Judged::judged_change,
+        crate::proofs::Judged::judged_still,
+        crate::proofs::Judged::judged_there
+    ))]
     fn commit<R: Wait>(&mut self, _rt: &R, worked: Worked) -> Result<Reply, (Worked, BookError)>
         ensures done { Commits self.old.0 self.new.0 worked result }
         ensures refused { IfSome self.old.1.0 (λ _.

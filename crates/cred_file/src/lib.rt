@@ -4,10 +4,12 @@
 mod catalogue;
 mod fault;
 mod file_book;
+mod laws;
 mod reading;
 mod restart;
 mod statements;
 
 pub use fault::{Lost, OpenFault};
 pub use file_book::FileBook;
+pub use laws::files_hold_the_book;
 pub use restart::crash_and_open;

@@ -1,0 +1,21 @@
+-- The book that is opened from files is that of the database which they hold.
+use Rattle.std.proofs.Common.{◌≡◌, ap, sym, subst, ◌∙◌}
+use Rattle.cred_book.specs.Accounts.{Accounts}
+use Rattle.cred_file.specs.Keeps.{HoldsBook}
+use Rattle.cred_file.specs.Opening.{IsFound}
+use Rattle.cred_file.specs.Schema.{account_schema}
+use Rattle.cred_file.specs.Table.{StandsFor}
+use Rattle.sqlite.specs.Files.{HoldsDatabase}
+use Rattle.sqlite.specs.Start.{FindsIn}
+use Rattle.sqlite.specs.State.{IsLive, Opens, State}
+use Rattle.sqlite.specs.Tree.{Trees}
+use Rattle.sqlite_catalog.specs.Listing.{IsSound}
+
+pub held : (image : _) (old new : State) (book : Accounts) → Opens old → IsLive old → FindsIn image old → IsFound old new book → (db : Trees) → HoldsDatabase image db → HoldsBook db book
+held image old new book opens live finds found db holds =
+    let same : old.now.trees ≡ db = ap (λ d. d.trees) opens.clean ∙ finds.holds db holds in
+    let sound : IsSound old.now.schema old.now.trees = (live opens.is_open).0 in
+    record {
+      sound = subst (IsSound account_schema) same (subst (λ s. IsSound s old.now.trees) found.schema sound);
+      stands = subst (λ t. StandsFor (t 0) book) same found.stands;
+    }
