@@ -12,7 +12,7 @@ use Rattle.cred_admin.specs.declared.entry.LineFault.{LineFault}
 use Rattle.cred_admin.specs.declared.entry.LineFault.TheVariants.{Book}
 use Rattle.cred_admin.specs.declared.loading.ImportFault.{ImportFault}
 use Rattle.cred_admin.specs.declared.loading.ImportFault.TheVariants as fault
-use Rattle.cred_admin.specs.Import.{Imports, LoadsLine, LoadsLines, StopsAt, after_entry, after_line, after_lines, and_then, entry_of, import_lines, refused, with_account}
+use Rattle.cred_admin.specs.Import.{Imports, LoadsLine, LoadsLines, StopsAt, after_entry, after_line, after_lines, and_then, entry_of, import_lines, refusal_fault, with_account}
 use Rattle.cred_admin.specs.Listing.{Entry}
 use Rattle.cred_admin.proofs.Records.{insert_over}
 
@@ -31,7 +31,7 @@ unfolding with_account
 with_full book e absent full = let high : nat_lt (map.len book) most_accounts ≡ false = le-ltb (map.len book) most_accounts full in rw (absent, high) refl
 
 pub refused_line : (old new : Accounts) (e : Entry) (number : ℕ) (line : List ℕ) (r : BookError) → Ok e ≡ entry_of line → Admits old new e.0 (Err r)
-    → LoadsLine old new number line (Err (refused number r))
+    → LoadsLine old new number line (Err (refusal_fault number r))
 refused_line old new e number line error.Exists is h = (refl, ap (after_entry old) (sym is) ∙ with_there old e h.0, h.1)
 refused_line old new e number line error.Full is h = (refl, ap (after_entry old) (sym is) ∙ with_full old e h.0 h.1, h.2)
 refused_line old new e number line error.Memory is h = (e.0, inl h.2)

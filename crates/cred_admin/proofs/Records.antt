@@ -18,7 +18,7 @@ use Rattle.cred_book.specs.declared.request.Request.{Request}
 use Rattle.cred_book.proofs.Equality.{same-Decides}
 use Rattle.cred_admin.specs.declared.fault.Fault.{Fault}
 use Rattle.cred_admin.specs.declared.fault.Fault.TheVariants as fault
-use Rattle.cred_admin.specs.Commands.{Enrols, enrolled}
+use Rattle.cred_admin.specs.Commands.{Enrols, enrolment}
 
 -- ---- a whole operation
 
@@ -76,7 +76,7 @@ pub put_behind : (old mid new : Accounts) (name : List ℕ) (stored made : Recor
     → Enrols old new name made r
 put_behind old mid new name stored made (Ok a) none added is done stays memory =
     let after : new ≡ map.insert old name (Some made) = done.1 ∙ ap (λ (m : Accounts). map.insert m name (Some stored)) added ∙ insert_over old name None (Some stored) ∙ ap (λ v. map.insert old name (Some v)) is in
-    let reached : enrolled old name made ≡ (reply.Enrolled, map.insert old name (Some made)) = rw none refl in
+    let reached : enrolment old name made ≡ (reply.Enrolled, map.insert old name (Some made)) = rw none refl in
     ap (λ a. (a, new)) done.0 ∙ ap (λ (m : Accounts). (reply.Enrolled, m)) after ∙ sym reached
 put_behind old mid new name stored made (Err fault.Memory) none added is done stays memory = inr (ap is_some none, stays ∙ added)
 put_behind old mid new name stored made (Err fault.Read) none added is done stays memory = absurd cc

@@ -22,6 +22,7 @@ reply_word reply.NoAccount = codes "noaccount"
 abbrev pub reply_line : Reply → List ℕ
 reply_line r = reply_word r ++ 10 ∷ []
 
--- a proper front of the text is written
+-- A proper front of the text is written. cred_cli says the same of its answers: neither of the two
+-- stands on the other, and no crate below them writes.
 abbrev pub FrontWritten : Option (List ℕ) → Option (List ℕ) → List ℕ → Type 0
 FrontWritten before now text = (n : ℕ) × (n < length text) × Appends before now (take n text)

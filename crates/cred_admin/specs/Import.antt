@@ -1,5 +1,6 @@
 -- What an import makes of its text.
-use Rattle.std.specs.Prelude.{◌≡◌, ◌⊎◌, ℕ, suc, Bool, ◌&&◌, ◌==◌, if◌then◌else◌, nat_lt, List, [], ◌∷◌, ◌++◌, length, codes, Option, Some, None, IfSome, Result, Ok, Err}
+use Rattle.std.specs.Prelude.{◌≡◌, ◌⊎◌, ℕ, suc, Bool, ◌&&◌, ◌==◌, if◌then◌else◌, nat_lt, List, []}
+use Rattle.std.specs.Prelude.{◌∷◌, ◌++◌, length, codes, Option, Some, None, IfSome, Result, Ok, Err}
 use Rattle.std.specs.FinMap as map
 use Rattle.cred_phc.specs.Errors.{error_number as fault_number, error_word as fault_word}
 use Rattle.cred_phc.specs.Pieces.{pieces}
@@ -80,13 +81,15 @@ is_empty xs = length xs == 0
 -- nothing need stand behind the last line end
 unfoldable pub whole_lines : List (List ℕ) → List (List ℕ)
 whole_lines [] = []
-whole_lines (line ∷ lines) = if is_empty line && is_empty lines then [] else line ∷ whole_lines lines
+whole_lines (line ∷ lines) =
+    if is_empty line && is_empty lines then [] else line ∷ whole_lines lines
 
 -- between the line ends (byte 10)
 abbrev pub import_lines : List ℕ → List (List ℕ)
 import_lines text = whole_lines (pieces 10 text)
 
-abbrev pub and_then : ℕ → Result Accounts LineFault → (Accounts → Result Accounts (ℕ × LineFault)) → Result Accounts (ℕ × LineFault)
+abbrev pub and_then : ℕ → Result Accounts LineFault → (Accounts → Result Accounts (ℕ × LineFault))
+    → Result Accounts (ℕ × LineFault)
 and_then n (Ok book) next = next book
 and_then n (Err e) next = Err (n, e)
 
@@ -94,7 +97,8 @@ and_then n (Err e) next = Err (n, e)
 -- fault
 unfoldable pub after_lines : Accounts → ℕ → List (List ℕ) → Result Accounts (ℕ × LineFault)
 after_lines book n [] = Ok book
-after_lines book n (line ∷ lines) = and_then n (after_line book line) (λ b. after_lines b (suc n) lines)
+after_lines book n (line ∷ lines) =
+    and_then n (after_line book line) (λ b. after_lines b (suc n) lines)
 
 -- the first lines are done, and perhaps the account of the next one is there with no record
 pub record StopsAt (old new : Accounts) (lines : List (List ℕ)) : Type 0 where
@@ -107,16 +111,17 @@ pub record StopsAt (old new : Accounts) (lines : List (List ℕ)) : Type 0 where
   pub now : IsOrWithName book new name
 
 -- the book's refusal to add the account of a line
-abbrev pub refused : ℕ → BookError → ImportFault
-refused n error.Memory = fault.Memory
-refused n error.Exists = fault.Line n (Book error.Exists)
-refused n error.Full = fault.Line n (Book error.Full)
-refused n error.Name = fault.Line n (Book error.Name)
-refused n error.NoAccount = fault.Line n (Book error.NoAccount)
+abbrev pub refusal_fault : ℕ → BookError → ImportFault
+refusal_fault n error.Memory = fault.Memory
+refusal_fault n error.Exists = fault.Line n (Book error.Exists)
+refusal_fault n error.Full = fault.Line n (Book error.Full)
+refusal_fault n error.Name = fault.Line n (Book error.Name)
+refusal_fault n error.NoAccount = fault.Line n (Book error.NoAccount)
 
 abbrev pub LoadsLine : Accounts → Accounts → ℕ → List ℕ → Result (Unit {0}) ImportFault → Type 0
 LoadsLine old new number line (Ok _) = after_line old line ≡ Ok new
-LoadsLine old new number line (Err (fault.Line n why)) = (n ≡ number) × (after_line old line ≡ Err why) × (new ≡ old)
+LoadsLine old new number line (Err (fault.Line n why)) =
+    (n ≡ number) × (after_line old line ≡ Err why) × (new ≡ old)
 LoadsLine old new number line (Err fault.Memory) = (name : List ℕ) × IsOrWithName old new name
 LoadsLine old new number line (Err fault.Read) = ⊥
 

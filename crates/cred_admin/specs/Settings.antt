@@ -8,7 +8,8 @@ use Rattle.cred_phc.specs.declared.error.PhcError.{PhcError}
 abbrev pub any_salt : List ℕ
 any_salt = codes "$AAAAAAAAAAA"
 
-abbrev pub or_salted : Result SettingValue PhcError → Result SettingValue PhcError → List ℕ → Result SettingValue PhcError
+abbrev pub or_salted : Result SettingValue PhcError → Result SettingValue PhcError → List ℕ
+    → Result SettingValue PhcError
 or_salted (Ok setting) behind salt = Ok setting
 or_salted (Err e) (Ok setting) salt = made_setting setting.scheme salt
 or_salted (Err e) (Err other) salt = Err e

@@ -5,7 +5,8 @@ use Rattle.cred_book.specs.declared.reply.Reply.TheVariants as reply
 use Rattle.cred_admin.specs.declared.fault.Fault.{Fault}
 use Rattle.cred_admin.specs.declared.fault.Fault.TheVariants as fault
 use Rattle.cred_admin.specs.declared.status.Status.{Status}
-use Rattle.cred_admin.specs.declared.status.Status.TheVariants.{Done, Usage, Io, Memory, No, Database, Data}
+use Rattle.cred_admin.specs.declared.status.Status.TheVariants.{Done, Usage, Io, Memory, No}
+use Rattle.cred_admin.specs.declared.status.Status.TheVariants.{Database, Data}
 
 abbrev pub number_of : Status → ℕ
 number_of Done = 0

@@ -1,10 +1,12 @@
 //! The commands on one account.
 
-ghost use Rattle.std.specs.Prelude.{◌≡◌, ◌⊎◌, ◌≤◌, IfErr, IfOk, None, OnErr, OnOk, Some, false, true};
+ghost use Rattle.std.specs.Prelude.{◌≡◌, ◌⊎◌, ◌≤◌, IfErr, IfOk, None, OnErr, OnOk, Some, false};
+ghost use Rattle.std.specs.Prelude.{true};
 ghost use Rattle.std.specs.FinMap as map;
 ghost use Rattle.cred_book.specs.Accounts.{most_accounts};
 ghost use Rattle.cred_book.specs.Works.{is_for_current, made, seq};
-ghost use Rattle.cred_book.specs.declared.request.Request.TheVariants.{Change, Remove, Upgrade, Verify};
+ghost use Rattle.cred_book.specs.declared.request.Request.TheVariants.{Change, Remove, Upgrade};
+ghost use Rattle.cred_book.specs.declared.request.Request.TheVariants.{Verify};
 ghost use Rattle.cred_admin.specs.Commands.{Adds, Asks, AsksTwice, Does, Enrols};
 
 use crate::answer::{reply_line, status_of};
@@ -91,8 +93,8 @@ pub fn change<T: Threads + Wait + Sync, K: Keeper, R: Read, W: Write>(
     act(tools, keeper, request, writer)
 }
 
-/// Makes the account's record anew under the setting, if the reader's first line is its password and
-/// the record isn't of this scheme with these numbers.
+/// Makes the account's record anew under the setting, if the reader's first line is its password
+/// and the record isn't of this scheme with these numbers.
 ///
 /// It writes `upgraded`, `kept`, `wrong`, `absent` or `noaccount`. Errors: `Read`, `Password`,
 /// `Memory`, `Write`.

@@ -1,7 +1,8 @@
 //! Taking in the lines of a passwd-file, all or none.
 
 ghost use Rattle.std.specs.Prelude.{◌≡◌, ◌⊎◌, [], ◌∷◌, IfErr, IfOk, IfSome, MatchOption};
-ghost use Rattle.cred_admin.specs.Import.{Imports, LoadsLine, LoadsLines, import_lines, refused, whole_lines};
+ghost use Rattle.cred_admin.specs.Import.{Imports, LoadsLine, LoadsLines, import_lines};
+ghost use Rattle.cred_admin.specs.Import.{refusal_fault, whole_lines};
 
 use crate::entry::{LineFault, entry_of};
 use crate::status::Status;
@@ -26,8 +27,8 @@ pub enum ImportFault {
 /// tried first on a copy of the keeper's book.
 ///
 /// Errors: `Line` where one isn't good, the first of them: nothing is changed; `Read`: nothing is
-/// changed; `Memory`: the first lines are done, or none, and the account of the next one may be there
-/// with no record.
+/// changed; `Memory`: the first lines are done, or none, and the account of the next one may be
+/// there with no record.
 pub fn import<T: Wait, K: Keeper, R: Read>(
     rt: &T,
     alloc: Global,
@@ -98,7 +99,7 @@ fn load_line<T: Wait, K: Keeper>(
     };
     match keeper.admit(rt, name) {
         Ok(()) => {}
-        Err(refusal) => return Err(refused(number, refusal)),
+        Err(refusal) => return Err(refusal_fault(number, refusal)),
     }
     if let Some(stored) = stored {
         if keeper.load(rt, &name, stored).is_err() {
@@ -109,8 +110,8 @@ fn load_line<T: Wait, K: Keeper>(
 }
 
 /// What a refusal to add the account of a line ends the import with.
-fn refused(number: u64, refusal: BookError) -> ImportFault
-    ensures { result ≡ refused number refusal }
+fn refusal_fault(number: u64, refusal: BookError) -> ImportFault
+    ensures { result ≡ refusal_fault number refusal }
 {
     match refusal {
         BookError::Memory => ImportFault::Memory,

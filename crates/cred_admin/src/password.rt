@@ -1,14 +1,16 @@
 //! Passwords as they are read: a line each.
 
-ghost use Rattle.std.specs.Prelude.{◌≡◌, ◌<◌, ◌++◌, ◌∷◌, [], Err, IfErr, IfOk, IfSome, OnOk, length};
-ghost use Rattle.cred_admin.specs.Lines.{IsReading, ReadsLine, Takes, line_before, longest_password};
+ghost use Rattle.std.specs.Prelude.{◌≡◌, ◌<◌, ◌++◌, ◌∷◌, [], Err, IfErr, IfOk, IfSome, OnOk};
+ghost use Rattle.std.specs.Prelude.{length};
+ghost use Rattle.cred_admin.specs.Lines.{IsReading, ReadsLine, Takes};
+ghost use Rattle.cred_admin.specs.Lines.{line_before, longest_password};
 
 use crate::fault::Fault;
 use cred_phc::Password;
 use std::alloc::Global;
 use std::io::Read;
 
-/// The longest password in bytes.
+/// How many bytes a `Password` has at most, as `longest_password` says.
 const LONGEST: usize = 256;
 
 /// Reads one line: the bytes before the next line end, which is taken off too, or before the end of
@@ -52,7 +54,8 @@ fn next_byte<R: Read>(reader: &mut R) -> Result<Option<u8>, Fault>
 /// The password of these bytes.
 fn password(bytes: &[u8]) -> Result<Password, Fault>
     ensures value { IfOk result (λ pw. pw ≡ bytes.now) }
-    ensures long { IfErr result (λ e. (e ≡ Fault.Password) × (longest_password < length bytes.now)) }
+    ensures long { IfErr result (λ e.
+        (e ≡ Fault.Password) × (longest_password < length bytes.now)) }
 {
     Password::new(bytes).ok_or(Fault::Password)
 }

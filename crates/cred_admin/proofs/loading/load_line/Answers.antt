@@ -4,7 +4,7 @@ use Rattle.cred_admin.proofs.loading.load_line.Goals as goal
 
 pub returns-in-Err-admit : goal.returns-in-Err-admit
 returns-in-Err-admit g c =
-    rw c.refused.ensures (refused_line _ _ c.in-Ok.entry c.args.number c.args.line.now _ c.in-Ok.ensures c.in-Err-admit.ensures)
+    rw c.refusal_fault.ensures (refused_line _ _ c.in-Ok.entry c.args.number c.args.line.now _ c.in-Ok.ensures c.in-Err-admit.ensures)
 
 pub returns-else-is_err : goal.returns-else-is_err
 returns-else-is_err g c =
