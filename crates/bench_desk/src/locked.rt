@@ -21,7 +21,7 @@ pub(crate) fn run<R: Threads + Wait + Clock + Sync>(
     for _thread in 0..threads {
         figures.push(None).ok()?;
     }
-    let book = Mutex::new(book);
+    let book = Mutex::new(Counted { book, changes: 0 });
     for_each_mut(
         rt,
         &mut figures,
@@ -35,14 +35,30 @@ pub(crate) fn run<R: Threads + Wait + Clock + Sync>(
             };
         },
     );
-    let changes = if load.settles { load.upgrades } else { 0 };
-    Ran::of(&figures, u64::from(changes))
+    Ran::of(&figures, book.into_inner().changes)
+}
+
+/// A book, and how many of its answers say that it was changed.
+#[derive(Drop)]
+struct Counted {
+    book: Book,
+    changes: u64,
+}
+
+impl Counted {
+    fn commit(&mut self, work: Worked) -> Reply {
+        let reply = self.book.commit(work);
+        if reply.makes_change() {
+            self.changes = self.changes.saturating_add(1);
+        }
+        reply
+    }
 }
 
 /// The book behind a lock.
 #[derive(Drop)]
 struct Locked<'a> {
-    book: &'a Mutex<Book>,
+    book: &'a Mutex<Counted>,
 }
 
 impl<'a, R: Wait> Store<R> for Locked<'a> {
@@ -50,7 +66,7 @@ impl<'a, R: Wait> Store<R> for Locked<'a> {
         if !request.is_for_current() {
             return None;
         }
-        self.book.lock(rt).begin(request).ok()
+        self.book.lock(rt).book.begin(request).ok()
     }
 
     fn close_verify(&mut self, rt: &R, work: Worked) -> Option<Reply> {

@@ -28,12 +28,13 @@ pub(crate) fn verify<R: Threads + Clock + Sync, S: Store<R>>(
     load: &Load,
 ) -> Option<Figures> {
     let start = Instant::now(rt).ok()?;
-    let mut worst = 0;
+    let (mut done, mut worst) = (0u32, 0);
     for number in 0..load.verifies {
         worst = verify_once(rt, alloc, store, load.verify(number)?)?.max(worst);
+        done = done.saturating_add(1);
     }
     Some(Figures {
-        done: load.verifies,
+        done,
         elapsed: start.elapsed(rt).ok()?.as_nanos(),
         worst,
     })
@@ -62,11 +63,13 @@ pub(crate) fn upgrade<R: Threads + Clock + Sync, S: Store<R>>(
     load: &Load,
 ) -> Option<Figures> {
     let start = Instant::now(rt).ok()?;
+    let mut done = 0u32;
     for number in 0..load.upgrades {
         upgrade_once(rt, alloc, store, load.upgrade(number)?, load.settles)?;
+        done = done.saturating_add(1);
     }
     Some(Figures {
-        done: load.upgrades,
+        done,
         elapsed: start.elapsed(rt).ok()?.as_nanos(),
         worst: 0,
     })

@@ -1,2 +1,0 @@
--- The lemmas that the proofs of the login service cite.
-pub mod Answers
