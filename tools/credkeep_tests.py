@@ -407,8 +407,11 @@ def damaged(room: Room) -> None:
     chance = random.Random(17)
     hurt = room.keep("hurt.db")
     pieces = [whole[: chance.randrange(1, len(whole))] for _ in range(60)]
-    for _ in range(240):
-        place = chance.randrange(len(whole) * 8)
+    record = keep("export").written.split(b":")[1].split()[0]
+    first = whole.index(record)
+    places = [chance.randrange(len(whole) * 8) for _ in range(200)]
+    places += [chance.randrange(first * 8, (first + len(record)) * 8) for _ in range(40)]
+    for place in places:
         turned = bytearray(whole)
         turned[place // 8] ^= 1 << place % 8
         pieces.append(bytes(turned))

@@ -23,7 +23,11 @@ pub(crate) fn explain<F: Write>(faults: &mut F, failure: Failure, lost: Option<&
 }
 
 fn tell_lost<F: Write>(faults: &mut F, lost: &Lost) -> io::Result<()> {
-    write!(faults, "credkeep: the database failed: {}; the change of ", lost.error)?;
+    write!(
+        faults,
+        "credkeep: the database failed: {}; the change of ",
+        lost.error
+    )?;
     faults.write_all(lost.name.bytes())?;
     writeln!(faults, " may be kept or not")
 }

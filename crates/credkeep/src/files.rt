@@ -4,11 +4,10 @@ ghost use Rattle.std.specs.Prelude.{◌≡◌, IfOk, false};
 
 use cred_file::FileBook;
 use sqlite::{Connection, Error, ErrorCode, FileFrom, FileStore, Wary};
-use std::fs;
 use std::fs::OpenOptions;
-use std::io;
 use std::io::ErrorKind;
 use std::os::unix::fs::OpenOptionsExt;
+use std::{fs, io};
 
 /// A connection to a file, of which nothing is supposed but that it was synced where it said so.
 pub(crate) type Database = Connection<FileStore<FileFrom<Wary>>>;

@@ -7,11 +7,10 @@ use cred_admin::{Status, Tools};
 use cred_cli::Watched;
 use cred_file::{FileBook, OpenFault};
 use cred_keep::{Order, refuse, serve};
-use std::io;
 use std::io::{ErrorKind, Write};
 use std::sync::Wait;
 use std::thread::Threads;
-use std::env;
+use std::{env, io};
 
 /// Does what the process's words ask for.
 pub(crate) fn run<T: Threads + Wait + Sync>(host: &HostRuntime, rt: &T) -> Status {
@@ -94,14 +93,24 @@ fn serve_and_close<T: Threads + Wait + Sync>(
     let mut reader = Watched::new(host.stdin());
     let mut writer = Watched::new(host.stdout());
     let mut faults = host.stderr();
-    let status = serve(tools, &mut book, order, &mut reader, &mut writer, &mut faults);
+    let status = serve(
+        tools,
+        &mut book,
+        order,
+        &mut reader,
+        &mut writer,
+        &mut faults,
+    );
     close(host, book.close(), status)
 }
 
 /// Copies the log into the file and closes both. Where that fails nothing is lost, as the log stays.
 fn close(host: &HostRuntime, conn: Database, status: Status) -> Status {
     if let Err(error) = conn.close() {
-        let _ = writeln!(host.stderr(), "credkeep: the log stays beside the file: {error}");
+        let _ = writeln!(
+            host.stderr(),
+            "credkeep: the log stays beside the file: {error}"
+        );
     }
     status
 }
@@ -121,11 +130,21 @@ fn answer_refusal(host: &HostRuntime, refusal: &Refusal) -> Status {
             }
         },
         Refusal::Name(why) => {
-            let _ = writeln!(host.stderr(), "credkeep: the name: {} {}", why.number(), why.word());
+            let _ = writeln!(
+                host.stderr(),
+                "credkeep: the name: {} {}",
+                why.number(),
+                why.word()
+            );
             Status::Usage
         }
         Refusal::Setting(why) => {
-            let _ = writeln!(host.stderr(), "credkeep: --setting: {} {}", why.number(), why.word());
+            let _ = writeln!(
+                host.stderr(),
+                "credkeep: --setting: {} {}",
+                why.number(),
+                why.word()
+            );
             Status::Usage
         }
         Refusal::Memory => say(host, "out of memory", Status::Memory),
