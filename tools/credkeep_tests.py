@@ -407,7 +407,7 @@ def damaged(room: Room) -> None:
     chance = random.Random(17)
     hurt = room.keep("hurt.db")
     pieces = [whole[: chance.randrange(1, len(whole))] for _ in range(60)]
-    record = keep("export").written.split(b":")[1].split()[0]
+    record = book[-1].removeprefix(b"ann:")
     first = whole.index(record)
     places = [chance.randrange(len(whole) * 8) for _ in range(200)]
     places += [chance.randrange(first * 8, (first + len(record)) * 8) for _ in range(40)]
