@@ -1,5 +1,5 @@
 -- The book that is opened from files is that of the database which they hold.
-use Rattle.std.proofs.Common.{◌≡◌, ap, sym, subst, ◌∙◌}
+use Rattle.std.proofs.Common.{◌≡◌, ap, subst, ◌∙◌}
 use Rattle.cred_book.specs.Accounts.{Accounts}
 use Rattle.cred_file.specs.Keeps.{HoldsBook}
 use Rattle.cred_file.specs.Opening.{IsFound}
