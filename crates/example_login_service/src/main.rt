@@ -1,56 +1,85 @@
-//! The core of a login service: at two doors people are let in by their passwords, while a third
-//! thread moves their records to a newer setting. No door waits for another or for a move, and
-//! whoever comes while a record is moved is looked at again.
+//! A login service in small, to be copied: at two doors, each in a thread of its own, people sign
+//! up and log in, and each change is kept in a database before anybody sees it.
+//!
+//! The argument is the file of the database. Without one the book is kept in memory, and lasts for
+//! this run.
 #![tactic(auto)]
 
 use anyhow::{Context, Result};
-use cred_book::Book;
-use cred_phc::write_record;
-use people::{Account, opening_book};
-use service::{Served, serve};
+use office::Door;
+use service::serve;
+use sqlite::{Alter, Connection, Wary};
 use std::alloc::Global;
+use std::env;
 use std::io::Write;
-use std::{io, str};
+use std::random::RandomSource;
+use std::sync::Wait;
+use std::thread::Threads;
+use visits::{DAYS, Day};
 
-mod login;
-mod people;
+mod error;
+mod file_writer;
+mod office;
 mod service;
+mod visits;
 
 fn main(rt: HostRuntime) -> Result<()> {
     let alloc = rt.alloc();
-    let accounts = Account::all().context("reading the accounts")?;
-    let book = opening_book(alloc).context("making the book")?;
-    let served = serve(&rt, alloc, &book, &accounts).context("serving")?;
     let mut out = rt.stdout();
-    print_tallies(&mut out, &served)?;
-    print_records(&mut out, alloc, &served.closed.book, &accounts)
-}
-
-fn print_tallies<W: Write>(out: &mut W, served: &Served) -> io::Result<()> {
-    for tally in &served.tallies {
-        writeln!(
-            out,
-            "{} let in, {} turned away, {} unanswered, {} moved",
-            tally.let_in, tally.turned_away, tally.unanswered, tally.moved
-        )?;
+    match env::args(&rt)?.nth(1) {
+        Some(path) => {
+            let conn = match Connection::open_from(&rt, path.as_str(), false, Wary) {
+                Ok(conn) => conn,
+                Err((error, _)) => return Err(error).context("opening the file"),
+            };
+            let conn = serve_days(&rt, alloc, &mut out, conn)?;
+            conn.close().context("closing the file")
+        }
+        None => {
+            writeln!(out, "No file is named: the book is kept in memory.")?;
+            let conn = Connection::open_in_memory(alloc)?;
+            serve_days(&rt, alloc, &mut out, conn)?;
+            Ok(())
+        }
     }
-    writeln!(out, "{} changes", served.closed.journal.len())
 }
 
-fn print_records<W: Write>(
-    out: &mut W,
+/// Starts the service once for each day, every time on what was kept.
+fn serve_days<R: Threads + Wait + RandomSource + Sync, S: Alter + Drop + Send, W: Write>(
+    rt: &R,
     alloc: Global,
-    book: &Book,
-    accounts: &[Account; 3],
-) -> Result<()> {
-    for account in accounts {
-        let stored = book
-            .show(&account.name)
-            .ok()
-            .flatten()
-            .context("showing a record")?;
-        let text = write_record(alloc, &stored)?;
-        writeln!(out, "{}", str::from_utf8(&text)?)?;
+    out: &mut W,
+    conn: Connection<S>,
+) -> Result<Connection<S>> {
+    let [first, second, third] = &DAYS;
+    let conn = serve_day(rt, alloc, out, conn, first)?;
+    let conn = serve_day(rt, alloc, out, conn, second)?;
+    serve_day(rt, alloc, out, conn, third)
+}
+
+fn serve_day<R: Threads + Wait + RandomSource + Sync, S: Alter + Drop + Send, W: Write>(
+    rt: &R,
+    alloc: Global,
+    out: &mut W,
+    conn: Connection<S>,
+    day: &Day,
+) -> Result<Connection<S>> {
+    let served = serve(rt, alloc, conn, day).context("serving")?;
+    writeln!(out, "Opened with {} accounts.", served.accounts)?;
+    print_notes(out, &served.doors)?;
+    if let Some(error) = served.ended.error {
+        writeln!(out, "The desk is given up: {error}.")?;
+    }
+    writeln!(out, "{} changes are kept.", served.ended.journal.len())?;
+    Ok(served.close())
+}
+
+fn print_notes<W: Write>(out: &mut W, doors: &[Door]) -> Result<()> {
+    for note in doors.iter().flat_map(|door| door.notes.iter()) {
+        match &note.answer {
+            Ok(answer) => writeln!(out, "{}: {answer:?}", note.name)?,
+            Err(error) => writeln!(out, "{}: refused, {error}", note.name)?,
+        }
     }
     Ok(())
 }

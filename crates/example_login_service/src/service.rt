@@ -1,148 +1,197 @@
-//! The desk, its three sessions, and the thread of each.
+//! A day of the service: it opens what is kept, lets the doors do their work, and closes the desk.
 
-ghost use Rattle.std.specs.Prelude.{◌≡◌, ◌+◌, false};
+ghost use Rattle.std.specs.Prelude.{◌≡◌, ◌+◌, true};
+ghost use Rattle.cred_desk.specs.Histories.{after};
 ghost use Rattle.cred_desk.specs.Naming.{IsNamed, StartsAt};
 
-use crate::login::{Login, log_in, move_record};
-use crate::people::Account;
+use crate::error::ServiceError;
+use crate::file_writer::{FileWriter, open_book};
+use crate::office::{Door, Office, decoy};
+use crate::visits::Day;
 use cred_book::Book;
-use cred_desk::{Closed, Desk, Naming, Opened, Session};
+use cred_desk::{DeskError, Entry, Kept, KeptDesk, Naming, Opened, Session};
+use cred_file::FileBook;
+use cred_phc::{Record, Scheme};
+use rand::make_rng;
+use rand::rngs::StdRng;
+use sqlite::{Alter, Connection};
 use std::alloc::Global;
 use std::marker::Brand;
+use std::random::RandomSource;
 use std::sync::Wait;
 use std::thread::{Threads, for_each_mut};
 
-/// Two doors, and one that moves records.
-const THREADS: u8 = 3;
+/// How many doors there are, each with a session in a thread of its own.
+const DOORS: u8 = 2;
 
-/// The place of the thread that moves records.
-const MOVER: usize = 2;
-
-/// How often each person comes to each door.
-const ROUNDS: usize = 4;
-
-/// What came of one thread's work.
-#[derive(Clone, Copy, Debug, Default, PartialEq, Eq)]
-pub(crate) struct Tally {
-    pub(crate) let_in: u32,
-    pub(crate) turned_away: u32,
-    pub(crate) unanswered: u32,
-    pub(crate) moved: u32,
+/// What is left of a day.
+#[derive(Drop)]
+pub(crate) struct Served<S: Alter> {
+    /// How many accounts there were in the morning.
+    pub(crate) accounts: usize,
+    pub(crate) doors: Vec<Door>,
+    pub(crate) ended: Ended<S>,
 }
 
-impl Tally {
-    fn count(&mut self, login: Login) {
-        let counter = match login {
-            Login::LetIn => &mut self.let_in,
-            Login::TurnedAway => &mut self.turned_away,
-            Login::Unanswered => &mut self.unanswered,
-        };
-        *counter = counter.saturating_add(1);
+impl<S: Alter> Served<S> {
+    /// Gives the database back.
+    pub(crate) fn close(self) -> Connection<S> {
+        let Served { ended, .. } = self;
+        let Ended { file, .. } = ended;
+        file.close()
     }
 }
 
-/// What is left when all have gone.
+/// What is left of a desk.
 #[derive(Drop)]
-pub(crate) struct Served {
-    pub(crate) closed: Closed,
-    pub(crate) tallies: Vec<Tally>,
+pub(crate) struct Ended<S: Alter> {
+    pub(crate) file: FileBook<S>,
+    /// All changes of the day.
+    pub(crate) journal: Vec<Entry>,
+    /// Why the desk was given up, if it was.
+    pub(crate) error: Option<DeskError>,
 }
 
-/// Opens a desk on the book, lets the threads do their work, and closes it.
-pub(crate) fn serve<R: Threads + Wait + Sync>(
+/// What a day is begun with.
+#[derive(Drop)]
+struct Morning {
+    scheme: Scheme,
+    decoy: Record,
+    doors: Vec<Door>,
+}
+
+impl Morning {
+    fn of<R: RandomSource>(rt: &R, alloc: Global, day: &Day) -> Result<Morning, ServiceError> {
+        let mut salts: StdRng = make_rng(rt)?;
+        let decoy = decoy(day.scheme, &mut salts)?;
+        let mut doors = Vec::with_capacity(alloc, usize::from(DOORS))?;
+        for visits in day.doors {
+            doors.push(Door {
+                visits,
+                salts: make_rng(rt)?,
+                notes: Vec::with_capacity(alloc, visits.len())?,
+                is_lost: false,
+            })?;
+        }
+        Ok(Morning {
+            scheme: day.scheme,
+            decoy,
+            doors,
+        })
+    }
+}
+
+/// Serves all who come on this day, on the book that the database holds.
+pub(crate) fn serve<R: Threads + Wait + RandomSource + Sync, S: Alter + Drop + Send>(
     rt: &R,
     alloc: Global,
-    book: &Book,
-    accounts: &[Account; 3],
-) -> Option<Served> {
-    serve_named::<Brand, R>(rt, alloc, Opened::new(THREADS), book, accounts)
+    conn: Connection<S>,
+    day: &Day,
+) -> Result<Served<S>, ServiceError> {
+    let morning = Morning::of(rt, alloc, day)?;
+    let file = open_book(alloc, conn)?;
+    let book = file.book().copy()?;
+    serve_named::<Brand, R, S>(rt, alloc, Opened::new(DOORS), &book, file, morning)
 }
 
 /// Generic over the name of the desk, which the call picks.
-fn serve_named<J: Naming + Send + Sync, R: Threads + Wait + Sync>(
+fn serve_named<J: Naming + Send + Sync, R: Threads + Wait + Sync, S: Alter + Drop + Send>(
     rt: &R,
     alloc: Global,
     opened: Opened,
     book: &Book,
-    accounts: &[Account; 3],
-) -> Option<Served>
+    file: FileBook<S>,
+    morning: Morning,
+) -> Result<Served<S>, ServiceError>
     requires name { IsNamed J.Naming opened }
-    requires opening { StartsAt J.Naming book.now 3 }
-    requires loads { J.loads ≡ false }
+    requires opening { StartsAt J.Naming book.now 2 }
+    requires loads { J.loads ≡ true }
+    requires file { file.0 ≡ J.opening }
 {
-    let mut seats = Vec::with_capacity(alloc, usize::from(THREADS)).ok()?;
-    let mut tallies = Vec::with_capacity(alloc, usize::from(THREADS)).ok()?;
-    let mut back = Vec::with_capacity(alloc, usize::from(THREADS)).ok()?;
-    let (desk, sessions) = Desk::<J>::new(rt, alloc, opened, book, THREADS).ok()?;
-    for session in sessions {
-        let _ = seats.push((session, Tally::default()));
+    let mut seats = Vec::with_capacity(alloc, usize::from(DOORS))?;
+    let mut doors = Vec::with_capacity(alloc, usize::from(DOORS))?;
+    let mut back = Vec::with_capacity(alloc, usize::from(DOORS))?;
+    let writer = FileWriter::new(rt, file);
+    let made = KeptDesk::<J, FileWriter<J, R, S>>::new(rt, alloc, opened, book, DOORS, writer);
+    let (desk, sessions) = match made {
+        Ok(made) => made,
+        Err((_, error)) => return Err(error.into()),
+    };
+    for (session, door) in sessions.into_iter().zip(morning.doors) {
+        let _ = seats.push((session, door));
     }
-    work_all(rt, alloc, &desk, &mut seats, accounts);
-    for (session, tally) in seats {
-        let _ = back.push(session);
-        let _ = tallies.push(tally);
-    }
-    match desk.close(rt, back) {
-        Ok(closed) => Some(Served { closed, tallies }),
-        Err((desk, _, _)) => {
-            desk.end(rt);
-            None
-        }
-    }
+    let office = Office {
+        rt,
+        alloc,
+        desk: &desk,
+        scheme: morning.scheme,
+        decoy: morning.decoy,
+    };
+    serve_all(rt, &office, &mut seats);
+    hand_in(seats, &mut back, &mut doors);
+    Ok(Served {
+        accounts: book.len(),
+        doors,
+        ended: end(rt, desk, back),
+    })
 }
 
-/// Lets each thread do its work, and leaves its tally beside its session.
-fn work_all<J: Naming + Send + Sync, R: Threads + Wait + Sync>(
+/// Lets each door do its work in a thread of its own.
+fn serve_all<J: Naming + Send + Sync, R: Threads + Wait + Sync, S: Alter + Drop + Send>(
     rt: &R,
-    alloc: Global,
-    desk: &Desk<J>,
-    seats: &mut [(Session<J>, Tally)],
-    accounts: &[Account; 3],
+    office: &Office<J, R, S>,
+    seats: &mut [(Session<J>, Door)],
 ) {
     for_each_mut(
         rt,
         seats,
-        usize::from(THREADS),
-        &|place, seat: &mut (Session<J>, Tally)| {
-            seat.1 = if place == MOVER {
-                move_all(rt, alloc, desk, &mut seat.0, accounts)
-            } else {
-                answer_door(rt, alloc, &mut seat.0, accounts)
-            };
-        },
+        usize::from(DOORS),
+        &|_place, seat: &mut (Session<J>, Door)| office.serve_door(&mut seat.0, &mut seat.1),
     );
 }
 
-/// Each person comes with the right password, and with another's.
-fn answer_door<J: Naming, R: Threads + Sync>(
-    rt: &R,
-    alloc: Global,
-    session: &mut Session<J>,
-    accounts: &[Account; 3],
-) -> Tally {
-    let mut tally = Tally::default();
-    for round in 0..ROUNDS {
-        for (place, account) in accounts.iter().enumerate() {
-            let typed = accounts[(place + round) % accounts.len()].pw;
-            tally.count(log_in(rt, alloc, session, account.name, typed));
+/// Parts the sessions from their doors. One that isn't handed in is missed as the desk is closed.
+fn hand_in<J: Naming>(
+    seats: Vec<(Session<J>, Door)>,
+    back: &mut Vec<Session<J>>,
+    doors: &mut Vec<Door>,
+) {
+    for (session, door) in seats {
+        if !door.is_lost {
+            let _ = back.push(session);
         }
+        let _ = doors.push(door);
     }
-    tally
 }
 
-/// Moves each person's record to the next setting.
-fn move_all<J: Naming, R: Threads + Wait + Sync>(
+/// Closes the desk, or gives it up where a session is lost. What was kept stays kept.
+fn end<J: Naming, R: Wait, S: Alter + Drop>(
     rt: &R,
-    alloc: Global,
-    desk: &Desk<J>,
-    session: &mut Session<J>,
-    accounts: &[Account; 3],
-) -> Tally {
-    let mut tally = Tally::default();
-    for account in accounts {
-        if move_record(rt, alloc, desk, session, account) {
-            tally.moved = tally.moved.saturating_add(1);
+    desk: KeptDesk<J, FileWriter<J, R, S>>,
+    sessions: Vec<Session<J>>,
+) -> Ended<S>
+    ensures { result.file.0 ≡ after J.opening result.journal.items }
+{
+    match desk.close(rt, sessions) {
+        Ok(kept) => {
+            let Kept {
+                closed,
+                additions: _,
+                writer,
+            } = kept;
+            Ended {
+                file: writer.into_book(),
+                journal: closed.journal,
+                error: None,
+            }
+        }
+        Err((desk, left, error)) => {
+            let (remains, writer) = desk.give_up(rt, &left);
+            Ended {
+                file: writer.into_book(),
+                journal: remains.journal,
+                error: Some(error),
+            }
         }
     }
-    tally
 }

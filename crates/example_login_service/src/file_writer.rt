@@ -1,0 +1,111 @@
+//! What keeps the changes of the desk: the database of a book.
+
+ghost use Rattle.std.specs.Prelude.{◌≡◌};
+
+use crate::error::{ServiceError, WriteError};
+use cred_book::{BookError, Keeper};
+use cred_desk::{Entry, EntryWriter, Naming};
+use cred_file::{FileBook, OpenFault};
+use sqlite::{Alter, Connection};
+use std::alloc::Global;
+use std::marker::{Model, PhantomData};
+use std::sync::Wait;
+
+/// Opens the book that the database holds, or begins one where there is none.
+pub(crate) fn open_book<S: Alter + Drop>(
+    alloc: Global,
+    conn: Connection<S>,
+) -> Result<FileBook<S>, ServiceError> {
+    if !conn.is_autocommit() {
+        return Err(ServiceError::Transaction);
+    }
+    match FileBook::open(alloc, conn) {
+        Ok(file) => Ok(file),
+        Err((OpenFault::NoBook, conn)) => create_book(alloc, conn),
+        Err((fault, _)) => Err(ServiceError::Open(fault)),
+    }
+}
+
+/// A database that holds something else is refused.
+fn create_book<S: Alter + Drop>(
+    alloc: Global,
+    conn: Connection<S>,
+) -> Result<FileBook<S>, ServiceError> {
+    if !conn.is_autocommit() {
+        return Err(ServiceError::Transaction);
+    }
+    match FileBook::create(alloc, conn) {
+        Ok(file) => Ok(file),
+        Err((fault, _)) => Err(ServiceError::Open(fault)),
+    }
+}
+
+/// Writes each change into the database. Nobody takes a record away at this service, so an entry
+/// without a record is a new name.
+#[derive(Drop)]
+pub(crate) struct FileWriter<'a, J: Naming, R, S: Alter> {
+    rt: &'a R,
+    file: FileBook<S>,
+    /// The desk whose changes it keeps.
+    desk: PhantomData<J>,
+}
+
+/// Contracts see it as the book that it keeps.
+impl<'a, J: Naming, R, S: Alter> Model for FileWriter<'a, J, R, S> {
+    ghost use Rattle.cred_book.specs.Accounts.{Accounts};
+    ghost use Rattle.cred_book.specs.contracts.Book as book;
+
+    ghost Value = { Accounts };
+
+    ghost coded = { book.the_row.coded };
+
+    ghost view = { λ w. w.file.0 };
+}
+
+impl<'a, J: Naming, R, S: Alter> FileWriter<'a, J, R, S> {
+    pub(crate) fn new(rt: &'a R, file: FileBook<S>) -> FileWriter<'a, J, R, S>
+        ensures { result ≡ file.0 }
+    {
+        FileWriter {
+            rt,
+            file,
+            desk: PhantomData,
+        }
+    }
+
+    pub(crate) fn into_book(self) -> FileBook<S>
+        ensures { result.0 ≡ self.entry }
+    {
+        self.file
+    }
+
+    /// Why the book didn't take an entry. Where the database failed, the book has the cause.
+    fn cause_of(&self, error: BookError) -> WriteError {
+        match self.file.lost() {
+            Some(lost) => WriteError::Database(lost.error),
+            None => WriteError::Book(error),
+        }
+    }
+}
+
+impl<'a, J: Naming, R: Wait, S: Alter> EntryWriter for FileWriter<'a, J, R, S> {
+    ghost use Rattle.std.specs.Prelude.{◌≡◌};
+    ghost use Rattle.cred_desk.specs.Histories.{after};
+
+    type Error = WriteError;
+
+    // The book in the database is the desk's.
+    ghost keeps = { λ writer list. writer ≡ after J.opening list };
+
+    #[tactic(auto, using(cred_desk::proofs::Lists::after_snoc))]
+    fn write(&mut self, new: &Entry) -> Result<(), WriteError> {
+        let written = match new.now {
+            None => self.file.admit(self.rt, new.name),
+            Some(stored) => self.file.load(self.rt, &new.name, stored),
+        };
+        match written {
+            Ok(()) => Ok(()),
+            Err(error) => Err(self.cause_of(error)),
+        }
+    }
+}
