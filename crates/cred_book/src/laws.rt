@@ -23,7 +23,8 @@ pub fn change_is_committed()
     ensures no_change { (book : Accounts) (work : Task)
         → makes_change (committed book work).0 ≡ false → (committed book work).1 ≡ book }
     ensures judgement { (book : Accounts) (work : Task)
-        → committed book work ≡ ((judgement book work).0, judged_book book work (judgement book work)) }
+        → committed book work
+        ≡ ((judgement book work).0, judged_book book work (judgement book work)) }
 {}
 
 /// `Yes` is answered exactly where the password's tag is the record's, and only where that record

@@ -106,7 +106,8 @@ deed_of book events i past _ = None
 unfoldable pub deeds_before : Accounts → List Event → ℕ → List (Option Deed)
 deeds_before book events zero = []
 deeds_before book events (suc i) =
-    deeds_before book events i ++ deed_of book events i (deeds_before book events i) (slice_get events i) ∷ []
+    deeds_before book events i
+    ++ deed_of book events i (deeds_before book events i) (slice_get events i) ∷ []
 
 abbrev pub book_at : Accounts → List Event → ℕ → Accounts
 book_at book events i = book_after book (deeds_before book events i)

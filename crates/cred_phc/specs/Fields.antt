@@ -30,7 +30,8 @@ triple (Some a) None _ = None
 triple (Some a) (Some b) None = None
 
 abbrev pub labelled_numbers : List ℕ → List ℕ → List ℕ → List (List ℕ) → Option (ℕ × ℕ × ℕ)
-labelled_numbers x y z (a ∷ b ∷ c ∷ []) = triple (labelled_number x a) (labelled_number y b) (labelled_number z c)
+labelled_numbers x y z (a ∷ b ∷ c ∷ []) =
+    triple (labelled_number x a) (labelled_number y b) (labelled_number z c)
 labelled_numbers x y z _ = None
 
 -- three numbers, each behind its label, with commas (byte 44) between

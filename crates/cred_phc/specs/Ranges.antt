@@ -1,7 +1,8 @@
 -- The ranges of the numbers, and how long salts, tags, passwords and texts may be.
 use Rattle.std.specs.Prelude.{ℕ, ◌*◌, ◌^◌, nat_le, nat_lt, Bool, true, false, ◌&&◌}
 use Rattle.cred_argon.specs.declared.params.TheConstants.{MAX_LANES, MAX_MEMORY, MAX_PASSES}
-use Rattle.cred_scrypt.specs.declared.params.TheConstants.{MAX_BLOCK_SIZE, MAX_BLOCKS, MAX_LN, MAX_ROWS}
+use Rattle.cred_scrypt.specs.declared.params.TheConstants.{MAX_BLOCK_SIZE, MAX_BLOCKS}
+use Rattle.cred_scrypt.specs.declared.params.TheConstants.{MAX_LN, MAX_ROWS}
 pub use Rattle.cred_phc.specs.declared.scheme.TheConstants.{MIN_ARGON2_SALT, MIN_SCRYPT_SALT}
 pub use Rattle.cred_phc.specs.declared.setting.TheConstants.{MAX_SALT}
 pub use Rattle.cred_phc.specs.declared.tag.TheConstants.{MIN_TAG, MAX_TAG}
