@@ -12,3 +12,4 @@ pub mod RecordLaws
 pub mod FaultLaws
 pub mod WritingLaws
 pub mod HashingLaws
+pub mod RangeLaws

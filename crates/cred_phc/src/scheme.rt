@@ -1,13 +1,12 @@
 //! Which function makes a record's tag, and with which numbers.
 
-ghost use Rattle.std.specs.Prelude.{◌≡◌, ◌≤◌, ◌*◌, ◌^◌, nat_le, IfSome, IsTrue};
-ghost use Rattle.cred_scrypt.specs.declared.params.TheConstants.{MAX_LN, MAX_ROWS};
+ghost use Rattle.std.specs.Prelude.{◌≡◌, IfSome, IsTrue};
 ghost use Rattle.cred_phc.specs.Names.{variant_name, version_text};
 ghost use Rattle.cred_phc.specs.Reading.{argon_of, scrypt_of};
 ghost use Rattle.cred_phc.specs.Ranges.{argon_fits, is_current, salt_low, scheme_fits, scrypt_fits};
 
-use cred_argon::{MAX_MEMORY, Version};
-use cred_scrypt::{MAX_LN, MAX_ROWS};
+use cred_argon::{Kind, MIN_TAG, Params, Version};
+use cred_scrypt::{MIN_LEN, ScryptParams};
 
 /// The variants of Argon2 (RFC 9106, section 1).
 #[derive(Clone, Copy, Debug, PartialEq, Eq)]
@@ -175,25 +174,16 @@ impl Scheme {
     }
 }
 
+/// Whether Argon2 takes these numbers, as [`Params`] has it.
 fn argon_fits(m: u32, t: u32, p: u8) -> bool
     ensures { result ≡ argon_fits m t p }
 {
-    p >= 1 && t >= 1 && 8 * u32::from(p) <= m && m <= MAX_MEMORY
+    Params::new(Kind::Id, m, t, u32::from(p), MIN_TAG).is_ok()
 }
 
+/// Whether scrypt takes these numbers, as [`ScryptParams`] has it.
 fn scrypt_fits(ln: u8, r: u8, p: u8) -> bool
     ensures { result ≡ scrypt_fits ln r p }
 {
-    if ln < 1 || ln > MAX_LN {
-        return false;
-    }
-    r >= 1 && p >= 1 && u32::from(ln) < 16 * u32::from(r) && memory_fits(ln, r)
-}
-
-/// Whether `r` times the cost is at most what scrypt's memory allows.
-fn memory_fits(ln: u8, r: u8) -> bool
-    requires { ln ≤ MAX_LN }
-    ensures { result ≡ nat_le (r * 2 ^ ln) MAX_ROWS }
-{
-    u64::from(r) <= MAX_ROWS >> ln
+    ScryptParams::new(ln, r, p, MIN_LEN).is_ok()
 }
