@@ -23,6 +23,8 @@ import traceback
 from collections.abc import Callable
 from typing import NamedTuple
 
+from refuse_memory import build as refusing_shim
+
 TOP = pathlib.Path(__file__).resolve().parent.parent
 CHEAP = "$argon2id$v=19$m=8,t=1,p=1"
 DEFAULT_RECORD = "$argon2id$v=19$m=65536,t=3,p=4$"
@@ -522,6 +524,32 @@ def refused_calls(room: Room) -> None:
         print(f"      {call}: {refused} refused")
 
 
+def refused_memory(room: Room) -> None:
+    """Each request for memory of a script's run is refused in turn, by a shim before the C library."""
+    names, lines = ["a", "b"], b"account a\naccount b\n"
+    shim, refused = refusing_shim(str(room.folder.parent)), 0
+    statuses: set[int] = set()
+    while True:
+        for file in room.folder.iterdir():
+            file.unlink()
+        keep = begun(room)
+        env = {**os.environ, "LD_PRELOAD": shim, "REFUSE_NTH": str(refused + 1)}
+        command = [str(keep.program), str(keep.path), "run"]
+        done = subprocess.run(command, input=lines, capture_output=True, timeout=60, env=env)
+        if b"REFUSED" not in done.stderr:
+            break
+        refused += 1
+        statuses.add(done.returncode)
+        answered = done.stdout.count(b"ok\n")
+        holds(done.returncode in (0, 3, 5), f"request {refused}: status {done.returncode}")
+        holds(done.returncode != 0 or answered == 2, f"request {refused}: {answered} answered")
+        there = keep.names()
+        holds(there in (names[:answered], names[: answered + 1]), f"request {refused}: {there}")
+    holds(refused > 0 and 3 in statuses, "no request was refused")
+    keep.is_sound()
+    print(f"      {refused} refused")
+
+
 # ---- passwords
 
 
@@ -565,6 +593,7 @@ TESTS: list[Callable[[Room], None]] = [
     kills,
     full_disk,
     refused_calls,
+    refused_memory,
     passwords_are_not_shown,
 ]
 
