@@ -31,9 +31,9 @@ unlike : (d byte : ℕ) → is_ascii_digit d ≡ true → is_ascii_digit byte �
 unlike d byte h k = grind (arith, nat_tests)
 
 -- one more digit is read
-pub push_digit : (ds : List ℕ) (i : ℕ) → is_numeral ds ≡ true → i < length ds
+pub push : (ds : List ℕ) (i : ℕ) → is_numeral ds ≡ true → i < length ds
     → saturation (digits_value 10 (take (i + 1) ds)) ≡ min (min (saturation (digits_value 10 (take i ds)) * 10) (2 ^ 64 - 1) + (get_or ds i 0 - 48)) (2 ^ 64 - 1)
-push_digit ds i numeral within =
+push ds i numeral within =
     rw (digits_value_more 10 ds i within, value_of_digit _ (digit_at ds i (digits_of_numeral ds numeral) within))
     (cap_once (digits_value 10 (take i ds)) (get_or ds i 0 - 48))
 

@@ -28,11 +28,7 @@ fn all_digits(text: &[u8]) -> bool
 
 /// The number that decimal digits write, with no zero in front of others; the greatest `u64` in the
 /// place of a greater one. None where the bytes write no number so.
-#[tactic(
-    auto,
-    using(crate::proofs::NumberLaws::push_digit),
-    unfolding(crate::specs::Number::number_of)
-)]
+#[tactic(auto, using(crate::proofs::NumberLaws::push), unfolding(crate::specs::Number::number_of))]
 pub fn decimal(digits: &[u8]) -> Option<u64>
     ensures { result ≡ option_map saturation (number_of digits.now) }
 {
