@@ -267,11 +267,7 @@ impl<S: Alter> Keeper for FileBook<S> {
         self.book.begin(request)
     }
 
-    #[tactic(auto, using(
-        crate::proofs::Judged::judged_change,
-        crate::proofs::Judged::judged_still,
-        crate::proofs::Judged::judged_there
-    ))]
+    #[tactic(auto, using(crate::proofs::Judged::judged_change, crate::proofs::Judged::judged_still, crate::proofs::Judged::judged_there))]
     fn commit<R: Wait>(&mut self, _rt: &R, worked: Worked) -> Result<Reply, (Worked, BookError)>
         ensures done { Commits self.old.0 self.new.0 worked result }
         ensures refused { IfSome self.old.1.0 (λ _.

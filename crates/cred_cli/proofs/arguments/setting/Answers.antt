@@ -6,5 +6,5 @@ use Rattle.cred_cli.proofs.arguments.setting.Goals as goal
 pub returns-clause-rule : goal.returns-clause-rule
 returns-clause-rule c =
     let named = ap rule_of c.help.ensures ∙ ap rule_of c.value_name.ensures
-        ∙ ap (λ (r : Rule). record r { value_names = 1 }) c.new.ensures.rule in
+    ∙ ap (λ (r : Rule). record r { value_names = 1 }) c.new.ensures.rule in
     ap rule_of c.required.ensures ∙ ap (λ (r : Rule). record r { required = true }) named
