@@ -13,7 +13,8 @@ use Rattle.cred_admin.specs.declared.fault.Fault.{Fault}
 use Rattle.cred_admin.specs.declared.fault.Fault.TheVariants as fault
 use Rattle.cred_admin.specs.declared.status.Status.{Status}
 use Rattle.cred_admin.specs.Answers.{FrontWritten, reply_line}
-use Rattle.cred_admin.specs.Lines.{behind_line, line_before, longest_password}
+use Rattle.cred_admin.specs.Lines.{behind_line, line_before}
+use Rattle.cred_phc.specs.Ranges.{MAX_PASSWORD}
 use Rattle.cred_admin.specs.Statuses.{status_of}
 
 -- nothing was written, and the book is as it was
@@ -57,7 +58,7 @@ Asks request input old new before now (Err fault.Write) =
 Asks request input old new before now (Err fault.Read) = Stays old new before now
 Asks request input old new before now (Err fault.Memory) = Stays old new before now
 Asks request input old new before now (Err fault.Password) =
-    IfSome input (λ bytes. longest_password < length (line_before bytes)) × Stays old new before now
+    IfSome input (λ bytes. MAX_PASSWORD < length (line_before bytes)) × Stays old new before now
 Asks request input old new before now (Err fault.Full) = ⊥
 
 -- the same of the first two lines
@@ -76,8 +77,8 @@ AsksTwice request input old new before now (Err fault.Write) =
 AsksTwice request input old new before now (Err fault.Read) = Stays old new before now
 AsksTwice request input old new before now (Err fault.Memory) = Stays old new before now
 AsksTwice request input old new before now (Err fault.Password) =
-    IfSome input (λ bytes. (longest_password < length (line_before bytes))
-    ⊎ (longest_password < length (line_before (behind_line bytes)))) × Stays old new before now
+    IfSome input (λ bytes. (MAX_PASSWORD < length (line_before bytes))
+    ⊎ (MAX_PASSWORD < length (line_before (behind_line bytes)))) × Stays old new before now
 AsksTwice request input old new before now (Err fault.Full) = ⊥
 
 -- ---- a first record
@@ -123,4 +124,4 @@ Adds name setting input old new before now (Err fault.Full) =
     HasNoRoom old name × Stays old new before now
 Adds name setting input old new before now (Err fault.Read) = Stays old new before now
 Adds name setting input old new before now (Err fault.Password) =
-    IfSome input (λ bytes. longest_password < length (line_before bytes)) × Stays old new before now
+    IfSome input (λ bytes. MAX_PASSWORD < length (line_before bytes)) × Stays old new before now

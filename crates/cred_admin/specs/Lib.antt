@@ -7,3 +7,8 @@ pub mod Lines
 pub mod Listing
 pub mod Settings
 pub mod Statuses
+pub use Rattle.cred_book.specs.Accounts
+pub use Rattle.cred_book.specs.Names
+pub use Rattle.cred_book.specs.Works
+pub use Rattle.cred_phc.specs.Ranges
+pub use Rattle.cred_phc.specs.Values

@@ -3,11 +3,6 @@ use Rattle.std.specs.Prelude.{◌≡◌, ℕ, ◌==◌, if◌then◌else◌, Lis
 use Rattle.cred_admin.specs.declared.fault.Fault.{Fault}
 use Rattle.cred_admin.specs.declared.fault.Fault.TheVariants as fault
 
--- How many bytes a `Password` of cred_phc has at most, whose specs don't export the number. The
--- proof that no line up to this length is refused holds the two together.
-abbrev pub longest_password : ℕ
-longest_password = 256
-
 -- the bytes before the first line end (byte 10)
 unfoldable pub line_before : List ℕ → List ℕ
 line_before [] = []

@@ -3,15 +3,13 @@
 ghost use Rattle.std.specs.Prelude.{◌≡◌, ◌<◌, ◌++◌, ◌∷◌, [], Err, IfErr, IfOk, IfSome, OnOk};
 ghost use Rattle.std.specs.Prelude.{length};
 ghost use Rattle.cred_admin.specs.Lines.{IsReading, ReadsLine, Takes};
-ghost use Rattle.cred_admin.specs.Lines.{line_before, longest_password};
+ghost use Rattle.cred_admin.specs.Lines.{line_before};
+ghost use Rattle.cred_phc.specs.Ranges.{MAX_PASSWORD};
 
 use crate::fault::Fault;
-use cred_phc::Password;
+use cred_phc::{MAX_PASSWORD, Password};
 use std::alloc::Global;
 use std::io::Read;
-
-/// How many bytes a `Password` has at most, as `longest_password` says.
-const LONGEST: usize = 256;
 
 /// Reads one line: the bytes before the next line end, which is taken off too, or before the end of
 /// what is read. No byte behind the line is taken.
@@ -21,11 +19,11 @@ pub(crate) fn read_password<R: Read>(alloc: Global, reader: &mut R) -> Result<Pa
     ensures line { IfOk result (λ pw. IfSome (R.remaining reader.old)
         (λ bytes. ReadsLine bytes (R.remaining reader.new) pw)) }
     ensures long { result ≡ Err Fault.Password → IfSome (R.remaining reader.old)
-        (λ bytes. longest_password < length (line_before bytes)) }
+        (λ bytes. MAX_PASSWORD < length (line_before bytes)) }
     ensures faults { IfErr result IsReading }
 {
     let mut line = Vec::new(alloc);
-    for _taken in 0..=LONGEST {
+    for _taken in 0..=MAX_PASSWORD {
         let Some(byte) = next_byte(reader)? else {
             return password(&line);
         };
@@ -55,7 +53,7 @@ fn next_byte<R: Read>(reader: &mut R) -> Result<Option<u8>, Fault>
 fn password(bytes: &[u8]) -> Result<Password, Fault>
     ensures value { IfOk result (λ pw. pw ≡ bytes.now) }
     ensures long { IfErr result (λ e.
-        (e ≡ Fault.Password) × (longest_password < length bytes.now)) }
+        (e ≡ Fault.Password) × (MAX_PASSWORD < length bytes.now)) }
 {
     Password::new(bytes).ok_or(Fault::Password)
 }

@@ -19,3 +19,4 @@ pub use Rattle.cred_book.specs.Accounts
 pub use Rattle.cred_book.specs.Works
 pub use Rattle.cred_phc.specs.Text
 pub use Rattle.cred_phc.specs.Values
+pub use Rattle.cred_phc.specs.Ranges

@@ -6,7 +6,8 @@ use Rattle.cred_book.specs.Commits.{judgement}
 use Rattle.cred_book.specs.Works.{Task, name_of}
 use Rattle.cred_book.specs.declared.reply.Reply.{Reply}
 use Rattle.cred_book.specs.declared.request.Request.{Request}
-use Rattle.cred_book.specs.declared.request.Request.TheVariants.{Enrol, Verify, Change, Upgrade, Remove}
+use Rattle.cred_book.specs.declared.request.Request.TheVariants.{Enrol, Verify, Change, Upgrade}
+use Rattle.cred_book.specs.declared.request.Request.TheVariants.{Remove}
 use Rattle.cred_desk.specs.Histories.{entry}
 use Rattle.cred_desk.specs.declared.entry.Entry.{Entry}
 

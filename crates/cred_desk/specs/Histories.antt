@@ -1,5 +1,6 @@
 -- Lists of entries, the books that they lead to, and which of them come about.
-use Rattle.std.specs.Prelude.{◌≡◌, ◌⊎◌, ℕ, ◌<◌, List, [], ◌∷◌, Bool, true, false, Option, Some, None}
+use Rattle.std.specs.Prelude.{◌≡◌, ◌⊎◌, ℕ, ◌<◌, List, [], ◌∷◌, Bool, true, false, Option, Some}
+use Rattle.std.specs.Prelude.{None}
 use Rattle.std.specs.FinMap as map
 use Rattle.cred_phc.specs.Tags.{tag}
 use Rattle.cred_phc.specs.Values.{RecordValue, IsPassword}

@@ -7,3 +7,7 @@ pub mod Published
 pub mod Refusals
 pub mod Rules
 pub mod Standing
+pub use Rattle.cred_book.specs.Accounts
+pub use Rattle.cred_book.specs.Calls
+pub use Rattle.cred_book.specs.Commits as BookCommits
+pub use Rattle.cred_book.specs.Works

@@ -1,7 +1,8 @@
 -- The numbers and the words of a desk's refusals.
 use Rattle.std.specs.Prelude.{◌≡◌, ℕ, List, codes, Bool, true, false}
 use Rattle.cred_desk.specs.declared.error.DeskError.{DeskError}
-use Rattle.cred_desk.specs.declared.error.DeskError.TheVariants.{Memory, Sessions, Session, Reader, NoAccount}
+use Rattle.cred_desk.specs.declared.error.DeskError.TheVariants.{Memory, Sessions, Session, Reader}
+use Rattle.cred_desk.specs.declared.error.DeskError.TheVariants.{NoAccount}
 
 abbrev pub refusal_number : DeskError → ℕ
 refusal_number Memory = 1

@@ -2,7 +2,8 @@
 --
 -- A list of entries is kept as links: each names the place, a word with a key, where the next link
 -- goes. Whoever holds the pen of the last place alone can add a link, by bringing its word home.
-use Rattle.std.specs.Prelude.{ℕ, ◌≡◌, ◌==◌, ◌<◌, Bool, true, List, [], ◌∷◌, ◌++◌, length, MatchBool, Option, Some, None}
+use Rattle.std.specs.Prelude.{ℕ, ◌≡◌, ◌==◌, ◌<◌, Bool, true, List, [], ◌∷◌, ◌++◌, length, MatchBool}
+use Rattle.std.specs.Prelude.{Option, Some, None}
 use mathlib.Core.List.{IsPrefix}
 use Rattle.logbook.specs.Pages.{Cell, Step, View, Book, Nib, Named, cell, may_make, may_write}
 use Rattle.cred_desk.specs.declared.entry.Entry.{Entry}

@@ -1,13 +1,16 @@
 //! What lies behind a desk's lock: the publisher of its book, the writer of its entries, and the
 //! count of what its sessions settled.
 
-ghost use Rattle.std.specs.Prelude.{◌≡◌, ◌≢◌, ◌+◌, ◌++◌, ◌∷◌, ◌≤◌, [], All, Err, IfErr, IfOk, MatchResult, None, Some, false, length, map, sum, true, vec_capacity, vec_len};
+ghost use Rattle.std.specs.Prelude.{◌≡◌, ◌≢◌, ◌+◌, ◌++◌, ◌∷◌, ◌≤◌, [], All, Err, IfErr, IfOk};
+ghost use Rattle.std.specs.Prelude.{MatchResult, None, Some, false, length, map, sum, true};
+ghost use Rattle.std.specs.Prelude.{vec_capacity, vec_len};
 ghost use mathlib.Core.List.{IsPrefix};
 ghost use Rattle.cred_book.specs.Calls.{Admits, Loads};
 ghost use Rattle.cred_book.specs.declared.error.BookError.TheVariants.{Memory as memory};
 ghost use Rattle.cred_desk.specs.Additions.{IsAdded, IsAt, refusal_of};
 ghost use Rattle.cred_desk.specs.Commits.{entry_of, list_after, reply_of, weight};
-ghost use Rattle.cred_desk.specs.Histories.{IsAdmitted, IsAllowed, IsListed, IsLoaded, after, entry};
+ghost use Rattle.cred_desk.specs.Histories.{IsAdmitted, IsAllowed, IsListed, IsLoaded, after};
+ghost use Rattle.cred_desk.specs.Histories.{entry};
 ghost use Rattle.cred_desk.specs.Standing.{IsMissed};
 
 use crate::closed::{Closed, Kept, Remains};

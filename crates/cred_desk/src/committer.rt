@@ -1,6 +1,7 @@
 //! The one who keeps a published book: what it changes, its sessions see.
 
-ghost use Rattle.std.specs.Prelude.{◌≡◌, ◌++◌, ◌∷◌, [], All, IfErr, IfOk, IsOk, MatchResult, None, Some, nat_le, true, vec_len};
+ghost use Rattle.std.specs.Prelude.{◌≡◌, ◌++◌, ◌∷◌, [], All, IfErr, IfOk, IsOk, MatchResult, None};
+ghost use Rattle.std.specs.Prelude.{Some, nat_le, true, vec_len};
 ghost use mathlib.Core.List.{IsPrefix};
 ghost use Rattle.cred_book.specs.Calls.{Admits, Loads};
 ghost use Rattle.cred_book.specs.Commits.{Commits};

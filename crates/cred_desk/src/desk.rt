@@ -1,6 +1,7 @@
 //! A desk: sessions settle their work behind its lock, and read its book with no lock.
 
-ghost use Rattle.std.specs.Prelude.{◌≡◌, ◌&&◌, [], All, IfErr, IfOk, MatchResult, false, length, map, nat_le, sum, true, vec_len};
+ghost use Rattle.std.specs.Prelude.{◌≡◌, ◌&&◌, [], All, IfErr, IfOk, MatchResult, false, length};
+ghost use Rattle.std.specs.Prelude.{map, nat_le, sum, true, vec_len};
 ghost use mathlib.Core.List.{IsPrefix};
 ghost use Rattle.cred_desk.specs.Histories.{IsLegal, after};
 ghost use Rattle.cred_desk.specs.Naming.{IsNamed, StartsAt};

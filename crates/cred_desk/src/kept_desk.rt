@@ -1,6 +1,7 @@
 //! A desk whose entries a writer of its owner's keeps, and at which people sign up.
 
-ghost use Rattle.std.specs.Prelude.{◌≡◌, ◌+◌, ◌&&◌, [], All, Err, IfErr, IfOk, MatchResult, None, Some, false, length, map, nat_le, sum, true, vec_len};
+ghost use Rattle.std.specs.Prelude.{◌≡◌, ◌+◌, ◌&&◌, [], All, Err, IfErr, IfOk, MatchResult, None};
+ghost use Rattle.std.specs.Prelude.{Some, false, length, map, nat_le, sum, true, vec_len};
 ghost use mathlib.Core.List.{IsPrefix};
 ghost use Rattle.cred_book.specs.Calls.{Admits, Loads};
 ghost use Rattle.cred_book.specs.declared.error.BookError.TheVariants.{Memory as memory};

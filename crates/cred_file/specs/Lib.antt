@@ -5,3 +5,9 @@ pub mod Table
 pub mod Keeps
 pub mod Opening
 pub mod Drafts
+pub use Rattle.cred_book.specs.Accounts
+pub use Rattle.cred_book.specs.Calls
+pub use Rattle.cred_book.specs.Commits
+pub use Rattle.cred_book.specs.Names
+pub use Rattle.cred_book.specs.Works
+pub use Rattle.cred_phc.specs.Values

@@ -8,7 +8,7 @@ use sqlite::Error;
 
 /// Why a book isn't begun or opened. A row is named by its row id, as
 /// `SELECT rowid, * FROM account` shows it.
-#[derive(Debug, Drop)]
+#[derive(Clone, Copy, Debug, PartialEq, Eq)]
 pub enum OpenFault {
     /// No book is begun: the database has tables already.
     NotEmpty,

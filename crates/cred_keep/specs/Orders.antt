@@ -1,5 +1,6 @@
 -- What an order makes of a kept book.
-use Rattle.std.specs.Prelude.{◌≡◌, ℕ, ◌≤◌, Bool, true, false, List, length, Option, Some, None, IfSome, Result, Ok, Err}
+use Rattle.std.specs.Prelude.{◌≡◌, ℕ, ◌≤◌, Bool, true, false, List, length, Option, Some, None}
+use Rattle.std.specs.Prelude.{IfSome, Result, Ok, Err}
 use Rattle.std.specs.FinMap as map
 use Rattle.std.specs.Io.KnownBytes.{Keeps}
 use Rattle.cred_book.specs.Accounts.{Accounts}
@@ -27,7 +28,8 @@ use Rattle.sqlite.specs.declared.error.ErrorCode.TheVariants as code
 use Rattle.cred_keep.specs.declared.failure.Failure.{Failure}
 use Rattle.cred_keep.specs.declared.failure.Failure.TheVariants as failure
 use Rattle.cred_keep.specs.declared.order.Order.{Order}
-use Rattle.cred_keep.specs.declared.order.Order.TheVariants.{Run, Add, Check, Change, Upgrade, Remove, List as Names, Export, Import}
+use Rattle.cred_keep.specs.declared.order.Order.TheVariants.{Run, Add, Check, Change, Upgrade}
+use Rattle.cred_keep.specs.declared.order.Order.TheVariants.{Remove, List as Names, Export, Import}
 
 -- ---- how it ends
 

@@ -1,7 +1,8 @@
 //! Scripts on a kept book.
 
 ghost use Rattle.std.specs.Prelude.{◌≡◌, ◌≤◌, IfErr, IfOk, IfSome, None, OnOk, length};
-ghost use Rattle.cred_cli.specs.Outcome.{HasCause, IsAnswered, ScriptFails, longest_script, most_calls};
+ghost use Rattle.cred_cli.specs.Outcome.{HasCause, IsAnswered, ScriptFails, longest_script};
+ghost use Rattle.cred_cli.specs.Outcome.{most_calls};
 ghost use Rattle.cred_cli.specs.Watched.{IsNew, calls_of, failed_of, inner_of};
 ghost use Rattle.cred_file.specs.Keeps.{IsOrWith, IsTableOf, LeavesOnly};
 ghost use Rattle.sqlite.specs.State.{HasCleanDisk};

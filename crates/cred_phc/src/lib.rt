@@ -27,7 +27,7 @@ pub use laws::{
 };
 pub use number::decimal;
 pub use parse::{parse_record, parse_setting};
-pub use password::Password;
+pub use password::{MAX_PASSWORD, Password};
 pub use pieces::Pieces;
 pub use record::Record;
 pub use salt::draw_salt;

@@ -10,7 +10,7 @@ use std::fmt;
 use std::marker::Model;
 
 /// How many bytes a password has at most, so that it has a fixed size.
-const MAX_PASSWORD: usize = 256;
+pub const MAX_PASSWORD: usize = 256;
 
 /// At most 256 bytes of any value, of which `{:?}` shows none.
 #[derive(Clone, Copy, PartialEq, Eq)]

@@ -1,4 +1,4 @@
-//! The program once more, for a stored run that ends with a status of its own: `check` that says no.
+//! The program once more, for a stored run with a status of its own: `check` that says no.
 #![tactic(auto)]
 
 use cred_cli::run_program;

@@ -104,7 +104,7 @@ fn serve_and_close<T: Threads + Wait + Sync>(
     close(host, book.close(), status)
 }
 
-/// Copies the log into the file and closes both. Where that fails nothing is lost, as the log stays.
+/// Copies the log into the file and closes both. Where that fails nothing is lost: the log stays.
 fn close(host: &HostRuntime, conn: Database, status: Status) -> Status {
     if let Err(error) = conn.close() {
         let _ = writeln!(

@@ -9,7 +9,7 @@ use std::io;
 use thiserror::Error;
 
 /// Why the database doesn't keep an entry.
-#[derive(Clone, Copy, Debug, Drop, Error)]
+#[derive(Clone, Copy, Debug, Error)]
 pub(crate) enum WriteError {
     #[error("{0}")]
     Book(BookError),
@@ -18,7 +18,7 @@ pub(crate) enum WriteError {
 }
 
 /// Each cause has its variant, so that `?` loses none.
-#[derive(Debug, Drop, Error)]
+#[derive(Clone, Copy, Debug, Error)]
 pub(crate) enum ServiceError {
     #[error("{0}")]
     Memory(#[from(alloc)] AllocError),

@@ -6,8 +6,7 @@
 #![tactic(auto)]
 
 use anyhow::{Context, Result};
-use office::Door;
-use service::serve;
+use service::{Served, serve};
 use sqlite::{Alter, Connection, Wary};
 use std::alloc::Global;
 use std::env;
@@ -15,7 +14,7 @@ use std::io::Write;
 use std::random::RandomSource;
 use std::sync::Wait;
 use std::thread::Threads;
-use visits::{DAYS, Day};
+use visits::{DAYS, Day, Note};
 
 mod error;
 mod file_writer;
@@ -65,21 +64,26 @@ fn serve_day<R: Threads + Wait + RandomSource + Sync, S: Alter + Drop + Send, W:
     day: &Day,
 ) -> Result<Connection<S>> {
     let served = serve(rt, alloc, conn, day).context("serving")?;
+    print_day(out, &served)?;
+    Ok(served.close())
+}
+
+fn print_day<W: Write, S: Alter>(out: &mut W, served: &Served<S>) -> Result<()> {
     writeln!(out, "Opened with {} accounts.", served.accounts)?;
-    print_notes(out, &served.doors)?;
+    for note in served.doors.iter().flat_map(|door| door.notes.iter()) {
+        print_note(out, note)?;
+    }
     if let Some(error) = served.ended.error {
         writeln!(out, "The desk is given up: {error}.")?;
     }
     writeln!(out, "{} changes are kept.", served.ended.journal.len())?;
-    Ok(served.close())
+    Ok(())
 }
 
-fn print_notes<W: Write>(out: &mut W, doors: &[Door]) -> Result<()> {
-    for note in doors.iter().flat_map(|door| door.notes.iter()) {
-        match &note.answer {
-            Ok(answer) => writeln!(out, "{}: {answer:?}", note.name)?,
-            Err(error) => writeln!(out, "{}: refused, {error}", note.name)?,
-        }
+fn print_note<W: Write>(out: &mut W, note: &Note) -> Result<()> {
+    match note.answer {
+        Ok(answer) => writeln!(out, "{}: {answer:?}", note.name)?,
+        Err(error) => writeln!(out, "{}: refused, {error}", note.name)?,
     }
     Ok(())
 }

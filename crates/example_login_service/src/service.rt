@@ -117,9 +117,7 @@ fn serve_named<J: Naming + Send + Sync, R: Threads + Wait + Sync, S: Alter + Dro
         Ok(made) => made,
         Err((_, error)) => return Err(error.into()),
     };
-    for (session, door) in sessions.into_iter().zip(morning.doors) {
-        let _ = seats.push((session, door));
-    }
+    take_seats(sessions, morning.doors, &mut seats);
     let office = Office {
         rt,
         alloc,
@@ -134,6 +132,20 @@ fn serve_named<J: Naming + Send + Sync, R: Threads + Wait + Sync, S: Alter + Dro
         doors,
         ended: end(rt, desk, back),
     })
+}
+
+/// Gives each door a session.
+fn take_seats<J: Naming>(
+    sessions: Vec<Session<J>>,
+    doors: Vec<Door>,
+    seats: &mut Vec<(Session<J>, Door)>,
+) {
+    let mut doors = doors.into_iter();
+    for session in sessions {
+        if let Some(door) = doors.next() {
+            let _ = seats.push((session, door));
+        }
+    }
 }
 
 /// Lets each door do its work in a thread of its own.

@@ -36,7 +36,7 @@ pub(crate) struct Day {
 }
 
 /// What somebody is answered.
-#[derive(Debug, Drop)]
+#[derive(Clone, Copy, Debug)]
 pub(crate) enum Answer {
     SignedUp,
     Taken,
@@ -50,7 +50,7 @@ pub(crate) enum Answer {
 }
 
 /// A line of what a door did.
-#[derive(Drop)]
+#[derive(Clone, Copy)]
 pub(crate) struct Note {
     pub(crate) name: &'static str,
     pub(crate) answer: Result<Answer, ServiceError>,

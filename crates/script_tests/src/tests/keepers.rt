@@ -1,6 +1,7 @@
 //! A second keeper: a list of books, each with one account.
 
-ghost use Rattle.std.specs.Prelude.{◌≡◌, ◌<◌, ℕ, true, false, length, slice_index_or, None, IfOk, MatchOption};
+ghost use Rattle.std.specs.Prelude.{◌≡◌, ◌<◌, ℕ, true, false, length, slice_index_or, None, IfOk};
+ghost use Rattle.std.specs.Prelude.{MatchOption};
 ghost use Rattle.std.specs.FinMap as map;
 ghost use Rattle.std.specs.List.{flat_map};
 ghost use Rattle.cred_book.specs.Names.{name_cmp};
