@@ -1,5 +1,5 @@
 -- The lines of an import in turn.
-use Rattle.std.proofs.Common.{◌≡◌, ◌⊎◌, inl, inr, ℕ, suc, ◌+◌, ◌<◌, ◌≤◌, List, [], ◌∷◌, ◌++◌, length, true, false, Option, Some, None, IfSome, Result, Ok, Err, is_err, refl, sym, ap, ◌∙◌, nat_lt, arith, append_assoc, append-nil}
+use Rattle.std.proofs.Common.{◌≡◌, ◌⊎◌, inl, inr, ℕ, suc, ◌+◌, ◌<◌, ◌≤◌, List, [], ◌∷◌, ◌++◌, length, true, false, Option, Some, None, IfSome, Result, Ok, Err, is_err, refl, sym, subst, ap, ◌∙◌, nat_lt, arith, append_assoc, append-nil}
 use Rattle.std.specs.FinMap as map
 use Rattle.std.proofs.lemmas.Bool.{lt-ltb, le-ltb}
 use Rattle.std.proofs.lemmas.List.{length-append}
@@ -12,7 +12,7 @@ use Rattle.cred_admin.specs.declared.entry.LineFault.{LineFault}
 use Rattle.cred_admin.specs.declared.entry.LineFault.TheVariants.{Book}
 use Rattle.cred_admin.specs.declared.loading.ImportFault.{ImportFault}
 use Rattle.cred_admin.specs.declared.loading.ImportFault.TheVariants as fault
-use Rattle.cred_admin.specs.Import.{Imports, LoadsLine, LoadsLines, StopsAt, after_entry, after_line, after_lines, and_then, entry_of, import_lines, refusal_fault, with_account}
+use Rattle.cred_admin.specs.Import.{Imports, LoadsLine, LoadsLines, StopsAt, WithoutRecord, after_entry, after_line, after_lines, and_then, entry_of, import_lines, refusal_fault, with_account}
 use Rattle.cred_admin.specs.Listing.{Entry}
 use Rattle.cred_admin.proofs.Records.{insert_over}
 
@@ -34,7 +34,7 @@ pub refused_line : (old new : Accounts) (e : Entry) (number : ℕ) (line : List 
     → LoadsLine old new number line (Err (refusal_fault number r))
 refused_line old new e number line error.Exists is h = (refl, ap (after_entry old) (sym is) ∙ with_there old e h.0, h.1)
 refused_line old new e number line error.Full is h = (refl, ap (after_entry old) (sym is) ∙ with_full old e h.0 h.1, h.2)
-refused_line old new e number line error.Memory is h = (e.0, inl h.2)
+refused_line old new e number line error.Memory is h = inl h.2
 refused_line old new e number line error.Name is h = absurd h
 refused_line old new e number line error.NoAccount is h = absurd h
 
@@ -48,6 +48,17 @@ pub whole_line : (old mid new : Accounts) (name line : List ℕ) (stored : Optio
 whole_line old mid new name line stored v is some h put =
     ap (after_entry old) (sym is) ∙ with_new old (name, stored) h.0 h.1
     ∙ ap Ok (ap (map.insert old name) some ∙ sym (insert_over old name None (Some v)) ∙ ap (λ (m : Accounts). map.insert m name (Some v)) (sym h.2) ∙ sym put.1)
+
+-- and then there was no memory for its record
+pub half_line : (old mid new : Accounts) (name line : List ℕ) (stored : Option RecordValue) (v : RecordValue) (r : Result (Unit {0}) BookError) → Ok (name, stored) ≡ entry_of line → stored ≡ Some v → Admits old mid name (Ok tt) → Loads mid new name v r → is_err r ≡ true → WithoutRecord old new line
+half_line old mid new name line stored v (Ok u) is some h put bad = absurd cc
+half_line old mid new name line stored v (Err error.NoAccount) is some h put bad =
+    (name, v, sym is ∙ ap (λ s. Ok (name, s)) some, with_new old (name, None) h.0 h.1 ∙ ap Ok (sym (put.1 ∙ h.2)))
+half_line old mid new name line stored v (Err error.Memory) is some h put bad =
+    (name, v, sym is ∙ ap (λ s. Ok (name, s)) some, with_new old (name, None) h.0 h.1 ∙ ap Ok (sym (put.1 ∙ h.2)))
+half_line old mid new name line stored v (Err error.Name) is some h put bad = absurd put
+half_line old mid new name line stored v (Err error.Exists) is some h put bad = absurd put
+half_line old mid new name line stored v (Err error.Full) is some h put bad = absurd put
 
 pub load_done : (mid new : Accounts) (name : List ℕ) (v : RecordValue) (r : Result (Unit {0}) BookError) → Loads mid new name v r → is_err r ≡ false → Loads mid new name v (Ok tt)
 load_done mid new name v (Ok u) h good = h
@@ -104,15 +115,16 @@ loaded_more old mid now lines left rest line n l next is = record {
   count = omega (arith, l.count, length-append l.front (line ∷ []));
 }
 
-pub stops_here : (old now : Accounts) (lines left : List (List ℕ)) (n : ℕ) → Loaded old now lines left n → StopsAt old now lines
-stops_here old now lines left n l = record { front = l.front; rest = left; cut = l.cut; book = now; done = l.done; name = []; now = inl refl }
+pub stops_here : (old now : Accounts) (lines left rest : List (List ℕ)) (line : List ℕ) (n : ℕ) → Loaded old now lines left n → left ≡ line ∷ rest → StopsAt old now lines
+stops_here old now lines left rest line n l next =
+    record { front = l.front; line = line; rest = rest; cut = l.cut ∙ ap (λ r. l.front ++ r) next; book = now; done = l.done; now = inl refl }
 
 pub line_fails : (old mid new : Accounts) (lines left rest : List (List ℕ)) (line : List ℕ) (n : ℕ) (e : ImportFault) → Loaded old mid lines left n → left ≡ line ∷ rest → LoadsLine mid new n line (Err e) → LoadsLines old new lines (Err e)
 line_fails old mid new lines left rest line n (fault.Line k why) l next (at, is, stays) =
     ap (after_lines old 1) (l.cut ∙ ap (λ r. l.front ++ r) next) ∙ behind_front mid 1 l.front (line ∷ rest) old l.done
     ∙ one_line mid (1 + length l.front) line rest (Err why) is ∙ ap (λ j. Err (j, why)) (sym (at ∙ l.count))
-line_fails old mid new lines left rest line n fault.Memory l next (name, now) =
-    record { front = l.front; rest = left; cut = l.cut; book = mid; done = l.done; name = name; now = now }
+line_fails old mid new lines left rest line n fault.Memory l next now =
+    record { front = l.front; line = line; rest = rest; cut = l.cut ∙ ap (λ r. l.front ++ r) next; book = mid; done = l.done; now = now }
 line_fails old mid new lines left rest line n fault.Read l next h = absurd h
 
 -- ---- both times
@@ -138,9 +150,17 @@ no_both : {X : Type 0} (book : Accounts) (e : ℕ × LineFault) → ◌≡◌ {A
 no_both book e h = absurd cc
 
 -- the copy told that all lines are good
-pub loaded_after : (input : Option (List ℕ)) (old copy copy' new : Accounts) (text : List ℕ) (e : ImportFault) → copy ≡ old → IfSome input (λ bytes. text ≡ bytes)
+loaded : (input : Option (List ℕ)) (old copy copy' new : Accounts) (text : List ℕ) (e : ImportFault) → copy ≡ old → IfSome input (λ bytes. text ≡ bytes)
     → LoadsLines copy copy' (import_lines text) (Ok tt) → LoadsLines old new (import_lines text) (Err e) → Imports input old new (Err e)
-loaded_after input old copy copy' new text fault.Read same known good h = absurd h
-loaded_after input old copy copy' new text fault.Memory same known good h = inr (text, known, h)
-loaded_after input old copy copy' new text (fault.Line n why) same known good h =
+loaded input old copy copy' new text fault.Read same known good h = absurd h
+loaded input old copy copy' new text fault.Memory same known good h =
+    inr (text, copy', known, ap (λ b. after_lines b 1 (import_lines text)) (sym same) ∙ good, h)
+loaded input old copy copy' new text (fault.Line n why) same known good h =
     no_both copy' (n, why) (sym good ∙ ap (λ b. after_lines b 1 (import_lines text)) same ∙ h)
+
+-- each time the lines were those of the text
+pub loaded_after : (input : Option (List ℕ)) (old copy copy' new : Accounts) (text first second : List ℕ) (e : ImportFault) → copy ≡ old → IfSome input (λ bytes. text ≡ bytes) → first ≡ text → second ≡ text
+    → LoadsLines copy copy' (import_lines first) (Ok tt) → LoadsLines old new (import_lines second) (Err e) → Imports input old new (Err e)
+loaded_after input old copy copy' new text first second e same known at at' good h =
+    loaded input old copy copy' new text e same known (subst (λ (t : List ℕ). LoadsLines copy copy' (import_lines t) (Ok tt)) at good)
+    (subst (λ (t : List ℕ). LoadsLines old new (import_lines t) (Err e)) at' h)

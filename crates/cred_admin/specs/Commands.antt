@@ -14,7 +14,7 @@ use Rattle.cred_admin.specs.declared.fault.Fault.TheVariants as fault
 use Rattle.cred_admin.specs.declared.status.Status.{Status}
 use Rattle.cred_admin.specs.Answers.{FrontWritten, reply_line}
 use Rattle.cred_admin.specs.Lines.{behind_line, line_before}
-use Rattle.cred_phc.specs.Ranges.{MAX_PASSWORD}
+use Rattle.cred_phc.specs.declared.password.TheConstants.{MAX_PASSWORD}
 use Rattle.cred_admin.specs.Statuses.{status_of}
 
 -- nothing was written, and the book is as it was

@@ -18,7 +18,6 @@ use Rattle.cred_admin.specs.declared.loading.ImportFault.{ImportFault}
 use Rattle.cred_admin.specs.declared.loading.ImportFault.TheVariants as fault
 use Rattle.cred_admin.specs.declared.status.Status.{Status}
 use Rattle.cred_admin.specs.declared.status.Status.TheVariants.{Done}
-use Rattle.cred_admin.specs.Commands.{IsOrWithName}
 use Rattle.cred_admin.specs.Listing.{Entry}
 
 abbrev pub line_number : LineFault → ℕ
@@ -100,15 +99,20 @@ after_lines book n [] = Ok book
 after_lines book n (line ∷ lines) =
     and_then n (after_line book line) (λ b. after_lines b (suc n) lines)
 
--- the first lines are done, and perhaps the account of the next one is there with no record
+-- the account of a line is there, its record isn't yet
+abbrev pub WithoutRecord : Accounts → Accounts → List ℕ → Type 0
+WithoutRecord old new line = (name : List ℕ) × (v : RecordValue)
+    × (entry_of line ≡ Ok (name, Some v)) × (with_account old (name, None) ≡ Ok new)
+
+-- the first lines are done, the next one isn't, and perhaps its account is there with no record
 pub record StopsAt (old new : Accounts) (lines : List (List ℕ)) : Type 0 where
   pub front : List (List ℕ)
+  pub line : List ℕ
   pub rest : List (List ℕ)
-  pub cut : lines ≡ front ++ rest
+  pub cut : lines ≡ front ++ line ∷ rest
   pub book : Accounts
   pub done : after_lines old 1 front ≡ Ok book
-  pub name : List ℕ
-  pub now : IsOrWithName book new name
+  pub now : (new ≡ book) ⊎ WithoutRecord book new line
 
 -- the book's refusal to add the account of a line
 abbrev pub refusal_fault : ℕ → BookError → ImportFault
@@ -122,7 +126,7 @@ abbrev pub LoadsLine : Accounts → Accounts → ℕ → List ℕ → Result (Un
 LoadsLine old new number line (Ok _) = after_line old line ≡ Ok new
 LoadsLine old new number line (Err (fault.Line n why)) =
     (n ≡ number) × (after_line old line ≡ Err why) × (new ≡ old)
-LoadsLine old new number line (Err fault.Memory) = (name : List ℕ) × IsOrWithName old new name
+LoadsLine old new number line (Err fault.Memory) = (new ≡ old) ⊎ WithoutRecord old new line
 LoadsLine old new number line (Err fault.Read) = ⊥
 
 abbrev pub LoadsLines : Accounts → Accounts → List (List ℕ) → Result (Unit {0}) ImportFault → Type 0
@@ -132,7 +136,7 @@ LoadsLines old new lines (Err fault.Memory) = StopsAt old new lines
 LoadsLines old new lines (Err fault.Read) = ⊥
 
 -- all lines are good and done; or one is bad and nothing is; or there was no memory, before the
--- first line or later
+-- first line or, where all are good, later
 abbrev pub Imports : Option (List ℕ) → Accounts → Accounts → Result Status ImportFault → Type 0
 Imports input old new (Ok status) =
     (text : List ℕ) × IfSome input (λ bytes. text ≡ bytes)
@@ -141,6 +145,6 @@ Imports input old new (Err (fault.Line n why)) =
     (text : List ℕ) × IfSome input (λ bytes. text ≡ bytes)
     × (after_lines old 1 (import_lines text) ≡ Err (n, why)) × (new ≡ old)
 Imports input old new (Err fault.Memory) =
-    (new ≡ old) ⊎ ((text : List ℕ) × IfSome input (λ bytes. text ≡ bytes)
-    × StopsAt old new (import_lines text))
+    (new ≡ old) ⊎ ((text : List ℕ) × (all : Accounts) × IfSome input (λ bytes. text ≡ bytes)
+    × (after_lines old 1 (import_lines text) ≡ Ok all) × StopsAt old new (import_lines text))
 Imports input old new (Err fault.Read) = new ≡ old

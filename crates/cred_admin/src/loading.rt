@@ -27,8 +27,8 @@ pub enum ImportFault {
 /// tried first on a copy of the keeper's book.
 ///
 /// Errors: `Line` where one isn't good, the first of them: nothing is changed; `Read`: nothing is
-/// changed; `Memory`: the first lines are done, or none, and the account of the next one may be
-/// there with no record.
+/// changed; `Memory`: nothing is changed; or all lines are good, the first of them are done, the next
+/// one isn't, and its account may be there with no record.
 pub fn import<T: Wait, K: Keeper, R: Read>(
     rt: &T,
     alloc: Global,
@@ -69,7 +69,10 @@ fn load_lines<T: Wait, K: Keeper>(rt: &T, keeper: &mut K, text: &[u8]) -> Result
             None => return Ok(()),
         }
     }
-    Err(ImportFault::Memory)
+    match next_line(&mut lines) {
+        Some(_) => Err(ImportFault::Memory),
+        None => Ok(()),
+    }
 }
 
 /// The next line; nothing need stand behind the last line end.

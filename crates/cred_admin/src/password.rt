@@ -4,7 +4,7 @@ ghost use Rattle.std.specs.Prelude.{◌≡◌, ◌<◌, ◌++◌, ◌∷◌, [],
 ghost use Rattle.std.specs.Prelude.{length};
 ghost use Rattle.cred_admin.specs.Lines.{IsReading, ReadsLine, Takes};
 ghost use Rattle.cred_admin.specs.Lines.{line_before};
-ghost use Rattle.cred_phc.specs.Ranges.{MAX_PASSWORD};
+ghost use Rattle.cred_phc.specs.declared.password.TheConstants.{MAX_PASSWORD};
 
 use crate::fault::Fault;
 use cred_phc::{MAX_PASSWORD, Password};

@@ -70,6 +70,7 @@ impl<S: Alter> FileBook<S> {
     ) -> Result<FileBook<S>, (OpenFault, Connection<S>)>
         requires autocommit { conn.in_transaction ≡ false }
         ensures empty { IfOk result (λ b. (b.0 ≡ fin.empty) × (b.1.0 ≡ None)) }
+        ensures begun { IfOk result (λ _. (state S.Store conn).now.schema ≡ no_schema) }
         ensures taken { IfErr result (λ e. e.0 ≡ OpenFault.NotEmpty
             → ((state S.Store conn).now.schema ≡ no_schema → ⊥) × (e.1 ≡ conn)) }
         ensures left { IfErr result (λ e. HasCleanDisk (state S.Store e.1)

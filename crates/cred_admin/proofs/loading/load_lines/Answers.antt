@@ -1,7 +1,7 @@
 use Rattle.std.proofs.Common.{List, ℕ, subst}
 use Rattle.std.proofs.lemmas.Result.{err_from_is_err_and}
 use Rattle.cred_admin.specs.Import.{whole_lines}
-use Rattle.cred_admin.proofs.Importing.{Loaded, loaded_none, loaded_more, stops_here, line_fails}
+use Rattle.cred_admin.proofs.Importing.{Loaded, loaded_none, loaded_all, loaded_more, stops_here, line_fails}
 use Rattle.cred_admin.proofs.loading.load_lines.Goals as goal
 
 pub loop-number-init : goal.loop-number-init
@@ -16,5 +16,8 @@ returns-in_err-load_line-in-Some g c =
     let told = err_from_is_err_and c.from_residual.result c.from_residual.ensures.1 in
     rw (told.1, told.2) (line_fails _ _ _ _ _ _ _ _ _ c.loop-number.invariant c.in-Some.ensures c.in_err-load_line-in-Some.ensures)
 
-pub returns : goal.returns
-returns g c = stops_here _ _ _ _ _ c.loop-number.invariant
+pub returns-in-Some-next_line : goal.returns-in-Some-next_line
+returns-in-Some-next_line g c = stops_here _ _ _ _ _ _ _ c.loop-number.invariant c.in-Some-next_line.ensures
+
+pub returns-in-None-next_line : goal.returns-in-None-next_line
+returns-in-None-next_line g c = loaded_all _ _ _ _ _ c.loop-number.invariant c.in-None-next_line.ensures
