@@ -7,7 +7,7 @@ use Rattle.std.specs.Cmp.Lexicographic.{nat_list_cmp_total}
 use Rattle.cred_phc.specs.Values.{RecordValue}
 use Rattle.cred_book.specs.Accounts.{Accounts}
 use Rattle.cred_book.specs.Calls.{Shows}
-use Rattle.cred_book.specs.Commits.{committed, committed_at, committed_if}
+use Rattle.cred_book.specs.Commits.{commit_outcome, commit_outcome_at, commit_outcome_if}
 use Rattle.cred_book.specs.Names.{name_cmp}
 use Rattle.cred_book.specs.Works.{Task, name_of, same, seq, seq_at, whole}
 use Rattle.cred_book.specs.declared.error.BookError.{BookError}
@@ -30,9 +30,9 @@ unfolding seq
 no_account book request is = sym (ap (seq_at book request) is)
 
 committed_now : (book : Accounts) (work : Task) → map.get book (name_of work.0) ≡ Some work.1
-    → committed book work ≡ ((whole work.0 work.1).0, map.insert book (name_of work.0) (whole work.0 work.1).1)
-unfolding committed
-committed_now book work is = ap (committed_at book work) is ∙ ap (committed_if book work work.1) (same_self work.1)
+    → commit_outcome book work ≡ ((whole work.0 work.1).0, map.insert book (name_of work.0) (whole work.0 work.1).1)
+unfolding commit_outcome
+committed_now book work is = ap (commit_outcome_at book work) is ∙ ap (commit_outcome_if book work work.1) (same_self work.1)
 
 seq_now : (book : Accounts) (request : Request) (now : Option RecordValue) → map.get book (name_of request) ≡ Some now
     → seq book request ≡ ((whole request now).0, map.insert book (name_of request) (whole request now).1)
@@ -41,10 +41,10 @@ seq_now book request now is = ap (seq_at book request) is
 
 -- a commit right behind its begin does the whole operation
 pub done_whole : (book new : Accounts) (request : Request) (ticket work : Task) (r : Reply) → work ≡ ticket → ticket.0 ≡ request → map.get book (name_of request) ≡ Some ticket.1
-    → (r, new) ≡ committed book work → (r, new) ≡ seq book request
+    → (r, new) ≡ commit_outcome book work → (r, new) ≡ seq book request
 done_whole book new request ticket work r same is found h =
     let here : map.get book (name_of ticket.0) ≡ Some ticket.1 = ap (λ q. map.get book (name_of q)) is ∙ found in
-    h ∙ ap (committed book) same ∙ committed_now book ticket here ∙ sym (seq_now book ticket.0 ticket.1 here) ∙ ap (seq book) is
+    h ∙ ap (commit_outcome book) same ∙ committed_now book ticket here ∙ sym (seq_now book ticket.0 ticket.1 here) ∙ ap (seq book) is
 
 -- ---- a first record
 

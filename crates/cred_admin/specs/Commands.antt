@@ -5,7 +5,7 @@ use Rattle.std.specs.FinMap as map
 use Rattle.std.specs.Io.KnownBytes.{Appends, Keeps}
 use Rattle.cred_phc.specs.Values.{RecordValue, SettingValue}
 use Rattle.cred_book.specs.Accounts.{Accounts, most_accounts}
-use Rattle.cred_book.specs.Works.{made, seq}
+use Rattle.cred_book.specs.Works.{new_record, seq}
 use Rattle.cred_book.specs.declared.reply.Reply.{Reply}
 use Rattle.cred_book.specs.declared.reply.Reply.TheVariants as reply
 use Rattle.cred_book.specs.declared.request.Request.{Request}
@@ -114,10 +114,10 @@ abbrev pub Adds : List ℕ → SettingValue → Option (List ℕ) → Accounts �
     → Option (List ℕ) → Option (List ℕ) → Result Status Fault → Type 0
 Adds name setting input old new before now (Ok status) =
     (pw : List ℕ) × IfSome input (λ bytes. pw ≡ line_before bytes)
-    × IsAnswered (enrolment old name (made setting pw)) new before now status
+    × IsAnswered (enrolment old name (new_record setting pw)) new before now status
 Adds name setting input old new before now (Err fault.Write) =
     (pw : List ℕ) × IfSome input (λ bytes. pw ≡ line_before bytes)
-    × IsUnanswered (enrolment old name (made setting pw)) new before now
+    × IsUnanswered (enrolment old name (new_record setting pw)) new before now
 Adds name setting input old new before now (Err fault.Memory) =
     IsOrWithName old new name × Keeps before now
 Adds name setting input old new before now (Err fault.Full) =

@@ -4,7 +4,7 @@ ghost use Rattle.std.specs.Prelude.{◌≡◌, ◌⊎◌, ◌≤◌, IfErr, IfOk
 ghost use Rattle.std.specs.Prelude.{true};
 ghost use Rattle.std.specs.FinMap as map;
 ghost use Rattle.cred_book.specs.Accounts.{most_accounts};
-ghost use Rattle.cred_book.specs.Works.{is_for_current, made, seq};
+ghost use Rattle.cred_book.specs.Works.{is_for_current, new_record, seq};
 ghost use Rattle.cred_book.specs.declared.request.Request.TheVariants.{Change, Remove, Upgrade};
 ghost use Rattle.cred_book.specs.declared.request.Request.TheVariants.{Verify};
 ghost use Rattle.cred_admin.specs.Commands.{Adds, Asks, AsksTwice, Does, Enrols};
@@ -187,7 +187,7 @@ fn enrol<T: Threads + Wait + Sync, K: Keeper>(
     pw: &Password,
 ) -> Result<Reply, Fault>
     ensures { Enrols (K.book keeper.old) (K.book keeper.new) name.now
-        (made setting.now pw.now) result }
+        (new_record setting.now pw.now) result }
 {
     match keeper.show(name) {
         Ok(Some(_)) => Ok(Reply::Exists),
@@ -208,7 +208,7 @@ fn record<T: Threads + Wait + Sync>(
     setting: &NewSetting,
     pw: &Password,
 ) -> Result<Record, Fault>
-    ensures value { IfOk result (λ stored. stored ≡ made setting.now pw.now) }
+    ensures value { IfOk result (λ stored. stored ≡ new_record setting.now pw.now) }
     ensures memory { IfErr result (λ e. e ≡ Fault.Memory) }
 {
     match tools.hashing().made(&setting.setting(), pw) {

@@ -27,8 +27,8 @@ pub enum ImportFault {
 /// tried first on a copy of the keeper's book.
 ///
 /// Errors: `Line` where one isn't good, the first of them: nothing is changed; `Read`: nothing is
-/// changed; `Memory`: nothing is changed; or all lines are good, the first of them are done, the next
-/// one isn't, and its account may be there with no record.
+/// changed; `Memory`: nothing is changed; or all lines are good, the first of them are done, the
+/// next one isn't, and its account may be there with no record.
 pub fn import<T: Wait, K: Keeper, R: Read>(
     rt: &T,
     alloc: Global,

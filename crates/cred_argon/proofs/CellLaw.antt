@@ -10,7 +10,7 @@ use Rattle.cred_argon.specs.Parameters.{Parameters, IsUpTo, segment_len}
 use Rattle.cred_argon.specs.Compress.{compress, xor_words}
 use Rattle.cred_argon.specs.Places.{place, IsPlace, IsComputed, reference_place}
 use Rattle.cred_argon.specs.Times.{time_of}
-use Rattle.cred_argon.specs.Cells.{first_cell, is_dependent, address_word, previous, older, word_by, reference_by, mixed_by, is_first, is_fresh, cell_by, cell_within, cell}
+use Rattle.cred_argon.specs.Cells.{first_cell, is_dependent, address_word, previous, older, word_by, reference_by, compression_at, is_first, is_fresh, cell_by, cell_within, cell}
 use Rattle.cred_argon.proofs.Picks.{reference_before}
 
 pub segment_some : (most : ℕ) (a : Parameters) → IsUpTo most a → 2 ≤ segment_len a
@@ -68,7 +68,7 @@ abbrev Agree : Parameters → Place → (Place → List ℕ) → (Place → List
 Agree a p f g = (c : Place) → IsPlace (segment_len a) a.lanes c → time_of (segment_len a) c < time_of (segment_len a) p → f c ≡ g c
 
 mixed_agree : (a : Parameters) (p : Place) (f g : Place → List ℕ) → 2 ≤ segment_len a → IsComputed (segment_len a) a.lanes p
-    → Agree a p f g → mixed_by a f p ≡ mixed_by a g p
+    → Agree a p f g → compression_at a f p ≡ compression_at a g p
 mixed_agree a p f g some computed agree =
     let before = previous_earlier a p computed in
     let same_before : f (previous (segment_len a) p) ≡ g (previous (segment_len a) p) = agree (previous (segment_len a) p) before.0 before.1 in
@@ -86,15 +86,15 @@ unfolding cell_by
 cell_by_agree a h p f g some inside agree = go (is_first p) refl
   where
     fresh : (b : Bool) → is_fresh a.version p.pass ≡ b → IsComputed (segment_len a) a.lanes p
-        → (if b then mixed_by a f p else xor_words (f (older p)) (mixed_by a f p)) ≡ (if b then mixed_by a g p else xor_words (g (older p)) (mixed_by a g p))
+        → (if b then compression_at a f p else xor_words (f (older p)) (compression_at a f p)) ≡ (if b then compression_at a g p else xor_words (g (older p)) (compression_at a g p))
     fresh true same computed = mixed_agree a p f g some computed agree
     fresh false same computed =
         let old = older_earlier a p inside (later_pass a.version p.pass same) in
         ap₂ xor_words (agree (older p) old.0 old.1) (mixed_agree a p f g some computed agree)
 
     go : (b : Bool) → is_first p ≡ b
-        → (if b then first_cell h p.lane p.column else (if is_fresh a.version p.pass then mixed_by a f p else xor_words (f (older p)) (mixed_by a f p)))
-        ≡ (if b then first_cell h p.lane p.column else (if is_fresh a.version p.pass then mixed_by a g p else xor_words (g (older p)) (mixed_by a g p)))
+        → (if b then first_cell h p.lane p.column else (if is_fresh a.version p.pass then compression_at a f p else xor_words (f (older p)) (compression_at a f p)))
+        ≡ (if b then first_cell h p.lane p.column else (if is_fresh a.version p.pass then compression_at a g p else xor_words (g (older p)) (compression_at a g p)))
     go true same = refl
     go false same = fresh (is_fresh a.version p.pass) refl (computed_of (segment_len a) a.lanes p inside same)
 

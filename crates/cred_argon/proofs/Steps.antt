@@ -12,7 +12,7 @@ use Rattle.cred_argon.specs.Times.{IsBefore}
 use Rattle.cred_argon.specs.Parameters.{Parameters, segment_len}
 use Rattle.cred_argon.specs.Compress.{compress, xor_words}
 use Rattle.cred_argon.specs.Places.{IsComputed, reference_place}
-use Rattle.cred_argon.specs.Cells.{is_dependent, address_block, previous, older, word_by, mixed_by, is_first, is_fresh, cell_by, cell}
+use Rattle.cred_argon.specs.Cells.{is_dependent, address_block, previous, older, word_by, compression_at, is_first, is_fresh, cell_by, cell}
 use Rattle.cred_argon.specs.Segments.{place_in, DoneHolds, OwnHolds}
 use Rattle.cred_argon.specs.declared.address.AddressBlock.{AddressBlock}
 use Rattle.cred_argon.specs.Addresses.{ServesOffset, word_from}
@@ -27,7 +27,7 @@ not_first s lanes p computed = go p.pass refl
 
 equation : (a : Parameters) (h : List ℕ) (p : Place) → 2 ≤ segment_len a → IsComputed (segment_len a) a.lanes p → (fresh : Bool)
     → is_fresh a.version p.pass ≡ fresh
-    → cell a h p ≡ (if fresh then mixed_by a (cell a h) p else xor_words (cell a h (older p)) (mixed_by a (cell a h) p))
+    → cell a h p ≡ (if fresh then compression_at a (cell a h) p else xor_words (cell a h (older p)) (compression_at a (cell a h) p))
 unfolding cell_by
 equation a h p some computed fresh same =
     cell_is a h p some (record { lane_inside = computed.lane_inside; column_inside = computed.column_inside })
@@ -53,7 +53,7 @@ word_is c h before addresses l k inside before_is serves =
 pub mixed_is : (a : Parameters) (h before other : List ℕ) (p : Place) (w : ℕ)
     → before ≡ cell a h (previous (segment_len a) p) → w ≡ word_by a (cell a h) p
     → other ≡ cell a h (reference_place (segment_len a) a.lanes p (w % 2 ^ 32) (w / 2 ^ 32))
-    → compress before other ≡ mixed_by a (cell a h) p
+    → compress before other ≡ compression_at a (cell a h) p
 mixed_is a h before other p w before_is word other_is =
     ap₂ compress before_is (other_is ∙ ap (λ (v : ℕ). cell a h (reference_place (segment_len a) a.lanes p (v % 2 ^ 32) (v / 2 ^ 32))) word)
 
@@ -66,7 +66,7 @@ pub offset_mixed_is : (c : Shared) (h before other : List ℕ) (addresses : Opti
     → there.column ≡ (reference_place (segment_len c.params) c.params.lanes (place_in c l k) (w % 2 ^ 32) (w / 2 ^ 32)).column
     → ((p : Place) → IsBefore (segment_len c.params) c.params.lanes (place_in c l k) p → p.lane ≡ there.lane → p.column ≡ there.column
     → other ≡ cell c.params h p)
-    → compress before other ≡ mixed_by c.params (cell c.params h) (place_in c l k)
+    → compress before other ≡ compression_at c.params (cell c.params h) (place_in c l k)
 offset_mixed_is c h before other addresses l k w there some computed inside before_is serves w_is lane column at =
     let a = c.params in
     let s = segment_len a in
@@ -78,11 +78,11 @@ offset_mixed_is c h before other addresses l k w there some computed inside befo
 
 -- what replaces a block, or is added to it, makes the cell
 pub replaced_is : (a : Parameters) (h mixed out : List ℕ) (p : Place) → 2 ≤ segment_len a → IsComputed (segment_len a) a.lanes p
-    → is_fresh a.version p.pass ≡ true → mixed ≡ mixed_by a (cell a h) p → out ≡ mixed → out ≡ cell a h p
+    → is_fresh a.version p.pass ≡ true → mixed ≡ compression_at a (cell a h) p → out ≡ mixed → out ≡ cell a h p
 replaced_is a h mixed out p some computed fresh mixed_is made = made ∙ mixed_is ∙ sym (equation a h p some computed true fresh)
 
 pub added_is : (a : Parameters) (h old mixed out : List ℕ) (p : Place) → 2 ≤ segment_len a → IsComputed (segment_len a) a.lanes p
-    → is_fresh a.version p.pass ≡ false → (0 < p.pass → old ≡ cell a h (older p)) → mixed ≡ mixed_by a (cell a h) p
+    → is_fresh a.version p.pass ≡ false → (0 < p.pass → old ≡ cell a h (older p)) → mixed ≡ compression_at a (cell a h) p
     → out ≡ xor_words old mixed → out ≡ cell a h p
 added_is a h old mixed out p some computed later old_is mixed_is made =
     made ∙ ap₂ xor_words (old_is (later_pass a.version p.pass later)) mixed_is ∙ sym (equation a h p some computed false later)

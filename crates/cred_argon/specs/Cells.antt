@@ -69,8 +69,9 @@ reference_by a cells p =
     let w = word_by a cells p in reference_place (segment_len a) a.lanes p (w % 2 ^ 32) (w / 2 ^ 32)
 
 -- G of the block before and the reference
-abbrev pub mixed_by : Parameters → (Place → List ℕ) → Place → List ℕ
-mixed_by a cells p = compress (cells (previous (segment_len a) p)) (cells (reference_by a cells p))
+abbrev pub compression_at : Parameters → (Place → List ℕ) → Place → List ℕ
+compression_at a cells p =
+    compress (cells (previous (segment_len a) p)) (cells (reference_by a cells p))
 
 abbrev pub is_first : Place → Bool
 is_first p = (p.pass == 0) && nat_lt p.column 2
@@ -84,8 +85,8 @@ is_fresh V13 pass = pass == 0
 unfoldable pub cell_by : Parameters → List ℕ → (Place → List ℕ) → Place → List ℕ
 cell_by a h cells p =
     if is_first p then first_cell h p.lane p.column
-    else (if is_fresh a.version p.pass then mixed_by a cells p
-    else xor_words (cells (older p)) (mixed_by a cells p))
+    else (if is_fresh a.version p.pass then compression_at a cells p
+    else xor_words (cells (older p)) (compression_at a cells p))
 
 -- the recursion, to a depth
 unfoldable pub cell_within : Parameters → List ℕ → ℕ → Place → List ℕ

@@ -8,7 +8,7 @@ use Rattle.std.specs.declared.cmp.Ordering.TheVariants.{Less, Equal, Greater}
 use Rattle.cred_phc.specs.Values.{RecordValue}
 use Rattle.cred_book.specs.Accounts.{Accounts}
 use Rattle.cred_book.specs.Changes.{change_with, change_of, judged_book}
-use Rattle.cred_book.specs.Commits.{committed, committed_at, committed_if, judgement, judgement_at, judgement_if}
+use Rattle.cred_book.specs.Commits.{commit_outcome, commit_outcome_at, commit_outcome_if, judgement, judgement_at, judgement_if}
 use Rattle.cred_book.specs.Names.{name_cmp}
 use Rattle.cred_book.specs.Works.{Task, name_of, same, same_scheme, whole, makes_change, right}
 use Rattle.cred_book.specs.declared.reply.Reply.{Reply}
@@ -49,23 +49,23 @@ whole_stays (Remove name pw) (Some stored) = two (Some stored) (right stored pw)
 module _ (book : Accounts) (work : Task) where
   -- the answer and the book after it are those of the change that was told
   abbrev IsTold : Reply × Accounts → Option RecordValue → Type 0
-  IsTold committed copy = MatchOption (change_with (name_of work.0) (whole work.0 copy)) ⊥ (λ change. committed ≡ (change.reply, map.insert book change.name change.after))
+  IsTold commit_outcome copy = MatchOption (change_with (name_of work.0) (whole work.0 copy)) ⊥ (λ change. commit_outcome ≡ (change.reply, map.insert book change.name change.after))
 
   told_outcome : (outcome : Outcome) → makes_change outcome.0 ≡ true
       → MatchOption (change_with (name_of work.0) outcome) ⊥ (λ change. ◌≡◌ {A = Reply × Accounts} (outcome.0, map.insert book (name_of work.0) outcome.1) (change.reply, map.insert book change.name change.after))
   told_outcome outcome is = rw is refl
 
-  told_if : (now : Option RecordValue) (fresh : Bool) → same now work.1 ≡ fresh → makes_change (committed_if book work now fresh).0 ≡ true → IsTold (committed_if book work now fresh) work.1
+  told_if : (now : Option RecordValue) (fresh : Bool) → same now work.1 ≡ fresh → makes_change (commit_outcome_if book work now fresh).0 ≡ true → IsTold (commit_outcome_if book work now fresh) work.1
   told_if now true is change = let copied = (same-Decides now work.1).0 is in rw copied (told_outcome (whole work.0 work.1) (rw copied at change))
   told_if now false is change = absurd cc
 
-  told_at : (found : Option (Option RecordValue)) → makes_change (committed_at book work found).0 ≡ true → IsTold (committed_at book work found) work.1
+  told_at : (found : Option (Option RecordValue)) → makes_change (commit_outcome_at book work found).0 ≡ true → IsTold (commit_outcome_at book work found) work.1
   told_at None change = absurd cc
   told_at (Some now) change = told_if now (same now work.1) refl change
 
-  pub told : makes_change (committed book work).0 ≡ true
-      → MatchOption (change_of work) ⊥ (λ change. committed book work ≡ (change.reply, map.insert book change.name change.after))
-  unfolding committed change_of
+  pub told : makes_change (commit_outcome book work).0 ≡ true
+      → MatchOption (change_of work) ⊥ (λ change. commit_outcome book work ≡ (change.reply, map.insert book change.name change.after))
+  unfolding commit_outcome change_of
   told change = told_at (map.get book (name_of work.0)) change
 
   module _ (now : Option RecordValue) (found : map.get book (name_of work.0) ≡ Some now) where
@@ -81,7 +81,7 @@ module _ (book : Accounts) (work : Task) where
     stays_whole : makes_change (whole work.0 now).0 ≡ false → map.insert book (name_of work.0) (whole work.0 now).1 ≡ book
     stays_whole is = ap (map.insert book (name_of work.0)) (whole_stays work.0 now is) ∙ insert_again
 
-    stays_if : (fresh : Bool) → makes_change (committed_if book work now fresh).0 ≡ false → (committed_if book work now fresh).1 ≡ book
+    stays_if : (fresh : Bool) → makes_change (commit_outcome_if book work now fresh).0 ≡ false → (commit_outcome_if book work now fresh).1 ≡ book
     stays_if true is = stays_whole is
     stays_if false is = refl
 
@@ -90,23 +90,23 @@ module _ (book : Accounts) (work : Task) where
     by_change true is = refl
     by_change false is = stays_whole is
 
-    by_copy : (fresh : Bool) → committed_if book work now fresh ≡ ((judgement_if work now fresh).0, judged_book book work (judgement_if work now fresh))
+    by_copy : (fresh : Bool) → commit_outcome_if book work now fresh ≡ ((judgement_if work now fresh).0, judged_book book work (judgement_if work now fresh))
     by_copy true = ap (λ b. ((whole work.0 now).0, b)) (by_change (makes_change (whole work.0 now).0) refl)
     by_copy false = refl
 
-  stays_at : (found : Option (Option RecordValue)) → map.get book (name_of work.0) ≡ found → makes_change (committed_at book work found).0 ≡ false → (committed_at book work found).1 ≡ book
+  stays_at : (found : Option (Option RecordValue)) → map.get book (name_of work.0) ≡ found → makes_change (commit_outcome_at book work found).0 ≡ false → (commit_outcome_at book work found).1 ≡ book
   stays_at None is = λ _. refl
   stays_at (Some now) is = stays_if now is (same now work.1)
 
-  pub stays : makes_change (committed book work).0 ≡ false → (committed book work).1 ≡ book
-  unfolding committed
+  pub stays : makes_change (commit_outcome book work).0 ≡ false → (commit_outcome book work).1 ≡ book
+  unfolding commit_outcome
   stays = stays_at (map.get book (name_of work.0)) refl
 
   by_record : (found : Option (Option RecordValue)) → map.get book (name_of work.0) ≡ found
-      → committed_at book work found ≡ ((judgement_at work found).0, judged_book book work (judgement_at work found))
+      → commit_outcome_at book work found ≡ ((judgement_at work found).0, judged_book book work (judgement_at work found))
   by_record None is = refl
   by_record (Some now) is = by_copy now is (same now work.1)
 
-  pub committed_as_judged : committed book work ≡ ((judgement book work).0, judged_book book work (judgement book work))
-  unfolding committed judgement
+  pub committed_as_judged : commit_outcome book work ≡ ((judgement book work).0, judged_book book work (judgement book work))
+  unfolding commit_outcome judgement
   committed_as_judged = by_record (map.get book (name_of work.0)) refl

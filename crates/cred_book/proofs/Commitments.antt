@@ -7,7 +7,7 @@ use Rattle.cred_book.specs.Accounts.{Accounts}
 use Rattle.cred_book.specs.Calls.{Loads, Shows}
 use Rattle.cred_book.specs.declared.error.BookError.{BookError}
 use Rattle.cred_book.specs.declared.error.BookError.TheVariants as error
-use Rattle.cred_book.specs.Commits.{Sets, committed, committed_at, committed_if, judgement, judgement_at, judgement_if}
+use Rattle.cred_book.specs.Commits.{Sets, commit_outcome, commit_outcome_at, commit_outcome_if, judgement, judgement_at, judgement_if}
 use Rattle.cred_book.specs.Works.{Task, name_of, same, whole, makes_change}
 use Rattle.cred_book.specs.declared.reply.Reply.{Reply}
 use Rattle.cred_book.specs.declared.reply.Reply.TheVariants as reply
@@ -27,25 +27,25 @@ module _ (work : Task) (now : Option RecordValue) where
 
 module _ (book : Accounts) (work : Task) (name : List ℕ) (is : name ≡ name_of work.0) where
   -- the definitions, once it is known what stands at the name
-  pub committed_found : (entry : Option (Option RecordValue)) → map.get book name ≡ entry → committed book work ≡ committed_at book work entry
-  unfolding committed
-  committed_found entry found = ap (λ n. committed_at book work (map.get book n)) (sym is) ∙ ap (committed_at book work) found
+  pub committed_found : (entry : Option (Option RecordValue)) → map.get book name ≡ entry → commit_outcome book work ≡ commit_outcome_at book work entry
+  unfolding commit_outcome
+  committed_found entry found = ap (λ n. commit_outcome_at book work (map.get book n)) (sym is) ∙ ap (commit_outcome_at book work) found
 
   pub judged_found : (entry : Option (Option RecordValue)) → map.get book name ≡ entry → judgement_at work entry ≡ judgement book work
   unfolding judgement
   judged_found entry found = sym (ap (λ n. judgement_at work (map.get book n)) (sym is) ∙ ap (judgement_at work) found)
 
-  pub commits_nothing : map.get book name ≡ None → (reply.NoAccount, book) ≡ committed book work
+  pub commits_nothing : map.get book name ≡ None → (reply.NoAccount, book) ≡ commit_outcome book work
   commits_nothing found = sym (committed_found None found)
 
   by_test : (now : Option RecordValue) → map.get book (name_of work.0) ≡ Some now → (fresh : Bool)
-      → committed_if book work now fresh ≡ ((judgement_if work now fresh).0, map.insert book (name_of work.0) (judgement_if work now fresh).1)
+      → commit_outcome_if book work now fresh ≡ ((judgement_if work now fresh).0, map.insert book (name_of work.0) (judgement_if work now fresh).1)
   by_test now found true = refl
   by_test now found false = ap (λ b. (reply.Changed now, b)) (sym (insert_again book work now found))
 
   -- what was judged is put at the name, which changes nothing where the judgement is no change
   pub commits_judged : (now : Option RecordValue) → map.get book name ≡ Some now → (told : Reply × Option RecordValue × Bool) → told ≡ judgement_at work (Some now)
-      → (later : Accounts) → later ≡ map.insert book name told.1 → (told.0, later) ≡ committed book work
+      → (later : Accounts) → later ≡ map.insert book name told.1 → (told.0, later) ≡ commit_outcome book work
   commits_judged now found told judges later put =
       let there = ap (map.get book) (sym is) ∙ found in
       let whole_commit = committed_found (Some now) found ∙ by_test now there (same now work.1) in

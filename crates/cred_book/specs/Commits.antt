@@ -34,21 +34,21 @@ unfoldable pub judgement : Accounts → Task → Reply × Option RecordValue × 
 judgement book work = judgement_at work (map.get book (name_of work.0))
 
 -- the reply likewise, with the book after
-abbrev pub committed_if : Accounts → Task → Option RecordValue → Bool → Reply × Accounts
-committed_if book work now is_copy =
+abbrev pub commit_outcome_if : Accounts → Task → Option RecordValue → Bool → Reply × Accounts
+commit_outcome_if book work now is_copy =
     if is_copy
     then ((whole work.0 now).0, map.insert book (name_of work.0) (whole work.0 now).1)
     else (reply.Changed now, book)
 
-abbrev pub committed_at : Accounts → Task → Option (Option RecordValue) → Reply × Accounts
-committed_at book work None = (reply.NoAccount, book)
-committed_at book work (Some now) = committed_if book work now (same now work.1)
+abbrev pub commit_outcome_at : Accounts → Task → Option (Option RecordValue) → Reply × Accounts
+commit_outcome_at book work None = (reply.NoAccount, book)
+commit_outcome_at book work (Some now) = commit_outcome_if book work now (same now work.1)
 
-unfoldable pub committed : Accounts → Task → Reply × Accounts
-committed book work = committed_at book work (map.get book (name_of work.0))
+unfoldable pub commit_outcome : Accounts → Task → Reply × Accounts
+commit_outcome book work = commit_outcome_at book work (map.get book (name_of work.0))
 
 abbrev pub Commits : Accounts → Accounts → Task → Result Reply (Task × BookError) → Type 0
-Commits old new work (Ok r) = (r, new) ≡ committed old work
+Commits old new work (Ok r) = (r, new) ≡ commit_outcome old work
 Commits old new work (Err (back, error.Memory)) = (back ≡ work) × (new ≡ old)
 Commits old new work (Err (back, error.Exists)) = ⊥
 Commits old new work (Err (back, error.Full)) = ⊥

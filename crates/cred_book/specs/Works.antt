@@ -57,8 +57,8 @@ unfoldable pub right : RecordValue → List ℕ → Bool
 right stored pw = bytes_eq (tag stored.setting (length stored.tag) pw) stored.tag
 
 -- the record of a password under a setting
-abbrev pub made : SettingValue → List ℕ → RecordValue
-made setting pw = record_of setting (tag setting 32 pw)
+abbrev pub new_record : SettingValue → List ℕ → RecordValue
+new_record setting pw = record_of setting (tag setting 32 pw)
 
 abbrev pub name_of : Request → List ℕ
 name_of (Enrol name pw setting) = name
@@ -88,18 +88,18 @@ abbrev pub upgrade_outcome : RecordValue → List ℕ → SettingValue → Reply
 upgrade_outcome stored pw setting =
     if not (right stored pw) then (reply.Wrong, Some stored)
     else if same_scheme stored.setting.scheme setting.scheme then (reply.Kept, Some stored)
-    else (reply.Upgraded, Some (made setting pw))
+    else (reply.Upgraded, Some (new_record setting pw))
 
 -- the reply, and the record after
 abbrev pub whole : Request → Option RecordValue → Reply × Option RecordValue
 whole (Enrol name pw setting) (Some stored) = (reply.Exists, Some stored)
-whole (Enrol name pw setting) None = (reply.Enrolled, Some (made setting pw))
+whole (Enrol name pw setting) None = (reply.Enrolled, Some (new_record setting pw))
 whole (Verify name pw) None = (reply.Absent, None)
 whole (Verify name pw) (Some stored) =
     (if right stored pw then reply.Yes else reply.No, Some stored)
 whole (Change name pw new setting) None = (reply.Absent, None)
 whole (Change name pw new setting) (Some stored) =
-    if right stored pw then (reply.Replaced, Some (made setting new))
+    if right stored pw then (reply.Replaced, Some (new_record setting new))
     else (reply.Wrong, Some stored)
 whole (Upgrade name pw setting) None = (reply.Absent, None)
 whole (Upgrade name pw setting) (Some stored) = upgrade_outcome stored pw setting

@@ -6,7 +6,7 @@ ghost use Rattle.std.specs.FinMap as map;
 ghost use Rattle.std.specs.Slice.Iter.{iter_rest};
 ghost use Rattle.cred_book.specs.Accounts.{most_accounts, with_entry};
 ghost use Rattle.cred_book.specs.Calls.{Admits, Loads, Shows};
-ghost use Rattle.cred_book.specs.Commits.{Begins, Sets, committed, judgement};
+ghost use Rattle.cred_book.specs.Commits.{Begins, Sets, commit_outcome, judgement};
 ghost use Rattle.cred_book.specs.Names.{name_cmp};
 ghost use Rattle.cred_book.specs.Places.{IsGapFor, IsPlaceOf};
 ghost use Rattle.cred_book.specs.Works.{is_for_current};
@@ -137,7 +137,7 @@ impl Book {
 
     /// Does the whole operation, if the record is the one that was copied, and else nothing.
     pub fn commit(&mut self, worked: Worked) -> Reply
-        ensures { (result, self.new) ≡ committed self.old worked }
+        ensures { (result, self.new) ≡ commit_outcome self.old worked }
     {
         match place_of(&self.accounts, &worked.request().name()) {
             Ok(place) => {

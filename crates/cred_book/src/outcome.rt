@@ -2,7 +2,7 @@
 
 ghost use Rattle.std.specs.Prelude.{◌≡◌, ◌≤◌, IfOk, if◌then◌else◌};
 ghost use Rattle.cred_phc.specs.Tags.{tag};
-ghost use Rattle.cred_book.specs.Works.{made, right, upgrade_outcome, whole};
+ghost use Rattle.cred_book.specs.Works.{new_record, right, upgrade_outcome, whole};
 
 use crate::reply::Reply;
 use crate::request::Request;
@@ -91,7 +91,8 @@ impl<R: Threads + Sync, G: Gate + Sync> Hashing<'_, R, G> {
         setting: &Setting,
     ) -> Result<Outcome, TagError>
         ensures { IfOk result (λ outcome. outcome
-            ≡ (if right stored.now pw.now then (Reply.Replaced, Some (made setting.now new_pw.now))
+            ≡ (if right stored.now pw.now
+            then (Reply.Replaced, Some (new_record setting.now new_pw.now))
             else (Reply.Wrong, Some stored.now))) }
     {
         if !self.is_right(stored, pw)? {
@@ -147,7 +148,7 @@ impl<R: Threads + Sync, G: Gate + Sync> Hashing<'_, R, G> {
     ///
     /// Errors: `Memory` where there is too little for the setting.
     pub fn made(&self, setting: &Setting, pw: &Password) -> Result<Record, TagError>
-        ensures { IfOk result (λ stored. stored ≡ made setting.now pw.now) }
+        ensures { IfOk result (λ stored. stored ≡ new_record setting.now pw.now) }
     {
         let tag = self.tag(setting, NEW_TAG, pw)?;
         Ok(Record::with_tag(*setting, tag))

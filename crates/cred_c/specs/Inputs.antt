@@ -16,10 +16,10 @@ IsVersion version = (version ≡ 16) ⊎ (version ≡ 19)
 abbrev pub IsPositiveByte : ℕ → Type 0
 IsPositiveByte n = (1 ≤ n) × (n ≤ 255)
 
-abbrev pub made_in : Result SettingValue PhcError → List ℕ → Result RecordValue PhcError
-made_in (Err e) tag = Err e
-made_in (Ok setting) tag = made_record setting tag
+abbrev pub record_in : Result SettingValue PhcError → List ℕ → Result RecordValue PhcError
+record_in (Err e) tag = Err e
+record_in (Ok setting) tag = made_record setting tag
 
 -- the record of these parts, or why there is none
-abbrev pub made_of_parts : Scheme → List ℕ → List ℕ → Result RecordValue PhcError
-made_of_parts scheme salt tag = made_in (made_setting scheme salt) tag
+abbrev pub record_of_parts : Scheme → List ℕ → List ℕ → Result RecordValue PhcError
+record_of_parts scheme salt tag = record_in (made_setting scheme salt) tag

@@ -3,7 +3,7 @@ ghost use Rattle.std.specs.Prelude.{◌≡◌, ◌<◌, ◌↔◌, None, Some, d
 ghost use Rattle.cred_argon.specs.Numbers.{kind_number, version_number};
 ghost use Rattle.cred_argon.specs.declared.kind.Version.{Version};
 ghost use Rattle.cred_c.specs.Answers.{IsWritten};
-ghost use Rattle.cred_c.specs.Inputs.{IsKind, IsVersion, made_of_parts};
+ghost use Rattle.cred_c.specs.Inputs.{IsKind, IsVersion, record_of_parts};
 ghost use Rattle.cred_phc.specs.Errors.{error_number};
 ghost use Rattle.cred_phc.specs.Tags.{argon_kind};
 ghost use Rattle.cred_phc.specs.Text.{record_text};
@@ -40,11 +40,11 @@ pub extern "C" fn cred_write(
     ensures version { (result ≡ 13) ↔ (IsKind kind × (IsVersion version → ⊥)) }
     ensures fault { (x : Variant) (v : Version) (e : PhcError)
         → kind ≡ kind_number (argon_kind x) → version ≡ version_number v
-        → made_of_parts (Argon2 v x memory passes lanes) salt.now tag.now ≡ Err e
+        → record_of_parts (Argon2 v x memory passes lanes) salt.now tag.now ≡ Err e
         → result ≡ error_number e }
     ensures written { (x : Variant) (v : Version) (r : RecordValue)
         → kind ≡ kind_number (argon_kind x) → version ≡ version_number v
-        → made_of_parts (Argon2 v x memory passes lanes) salt.now tag.now ≡ Ok r
+        → record_of_parts (Argon2 v x memory passes lanes) salt.now tag.now ≡ Ok r
         → IsWritten (record_text r) result out.old out.new len.new }
     ensures kept { (result ≡ 0 → ⊥) → (len.new ≡ 0) × (out.new ≡ out.old) }
     ensures rest { drop len.new out.new ≡ drop len.new out.old }
@@ -84,7 +84,7 @@ fn variant_of(number: u32) -> Option<Variant>
 
 /// The record of these parts.
 fn record_of_parts(scheme: Scheme, salt: &[u8], tag: &[u8]) -> Result<Record, PhcError>
-    ensures { result ≡ made_of_parts scheme salt.now tag.now }
+    ensures { result ≡ record_of_parts scheme salt.now tag.now }
 {
     Record::new(Setting::new(scheme, salt)?, tag)
 }

@@ -3,7 +3,7 @@ use Rattle.std.proofs.Common.{◌≡◌, ℕ, zero, suc, ◌-◌, List, [], ◌�
 use Rattle.std.specs.FinMap as map
 use Rattle.cred_phc.specs.Values.{RecordValue}
 use Rattle.cred_book.specs.Accounts.{Accounts}
-use Rattle.cred_book.specs.Commits.{Begins, Commits, committed}
+use Rattle.cred_book.specs.Commits.{Begins, Commits, commit_outcome}
 use Rattle.cred_book.specs.Works.{Task, name_of}
 use Rattle.cred_book.specs.declared.error.BookError.TheVariants as error
 use Rattle.cred_book.specs.declared.reply.Reply.{Reply}
@@ -59,5 +59,5 @@ commits_idle book slots left key none closed =
 pub commits_done : (old new : Accounts) (slots left : List (Option Task)) (key : ℕ) (task work : Task) (reply : Reply) → Some task ≡ slot slots key → left ≡ set slots (key - 1) None → work ≡ task →
     Commits old new work (Ok reply) → commit_step old slots key ≡ record { answer = reply_answer reply; book = new; slots = left }
 commits_done old new slots left key task work reply some closed is commits =
-    let done : committed old task ≡ (reply, new) = ap (committed old) (sym is) ∙ sym commits in
+    let done : commit_outcome old task ≡ (reply, new) = ap (commit_outcome old) (sym is) ∙ sym commits in
     committing-at old slots key (Some task) (sym some) ∙ ap (λ c. record { answer = reply_answer c.0; book = c.1; slots = set slots (key - 1) None }) done ∙ ap (λ s. record { answer = reply_answer reply; book = new; slots = s }) (sym closed)

@@ -9,7 +9,7 @@ use Rattle.std.proofs.lemmas.List.{get_or-set_same, get_or-set_other}
 use Rattle.std.proofs.Math.ListN.{length-set}
 use Rattle.cred_phc.specs.Values.{RecordValue}
 use Rattle.cred_book.specs.Accounts.{Accounts, most_accounts}
-use Rattle.cred_book.specs.Commits.{committed, committed_at}
+use Rattle.cred_book.specs.Commits.{commit_outcome, commit_outcome_at}
 use Rattle.cred_book.specs.Works.{Task, name_of, right, same, same_scheme, seq, seq_at, whole}
 use Rattle.cred_book.specs.declared.error.BookError.TheVariants.{Exists, Full, NoAccount}
 use Rattle.cred_book.specs.declared.reply.Reply.{Reply}
@@ -233,7 +233,7 @@ module _ (book : Accounts) (events : List Event) (i : ℕ) (slots : List (Option
     stale : is_stale book (deeds_before book events i) opened ≡ not (same now task.1)
     stale = stale-at book (deeds_before book events i) opened now task.1 found began
 
-    commits : committed (book_at book events i) task ≡ committed_at (book_at book events i) task (Some now)
+    commits : commit_outcome (book_at book events i) task ≡ commit_outcome_at (book_at book events i) task (Some now)
     commits = committed_found (book_at book events i) task (name_of opened.request) (sym (ap name_of asked)) (Some now) found
 
     told : answer_of book events i (Some (Commit key)) ≡ commit_answer book (deeds_before book events i) (Some opened)
@@ -253,7 +253,7 @@ module _ (book : Accounts) (events : List Event) (i : ℕ) (slots : List (Option
 
     commit_stale : same now task.1 ≡ false → IsStep book events i (commit_step_at (book_at book events i) slots key (Some task))
     commit_stale e =
-        let done : committed (book_at book events i) task ≡ (reply.Changed now, book_at book events i) = commits ∙ rw e refl in
+        let done : commit_outcome (book_at book events i) task ≡ (reply.Changed now, book_at book events i) = commits ∙ rw e refl in
         moves book events i slots held (Commit key) here (commit_step_at (book_at book events i) slots key (Some task))
         (ap (λ c. reply_answer c.0) done ∙ sym (told ∙ rw (stale, e) refl))
         (ap (λ c. c.1) done ∙ sym (ap (after (book_at book events i)) (deed_stale e)))
@@ -261,7 +261,7 @@ module _ (book : Accounts) (events : List Event) (i : ℕ) (slots : List (Option
 
     commit_fresh : same now task.1 ≡ true → IsStep book events i (commit_step_at (book_at book events i) slots key (Some task))
     commit_fresh e =
-        let done : committed (book_at book events i) task ≡ seq (book_at book events i) opened.request = commits ∙ rw (e, asked) (sym seq_now) in
+        let done : commit_outcome (book_at book events i) task ≡ seq (book_at book events i) opened.request = commits ∙ rw (e, asked) (sym seq_now) in
         let replied : reply_answer (seq (book_at book events i) opened.request).0 ≡ Replied (seq (book_at book events i) opened.request).0 = rw seq_now (whole_replies opened.request now) in
         moves book events i slots held (Commit key) here (commit_step_at (book_at book events i) slots key (Some task))
         (ap (λ c. reply_answer c.0) done ∙ replied ∙ sym (told ∙ rw (stale, e) refl))

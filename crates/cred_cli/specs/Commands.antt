@@ -11,7 +11,7 @@ use Rattle.cred_phc.specs.Base64.{bytes_of}
 use Rattle.cred_phc.specs.Reading.{◌>>=◌}
 use Rattle.cred_phc.specs.Values.{RecordValue, SettingValue}
 use Rattle.cred_book.specs.Accounts.{Accounts}
-use Rattle.cred_book.specs.Works.{made, right}
+use Rattle.cred_book.specs.Works.{new_record, right}
 use Rattle.cred_cli.specs.declared.fault.ScriptFault.{ScriptFault}
 use Rattle.cred_cli.specs.declared.refusal.Refusal.{Refusal}
 use Rattle.cred_cli.specs.declared.refusal.Refusal.TheVariants.{Password}
@@ -78,8 +78,8 @@ abbrev pub Hashes : Option Text → Option Text → Option (List ℕ) → Option
     → Type 0
 Hashes None pw before now writer_failed status = Ends Refused before now status
 Hashes (Some setting) pw before now writer_failed status = MatchResult (to_hash setting pw)
-    (λ values. Prints (record_line (made values.0 values.1)) Done before now writer_failed status
-    ⊎ Ends OutOfMemory before now status)
+    (λ values. Prints (record_line (new_record values.0 values.1)) Done before now writer_failed
+    status ⊎ Ends OutOfMemory before now status)
     (λ why. Ends Refused before now status)
 
 -- the answer and its status

@@ -4,7 +4,7 @@ use Rattle.std.specs.Prelude.{nat_lt, slice_index_or, slice_set}
 use Rattle.std.specs.FinMap as map
 use Rattle.cred_phc.specs.Values.{RecordValue}
 use Rattle.cred_book.specs.Accounts.{Accounts, most_accounts}
-use Rattle.cred_book.specs.Commits.{committed}
+use Rattle.cred_book.specs.Commits.{commit_outcome}
 use Rattle.cred_book.specs.Works.{Task, name_of}
 use Rattle.cred_book.specs.declared.reply.Reply.{Reply}
 use Rattle.cred_book.specs.declared.reply.Reply.TheVariants as reply
@@ -58,8 +58,8 @@ reply_answer reply.NoAccount = Replied reply.NoAccount
 abbrev pub commit_step_at : Accounts → List (Option Task) → ℕ → Option Task → Step
 commit_step_at book slots key None = stay (Refused Idle) book slots
 commit_step_at book slots key (Some task) = record {
-  answer = reply_answer (committed book task).0;
-  book = (committed book task).1;
+  answer = reply_answer (commit_outcome book task).0;
+  book = (commit_outcome book task).1;
   slots = slice_set slots (key - 1) None;
 }
 

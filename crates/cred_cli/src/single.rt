@@ -3,7 +3,7 @@
 ghost use Rattle.std.specs.Prelude.{◌≡◌, IfOk, codes, option_map};
 ghost use Rattle.std.specs.Io.KnownBytes.{Keeps};
 ghost use Rattle.clap.specs.Words.{first_of, found_of, rows_of};
-ghost use Rattle.cred_book.specs.Works.{made};
+ghost use Rattle.cred_book.specs.Works.{new_record};
 ghost use Rattle.cred_cli.specs.Commands.{Checks, Hashes, password_word, record_line, to_check};
 ghost use Rattle.cred_cli.specs.Commands.{to_hash};
 ghost use Rattle.cred_cli.specs.Statuses.{status_number};
@@ -106,7 +106,7 @@ fn hash_line<T: Threads + Sync>(
     setting: &Setting,
     pw: &Password,
 ) -> Result<Vec<u8>, AllocError>
-    ensures { IfOk result (λ line. line.items ≡ record_line (made setting.now pw.now)) }
+    ensures { IfOk result (λ line. line.items ≡ record_line (new_record setting.now pw.now)) }
 {
     let stored = resources
         .hashing()

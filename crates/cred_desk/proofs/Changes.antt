@@ -9,7 +9,7 @@ use Rattle.std.specs.declared.cmp.Ordering.TheVariants.{Less, Equal, Greater}
 use Rattle.cred_phc.specs.Values.{RecordValue}
 use Rattle.cred_book.specs.Accounts.{Accounts}
 use Rattle.cred_book.specs.Names.{name_cmp}
-use Rattle.cred_book.specs.Commits.{committed, committed_at, committed_if, judgement, judgement_at, judgement_if}
+use Rattle.cred_book.specs.Commits.{commit_outcome, commit_outcome_at, commit_outcome_if, judgement, judgement_at, judgement_if}
 use Rattle.cred_book.specs.Works.{Task, name_of, same, same_scheme, whole, makes_change, right}
 use Rattle.cred_book.specs.declared.reply.Reply.{Reply}
 use Rattle.cred_book.specs.declared.reply.Reply.TheVariants as reply
@@ -122,18 +122,18 @@ module _ (book : Accounts) (work : Task) where
     by_change true is = refl
     by_change false is = sym (ap (map.insert book (name_of work.0)) (whole_stays work.0 now is) ∙ insert_again)
 
-    by_copy : (fresh : Bool) → ((judgement_if work now fresh).0, after_entry book (entry_if work (judgement_if work now fresh))) ≡ committed_if book work now fresh
+    by_copy : (fresh : Bool) → ((judgement_if work now fresh).0, after_entry book (entry_if work (judgement_if work now fresh))) ≡ commit_outcome_if book work now fresh
     by_copy true = ap (λ b. ((whole work.0 now).0, b)) (by_change (makes_change (whole work.0 now).0) refl)
     by_copy false = refl
 
-  by_record : (found : Option (Option RecordValue)) → map.get book (name_of work.0) ≡ found → ((judgement_at work found).0, after_entry book (entry_if work (judgement_at work found))) ≡ committed_at book work found
+  by_record : (found : Option (Option RecordValue)) → map.get book (name_of work.0) ≡ found → ((judgement_at work found).0, after_entry book (entry_if work (judgement_at work found))) ≡ commit_outcome_at book work found
   by_record None is = refl
   by_record (Some now) is = by_copy now is (same now work.1)
 
-  committed_entry : (reply_of book work, after_entry book (entry_of book work)) ≡ committed book work
-  unfolding committed judgement
+  committed_entry : (reply_of book work, after_entry book (entry_of book work)) ≡ commit_outcome book work
+  unfolding commit_outcome judgement
   committed_entry = by_record (map.get book (name_of work.0)) refl
 
 -- a commit answers and changes the book as by the list's new entry
-pub commits : (book : Accounts) (list : List Entry) (work : Task) → (reply_of (after book list) work, after book (list_after list (entry_of (after book list) work))) ≡ committed (after book list) work
+pub commits : (book : Accounts) (list : List Entry) (work : Task) → (reply_of (after book list) work, after book (list_after list (entry_of (after book list) work))) ≡ commit_outcome (after book list) work
 commits book list work = ap (λ b. (reply_of (after book list) work, b)) (after_list book list (entry_of (after book list) work)) ∙ committed_entry (after book list) work

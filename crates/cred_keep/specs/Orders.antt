@@ -33,17 +33,17 @@ use Rattle.cred_keep.specs.declared.order.Order.TheVariants.{Remove, List as Nam
 
 -- ---- how it ends
 
-abbrev pub commanded : Result Status Fault → Result Status Failure
-commanded (Ok status) = Ok status
-commanded (Err e) = Err (failure.Command e)
+abbrev pub command_end : Result Status Fault → Result Status Failure
+command_end (Ok status) = Ok status
+command_end (Err e) = Err (failure.Command e)
 
-abbrev pub imported : Result Status ImportFault → Result Status Failure
-imported (Ok status) = Ok status
-imported (Err e) = Err (failure.Import e)
+abbrev pub import_end : Result Status ImportFault → Result Status Failure
+import_end (Ok status) = Ok status
+import_end (Err e) = Err (failure.Import e)
 
-abbrev pub ran : Result End ScriptFault → Result Status Failure
-ran (Ok end) = Ok Done
-ran (Err e) = Err (failure.Script e)
+abbrev pub run_end : Result End ScriptFault → Result Status Failure
+run_end (Ok end) = Ok Done
+run_end (Err e) = Err (failure.Script e)
 
 -- once a change is lost, it is the database that failed
 abbrev pub unless_lost : Option Lost → Result Status Failure → Result Status Failure
@@ -109,14 +109,14 @@ Runs s (Err e) = HasCause s.reader_failed s.writer_failed e
 
 -- a command, of which this holds at its end, ends so
 abbrev pub Commands : (Result Status Fault → Type 0) → Result Status Failure → Type 0
-Commands Holds ended = (r : Result Status Fault) × Holds r × (ended ≡ commanded r)
+Commands Holds ended = (r : Result Status Fault) × Holds r × (ended ≡ command_end r)
 
 -- what is written of the book, which stays as it is
 abbrev pub Shows : List ℕ → Seen → Result Status Failure → Type 0
 Shows text s ended = Commands (Prints text s.before s.now) ended × (s.new ≡ s.old)
 
 abbrev pub Performs : Order → Seen → Result Status Failure → Type 0
-Performs Run s ended = (r : Result End ScriptFault) × Runs s r × (ended ≡ ran r)
+Performs Run s ended = (r : Result End ScriptFault) × Runs s r × (ended ≡ run_end r)
 Performs (Add name setting) s ended =
     Commands (Adds name setting s.input s.old s.new s.before s.now) ended
 Performs (Check name) s ended =
@@ -131,7 +131,7 @@ Performs (Remove name) s ended =
 Performs Names s ended = Shows (lines_text name_line (map.entries s.old)) s ended
 Performs Export s ended = Shows (lines_text passwd_line (map.entries s.old)) s ended
 Performs Import s ended =
-    ((r : Result Status ImportFault) × Imports s.input s.old s.new r × (ended ≡ imported r))
+    ((r : Result Status ImportFault) × Imports s.input s.old s.new r × (ended ≡ import_end r))
     × Keeps s.before s.now
 
 -- as it ends for the shell: Ok means that no change is lost

@@ -1,7 +1,7 @@
 //! Why an order ends without what was asked.
 
 ghost use Rattle.std.specs.Prelude.{◌≡◌};
-ghost use Rattle.cred_keep.specs.Orders.{commanded, imported, ran, status_of_failure};
+ghost use Rattle.cred_keep.specs.Orders.{command_end, import_end, run_end, status_of_failure};
 
 use cred_admin::{Fault, ImportFault, Status};
 use cred_cli::{End, ScriptFault};
@@ -38,8 +38,8 @@ impl Failure {
 }
 
 /// How a command's end is that of an order.
-pub(crate) fn commanded(ended: Result<Status, Fault>) -> Result<Status, Failure>
-    ensures { result ≡ commanded ended }
+pub(crate) fn command_end(ended: Result<Status, Fault>) -> Result<Status, Failure>
+    ensures { result ≡ command_end ended }
 {
     match ended {
         Ok(status) => Ok(status),
@@ -48,8 +48,8 @@ pub(crate) fn commanded(ended: Result<Status, Fault>) -> Result<Status, Failure>
 }
 
 /// How an import's end is that of an order.
-pub(crate) fn imported(ended: Result<Status, ImportFault>) -> Result<Status, Failure>
-    ensures { result ≡ imported ended }
+pub(crate) fn import_end(ended: Result<Status, ImportFault>) -> Result<Status, Failure>
+    ensures { result ≡ import_end ended }
 {
     match ended {
         Ok(status) => Ok(status),
@@ -58,8 +58,8 @@ pub(crate) fn imported(ended: Result<Status, ImportFault>) -> Result<Status, Fai
 }
 
 /// How a script's end is that of an order.
-pub(crate) fn ran(ended: Result<End, ScriptFault>) -> Result<Status, Failure>
-    ensures { result ≡ ran ended }
+pub(crate) fn run_end(ended: Result<End, ScriptFault>) -> Result<Status, Failure>
+    ensures { result ≡ run_end ended }
 {
     match ended {
         Ok(_) => Ok(Status::Done),

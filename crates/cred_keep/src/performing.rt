@@ -8,7 +8,7 @@ ghost use Rattle.cred_keep.specs.Orders.{Ends, Performs, Runs, is_unread, status
 ghost use Rattle.sqlite.specs.State.{HasCleanDisk};
 ghost use Rattle.sqlite.specs.Held.{state};
 
-use crate::failure::{Failure, commanded, imported, ran};
+use crate::failure::{Failure, command_end, import_end, run_end};
 use crate::order::Order;
 use crate::report::explain;
 use crate::script::run_on_file;
@@ -121,21 +121,21 @@ fn obey<T: Threads + Wait + Sync, S: Alter, R: Read, W: Write>(
     ensures unread { is_unread order.now ≡ true → reader.new ≡ reader.old }
 {
     match order {
-        Order::Run => ran(run(tools, book, reader, writer)),
+        Order::Run => run_end(run(tools, book, reader, writer)),
         Order::Add { name, setting } => {
-            commanded(add(tools, book, name, setting, reader, writer))
+            command_end(add(tools, book, name, setting, reader, writer))
         }
-        Order::Check { name } => commanded(check(tools, book, name, reader, writer)),
+        Order::Check { name } => command_end(check(tools, book, name, reader, writer)),
         Order::Change { name, setting } => {
-            commanded(change(tools, book, name, setting, reader, writer))
+            command_end(change(tools, book, name, setting, reader, writer))
         }
         Order::Upgrade { name, setting } => {
-            commanded(upgrade(tools, book, name, setting, reader, writer))
+            command_end(upgrade(tools, book, name, setting, reader, writer))
         }
-        Order::Remove { name } => commanded(remove(tools, book, name, reader, writer)),
-        Order::List => commanded(list(tools.alloc, book.book(), writer)),
-        Order::Export => commanded(export(tools.alloc, book.book(), writer)),
-        Order::Import => imported(take_in(tools, book, reader)),
+        Order::Remove { name } => command_end(remove(tools, book, name, reader, writer)),
+        Order::List => command_end(list(tools.alloc, book.book(), writer)),
+        Order::Export => command_end(export(tools.alloc, book.book(), writer)),
+        Order::Import => import_end(take_in(tools, book, reader)),
     }
 }
 

@@ -9,7 +9,7 @@ use Rattle.std.specs.Ordering.{eq_by_cmp, is_eq}
 use Rattle.cred_phc.specs.Values.{RecordValue}
 use Rattle.cred_book.specs.Accounts.{Accounts}
 use Rattle.cred_book.specs.Calls.{Loads, Shows}
-use Rattle.cred_book.specs.Commits.{Begins, committed, committed_at}
+use Rattle.cred_book.specs.Commits.{Begins, commit_outcome, commit_outcome_at}
 use Rattle.cred_book.specs.Works.{Task, name_of, same}
 use Rattle.cred_book.specs.declared.reply.Reply.{Reply}
 use Rattle.cred_book.specs.declared.reply.Reply.TheVariants as reply
@@ -237,7 +237,7 @@ put-at books i n v done stale r new false within lacks e =
     ap {A = Replied} {B = Replied} (λ p. (p.0, whole (set books i p.1))) e ∙ ap {B = Replied} (λ bs. (stale, whole bs)) (set-get_or books i map.empty)
 
 commits-at : (books : List Accounts) (i : ℕ) (work : Task) (r : Reply) (new : Accounts) (entry : Option (Option RecordValue)) → i < length books → LacksBelow books (name_of work.0) i → is_some entry ≡ true →
-    (r, new) ≡ committed_at (get_or books i map.empty) work entry → (r, whole (set books i new)) ≡ committed_at (whole books) work entry
+    (r, new) ≡ commit_outcome_at (get_or books i map.empty) work entry → (r, whole (set books i new)) ≡ commit_outcome_at (whole books) work entry
 commits-at books i work r new None within lacks has e = absurd (false≢true has)
 commits-at books i work r new (Some now) within lacks has e = put-at books i (name_of work.0) _ _ _ r new (same now work.1) within lacks e
 
@@ -254,23 +254,23 @@ len-put books i n v done stale r new false one_each within lacks has e =
 
 len-at : (books : List Accounts) (i : ℕ) (work : Task) (r : Reply) (new : Accounts) (entry : Option (Option RecordValue)) → map.len (whole books) ≡ length books → i < length books → LacksBelow books (name_of work.0) i →
     map.contains_key (get_or books i map.empty) (name_of work.0) ≡ true → is_some entry ≡ true →
-    (r, new) ≡ committed_at (get_or books i map.empty) work entry → map.len (whole (set books i new)) ≡ length (set books i new)
+    (r, new) ≡ commit_outcome_at (get_or books i map.empty) work entry → map.len (whole (set books i new)) ≡ length (set books i new)
 len-at books i work r new None one_each within lacks has some e = absurd (false≢true some)
 len-at books i work r new (Some now) one_each within lacks has some e = len-put books i (name_of work.0) _ _ _ r new (same now work.1) one_each within lacks has e
 
-committed-in : (old : Accounts) (work : Task) (entry : Option (Option RecordValue)) → map.get old (name_of work.0) ≡ entry → committed old work ≡ committed_at old work entry
-unfolding committed
-committed-in old work entry found = ap (committed_at old work) found
+committed-in : (old : Accounts) (work : Task) (entry : Option (Option RecordValue)) → map.get old (name_of work.0) ≡ entry → commit_outcome old work ≡ commit_outcome_at old work entry
+unfolding commit_outcome
+committed-in old work entry found = ap (commit_outcome_at old work) found
 
 module _ (books : List Accounts) (i : ℕ) (old : Accounts) (n : List ℕ) (work : Task) (r : Reply) (new : Accounts) (is_name : n ≡ name_of work.0) (within : i < length books) (is : old ≡ get_or books i old)
-    (lacks : LacksBelow books n i) (has : map.contains_key (get_or books i map.empty) n ≡ true) (commits : (r, new) ≡ committed old work) where
+    (lacks : LacksBelow books n i) (has : map.contains_key (get_or books i map.empty) n ≡ true) (commits : (r, new) ≡ commit_outcome old work) where
   here : old ≡ get_or books i map.empty
   here = is ∙ get_or_default books i old map.empty within
 
-  in_book : (r, new) ≡ committed_at (get_or books i map.empty) work (map.get (get_or books i map.empty) n)
+  in_book : (r, new) ≡ commit_outcome_at (get_or books i map.empty) work (map.get (get_or books i map.empty) n)
   in_book = rw here at commits ∙ committed-in _ work _ (ap (map.get (get_or books i map.empty)) (sym is_name))
 
-  pub commits_in : (r, whole (set books i new)) ≡ committed (whole books) work
+  pub commits_in : (r, whole (set books i new)) ≡ commit_outcome (whole books) work
   commits_in =
       commits-at books i work r new _ within (rw is_name at lacks) has in_book
       ∙ sym (committed-in (whole books) work _ (ap (map.get (whole books)) (sym is_name) ∙ whole_has books n i within lacks has))
@@ -278,5 +278,5 @@ module _ (books : List Accounts) (i : ℕ) (old : Accounts) (n : List ℕ) (work
   pub len-commits : map.len (whole books) ≡ length books → map.len (whole (set books i new)) ≡ length (set books i new)
   len-commits one_each = len-at books i work r new _ one_each within (rw is_name at lacks) (rw is_name at has) has in_book
 
-pub commits_nowhere : (books : List Accounts) (n : List ℕ) (work : Task) → n ≡ name_of work.0 → LacksBelow books n (length books) → (reply.NoAccount, whole books) ≡ committed (whole books) work
+pub commits_nowhere : (books : List Accounts) (n : List ℕ) (work : Task) → n ≡ name_of work.0 → LacksBelow books n (length books) → (reply.NoAccount, whole books) ≡ commit_outcome (whole books) work
 commits_nowhere books n work is_name lacks = sym (committed-in (whole books) work None (ap (map.get (whole books)) (sym is_name) ∙ whole_lacks books n lacks))
