@@ -2,7 +2,6 @@
 
 ghost use Rattle.std.specs.Prelude.{◌≡◌, IfOk, false};
 
-use cred_file::FileBook;
 use sqlite::{Connection, Error, ErrorCode, FileFrom, FileStore, Wary};
 use std::fs::OpenOptions;
 use std::io::ErrorKind;
@@ -11,9 +10,6 @@ use std::{fs, io};
 
 /// A connection to a file, of which nothing is supposed but that it was synced where it said so.
 pub(crate) type Database = Connection<FileStore<FileFrom<Wary>>>;
-
-/// A book in such a file.
-pub(crate) type Kept = FileBook<FileStore<FileFrom<Wary>>>;
 
 /// The file may be read and written by its owner alone. Its log gets the same mode.
 const OWNER_ALONE: u32 = 0o600;

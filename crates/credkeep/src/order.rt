@@ -6,9 +6,9 @@ use cred_admin::{NewSetting, setting_of};
 use cred_book::{BookError, Name};
 use cred_keep::Order;
 use cred_phc::{PhcError, draw_salt};
-use rand::make_rng;
 use rand::rngs::StdRng;
-use std::alloc::AllocError;
+use rand::{Rng, make_rng};
+use std::alloc::{AllocError, Global};
 use std::random::RandomSource;
 
 /// RFC 9106's second recommended choice: Argon2id, 64 MiB, three passes, four lanes.
@@ -112,13 +112,17 @@ fn order_on<R: RandomSource + AllocGlobal>(
 }
 
 fn name_of(values: &ArgMatches<'_>) -> Result<Name, Refusal> {
-    match Name::new(values.get_str("name").unwrap_or("").as_bytes()) {
+    name_in(values.get_str("name").unwrap_or(""))
+}
+
+fn name_in(text: &str) -> Result<Name, Refusal> {
+    match Name::new(text.as_bytes()) {
         Ok(name) => Ok(name),
         Err(why) => Err(Refusal::Name(why)),
     }
 }
 
-/// The setting that was given, with a salt of its own or one that is drawn.
+/// The setting that was given.
 fn new_setting<R: RandomSource + AllocGlobal>(
     rt: &R,
     values: &ArgMatches<'_>,
@@ -127,7 +131,12 @@ fn new_setting<R: RandomSource + AllocGlobal>(
     let Ok(mut source) = make_rng::<StdRng, R>(rt) else {
         return Err(Refusal::Salt);
     };
-    match setting_of(rt.alloc(), text.as_bytes(), &draw_salt(&mut source)) {
+    setting_in(rt.alloc(), text, &mut source)
+}
+
+/// The setting of this text, with a salt of its own or the next one of the source.
+fn setting_in<G: Rng>(alloc: Global, text: &str, source: &mut G) -> Result<NewSetting, Refusal> {
+    match setting_of(alloc, text.as_bytes(), &draw_salt(source)) {
         Ok(setting) => Ok(setting),
         Err(PhcError::Memory) => Err(Refusal::Memory),
         Err(fault) => Err(Refusal::Setting(fault)),

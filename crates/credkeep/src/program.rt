@@ -1,13 +1,17 @@
 //! The program behind `main`. The runtime comes twice: the handles to threads are `main`'s alone.
 
-use crate::files::{Database, Kept, make_file, open_file};
+ghost use Rattle.std.specs.Prelude.{◌≡◌, false};
+
+use crate::files::{Database, make_file, open_file};
 use crate::order::{Act, Asked, Refusal, asked_by};
 use clap::error::ErrorKind as WordsKind;
 use cred_admin::{Status, Tools};
 use cred_cli::Watched;
 use cred_file::{FileBook, OpenFault};
 use cred_keep::{Order, refuse, serve};
-use std::io::{ErrorKind, Write};
+use sqlite::{Alter, Connection};
+use std::alloc::Global;
+use std::io::{ErrorKind, Read, Write};
 use std::sync::Wait;
 use std::thread::Threads;
 use std::{env, io};
@@ -55,13 +59,29 @@ fn init(host: &HostRuntime, path: &str) -> Status {
         Ok(conn) => conn,
         Err(error) => return refuse(&mut host.stderr(), &OpenFault::Database(error)),
     };
-    match FileBook::create(host.alloc(), conn) {
-        Ok(book) => close(host, book.close(), Status::Done),
-        Err((why, conn)) => {
-            let status = refuse(&mut host.stderr(), &why);
-            close(host, conn, status)
-        }
+    let (conn, status) = begin_in(host.alloc(), conn, host.stderr());
+    close(host, conn, status)
+}
+
+/// Begins a book in the database, which comes back.
+fn begin_in<S: Alter, F: Write + Drop>(
+    alloc: Global,
+    conn: Connection<S>,
+    mut faults: F,
+) -> (Connection<S>, Status)
+    requires autocommit { conn.in_transaction ≡ false }
+{
+    match FileBook::create(alloc, conn) {
+        Ok(book) => (book.close(), Status::Done),
+        Err((why, conn)) => (conn, refuse(&mut faults, &why)),
     }
+}
+
+/// Where an order reads its input and writes its answer and its faults.
+struct Streams<R, W, F> {
+    reader: R,
+    writer: W,
+    faults: F,
 }
 
 /// Opens the book, and does what is asked of it.
@@ -75,33 +95,51 @@ fn perform_on<T: Threads + Wait + Sync>(
         Ok(conn) => conn,
         Err(error) => return refuse(&mut host.stderr(), &OpenFault::Database(error)),
     };
-    match FileBook::open(host.alloc(), conn) {
-        Ok(book) => serve_and_close(host, tools, book, order),
-        Err((why, conn)) => {
-            let status = refuse(&mut host.stderr(), &why);
-            close(host, conn, status)
-        }
-    }
+    let streams = Streams {
+        reader: host.stdin(),
+        writer: host.stdout(),
+        faults: host.stderr(),
+    };
+    let (conn, status) = perform_in(tools, conn, order, streams);
+    close(host, conn, status)
 }
 
-fn serve_and_close<T: Threads + Wait + Sync>(
-    host: &HostRuntime,
+/// Does what is asked of the book in the database, which comes back.
+fn perform_in<T, S, R, W, F>(
     tools: &Tools<'_, T>,
-    mut book: Kept,
+    conn: Connection<S>,
     order: &Order,
-) -> Status {
-    let mut reader = Watched::new(host.stdin());
-    let mut writer = Watched::new(host.stdout());
-    let mut faults = host.stderr();
-    let status = serve(
-        tools,
-        &mut book,
-        order,
-        &mut reader,
-        &mut writer,
-        &mut faults,
-    );
-    close(host, book.close(), status)
+    streams: Streams<R, W, F>,
+) -> (Connection<S>, Status)
+where
+    T: Threads + Wait + Sync,
+    S: Alter,
+    R: Read + Drop,
+    W: Write + Drop,
+    F: Write + Drop,
+    requires autocommit { conn.in_transaction ≡ false }
+{
+    let Streams {
+        reader,
+        writer,
+        mut faults,
+    } = streams;
+    let mut reader = Watched::new(reader);
+    let mut writer = Watched::new(writer);
+    match FileBook::open(tools.alloc, conn) {
+        Ok(mut book) => {
+            let status = serve(
+                tools,
+                &mut book,
+                order,
+                &mut reader,
+                &mut writer,
+                &mut faults,
+            );
+            (book.close(), status)
+        }
+        Err((why, conn)) => (conn, refuse(&mut faults, &why)),
+    }
 }
 
 /// Copies the log into the file and closes both. Where that fails nothing is lost: the log stays.

@@ -11,6 +11,7 @@ use cred_book::{BookError, Hashing, Name, Reply, Request, Ticket, yes_is_the_pas
 use cred_desk::{DeskError, KeepError, KeptDesk, Naming, Session};
 use cred_phc::{Password, Record, Scheme, Setting, TagError, draw_salt};
 use cred_pool::NoGate;
+use rand::Rng;
 use rand::rngs::StdRng;
 use sqlite::Alter;
 use std::alloc::Global;
@@ -64,7 +65,7 @@ impl<'d, 'w, J: Naming, R: Wait, S: Alter> Model for Office<'d, 'w, J, R, S> {
 }
 
 /// The scheme with a salt that was just drawn.
-fn new_setting(scheme: Scheme, salts: &mut StdRng) -> Result<Setting, ServiceError> {
+fn new_setting<G: Rng>(scheme: Scheme, salts: &mut G) -> Result<Setting, ServiceError> {
     Ok(Setting::new(scheme, &draw_salt(salts))?)
 }
 
