@@ -1,6 +1,8 @@
 -- What the statements do to a connection that keeps a book.
-use Rattle.std.proofs.Common.{is_ok, is_err, is_some, arith, ◌≤◌, ◌≡◌, ◌⊎◌, inl, inr, ℕ, List, [], ◌∷◌, append-nil, true, false, if◌then◌else◌, Some, None, Option, Ok, Err, Result, IsTrue, refl, sym, ap, subst, subst₂, ◌∙◌}
+use Rattle.std.proofs.Common.{is_ok, is_err, is_some, arith, ◌≤◌, ◌≡◌, ◌⊎◌, inl, inr, ℕ, List, [], ◌∷◌, append-nil, true, false, if◌then◌else◌, cond, ◌+◌, Some, None, Option, Ok, Err, Result, IsTrue, refl, sym, ap, subst, subst₂, ◌∙◌}
 use Rattle.std.specs.FinMap as fin
+use Rattle.std.specs.FinMap.{len-insert}
+use Rattle.std.specs.Cmp.Lexicographic.{nat_list_cmp_total}
 use Rattle.sqlite.specs.declared.types.Value.{Value}
 use Rattle.sqlite.specs.declared.types.Value.TheVariants.{Null, Int, Real, Text, Blob}
 use Rattle.sqlite.specs.Values.{bound_value}
@@ -24,7 +26,7 @@ use Rattle.std.proofs.Common.{nat_lt, ◌<◌}
 use Rattle.std.proofs.lemmas.Bool.{lt-ltb}
 use Rattle.cred_book.specs.Accounts.{Accounts, with_entry, most_accounts}
 use Rattle.sqlite_catalog.specs.Listing.{IsSound}
-use Rattle.cred_file.specs.Schema.{account_schema}
+use Rattle.cred_file.specs.Schema.{account_schema, insert_text, update_text}
 use Rattle.cred_file.specs.Table.{StandsFor, Tells}
 use Rattle.cred_file.specs.Keeps.{HoldsBook, IsTableOf, LeavesOnly, Keeps, IsOrWith}
 use Rattle.cred_file.specs.declared.fault.Lost.{Lost}
@@ -35,7 +37,7 @@ use Rattle.cred_book.specs.Calls.{Shows}
 use Rattle.cred_book.specs.Names.{is_name}
 use Rattle.cred_book.specs.declared.error.BookError.{BookError}
 use Rattle.cred_book.specs.declared.error.BookError.TheVariants as error
-use Rattle.cred_file.proofs.Texts.{insert_text, update_text, insert_is, update_is, insert_plain, update_plain, matched, terms}
+use Rattle.cred_file.proofs.Texts.{insert_is, update_is, insert_plain, update_plain, matched, terms}
 use Rattle.cred_file.proofs.Changes.{does_insert, does_update}
 
 -- while the store is open, a crash leaves the last commit
@@ -143,14 +145,20 @@ module _ {S : Type 0} (g : Ghosts S) (old new : Held S) (book : Accounts) (lost 
   early : HasCleanDisk (state g new) → HasCleanDisk (state g old)
   early now = omega (arith, clean)
 
-  pub keeps_done : (after : Accounts) → (HasCleanDisk (state g new) → IsTableOf (state g old) book → IsTableOf (state g new) after) → Keeps g new after lost
-  keeps_done after does = record {
+  pub keeps_done : (after : Accounts) → fin.len after ≤ most_accounts → (HasCleanDisk (state g new) → IsTableOf (state g old) book → IsTableOf (state g new) after) → Keeps g new after lost
+  keeps_done after low does = record {
+    few = subst (λ l. (b : Accounts) → IsOrWith after l b → fin.len b ≤ most_accounts) (sym none) (λ b is. subst (λ b. fin.len b ≤ most_accounts) (sym is) low);
     table = λ now _. does now (keeps.table (early now) none);
     left = λ now. subst (λ l. LeavesOnly (state g new) (IsOrWith after l)) (sym none) (does now (keeps.table (early now) none)).left;
   }
 
-  pub keeps_lost : (l : Lost) → (HasCleanDisk (state g new) → IsTableOf (state g old) book → LeavesOnly (state g new) (λ b. (b ≡ book) ⊎ (b ≡ fin.insert book l.name l.stored))) → Keeps g new book (Some l)
-  keeps_lost l does = record {
+  -- the book fits, as it is kept
+  pub fits : fin.len book ≤ most_accounts
+  fits = keeps.few book (subst (λ l. IsOrWith book l book) (sym none) refl)
+
+  pub keeps_lost : (l : Lost) → fin.len (fin.insert book l.name l.stored) ≤ most_accounts → (HasCleanDisk (state g new) → IsTableOf (state g old) book → LeavesOnly (state g new) (λ b. (b ≡ book) ⊎ (b ≡ fin.insert book l.name l.stored))) → Keeps g new book (Some l)
+  keeps_lost l low does = record {
+    few = λ b is. elim is [ inl same ↦ subst (λ b. fin.len b ≤ most_accounts) (sym same) fits | inr more ↦ subst (λ b. fin.len b ≤ most_accounts) (sym more) low ];
     table = λ now e. absurd cc;
     left = λ now. does now (keeps.table (early now) none);
   }
@@ -173,6 +181,15 @@ shown_there book name (Err x) h e = absurd cc
 
 pub entry_new : (book : Accounts) (name : List ℕ) (v : Option RecordValue) → fin.contains_key book name ≡ false → fin.len book < most_accounts → with_entry book name v ≡ fin.insert book name v
 entry_new book name v absent room = let low : nat_lt (fin.len book) most_accounts ≡ true = lt-ltb (fin.len book) most_accounts room in rw (absent, low) refl
+
+-- how many accounts there are with a new name, and with an old one
+pub len_new : (book : Accounts) (name : List ℕ) (v : Option RecordValue) → fin.contains_key book name ≡ false → fin.len book < most_accounts → fin.len (fin.insert book name v) ≤ most_accounts
+len_new book name v absent room =
+    let grown : fin.len (fin.insert book name v) ≡ fin.len book + 1 = len-insert nat_list_cmp_total book name v ∙ ap (λ b. cond b (fin.len book) (fin.len book + 1)) absent in omega (arith, grown, room)
+
+pub len_old : (book : Accounts) (name : List ℕ) (v : Option RecordValue) → fin.contains_key book name ≡ true → fin.len book ≤ most_accounts → fin.len (fin.insert book name v) ≤ most_accounts
+len_old book name v there low =
+    let same : fin.len (fin.insert book name v) ≡ fin.len book = len-insert nat_list_cmp_total book name v ∙ ap (λ b. cond b (fin.len book) (fin.len book + 1)) there in omega (arith, same, low)
 
 pub entry_old : (book : Accounts) (name : List ℕ) (v : Option RecordValue) → fin.contains_key book name ≡ true → with_entry book name v ≡ fin.insert book name v
 entry_old book name v there = rw there refl

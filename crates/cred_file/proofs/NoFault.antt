@@ -1,8 +1,12 @@
 -- Nothing is wrong with the rows of a table that stands for a book.
-use Rattle.std.proofs.Common.{◌≡◌, inl, inr, List, [], ◌∷◌, Bool, true, false, not, ◌&&◌, ◌||◌, Option, Some, None, is_err, refl, sym, ap, subst, ◌∙◌}
+use Rattle.std.proofs.Common.{◌≡◌, inl, inr, suc, ◌+◌, ◌≤◌, arith, List, [], ◌∷◌, length, map, cond, is_some, Bool, true, false, not, ◌&&◌, ◌||◌, Option, Some, None, is_err, refl, sym, ap, subst, ◌∙◌}
 use Rattle.std.proofs.lemmas.Bool.{true≢false}
+use Rattle.std.specs.FinMap as fin
+use Rattle.std.specs.FinMap.{same_map, get-insert, get-from_entries, len-empty, len-insert, slice_cmp-IsAntisymmetric, nat_cmp-IsAntisymmetric}
+use Rattle.std.specs.FinMap.Entries.{is_some-find}
+use Rattle.std.specs.Cmp.Lexicographic.{nat_list_cmp_total}
 use Rattle.std.specs.List.{AllZip, list_any}
-use Rattle.std.specs.Ordering.{is_eq}
+use Rattle.std.specs.Ordering.{is_eq, eq_by_cmp}
 use Rattle.std.specs.Cmp.{eq_by_cmp_equiv}
 use Rattle.sqlite.specs.declared.types.Value.{Value}
 use Rattle.sqlite.specs.declared.types.Value.TheVariants.{Null, Int, Real, Text, Blob}
@@ -12,13 +16,14 @@ use Rattle.sqlite.specs.Effect.{IsDatabase}
 use Rattle.sqlite_trees.specs.Tree.{has_rowid}
 use Rattle.sqlite_value.proofs.OrderLemmas.{value_cmp_total, value_cmp-Text}
 use Rattle.cred_phc.specs.Values.{RecordValue}
-use Rattle.cred_book.specs.Accounts.{Accounts}
+use Rattle.cred_book.specs.Accounts.{Accounts, most_accounts}
 use Rattle.cred_file.specs.declared.fault.OpenFault.{OpenFault}
 use Rattle.cred_file.specs.declared.fault.OpenFault.TheVariants as fault
-use Rattle.cred_file.specs.Table.{Line, Says, Tells, has_name, AreApart, StandsFor}
+use Rattle.cred_book.specs.Names.{name_cmp}
+use Rattle.cred_file.specs.Table.{Line, Says, Tells, entry_of, has_name, AreApart, StandsFor}
 use Rattle.cred_file.specs.Keeps.{HoldsBook}
 use Rattle.cred_file.specs.Opening.{agree, is_no_name, is_no_record, is_repeated, AreAtFault, IsUnopened, IsForWant}
-use Rattle.cred_file.proofs.TableLemmas.{or_false, or_both, name_symm}
+use Rattle.cred_file.proofs.TableLemmas.{or_false, or_both, name_symm, any_names}
 use Rattle.cred_file.proofs.Catalogued.{one_schema}
 
 -- a test that no row passes
@@ -101,20 +106,47 @@ narrower test wide (r ∷ rows) e = let parts = or_false (wide r) (list_any wide
 never : {X : Type 0} {b : Bool} → b ≡ true → b ≡ false → X
 never is isnt = absurd (true≢false (sym is ∙ isnt))
 
-pub no_fault : (rows : List Row) (book : Accounts) → StandsFor rows book → (why : OpenFault) → AreAtFault rows why → IsForWant why
-no_fault rows book s fault.NotEmpty h = absurd h
-no_fault rows book s fault.NoBook h = absurd h
-no_fault rows book s (fault.NoName id) h =
+same_length : (rows : List Row) (ls : List Line) → AllZip Says rows ls → length rows ≡ length ls
+same_length [] [] all = refl
+same_length [] (l ∷ ls) all = absurd all
+same_length (r ∷ rows) [] all = absurd all
+same_length (r ∷ rows) (l ∷ ls) all = ap suc (same_length rows ls all.1)
+
+abbrev accounts_of : List Line → Accounts
+accounts_of ls = fin.from_entries (map entry_of ls)
+
+-- a line with a name of its own is one account more
+one_more : (l : Line) (ls : List Line) → list_any (has_name l.name) ls ≡ false → fin.len (accounts_of (l ∷ ls)) ≡ suc (fin.len (accounts_of ls))
+one_more l ls alone =
+    let rest = accounts_of ls in
+    let absent : fin.contains_key rest l.name ≡ false = ap is_some (get-from_entries nat_list_cmp_total (map entry_of ls) l.name) ∙ is_some-find name_cmp l.name (map entry_of ls) ∙ sym (any_names l.name ls) ∙ alone in
+    let more : accounts_of (l ∷ ls) ≡ fin.insert rest l.name l.stored = same_map nat_list_cmp_total (slice_cmp-IsAntisymmetric nat_cmp-IsAntisymmetric) _ _ (λ q. get-from_entries nat_list_cmp_total (map entry_of (l ∷ ls)) q
+    ∙ sym (get-insert nat_list_cmp_total rest l.name l.stored q ∙ ap (cond (eq_by_cmp name_cmp q l.name) (Some l.stored)) (get-from_entries nat_list_cmp_total (map entry_of ls) q))) in
+    let grown : fin.len (fin.insert rest l.name l.stored) ≡ fin.len rest + 1 = len-insert nat_list_cmp_total rest l.name l.stored ∙ ap (λ b. cond b (fin.len rest) (fin.len rest + 1)) absent in
+    omega (arith, ap (λ (b : Accounts). fin.len b) more, grown)
+
+as_many_lines : (ls : List Line) → AreApart ls → fin.len (accounts_of ls) ≡ length ls
+as_many_lines [] apart = len-empty name_cmp (Option RecordValue)
+as_many_lines (l ∷ ls) apart = one_more l ls apart.1 ∙ ap suc (as_many_lines ls apart.2)
+
+-- a table has as many rows as its book has accounts
+as_many : (rows : List Row) (book : Accounts) → StandsFor rows book → length rows ≡ fin.len book
+as_many rows book s = same_length rows s.lines s.each ∙ sym (as_many_lines s.lines s.apart) ∙ ap (λ (b : Accounts). fin.len b) s.book_is
+
+pub no_fault : (rows : List Row) (book : Accounts) → fin.len book ≤ most_accounts → StandsFor rows book → (why : OpenFault) → AreAtFault rows why → IsForWant why
+no_fault rows book few s fault.NotEmpty h = absurd h
+no_fault rows book few s fault.NoBook h = absurd h
+no_fault rows book few s (fault.NoName id) h =
     never h (narrower (has_rowid id) (λ row. is_no_name (column row 1)) rows (none_pass (λ row. is_no_name (column row 1)) (λ row l says. ap is_no_name says.name ∙ ap not says.is_name) rows s.lines s.each))
-no_fault rows book s (fault.NoRecord id) h =
+no_fault rows book few s (fault.NoRecord id) h =
     never h (narrower (has_rowid id) (λ row. is_no_record (column row 2)) rows (none_pass (λ row. is_no_record (column row 2)) (λ row l says. told (column row 2) l.stored says.stored) rows s.lines s.each))
-no_fault rows book s (fault.Twice id) h = never h (narrower (has_rowid id) (is_repeated rows) rows (each_as_line rows s.lines s.each rows s.lines s.each ∙ none_repeated s.lines s.apart))
-no_fault rows book s fault.TooMany h = tt
-no_fault rows book s fault.Memory h = tt
-no_fault rows book s (fault.Database e) h = tt
+no_fault rows book few s (fault.Twice id) h = never h (narrower (has_rowid id) (is_repeated rows) rows (each_as_line rows s.lines s.each rows s.lines s.each ∙ none_repeated s.lines s.apart))
+no_fault rows book few s fault.TooMany h = absurd (omega (arith, h, as_many rows book s, few))
+no_fault rows book few s fault.Memory h = tt
+no_fault rows book few s (fault.Database e) h = tt
 
 -- a sound database that a crash left of a book is refused for want alone
-pub for_want : (old new : State) (book : Accounts) → HoldsBook old.now.trees book → IsDatabase old.now → (why : OpenFault) → IsUnopened old new why → IsForWant why
-for_want old new book holds sound why (inl no_book) = absurd (no_book.1 (one_schema old.now.trees old.now.schema holds.sound sound))
-for_want old new book holds sound why (inr (inl rows)) = no_fault (old.now.trees 0) book holds.stands why rows.0
-for_want old new book holds sound why (inr (inr failed)) = subst IsForWant (sym failed.1) tt
+pub for_want : (old new : State) (book : Accounts) → fin.len book ≤ most_accounts → HoldsBook old.now.trees book → IsDatabase old.now → (why : OpenFault) → IsUnopened old new why → IsForWant why
+for_want old new book few holds sound why (inl no_book) = absurd (no_book.1 (one_schema old.now.trees old.now.schema holds.sound sound))
+for_want old new book few holds sound why (inr (inl rows)) = no_fault (old.now.trees 0) book few holds.stands why rows.0
+for_want old new book few holds sound why (inr (inr failed)) = subst IsForWant (sym failed.1) tt

@@ -51,7 +51,7 @@ no_some None e = refl
 no_some (Some x) e = absurd cc
 
 pub no_rows : (book : Accounts) (ids : List ℤ) → book ≡ fin.empty → ids ≡ [] → IsDraftOf [] book ids
-no_rows book ids no_names no_ids = record { stands = record { lines = []; each = tt; apart = tt; book_is = sym no_names }; ids_are = sym no_ids; count = ap (λ b. fin.len b) no_names ∙ len-empty name_cmp (Option RecordValue) }
+no_rows book ids no_names no_ids = record { stands = record { lines = []; each = tt; apart = tt; book_is = sym no_names }; ids_are = sym no_ids; count = ap (λ b. fin.len b) no_names ∙ len-empty name_cmp (Option RecordValue); few = omega (arith, ap (λ b. fin.len b) no_names, len-empty name_cmp (Option RecordValue)) }
 
 pub draft_push : (rows : List Row) (book : Accounts) (ids : List ℤ) (row : Row) (after : Accounts) (more : List ℤ) → IsDraftOf rows book ids → IsAdded row book ids after more
     → IsDraftOf (rows ++ row ∷ []) after more
@@ -75,4 +75,7 @@ draft_push rows book ids row after more d a =
       count =
           let grown : fin.len (fin.insert book l.name l.stored) ≡ fin.len book + 1 = len-insert nat_list_cmp_total book l.name l.stored ∙ ap (λ b. cond b (fin.len book) (fin.len book + 1)) a.new_name in
           omega (arith, ap (λ b. fin.len b) a.book_is, grown, d.count, length-append rows (row ∷ []));
+      few =
+          let grown : fin.len (fin.insert book l.name l.stored) ≡ fin.len book + 1 = len-insert nat_list_cmp_total book l.name l.stored ∙ ap (λ b. cond b (fin.len book) (fin.len book + 1)) a.new_name in
+          omega (arith, ap (λ b. fin.len b) a.book_is, grown, a.room);
     }

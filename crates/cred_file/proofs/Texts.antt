@@ -1,5 +1,5 @@
 -- What the texts mean.
-use Rattle.std.proofs.Common.{◌≡◌, ℕ, pos, negsuc, List, [], ◌∷◌, codes, false, None, Ok, refl}
+use Rattle.std.proofs.Common.{◌≡◌, pos, negsuc, List, [], ◌∷◌, codes, false, None, Ok, refl}
 use Rattle.sqlite.specs.Term.{Term, lit, col, op2}
 use Rattle.sqlite.specs.Command.TheVariants.{Insert, Select, CreateTable, Update}
 use Rattle.sqlite.specs.Compile.{table_defined_by}
@@ -13,14 +13,8 @@ use Rattle.sqlite_value.specs.declared.keys.Collation.TheVariants.{Binary}
 use Rattle.sqlite_sql.specs.declared.ops.BinaryOp.TheVariants.{Compare}
 use Rattle.sqlite_sql.specs.declared.ops.CompareOp.TheVariants.{Eq}
 use Rattle.sqlite.specs.Source.TheVariants.{Values}
-use Rattle.cred_file.specs.Schema.{account, account_schema, create_text, no_schema}
+use Rattle.cred_file.specs.Schema.{account, account_schema, create_text, insert_text, no_schema, update_text}
 use Rattle.cred_file.specs.Opening.{rows_text}
-
-abbrev pub insert_text : List ℕ
-insert_text = codes "INSERT INTO account (name) VALUES (?1)"
-
-abbrev pub update_text : List ℕ
-update_text = codes "UPDATE account SET record = ?2 WHERE name = ?1"
 
 pub create_is : (command_of (understood no_schema create_text) ≡ CreateTable) × (statement_of create_text (understood no_schema create_text) ≡ create_text) × (table_defined_by create_text ≡ Ok account)
 unfolding understood everything

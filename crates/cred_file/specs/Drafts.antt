@@ -1,5 +1,6 @@
 -- The book while its rows are read, one at a time.
-use Rattle.std.specs.Prelude.{◌≡◌, ◌⊎◌, ℤ, ◌≤◌, true, false, List, [], ◌∷◌, ◌++◌, length, map, ⊤}
+use Rattle.std.specs.Prelude.{◌≡◌, ◌⊎◌, ℤ, ◌≤◌, ◌<◌, true, false, List, [], ◌∷◌, ◌++◌, length}
+use Rattle.std.specs.Prelude.{map, ⊤}
 use Rattle.std.specs.List.{list_any}
 use Rattle.std.specs.Ordering.{int_eq}
 use Rattle.std.specs.FinMap as fin
@@ -17,6 +18,7 @@ pub record IsDraftOf (rows : List Row) (book : Accounts) (ids : List ℤ) : Type
   pub stands : StandsFor rows book
   pub ids_are : map (λ l. l.id) stands.lines ≡ ids
   pub count : fin.len book ≡ length rows
+  pub few : fin.len book ≤ most_accounts
 
 -- one row more
 pub record IsAdded (row : Row) (book : Accounts) (ids : List ℤ) (after : Accounts)
@@ -25,6 +27,7 @@ pub record IsAdded (row : Row) (book : Accounts) (ids : List ℤ) (after : Accou
   pub says : Says row line
   pub new_id : list_any (λ id. int_eq id line.id) ids ≡ false
   pub new_name : fin.contains_key book line.name ≡ false
+  pub room : fin.len book < most_accounts
   pub book_is : after ≡ fin.insert book line.name line.stored
   pub ids_are : more ≡ ids ++ line.id ∷ []
 

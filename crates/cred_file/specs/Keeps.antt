@@ -1,5 +1,5 @@
 -- When a connection keeps a book, and what a crash leaves of it.
-use Rattle.std.specs.Prelude.{◌≡◌, ◌⊎◌, ℕ, List, true, false, Option, Some, None}
+use Rattle.std.specs.Prelude.{◌≡◌, ◌⊎◌, ℕ, ◌≤◌, List, true, false, Option, Some, None}
 use Rattle.std.specs.FinMap as fin
 use Rattle.sqlite.specs.Tree.{Trees}
 use Rattle.sqlite.specs.State.{State, HasCleanDisk}
@@ -7,7 +7,7 @@ use Rattle.sqlite.specs.Held.{Held, state}
 use Rattle.sqlite.specs.Store.{Ghosts}
 use Rattle.sqlite_catalog.specs.Listing.{IsSound}
 use Rattle.cred_phc.specs.Values.{RecordValue}
-use Rattle.cred_book.specs.Accounts.{Accounts}
+use Rattle.cred_book.specs.Accounts.{Accounts, most_accounts}
 use Rattle.cred_file.specs.declared.fault.Lost.{Lost}
 use Rattle.cred_file.specs.Schema.{account_schema}
 use Rattle.cred_file.specs.Table.{StandsFor}
@@ -57,8 +57,9 @@ IsOrWith book None b = b ≡ book
 IsOrWith book (Some l) b = (b ≡ book) ⊎ (b ≡ fin.insert book l.name l.stored)
 
 -- Where the disk has returned what was written: the table is the book's until a change is lost, and
--- a crash leaves the book, or the book with the lost change.
+-- a crash leaves the book, or the book with the lost change. Either has at most 4096 accounts.
 pub record Keeps {S : Type 0} (g : Ghosts S) (conn : Held S) (book : Accounts)
     (lost : Option Lost) : Type 0 where
   pub table : HasCleanDisk (state g conn) → lost ≡ None → IsTableOf (state g conn) book
   pub left : HasCleanDisk (state g conn) → LeavesOnly (state g conn) (IsOrWith book lost)
+  pub few : (b : Accounts) → IsOrWith book lost b → fin.len b ≤ most_accounts

@@ -1,10 +1,11 @@
--- Definitions that contracts cite: the table, the book that its rows stand for, what is kept, and
--- what is opened.
+-- Definitions that contracts cite: the table, the book that its rows stand for, what is kept, what
+-- is opened, and why a call fails.
 pub mod Schema
 pub mod Table
 pub mod Keeps
 pub mod Opening
 pub mod Drafts
+pub mod Failures
 pub use Rattle.cred_book.specs.Accounts
 pub use Rattle.cred_book.specs.Calls
 pub use Rattle.cred_book.specs.Commits

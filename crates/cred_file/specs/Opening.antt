@@ -70,14 +70,14 @@ AreAtFault rows fault.TooMany = most_accounts < length rows
 AreAtFault rows fault.Memory = ⊤
 AreAtFault rows (fault.Database e) = (e ≡ corrupt) × HasBadIds rows
 
--- memory or room was wanting, or the database failed: nothing is said against the tables and rows
+-- memory was wanting, or the database failed: nothing is said against the tables and rows
 abbrev pub IsForWant : OpenFault → Type 0
 IsForWant fault.NotEmpty = ⊥
 IsForWant fault.NoBook = ⊥
 IsForWant (fault.NoName id) = ⊥
 IsForWant (fault.NoRecord id) = ⊥
 IsForWant (fault.Twice id) = ⊥
-IsForWant fault.TooMany = ⊤
+IsForWant fault.TooMany = ⊥
 IsForWant fault.Memory = ⊤
 IsForWant (fault.Database e) = ⊤
 

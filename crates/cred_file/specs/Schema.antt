@@ -11,6 +11,13 @@ use Rattle.sqlite_schema.specs.declared.schema.Index.{Index}
 abbrev pub create_text : List ℕ
 create_text = codes "CREATE TABLE account (name TEXT NOT NULL PRIMARY KEY, record TEXT) STRICT"
 
+-- those that change it, by a name and a record's text
+abbrev pub insert_text : List ℕ
+insert_text = codes "INSERT INTO account (name) VALUES (?1)"
+
+abbrev pub update_text : List ℕ
+update_text = codes "UPDATE account SET record = ?2 WHERE name = ?1"
+
 abbrev pub name_column : Column
 name_column = record {
   name = codes "name";

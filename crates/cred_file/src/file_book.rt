@@ -2,6 +2,7 @@
 
 ghost use Rattle.sqlite.specs.Held.{state};
 ghost use Rattle.cred_file.specs.Schema.{no_schema};
+ghost use Rattle.cred_file.specs.Failures.{FailsToPut, IsLossOf, IsUnbegun};
 ghost use Rattle.cred_file.specs.Keeps.{Keeps, MayBegin};
 ghost use Rattle.cred_file.specs.Opening.{IsFound, IsUnopened};
 ghost use Rattle.cred_file.specs.Table.{Tells};
@@ -71,8 +72,7 @@ impl<S: Alter> FileBook<S> {
         requires autocommit { conn.in_transaction ≡ false }
         ensures empty { IfOk result (λ b. (b.0 ≡ fin.empty) × (b.1.0 ≡ None)) }
         ensures begun { IfOk result (λ _. (state S.Store conn).now.schema ≡ no_schema) }
-        ensures taken { IfErr result (λ e. e.0 ≡ OpenFault.NotEmpty
-            → ((state S.Store conn).now.schema ≡ no_schema → ⊥) × (e.1 ≡ conn)) }
+        ensures refused { IfErr result (λ e. IsUnbegun S.Store conn e.1 e.0) }
         ensures left { IfErr result (λ e. HasCleanDisk (state S.Store e.1)
             → MayBegin (state S.Store conn) (state S.Store e.1)) }
     {
@@ -165,6 +165,8 @@ impl<S: Alter> FileBook<S> {
         ensures memory { IfErr result (λ e. (e ≡ BookError.Memory) × (self.new.0 ≡ self.old.0)) }
         ensures written { OnOk result ((self.old.1.0 ≡ None) × (self.new.1.0 ≡ None)) }
         ensures remembered { IfSome self.old.1.0 (λ l. self.new.1.0 ≡ Some l) }
+        ensures lost { self.old.1.0 ≡ None → IfSome self.new.1.0 (IsLossOf name.now stored
+            (FailsToPut S.Store self.old.1.1 self.new.1.1 name.now stored)) }
     {
         if self.lost.is_some() {
             return Err(BookError::Memory);
@@ -193,6 +195,8 @@ impl<S: Alter> FileBook<S> {
         ensures done { OnOk result (self.new.0 ≡ fin.insert self.old.0 name.now stored) }
         ensures memory { IfErr result (λ e. (e ≡ BookError.Memory) × (self.new.0 ≡ self.old.0)) }
         ensures written { OnOk result (self.new.1.0 ≡ None) }
+        ensures lost { IfSome self.new.1.0 (IsLossOf name.now stored
+            (FailsToPut S.Store self.old.1.1 self.new.1.1 name.now stored)) }
     {
         match set_stored(&mut self.conn, name, value) {
             Ok(()) => {
@@ -218,7 +222,8 @@ impl<S: Alter> Keeper for FileBook<S> {
     ghost use Rattle.std.specs.Prelude.{◌≡◌, OnOk, IfOk, IfSome, Some, None, is_ok, not, true};
     ghost use Rattle.cred_book.specs.Calls.{Admits, Loads};
     ghost use Rattle.cred_book.specs.Commits.{Commits, judgement};
-    ghost use Rattle.cred_book.specs.Works.{makes_change};
+    ghost use Rattle.cred_book.specs.Works.{makes_change, name_of};
+    ghost use Rattle.cred_file.specs.Failures.{FailsToAdd, FailsToPut, IsLossOf};
 
     ghost book = { λ b. b.0 };
 
@@ -226,6 +231,8 @@ impl<S: Alter> Keeper for FileBook<S> {
         ensures done { Admits self.old.0 self.new.0 name result }
         ensures written { OnOk result ((self.old.1.0 ≡ None) × (self.new.1.0 ≡ None)) }
         ensures remembered { IfSome self.old.1.0 (λ l. self.new.1.0 ≡ Some l) }
+        ensures lost { self.old.1.0 ≡ None → IfSome self.new.1.0 (IsLossOf name None
+            (FailsToAdd S.Store self.old.1.1 self.new.1.1 name)) }
     {
         if self.book.show(&name).is_ok() {
             return Err(BookError::Exists);
@@ -253,6 +260,8 @@ impl<S: Alter> Keeper for FileBook<S> {
         ensures done { Loads self.old.0 self.new.0 name.now stored result }
         ensures written { OnOk result ((self.old.1.0 ≡ None) × (self.new.1.0 ≡ None)) }
         ensures remembered { IfSome self.old.1.0 (λ l. self.new.1.0 ≡ Some l) }
+        ensures lost { self.old.1.0 ≡ None → IfSome self.new.1.0 (IsLossOf name.now (Some stored)
+            (FailsToPut S.Store self.old.1.1 self.new.1.1 name.now (Some stored))) }
     {
         if self.book.show(name).is_err() {
             return Err(BookError::NoAccount);
@@ -275,6 +284,10 @@ impl<S: Alter> Keeper for FileBook<S> {
             is_ok result ≡ not (judgement self.old.0 worked).2) }
         ensures written { OnOk result (self.new.1.0 ≡ self.old.1.0) }
         ensures remembered { IfSome self.old.1.0 (λ l. self.new.1.0 ≡ Some l) }
+        ensures lost { self.old.1.0 ≡ None → IfSome self.new.1.0
+            (IsLossOf (name_of worked.0) (judgement self.old.0 worked).1
+            (FailsToPut S.Store self.old.1.1 self.new.1.1 (name_of worked.0)
+            (judgement self.old.0 worked).1)) }
     {
         let (reply, after, changes) = self.book.judge(&worked);
         if !changes {

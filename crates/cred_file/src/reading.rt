@@ -1,6 +1,7 @@
 //! The book that the rows of a table stand for.
 
-ghost use Rattle.std.specs.Prelude.{◌≡◌, [], true, IfErr, IfOk, IsTrue, MatchOption};
+ghost use Rattle.std.specs.Prelude.{◌≡◌, ◌≤◌, [], true, IfErr, IfOk, IsTrue, MatchOption};
+ghost use Rattle.cred_book.specs.Accounts.{most_accounts};
 ghost use Rattle.cred_book.specs.Names.{is_name};
 ghost use Rattle.cred_file.specs.Drafts.{IsAdded, IsNotAdded, IsUnread};
 ghost use Rattle.cred_file.specs.Opening.{AreAtFault, corrupt, is_no_name, is_no_record};
@@ -35,6 +36,7 @@ struct Draft {
 /// The book that these rows, of row id, name and record, stand for.
 pub(crate) fn read_book(alloc: Global, rows: &[Row]) -> Result<Book, OpenFault>
     ensures book { IfOk result (StandsFor rows.now) }
+    ensures few { IfOk result (λ book. fin.len book ≤ most_accounts) }
     ensures fault { IfErr result (AreAtFault rows.now) }
 {
     let mut draft = Draft::new(alloc)?;

@@ -1,9 +1,11 @@
 //! The statements that change the table of accounts, and the one that reads it.
 
-ghost use Rattle.std.specs.Prelude.{◌≡◌, ◌≤◌, false, Option, None, IfErr, IfOk, OnOk};
+ghost use Rattle.std.specs.Prelude.{◌≡◌, ◌≤◌, [], false, Option, None, IfErr, IfOk, OnOk};
 ghost use Rattle.std.specs.FinMap as fin;
 ghost use Rattle.cred_phc.specs.Values.{RecordValue};
-ghost use Rattle.cred_file.specs.Schema.{account_schema, no_schema};
+ghost use Rattle.cred_book.specs.Accounts.{most_accounts};
+ghost use Rattle.cred_file.specs.Failures.{FailsToAdd, FailsToPut, Refuses};
+ghost use Rattle.cred_file.specs.Schema.{account_schema, create_text, no_schema};
 ghost use Rattle.cred_file.specs.Keeps.{Has, IsTableOf, Lacks, MayBegin, MayPut, Puts};
 ghost use Rattle.cred_file.specs.Table.{Tells};
 ghost use Rattle.cred_file.specs.Opening.{IsFound, IsUnopened};
@@ -25,6 +27,7 @@ pub(crate) fn add_name<S: Alter>(conn: &mut Connection<S>, name: &Name) -> Resul
         (Puts (state S.Store conn.old) (state S.Store conn.new) (Lacks name.now) name.now None) }
     ensures left { HasCleanDisk (state S.Store conn.new)
         → MayPut (state S.Store conn.old) (state S.Store conn.new) (Lacks name.now) name.now None }
+    ensures refused { IfErr result (FailsToAdd S.Store conn.old conn.new name.now) }
     ensures clean { doubt (state S.Store conn.old).is_clean
         ≤ doubt (state S.Store conn.new).is_clean }
 {
@@ -47,6 +50,8 @@ pub(crate) fn set_stored<S: Alter>(
     ensures left { HasCleanDisk (state S.Store conn.new)
         → (v : Option RecordValue) → Tells (owned value.entry) v
         → MayPut (state S.Store conn.old) (state S.Store conn.new) (Has name.now) name.now v }
+    ensures refused { (v : Option RecordValue) → Tells (owned value.entry) v
+        → IfErr result (FailsToPut S.Store conn.old conn.new name.now v) }
     ensures clean { doubt (state S.Store conn.old).is_clean
         ≤ doubt (state S.Store conn.new).is_clean }
 {
@@ -65,6 +70,7 @@ pub(crate) fn create_table<S: Alter>(conn: &mut Connection<S>) -> Result<(), Err
         → OnOk result (IsTableOf (state S.Store conn.new) fin.empty) }
     ensures left { HasCleanDisk (state S.Store conn.new)
         → MayBegin (state S.Store conn.old) (state S.Store conn.new) }
+    ensures refused { IfErr result (Refuses S.Store conn.old conn.new create_text []) }
 {
     conn.execute(
         "CREATE TABLE account (name TEXT NOT NULL PRIMARY KEY, record TEXT) STRICT",
@@ -84,6 +90,7 @@ pub(crate) fn read_table<S: Alter>(
         → IfOk result (IsFound (state S.Store conn.old) (state S.Store conn.new)) }
     ensures table { HasCleanDisk (state S.Store conn.new)
         → IfOk result (IsTableOf (state S.Store conn.new)) }
+    ensures few { IfOk result (λ book. fin.len book ≤ most_accounts) }
     ensures fault { HasCleanDisk (state S.Store conn.new)
         → IfErr result (IsUnopened (state S.Store conn.old) (state S.Store conn.new)) }
     ensures left { Survives (state S.Store conn.old) (state S.Store conn.new) (λ _. ⊥) }

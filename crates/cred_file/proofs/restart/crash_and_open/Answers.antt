@@ -41,5 +41,5 @@ returns-clause-refused g c =
     let trees = c.in-Ok-over.ensures.trees was_clean ∙ c.in-Ok.ensures.fresh.clean in
     let left = c.close.ensures.kept.left first_clean db (c.into_store-store.ensures.quiet.outcomes db (c.in-Ok.ensures.found came_clean)) in
     let opens = c.in-Ok-over.ensures.opens was_clean in
-    for_want old (state g.S.Store e.1) left.0 (subst (λ (t : Trees). HoldsBook t left.0) (sym trees) left.2) (opens.1 opens.0.is_open).0 e.0 (unopened clean))
+    for_want old (state g.S.Store e.1) left.0 (c.close.ensures.kept.few left.0 left.1) (subst (λ (t : Trees). HoldsBook t left.0) (sym trees) left.2) (opens.1 opens.0.is_open).0 e.0 (unopened clean))
     c.open.ensures.refused c.open.ensures.left

@@ -1,4 +1,6 @@
+use Rattle.std.proofs.Common.{rules}
 use Rattle.sqlite.specs.Held.{state}
+use Rattle.cred_file.specs.Failures.{FailsToPut}
 use Rattle.cred_file.proofs.Keeping.{bound_told, updated, update_left}
 use Rattle.cred_file.proofs.statements.set_stored.Goals as goal
 
@@ -14,3 +16,9 @@ returns-clause-set g c clean v tells book there was =
 pub returns-clause-left : goal.returns-clause-left
 returns-clause-left g c clean v tells book there was =
     update_left book c.args.name.now _ v tells there (state g.S.Store c.args.conn.now) (state g.S.Store c.execute.new.self) clean (rw (c.bytes.ensures.value, bound_told _ v tells) at c.execute.ensures.survives) was
+
+pub returns-in_err-execute-clause-refused : goal.returns-in_err-execute-clause-refused
+returns-in_err-execute-clause-refused g c v tells =
+    let refused : FailsToPut g.S.Store c.args.conn.now c.execute.new.self c.args.name.now v c.in_err-execute.field-0.0 =
+    (_, tells, λ clean. rw (c.bytes.ensures.value, bound_told _ v tells) at (c.in_err-execute.ensures.runs clean)) in
+    search rules
