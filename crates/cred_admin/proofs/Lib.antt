@@ -1,4 +1,3 @@
-mod Writes
 mod Reading
 mod Records
 mod Importing

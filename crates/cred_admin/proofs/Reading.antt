@@ -92,3 +92,7 @@ more known mid now line line' byte so takes other is = λ bytes k.
 -- a line with no end yet is a front of the whole line
 pub is_long : (bytes line rest : List ℕ) → GoesOn bytes line rest → 256 < length line → 256 < length (line_before bytes)
 is_long bytes line rest goes long = omega (arith, long, ap length goes.line_is, length-append line (line_before rest))
+
+pub long_line : (known now : Option (List ℕ)) (line : List ℕ) → LineSoFar known now line → 256 < length line → IfSome known (λ bytes. 256 < length (line_before bytes))
+long_line None now line so long = tt
+long_line (Some bytes) now line so long = let (rest, at, goes) = so bytes refl in is_long bytes line rest goes long

@@ -1,6 +1,5 @@
 -- What is written.
-use Rattle.std.specs.Prelude.{ℕ, ◌<◌, List, [], ◌∷◌, ◌++◌, length, take, codes, Option}
-use Rattle.std.specs.Io.KnownBytes.{Appends}
+use Rattle.std.specs.Prelude.{ℕ, List, [], ◌∷◌, ◌++◌, codes}
 use Rattle.cred_book.specs.declared.reply.Reply.{Reply}
 use Rattle.cred_book.specs.declared.reply.Reply.TheVariants as reply
 
@@ -21,8 +20,3 @@ reply_word reply.NoAccount = codes "noaccount"
 -- with the line end
 abbrev pub reply_line : Reply → List ℕ
 reply_line r = reply_word r ++ 10 ∷ []
-
--- A proper front of the text is written. cred_cli says the same of its answers: neither of the two
--- stands on the other, and no crate below them writes.
-abbrev pub FrontWritten : Option (List ℕ) → Option (List ℕ) → List ℕ → Type 0
-FrontWritten before now text = (n : ℕ) × (n < length text) × Appends before now (take n text)

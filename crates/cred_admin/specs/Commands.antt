@@ -12,7 +12,8 @@ use Rattle.cred_book.specs.declared.request.Request.{Request}
 use Rattle.cred_admin.specs.declared.fault.Fault.{Fault}
 use Rattle.cred_admin.specs.declared.fault.Fault.TheVariants as fault
 use Rattle.cred_admin.specs.declared.status.Status.{Status}
-use Rattle.cred_admin.specs.Answers.{FrontWritten, reply_line}
+use Rattle.cred_admin.specs.Answers.{reply_line}
+use Rattle.cred_cli.specs.Outcome.{FrontWritten}
 use Rattle.cred_admin.specs.Lines.{behind_line, line_before}
 use Rattle.cred_phc.specs.declared.password.TheConstants.{MAX_PASSWORD}
 use Rattle.cred_admin.specs.Statuses.{status_of}

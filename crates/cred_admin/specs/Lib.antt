@@ -1,12 +1,15 @@
 -- Definitions that contracts cite: lines and passwords as they are read, what the commands do,
 -- what they write, and their exit statuses.
 pub mod Answers
+pub mod Causes
 pub mod Commands
 pub mod Import
 pub mod Lines
 pub mod Listing
 pub mod Settings
 pub mod Statuses
+pub use Rattle.cred_cli.specs.Outcome
+pub use Rattle.cred_cli.specs.Watched
 pub use Rattle.cred_book.specs.Accounts
 pub use Rattle.cred_book.specs.Names
 pub use Rattle.cred_book.specs.Works

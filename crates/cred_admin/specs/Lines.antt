@@ -1,5 +1,6 @@
 -- Passwords, a line each.
 use Rattle.std.specs.Prelude.{◌≡◌, ℕ, ◌==◌, if◌then◌else◌, List, [], ◌∷◌, Option, Some, None, ⊤}
+use Rattle.std.specs.Prelude.{Bool, true}
 use Rattle.cred_admin.specs.declared.fault.Fault.{Fault}
 use Rattle.cred_admin.specs.declared.fault.Fault.TheVariants as fault
 
@@ -23,10 +24,10 @@ pub record ReadsLine (bytes : List ℕ) (left : Option (List ℕ)) (line : List 
   pub line_is : line ≡ line_before bytes
   pub left_is : left ≡ Some (behind_line bytes)
 
--- what may go wrong as a line is read
-abbrev pub IsReading : Fault → Type 0
-IsReading fault.Read = ⊤
-IsReading fault.Memory = ⊤
-IsReading fault.Password = ⊤
-IsReading fault.Write = ⊥
-IsReading fault.Full = ⊥
+-- what may go wrong as a line is read, by a reader on which a call failed or none
+abbrev pub ReadFails : Bool → Fault → Type 0
+ReadFails failed fault.Read = failed ≡ true
+ReadFails failed fault.Memory = ⊤
+ReadFails failed fault.Password = ⊤
+ReadFails failed fault.Write = ⊥
+ReadFails failed fault.Full = ⊥

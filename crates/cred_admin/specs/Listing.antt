@@ -7,7 +7,7 @@ use Rattle.cred_admin.specs.declared.fault.Fault.{Fault}
 use Rattle.cred_admin.specs.declared.fault.Fault.TheVariants as fault
 use Rattle.cred_admin.specs.declared.status.Status.{Status}
 use Rattle.cred_admin.specs.declared.status.Status.TheVariants.{Done}
-use Rattle.cred_admin.specs.Answers.{FrontWritten}
+use Rattle.cred_cli.specs.Outcome.{FrontWritten}
 
 -- a name, and the record that stands there, if one does
 abbrev pub Entry : Type 0

@@ -7,6 +7,8 @@ ghost use Rattle.cred_book.specs.Accounts.{most_accounts};
 ghost use Rattle.cred_book.specs.Works.{is_for_current, new_record, seq};
 ghost use Rattle.cred_book.specs.declared.request.Request.TheVariants.{Change, Remove, Upgrade};
 ghost use Rattle.cred_book.specs.declared.request.Request.TheVariants.{Verify};
+ghost use Rattle.cred_cli.specs.Watched.{failed_of, inner_of};
+ghost use Rattle.cred_admin.specs.Causes.{HasCause};
 ghost use Rattle.cred_admin.specs.Commands.{Adds, Asks, AsksTwice, Does, Enrols};
 
 use crate::answer::{reply_line, status_of};
@@ -17,6 +19,7 @@ use crate::setting::NewSetting;
 use crate::status::Status;
 use crate::tools::Tools;
 use cred_book::{BookError, Keeper, Name, Reply, Request};
+use cred_cli::Watched;
 use cred_phc::{Password, Record};
 use cred_pool::NoGate;
 use std::io::{Read, Write};
@@ -34,11 +37,13 @@ pub fn add<T: Threads + Wait + Sync, K: Keeper, R: Read, W: Write>(
     keeper: &mut K,
     name: &Name,
     setting: &NewSetting,
-    reader: &mut R,
-    writer: &mut W,
+    reader: &mut Watched<R>,
+    writer: &mut Watched<W>,
 ) -> Result<Status, Fault>
-    ensures { Adds name.now setting.now (R.remaining reader.old) (K.book keeper.old)
-        (K.book keeper.new) (W.contents writer.old) (W.contents writer.new) result }
+    ensures done { Adds name.now setting.now (R.remaining (inner_of reader.old))
+        (K.book keeper.old) (K.book keeper.new) (W.contents (inner_of writer.old))
+        (W.contents (inner_of writer.new)) result }
+    ensures cause { IfErr result (HasCause (failed_of reader.new) (failed_of writer.new)) }
 {
     let pw = read_password(tools.alloc, reader)?;
     let reply = enrol(tools, keeper, name, setting, &pw)?;
@@ -54,11 +59,13 @@ pub fn check<T: Threads + Wait + Sync, K: Keeper, R: Read, W: Write>(
     tools: &Tools<'_, T>,
     keeper: &mut K,
     name: &Name,
-    reader: &mut R,
-    writer: &mut W,
+    reader: &mut Watched<R>,
+    writer: &mut Watched<W>,
 ) -> Result<Status, Fault>
-    ensures { Asks (λ pw. Verify name.now pw) (R.remaining reader.old) (K.book keeper.old)
-        (K.book keeper.new) (W.contents writer.old) (W.contents writer.new) result }
+    ensures done { Asks (λ pw. Verify name.now pw) (R.remaining (inner_of reader.old))
+        (K.book keeper.old) (K.book keeper.new) (W.contents (inner_of writer.old))
+        (W.contents (inner_of writer.new)) result }
+    ensures cause { IfErr result (HasCause (failed_of reader.new) (failed_of writer.new)) }
 {
     let pw = read_password(tools.alloc, reader)?;
     let request = Request::Verify { name: *name, pw };
@@ -75,12 +82,13 @@ pub fn change<T: Threads + Wait + Sync, K: Keeper, R: Read, W: Write>(
     keeper: &mut K,
     name: &Name,
     setting: &NewSetting,
-    reader: &mut R,
-    writer: &mut W,
+    reader: &mut Watched<R>,
+    writer: &mut Watched<W>,
 ) -> Result<Status, Fault>
-    ensures { AsksTwice (λ pw new_pw. Change name.now pw new_pw setting.now)
-        (R.remaining reader.old) (K.book keeper.old) (K.book keeper.new)
-        (W.contents writer.old) (W.contents writer.new) result }
+    ensures done { AsksTwice (λ pw new_pw. Change name.now pw new_pw setting.now)
+        (R.remaining (inner_of reader.old)) (K.book keeper.old) (K.book keeper.new)
+        (W.contents (inner_of writer.old)) (W.contents (inner_of writer.new)) result }
+    ensures cause { IfErr result (HasCause (failed_of reader.new) (failed_of writer.new)) }
 {
     let pw = read_password(tools.alloc, reader)?;
     let new_pw = read_password(tools.alloc, reader)?;
@@ -103,12 +111,13 @@ pub fn upgrade<T: Threads + Wait + Sync, K: Keeper, R: Read, W: Write>(
     keeper: &mut K,
     name: &Name,
     setting: &NewSetting,
-    reader: &mut R,
-    writer: &mut W,
+    reader: &mut Watched<R>,
+    writer: &mut Watched<W>,
 ) -> Result<Status, Fault>
-    ensures { Asks (λ pw. Upgrade name.now pw setting.now) (R.remaining reader.old)
-        (K.book keeper.old) (K.book keeper.new) (W.contents writer.old) (W.contents writer.new)
-        result }
+    ensures done { Asks (λ pw. Upgrade name.now pw setting.now)
+        (R.remaining (inner_of reader.old)) (K.book keeper.old) (K.book keeper.new)
+        (W.contents (inner_of writer.old)) (W.contents (inner_of writer.new)) result }
+    ensures cause { IfErr result (HasCause (failed_of reader.new) (failed_of writer.new)) }
 {
     let pw = read_password(tools.alloc, reader)?;
     let request = Request::Upgrade {
@@ -127,11 +136,13 @@ pub fn remove<T: Threads + Wait + Sync, K: Keeper, R: Read, W: Write>(
     tools: &Tools<'_, T>,
     keeper: &mut K,
     name: &Name,
-    reader: &mut R,
-    writer: &mut W,
+    reader: &mut Watched<R>,
+    writer: &mut Watched<W>,
 ) -> Result<Status, Fault>
-    ensures { Asks (λ pw. Remove name.now pw) (R.remaining reader.old) (K.book keeper.old)
-        (K.book keeper.new) (W.contents writer.old) (W.contents writer.new) result }
+    ensures done { Asks (λ pw. Remove name.now pw) (R.remaining (inner_of reader.old))
+        (K.book keeper.old) (K.book keeper.new) (W.contents (inner_of writer.old))
+        (W.contents (inner_of writer.new)) result }
+    ensures cause { IfErr result (HasCause (failed_of reader.new) (failed_of writer.new)) }
 {
     let pw = read_password(tools.alloc, reader)?;
     let request = Request::Remove { name: *name, pw };
@@ -143,11 +154,12 @@ fn act<T: Threads + Wait + Sync, K: Keeper, W: Write>(
     tools: &Tools<'_, T>,
     keeper: &mut K,
     request: Request,
-    writer: &mut W,
+    writer: &mut Watched<W>,
 ) -> Result<Status, Fault>
     requires { is_for_current request ≡ true }
-    ensures { Does (seq (K.book keeper.old) request) (K.book keeper.old) (K.book keeper.new)
-        (W.contents writer.old) (W.contents writer.new) result }
+    ensures done { Does (seq (K.book keeper.old) request) (K.book keeper.old) (K.book keeper.new)
+        (W.contents (inner_of writer.old)) (W.contents (inner_of writer.new)) result }
+    ensures cause { IfErr result (HasCause false (failed_of writer.new)) }
 {
     let reply = settle(tools, keeper, request)?;
     write_whole(writer, reply_line(&reply))?;

@@ -1,14 +1,17 @@
 //! The commands that write the accounts, in the order of their names.
 
-ghost use Rattle.std.specs.Prelude.{◌≡◌, ◌++◌, IfOk, OnOk};
+ghost use Rattle.std.specs.Prelude.{◌≡◌, ◌++◌, IfErr, IfOk, OnOk, false};
 ghost use Rattle.std.specs.FinMap as map;
 ghost use Rattle.cred_phc.specs.Values.{RecordValue};
+ghost use Rattle.cred_cli.specs.Watched.{failed_of, inner_of};
+ghost use Rattle.cred_admin.specs.Causes.{HasCause};
 ghost use Rattle.cred_admin.specs.Listing.{Prints, lines_text, name_line, passwd_line};
 
 use crate::fault::Fault;
 use crate::printing::write_whole;
 use crate::status::Status;
 use cred_book::{Book, Name};
+use cred_cli::Watched;
 use cred_phc::{Record, write_record};
 use std::alloc::{AllocError, Global};
 use std::io::Write;
@@ -16,9 +19,10 @@ use std::io::Write;
 /// Writes the names, a line each.
 ///
 /// Errors: `Memory`, and nothing is written; `Write`.
-pub fn list<W: Write>(alloc: Global, book: &Book, writer: &mut W) -> Result<Status, Fault>
-    ensures { Prints (lines_text name_line (map.entries book.now)) (W.contents writer.old)
-        (W.contents writer.new) result }
+pub fn list<W: Write>(alloc: Global, book: &Book, writer: &mut Watched<W>) -> Result<Status, Fault>
+    ensures done { Prints (lines_text name_line (map.entries book.now))
+        (W.contents (inner_of writer.old)) (W.contents (inner_of writer.new)) result }
+    ensures cause { IfErr result (HasCause false (failed_of writer.new)) }
 {
     let text = names(alloc, book)?;
     write_whole(writer, &text)?;
@@ -29,9 +33,14 @@ pub fn list<W: Write>(alloc: Global, book: &Book, writer: &mut W) -> Result<Stat
 /// record stands. `import` reads them.
 ///
 /// Errors: `Memory`, and nothing is written; `Write`.
-pub fn export<W: Write>(alloc: Global, book: &Book, writer: &mut W) -> Result<Status, Fault>
-    ensures { Prints (lines_text passwd_line (map.entries book.now)) (W.contents writer.old)
-        (W.contents writer.new) result }
+pub fn export<W: Write>(
+    alloc: Global,
+    book: &Book,
+    writer: &mut Watched<W>,
+) -> Result<Status, Fault>
+    ensures done { Prints (lines_text passwd_line (map.entries book.now))
+        (W.contents (inner_of writer.old)) (W.contents (inner_of writer.new)) result }
+    ensures cause { IfErr result (HasCause false (failed_of writer.new)) }
 {
     let text = entries(alloc, book)?;
     write_whole(writer, &text)?;

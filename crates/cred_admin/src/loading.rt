@@ -1,12 +1,14 @@
 //! Taking in the lines of a passwd-file, all or none.
 
-ghost use Rattle.std.specs.Prelude.{◌≡◌, ◌⊎◌, [], ◌∷◌, IfErr, IfOk, IfSome, MatchOption};
+ghost use Rattle.std.specs.Prelude.{◌≡◌, ◌⊎◌, [], ◌∷◌, Err, IfErr, IfOk, IfSome, MatchOption, true};
+ghost use Rattle.cred_cli.specs.Watched.{failed_of, inner_of};
 ghost use Rattle.cred_admin.specs.Import.{Imports, LoadsLine, LoadsLines, import_lines};
 ghost use Rattle.cred_admin.specs.Import.{refusal_fault, whole_lines};
 
 use crate::entry::{LineFault, entry_of};
 use crate::status::Status;
 use cred_book::{Book, BookError, Keeper};
+use cred_cli::Watched;
 use cred_phc::Pieces;
 use std::alloc::Global;
 use std::io::{ErrorKind, Read};
@@ -34,10 +36,12 @@ pub fn import<T: Wait, K: Keeper, R: Read>(
     alloc: Global,
     keeper: &mut K,
     mut copy: Book,
-    reader: &mut R,
+    reader: &mut Watched<R>,
 ) -> Result<Status, ImportFault>
     requires { copy ≡ K.book keeper.old }
-    ensures { Imports (R.remaining reader.old) (K.book keeper.old) (K.book keeper.new) result }
+    ensures done { Imports (R.remaining (inner_of reader.old)) (K.book keeper.old)
+        (K.book keeper.new) result }
+    ensures cause { result ≡ Err ImportFault.Read → failed_of reader.new ≡ true }
 {
     let text = read_all(alloc, reader)?;
     load_lines(rt, &mut copy, &text)?;
@@ -45,16 +49,19 @@ pub fn import<T: Wait, K: Keeper, R: Read>(
     Ok(Status::Done)
 }
 
-fn read_all<R: Read>(alloc: Global, reader: &mut R) -> Result<Vec<u8>, ImportFault>
-    ensures text { IfOk result (λ text. IfSome (R.remaining reader.old)
+fn read_all<R: Read>(alloc: Global, reader: &mut Watched<R>) -> Result<Vec<u8>, ImportFault>
+    ensures text { IfOk result (λ text. IfSome (R.remaining (inner_of reader.old))
         (λ bytes. text.items ≡ bytes)) }
-    ensures fault { IfErr result (λ e. (e ≡ ImportFault.Read) ⊎ (e ≡ ImportFault.Memory)) }
+    ensures fault { IfErr result (λ e. ((e ≡ ImportFault.Read) × (failed_of reader.new ≡ true))
+        ⊎ (e ≡ ImportFault.Memory)) }
 {
     let mut text = Vec::new(alloc);
     match reader.read_to_end(&mut text) {
         Ok(_) => Ok(text),
-        Err(error) if error.kind() == ErrorKind::OutOfMemory => Err(ImportFault::Memory),
-        Err(_) => Err(ImportFault::Read),
+        Err(error) if error.kind() != ErrorKind::OutOfMemory && reader.failed() => {
+            Err(ImportFault::Read)
+        }
+        Err(_) => Err(ImportFault::Memory),
     }
 }
 

@@ -1,12 +1,14 @@
 //! Passwords as they are read: a line each.
 
 ghost use Rattle.std.specs.Prelude.{◌≡◌, ◌<◌, ◌++◌, ◌∷◌, [], Err, IfErr, IfOk, IfSome, OnOk};
-ghost use Rattle.std.specs.Prelude.{length};
-ghost use Rattle.cred_admin.specs.Lines.{IsReading, ReadsLine, Takes};
+ghost use Rattle.std.specs.Prelude.{length, true};
+ghost use Rattle.cred_cli.specs.Watched.{failed_of, inner_of};
+ghost use Rattle.cred_admin.specs.Lines.{ReadFails, ReadsLine, Takes};
 ghost use Rattle.cred_admin.specs.Lines.{line_before};
 ghost use Rattle.cred_phc.specs.declared.password.TheConstants.{MAX_PASSWORD};
 
 use crate::fault::Fault;
+use cred_cli::Watched;
 use cred_phc::{MAX_PASSWORD, Password};
 use std::alloc::Global;
 use std::io::Read;
@@ -15,12 +17,15 @@ use std::io::Read;
 /// what is read. No byte behind the line is taken.
 ///
 /// Errors: `Read`; `Memory`; `Password` where the line has over 256 bytes.
-pub(crate) fn read_password<R: Read>(alloc: Global, reader: &mut R) -> Result<Password, Fault>
-    ensures line { IfOk result (λ pw. IfSome (R.remaining reader.old)
-        (λ bytes. ReadsLine bytes (R.remaining reader.new) pw)) }
-    ensures long { result ≡ Err Fault.Password → IfSome (R.remaining reader.old)
+pub(crate) fn read_password<R: Read>(
+    alloc: Global,
+    reader: &mut Watched<R>,
+) -> Result<Password, Fault>
+    ensures line { IfOk result (λ pw. IfSome (R.remaining (inner_of reader.old))
+        (λ bytes. ReadsLine bytes (R.remaining (inner_of reader.new)) pw)) }
+    ensures long { result ≡ Err Fault.Password → IfSome (R.remaining (inner_of reader.old))
         (λ bytes. MAX_PASSWORD < length (line_before bytes)) }
-    ensures faults { IfErr result IsReading }
+    ensures faults { IfErr result (ReadFails (failed_of reader.new)) }
 {
     let mut line = Vec::new(alloc);
     for _taken in 0..=MAX_PASSWORD {
@@ -36,10 +41,10 @@ pub(crate) fn read_password<R: Read>(alloc: Global, reader: &mut R) -> Result<Pa
 }
 
 /// The next byte, or none at the end.
-fn next_byte<R: Read>(reader: &mut R) -> Result<Option<u8>, Fault>
-    ensures byte { IfOk result (λ byte. IfSome (R.remaining reader.old)
-        (λ bytes. Takes bytes (R.remaining reader.new) byte)) }
-    ensures fault { IfErr result (λ e. e ≡ Fault.Read) }
+fn next_byte<R: Read>(reader: &mut Watched<R>) -> Result<Option<u8>, Fault>
+    ensures byte { IfOk result (λ byte. IfSome (R.remaining (inner_of reader.old))
+        (λ bytes. Takes bytes (R.remaining (inner_of reader.new)) byte)) }
+    ensures fault { IfErr result (λ e. (e ≡ Fault.Read) × (failed_of reader.new ≡ true)) }
 {
     let mut byte = [0];
     match reader.read(&mut byte) {

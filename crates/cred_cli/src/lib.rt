@@ -32,3 +32,4 @@ pub use process::run_program;
 pub use program::command;
 pub use script::{End, run_script};
 pub use watched::Watched;
+pub use writing::write_whole;

@@ -1,4 +1,4 @@
-//! Writing an answer line whole.
+//! Writing a text whole.
 
 ghost use Rattle.std.specs.Prelude.{◌≡◌, IfErr, OnOk};
 ghost use Rattle.std.specs.Io.KnownBytes.{Appends};
@@ -9,12 +9,11 @@ use crate::fault::ScriptFault;
 use crate::watched::Watched;
 use std::io::Write;
 
-/// Writes all the bytes, in as many calls as the writer needs. It gives up where one fails, an
-/// interrupted one included, or takes no byte.
-pub(crate) fn write_whole<W: Write>(
-    writer: &mut Watched<W>,
-    bytes: &[u8],
-) -> Result<(), ScriptFault>
+/// Writes all the bytes, in as many calls as the writer needs.
+///
+/// Errors: `Write` where a call fails, an interrupted one included, or takes no byte; a proper
+/// prefix of the bytes is written then.
+pub fn write_whole<W: Write>(writer: &mut Watched<W>, bytes: &[u8]) -> Result<(), ScriptFault>
     ensures done { OnOk result
         (Appends (W.contents (inner_of writer.old)) (W.contents (inner_of writer.new)) bytes.now) }
     ensures fails { IfErr result

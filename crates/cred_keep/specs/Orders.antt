@@ -1,10 +1,11 @@
 -- What an order makes of a kept book.
 use Rattle.std.specs.Prelude.{◌≡◌, ℕ, ◌≤◌, Bool, true, false, List, length, Option, Some, None}
-use Rattle.std.specs.Prelude.{IfSome, Result, Ok, Err}
+use Rattle.std.specs.Prelude.{IfErr, IfSome, Result, Ok, Err}
 use Rattle.std.specs.FinMap as map
 use Rattle.std.specs.Io.KnownBytes.{Keeps}
 use Rattle.cred_book.specs.Accounts.{Accounts}
 use Rattle.cred_book.specs.declared.request.Request.TheVariants as request
+use Rattle.cred_admin.specs.Causes as caused
 use Rattle.cred_admin.specs.Commands.{Adds, Asks, AsksTwice}
 use Rattle.cred_admin.specs.Import.{Imports}
 use Rattle.cred_admin.specs.Listing.{Prints, lines_text, name_line, passwd_line}
@@ -107,31 +108,37 @@ Runs s (Ok end) = IfSome s.input (λ bytes. (length bytes ≤ longest_script)
 Runs s (Err e) = HasCause s.reader_failed s.writer_failed e
     × IfSome s.input (λ bytes. ScriptFails s.old bytes s.left s.before s.now s.new e)
 
--- a command, of which this holds at its end, ends so
-abbrev pub Commands : (Result Status Fault → Type 0) → Result Status Failure → Type 0
-Commands Holds ended = (r : Result Status Fault) × Holds r × (ended ≡ command_end r)
+-- a command, whose reader or writer failed or didn't, and of which this holds at its end, ends so
+abbrev pub Commands : Bool → Bool → (Result Status Fault → Type 0) → Result Status Failure → Type 0
+Commands reader_failed writer_failed Holds ended = (r : Result Status Fault) × Holds r
+    × IfErr r (caused.HasCause reader_failed writer_failed) × (ended ≡ command_end r)
+
+abbrev pub CommandsAs : Seen → (Result Status Fault → Type 0) → Result Status Failure → Type 0
+CommandsAs s = Commands s.reader_failed s.writer_failed
 
 -- what is written of the book, which stays as it is
 abbrev pub Shows : List ℕ → Seen → Result Status Failure → Type 0
-Shows text s ended = Commands (Prints text s.before s.now) ended × (s.new ≡ s.old)
+Shows text s ended =
+    Commands false s.writer_failed (Prints text s.before s.now) ended × (s.new ≡ s.old)
 
 abbrev pub Performs : Order → Seen → Result Status Failure → Type 0
 Performs Run s ended = (r : Result End ScriptFault) × Runs s r × (ended ≡ run_end r)
 Performs (Add name setting) s ended =
-    Commands (Adds name setting s.input s.old s.new s.before s.now) ended
+    CommandsAs s (Adds name setting s.input s.old s.new s.before s.now) ended
 Performs (Check name) s ended =
-    Commands (Asks (λ pw. request.Verify name pw) s.input s.old s.new s.before s.now) ended
+    CommandsAs s (Asks (λ pw. request.Verify name pw) s.input s.old s.new s.before s.now) ended
 Performs (Change name setting) s ended =
-    Commands (AsksTwice (λ pw new_pw. request.Change name pw new_pw setting)
+    CommandsAs s (AsksTwice (λ pw new_pw. request.Change name pw new_pw setting)
     s.input s.old s.new s.before s.now) ended
 Performs (Upgrade name setting) s ended =
-    Commands (Asks (λ pw. request.Upgrade name pw setting) s.input s.old s.new s.before s.now) ended
+    CommandsAs s (Asks (λ pw. request.Upgrade name pw setting) s.input s.old s.new s.before s.now) ended
 Performs (Remove name) s ended =
-    Commands (Asks (λ pw. request.Remove name pw) s.input s.old s.new s.before s.now) ended
+    CommandsAs s (Asks (λ pw. request.Remove name pw) s.input s.old s.new s.before s.now) ended
 Performs Names s ended = Shows (lines_text name_line (map.entries s.old)) s ended
 Performs Export s ended = Shows (lines_text passwd_line (map.entries s.old)) s ended
 Performs Import s ended =
-    ((r : Result Status ImportFault) × Imports s.input s.old s.new r × (ended ≡ import_end r))
+    ((r : Result Status ImportFault) × Imports s.input s.old s.new r
+    × (r ≡ Err import.Read → s.reader_failed ≡ true) × (ended ≡ import_end r))
     × Keeps s.before s.now
 
 -- as it ends for the shell: Ok means that no change is lost

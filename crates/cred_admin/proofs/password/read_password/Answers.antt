@@ -1,6 +1,6 @@
 use Rattle.std.proofs.Common.{inl, inr, [], ◌∷◌, Some, length, ap, ◌∙◌, arith}
 use Rattle.std.proofs.lemmas.List.{length-append}
-use Rattle.cred_admin.proofs.Reading.{ended, more, not_ten}
+use Rattle.cred_admin.proofs.Reading.{ended, long_line, more, not_ten}
 use Rattle.cred_admin.proofs.password.read_password.Goals as goal
 
 pub returns-in_default-clause-line : goal.returns-in_default-clause-line
@@ -17,3 +17,6 @@ loop-taken-preserved g c = record {
   line = more _ _ _ _ _ c.in-Some.byte c.loop-taken.invariant.line (rw c.in-Some.is at c.in_ok-byte.ensures.byte) (not_ten _ c.if-byte-eq10.false) c.in_ok-keep.ensures.kept;
   count = omega (arith, ap length c.in_ok-keep.ensures.kept, length-append c.loop-taken.line.items (c.in-Some.byte ∷ []), c.loop-taken.invariant.count);
 }
+
+pub returns-clause-long : goal.returns-clause-long
+returns-clause-long g c e = long_line _ _ _ c.loop-taken.invariant.line (omega (arith, c.loop-taken.invariant.count, c.loop-taken-test.false))
