@@ -131,7 +131,8 @@ Performs (Change name setting) s ended =
     CommandsAs s (AsksTwice (λ pw new_pw. request.Change name pw new_pw setting)
     s.input s.old s.new s.before s.now) ended
 Performs (Upgrade name setting) s ended =
-    CommandsAs s (Asks (λ pw. request.Upgrade name pw setting) s.input s.old s.new s.before s.now) ended
+    CommandsAs s (Asks (λ pw. request.Upgrade name pw setting)
+    s.input s.old s.new s.before s.now) ended
 Performs (Remove name) s ended =
     CommandsAs s (Asks (λ pw. request.Remove name pw) s.input s.old s.new s.before s.now) ended
 Performs Names s ended = Shows (lines_text name_line (map.entries s.old)) s ended
