@@ -1,5 +1,5 @@
 -- The lines of an import in turn.
-use Rattle.std.proofs.Common.{◌≡◌, ◌⊎◌, inl, inr, ℕ, suc, ◌+◌, ◌<◌, ◌≤◌, List, [], ◌∷◌, ◌++◌, length, true, false, Option, Some, None, IfSome, Result, Ok, Err, is_err, refl, sym, subst, ap, ◌∙◌, nat_lt, arith, append_assoc, append-nil}
+use Rattle.std.proofs.Common.{Bool, ◌≡◌, ◌⊎◌, inl, inr, ℕ, suc, ◌+◌, ◌<◌, ◌≤◌, List, [], ◌∷◌, ◌++◌, length, true, false, Option, Some, None, IfSome, Result, Ok, Err, is_err, refl, sym, subst, ap, ◌∙◌, nat_lt, arith, append_assoc, append-nil}
 use Rattle.std.specs.FinMap as map
 use Rattle.std.proofs.lemmas.Bool.{lt-ltb, le-ltb}
 use Rattle.std.proofs.lemmas.List.{length-append}
@@ -133,34 +133,35 @@ pub read_whole : (input : Option (List ℕ)) (old new : List ℕ) → old ≡ []
 read_whole None old new empty h = tt
 read_whole (Some xs) old new empty h = h ∙ ap (λ o. o ++ xs) empty
 
-pub unread : (input : Option (List ℕ)) (old : Accounts) (e : ImportFault) → (e ≡ fault.Read) ⊎ (e ≡ fault.Memory) → Imports input old old (Err e)
-unread input old fault.Read h = refl
-unread input old fault.Memory h = inl refl
-unread input old (fault.Line n why) (inl h) = absurd cc
-unread input old (fault.Line n why) (inr h) = absurd cc
+pub unread : (input : Option (List ℕ)) (failed : Bool) (old : Accounts) (e : ImportFault) → ((e ≡ fault.Read) × (failed ≡ true)) ⊎ (e ≡ fault.Memory) → Imports input failed old old (Err e)
+unread input failed old fault.Read (inl h) = (h.1, refl)
+unread input failed old fault.Read (inr h) = absurd cc
+unread input failed old fault.Memory h = inl refl
+unread input failed old (fault.Line n why) (inl h) = absurd (let e = h.0 in cc)
+unread input failed old (fault.Line n why) (inr h) = absurd cc
 
 -- the copy told that a line isn't good
-pub tried : (input : Option (List ℕ)) (old copy copy' : Accounts) (text : List ℕ) (e : ImportFault) → copy ≡ old → IfSome input (λ bytes. text ≡ bytes)
-    → LoadsLines copy copy' (import_lines text) (Err e) → Imports input old old (Err e)
-tried input old copy copy' text fault.Read same known h = absurd h
-tried input old copy copy' text fault.Memory same known h = inl refl
-tried input old copy copy' text (fault.Line n why) same known h = (text, known, ap (λ b. after_lines b 1 (import_lines text)) (sym same) ∙ h, refl)
+pub tried : (input : Option (List ℕ)) (failed : Bool) (old copy copy' : Accounts) (text : List ℕ) (e : ImportFault) → copy ≡ old → IfSome input (λ bytes. text ≡ bytes)
+    → LoadsLines copy copy' (import_lines text) (Err e) → Imports input failed old old (Err e)
+tried input failed old copy copy' text fault.Read same known h = absurd h
+tried input failed old copy copy' text fault.Memory same known h = inl refl
+tried input failed old copy copy' text (fault.Line n why) same known h = (text, known, ap (λ b. after_lines b 1 (import_lines text)) (sym same) ∙ h, refl)
 
 no_both : {X : Type 0} (book : Accounts) (e : ℕ × LineFault) → ◌≡◌ {A = Result Accounts (ℕ × LineFault)} (Ok book) (Err e) → X
 no_both book e h = absurd cc
 
 -- the copy told that all lines are good
-loaded : (input : Option (List ℕ)) (old copy copy' new : Accounts) (text : List ℕ) (e : ImportFault) → copy ≡ old → IfSome input (λ bytes. text ≡ bytes)
-    → LoadsLines copy copy' (import_lines text) (Ok tt) → LoadsLines old new (import_lines text) (Err e) → Imports input old new (Err e)
-loaded input old copy copy' new text fault.Read same known good h = absurd h
-loaded input old copy copy' new text fault.Memory same known good h =
+loaded : (input : Option (List ℕ)) (failed : Bool) (old copy copy' new : Accounts) (text : List ℕ) (e : ImportFault) → copy ≡ old → IfSome input (λ bytes. text ≡ bytes)
+    → LoadsLines copy copy' (import_lines text) (Ok tt) → LoadsLines old new (import_lines text) (Err e) → Imports input failed old new (Err e)
+loaded input failed old copy copy' new text fault.Read same known good h = absurd h
+loaded input failed old copy copy' new text fault.Memory same known good h =
     inr (text, copy', known, ap (λ b. after_lines b 1 (import_lines text)) (sym same) ∙ good, h)
-loaded input old copy copy' new text (fault.Line n why) same known good h =
+loaded input failed old copy copy' new text (fault.Line n why) same known good h =
     no_both copy' (n, why) (sym good ∙ ap (λ b. after_lines b 1 (import_lines text)) same ∙ h)
 
 -- each time the lines were those of the text
-pub loaded_after : (input : Option (List ℕ)) (old copy copy' new : Accounts) (text first second : List ℕ) (e : ImportFault) → copy ≡ old → IfSome input (λ bytes. text ≡ bytes) → first ≡ text → second ≡ text
-    → LoadsLines copy copy' (import_lines first) (Ok tt) → LoadsLines old new (import_lines second) (Err e) → Imports input old new (Err e)
-loaded_after input old copy copy' new text first second e same known at at' good h =
-    loaded input old copy copy' new text e same known (subst (λ (t : List ℕ). LoadsLines copy copy' (import_lines t) (Ok tt)) at good)
+pub loaded_after : (input : Option (List ℕ)) (failed : Bool) (old copy copy' new : Accounts) (text first second : List ℕ) (e : ImportFault) → copy ≡ old → IfSome input (λ bytes. text ≡ bytes) → first ≡ text → second ≡ text
+    → LoadsLines copy copy' (import_lines first) (Ok tt) → LoadsLines old new (import_lines second) (Err e) → Imports input failed old new (Err e)
+loaded_after input failed old copy copy' new text first second e same known at at' good h =
+    loaded input failed old copy copy' new text e same known (subst (λ (t : List ℕ). LoadsLines copy copy' (import_lines t) (Ok tt)) at good)
     (subst (λ (t : List ℕ). LoadsLines old new (import_lines t) (Err e)) at' h)

@@ -1,6 +1,6 @@
 -- What an import makes of its text.
-use Rattle.std.specs.Prelude.{◌≡◌, ◌⊎◌, ℕ, suc, Bool, ◌&&◌, ◌==◌, if◌then◌else◌, nat_lt, List, []}
-use Rattle.std.specs.Prelude.{◌∷◌, ◌++◌, length, codes, Option, Some, None, IfSome, Result, Ok, Err}
+use Rattle.std.specs.Prelude.{◌≡◌, ◌⊎◌, ℕ, suc, Bool, true, ◌&&◌, ◌==◌, if◌then◌else◌, nat_lt, List}
+use Rattle.std.specs.Prelude.{[], ◌∷◌, ◌++◌, length, codes, Option, Some, None, IfSome, Result, Ok, Err}
 use Rattle.std.specs.FinMap as map
 use Rattle.cred_phc.specs.Errors.{error_number as fault_number, error_word as fault_word}
 use Rattle.cred_phc.specs.Pieces.{pieces}
@@ -136,15 +136,16 @@ LoadsLines old new lines (Err fault.Memory) = StopsAt old new lines
 LoadsLines old new lines (Err fault.Read) = ⊥
 
 -- all lines are good and done; or one is bad and nothing is; or there was no memory, before the
--- first line or, where all are good, later
-abbrev pub Imports : Option (List ℕ) → Accounts → Accounts → Result Status ImportFault → Type 0
-Imports input old new (Ok status) =
+-- first line or, where all are good, later; or a call on the reader failed
+abbrev pub Imports : Option (List ℕ) → Bool → Accounts → Accounts → Result Status ImportFault
+    → Type 0
+Imports input failed old new (Ok status) =
     (text : List ℕ) × IfSome input (λ bytes. text ≡ bytes)
     × (after_lines old 1 (import_lines text) ≡ Ok new) × (status ≡ Done)
-Imports input old new (Err (fault.Line n why)) =
+Imports input failed old new (Err (fault.Line n why)) =
     (text : List ℕ) × IfSome input (λ bytes. text ≡ bytes)
     × (after_lines old 1 (import_lines text) ≡ Err (n, why)) × (new ≡ old)
-Imports input old new (Err fault.Memory) =
+Imports input failed old new (Err fault.Memory) =
     (new ≡ old) ⊎ ((text : List ℕ) × (all : Accounts) × IfSome input (λ bytes. text ≡ bytes)
     × (after_lines old 1 (import_lines text) ≡ Ok all) × StopsAt old new (import_lines text))
-Imports input old new (Err fault.Read) = new ≡ old
+Imports input failed old new (Err fault.Read) = (failed ≡ true) × (new ≡ old)

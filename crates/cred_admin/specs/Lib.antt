@@ -1,11 +1,11 @@
 -- Definitions that contracts cite: lines and passwords as they are read, what the commands do,
 -- what they write, and their exit statuses.
 pub mod Answers
-pub mod Causes
 pub mod Commands
 pub mod Import
 pub mod Lines
 pub mod Listing
+pub mod Seen
 pub mod Settings
 pub mod Statuses
 pub use Rattle.cred_cli.specs.Outcome

@@ -1,5 +1,6 @@
 -- What lists and exports write.
 use Rattle.std.specs.Prelude.{◌≡◌, ℕ, List, [], ◌∷◌, ◌++◌, Option, Some, None, Result, Ok, Err}
+use Rattle.std.specs.Prelude.{Bool, true}
 use Rattle.std.specs.Io.KnownBytes.{Appends, Keeps}
 use Rattle.cred_phc.specs.Values.{RecordValue}
 use Rattle.cred_phc.specs.Text.{record_text}
@@ -30,11 +31,12 @@ unfoldable pub lines_text : (Entry → List ℕ) → List Entry → List ℕ
 lines_text line [] = []
 lines_text line (e ∷ es) = line e ++ lines_text line es
 
--- the text is written whole, or a proper front of it, or nothing
-abbrev pub Prints : List ℕ → Option (List ℕ) → Option (List ℕ) → Result Status Fault → Type 0
-Prints text before now (Ok status) = Appends before now text × (status ≡ Done)
-Prints text before now (Err fault.Write) = FrontWritten before now text
-Prints text before now (Err fault.Memory) = Keeps before now
-Prints text before now (Err fault.Read) = ⊥
-Prints text before now (Err fault.Password) = ⊥
-Prints text before now (Err fault.Full) = ⊥
+-- the text is written whole; or, where a call failed, a proper front of it; or nothing
+abbrev pub Prints : List ℕ → Option (List ℕ) → Option (List ℕ) → Bool → Result Status Fault
+    → Type 0
+Prints text before now failed (Ok status) = Appends before now text × (status ≡ Done)
+Prints text before now failed (Err fault.Write) = (failed ≡ true) × FrontWritten before now text
+Prints text before now failed (Err fault.Memory) = Keeps before now
+Prints text before now failed (Err fault.Read) = ⊥
+Prints text before now failed (Err fault.Password) = ⊥
+Prints text before now failed (Err fault.Full) = ⊥

@@ -8,7 +8,6 @@ ghost use Rattle.cred_book.specs.Works.{is_for_current, new_record, seq};
 ghost use Rattle.cred_book.specs.declared.request.Request.TheVariants.{Change, Remove, Upgrade};
 ghost use Rattle.cred_book.specs.declared.request.Request.TheVariants.{Verify};
 ghost use Rattle.cred_cli.specs.Watched.{failed_of, inner_of};
-ghost use Rattle.cred_admin.specs.Causes.{HasCause};
 ghost use Rattle.cred_admin.specs.Commands.{Adds, Asks, AsksTwice, Does, Enrols};
 
 use crate::answer::{reply_line, status_of};
@@ -40,10 +39,16 @@ pub fn add<T: Threads + Wait + Sync, K: Keeper, R: Read, W: Write>(
     reader: &mut Watched<R>,
     writer: &mut Watched<W>,
 ) -> Result<Status, Fault>
-    ensures done { Adds name.now setting.now (R.remaining (inner_of reader.old))
-        (K.book keeper.old) (K.book keeper.new) (W.contents (inner_of writer.old))
-        (W.contents (inner_of writer.new)) result }
-    ensures cause { IfErr result (HasCause (failed_of reader.new) (failed_of writer.new)) }
+    ensures { Adds name.now setting.now (record {
+      input = R.remaining (inner_of reader.old);
+      left = R.remaining (inner_of reader.new);
+      before = W.contents (inner_of writer.old);
+      now = W.contents (inner_of writer.new);
+      old = K.book keeper.old;
+      new = K.book keeper.new;
+      reader_failed = failed_of reader.new;
+      writer_failed = failed_of writer.new;
+    }) result }
 {
     let pw = read_password(tools.alloc, reader)?;
     let reply = enrol(tools, keeper, name, setting, &pw)?;
@@ -62,10 +67,16 @@ pub fn check<T: Threads + Wait + Sync, K: Keeper, R: Read, W: Write>(
     reader: &mut Watched<R>,
     writer: &mut Watched<W>,
 ) -> Result<Status, Fault>
-    ensures done { Asks (λ pw. Verify name.now pw) (R.remaining (inner_of reader.old))
-        (K.book keeper.old) (K.book keeper.new) (W.contents (inner_of writer.old))
-        (W.contents (inner_of writer.new)) result }
-    ensures cause { IfErr result (HasCause (failed_of reader.new) (failed_of writer.new)) }
+    ensures { Asks (λ pw. Verify name.now pw) (record {
+      input = R.remaining (inner_of reader.old);
+      left = R.remaining (inner_of reader.new);
+      before = W.contents (inner_of writer.old);
+      now = W.contents (inner_of writer.new);
+      old = K.book keeper.old;
+      new = K.book keeper.new;
+      reader_failed = failed_of reader.new;
+      writer_failed = failed_of writer.new;
+    }) result }
 {
     let pw = read_password(tools.alloc, reader)?;
     let request = Request::Verify { name: *name, pw };
@@ -85,10 +96,16 @@ pub fn change<T: Threads + Wait + Sync, K: Keeper, R: Read, W: Write>(
     reader: &mut Watched<R>,
     writer: &mut Watched<W>,
 ) -> Result<Status, Fault>
-    ensures done { AsksTwice (λ pw new_pw. Change name.now pw new_pw setting.now)
-        (R.remaining (inner_of reader.old)) (K.book keeper.old) (K.book keeper.new)
-        (W.contents (inner_of writer.old)) (W.contents (inner_of writer.new)) result }
-    ensures cause { IfErr result (HasCause (failed_of reader.new) (failed_of writer.new)) }
+    ensures { AsksTwice (λ pw new_pw. Change name.now pw new_pw setting.now) (record {
+      input = R.remaining (inner_of reader.old);
+      left = R.remaining (inner_of reader.new);
+      before = W.contents (inner_of writer.old);
+      now = W.contents (inner_of writer.new);
+      old = K.book keeper.old;
+      new = K.book keeper.new;
+      reader_failed = failed_of reader.new;
+      writer_failed = failed_of writer.new;
+    }) result }
 {
     let pw = read_password(tools.alloc, reader)?;
     let new_pw = read_password(tools.alloc, reader)?;
@@ -114,10 +131,16 @@ pub fn upgrade<T: Threads + Wait + Sync, K: Keeper, R: Read, W: Write>(
     reader: &mut Watched<R>,
     writer: &mut Watched<W>,
 ) -> Result<Status, Fault>
-    ensures done { Asks (λ pw. Upgrade name.now pw setting.now)
-        (R.remaining (inner_of reader.old)) (K.book keeper.old) (K.book keeper.new)
-        (W.contents (inner_of writer.old)) (W.contents (inner_of writer.new)) result }
-    ensures cause { IfErr result (HasCause (failed_of reader.new) (failed_of writer.new)) }
+    ensures { Asks (λ pw. Upgrade name.now pw setting.now) (record {
+      input = R.remaining (inner_of reader.old);
+      left = R.remaining (inner_of reader.new);
+      before = W.contents (inner_of writer.old);
+      now = W.contents (inner_of writer.new);
+      old = K.book keeper.old;
+      new = K.book keeper.new;
+      reader_failed = failed_of reader.new;
+      writer_failed = failed_of writer.new;
+    }) result }
 {
     let pw = read_password(tools.alloc, reader)?;
     let request = Request::Upgrade {
@@ -139,10 +162,16 @@ pub fn remove<T: Threads + Wait + Sync, K: Keeper, R: Read, W: Write>(
     reader: &mut Watched<R>,
     writer: &mut Watched<W>,
 ) -> Result<Status, Fault>
-    ensures done { Asks (λ pw. Remove name.now pw) (R.remaining (inner_of reader.old))
-        (K.book keeper.old) (K.book keeper.new) (W.contents (inner_of writer.old))
-        (W.contents (inner_of writer.new)) result }
-    ensures cause { IfErr result (HasCause (failed_of reader.new) (failed_of writer.new)) }
+    ensures { Asks (λ pw. Remove name.now pw) (record {
+      input = R.remaining (inner_of reader.old);
+      left = R.remaining (inner_of reader.new);
+      before = W.contents (inner_of writer.old);
+      now = W.contents (inner_of writer.new);
+      old = K.book keeper.old;
+      new = K.book keeper.new;
+      reader_failed = failed_of reader.new;
+      writer_failed = failed_of writer.new;
+    }) result }
 {
     let pw = read_password(tools.alloc, reader)?;
     let request = Request::Remove { name: *name, pw };
@@ -157,9 +186,9 @@ fn act<T: Threads + Wait + Sync, K: Keeper, W: Write>(
     writer: &mut Watched<W>,
 ) -> Result<Status, Fault>
     requires { is_for_current request ≡ true }
-    ensures done { Does (seq (K.book keeper.old) request) (K.book keeper.old) (K.book keeper.new)
-        (W.contents (inner_of writer.old)) (W.contents (inner_of writer.new)) result }
-    ensures cause { IfErr result (HasCause false (failed_of writer.new)) }
+    ensures { Does (seq (K.book keeper.old) request) (K.book keeper.old) (K.book keeper.new)
+        (W.contents (inner_of writer.old)) (W.contents (inner_of writer.new))
+        (failed_of writer.new) result }
 {
     let reply = settle(tools, keeper, request)?;
     write_whole(writer, reply_line(&reply))?;

@@ -1,10 +1,9 @@
 //! The commands that write the accounts, in the order of their names.
 
-ghost use Rattle.std.specs.Prelude.{◌≡◌, ◌++◌, IfErr, IfOk, OnOk, false};
+ghost use Rattle.std.specs.Prelude.{◌≡◌, ◌++◌, IfOk, OnOk};
 ghost use Rattle.std.specs.FinMap as map;
 ghost use Rattle.cred_phc.specs.Values.{RecordValue};
 ghost use Rattle.cred_cli.specs.Watched.{failed_of, inner_of};
-ghost use Rattle.cred_admin.specs.Causes.{HasCause};
 ghost use Rattle.cred_admin.specs.Listing.{Prints, lines_text, name_line, passwd_line};
 
 use crate::fault::Fault;
@@ -20,9 +19,9 @@ use std::io::Write;
 ///
 /// Errors: `Memory`, and nothing is written; `Write`.
 pub fn list<W: Write>(alloc: Global, book: &Book, writer: &mut Watched<W>) -> Result<Status, Fault>
-    ensures done { Prints (lines_text name_line (map.entries book.now))
-        (W.contents (inner_of writer.old)) (W.contents (inner_of writer.new)) result }
-    ensures cause { IfErr result (HasCause false (failed_of writer.new)) }
+    ensures { Prints (lines_text name_line (map.entries book.now))
+        (W.contents (inner_of writer.old)) (W.contents (inner_of writer.new))
+        (failed_of writer.new) result }
 {
     let text = names(alloc, book)?;
     write_whole(writer, &text)?;
@@ -38,9 +37,9 @@ pub fn export<W: Write>(
     book: &Book,
     writer: &mut Watched<W>,
 ) -> Result<Status, Fault>
-    ensures done { Prints (lines_text passwd_line (map.entries book.now))
-        (W.contents (inner_of writer.old)) (W.contents (inner_of writer.new)) result }
-    ensures cause { IfErr result (HasCause false (failed_of writer.new)) }
+    ensures { Prints (lines_text passwd_line (map.entries book.now))
+        (W.contents (inner_of writer.old)) (W.contents (inner_of writer.new))
+        (failed_of writer.new) result }
 {
     let text = entries(alloc, book)?;
     write_whole(writer, &text)?;

@@ -1,6 +1,6 @@
 //! Taking in the lines of a passwd-file, all or none.
 
-ghost use Rattle.std.specs.Prelude.{◌≡◌, ◌⊎◌, [], ◌∷◌, Err, IfErr, IfOk, IfSome, MatchOption, true};
+ghost use Rattle.std.specs.Prelude.{◌≡◌, ◌⊎◌, [], ◌∷◌, IfErr, IfOk, IfSome, MatchOption, true};
 ghost use Rattle.cred_cli.specs.Watched.{failed_of, inner_of};
 ghost use Rattle.cred_admin.specs.Import.{Imports, LoadsLine, LoadsLines, import_lines};
 ghost use Rattle.cred_admin.specs.Import.{refusal_fault, whole_lines};
@@ -39,9 +39,8 @@ pub fn import<T: Wait, K: Keeper, R: Read>(
     reader: &mut Watched<R>,
 ) -> Result<Status, ImportFault>
     requires { copy ≡ K.book keeper.old }
-    ensures done { Imports (R.remaining (inner_of reader.old)) (K.book keeper.old)
-        (K.book keeper.new) result }
-    ensures cause { result ≡ Err ImportFault.Read → failed_of reader.new ≡ true }
+    ensures { Imports (R.remaining (inner_of reader.old)) (failed_of reader.new)
+        (K.book keeper.old) (K.book keeper.new) result }
 {
     let text = read_all(alloc, reader)?;
     load_lines(rt, &mut copy, &text)?;

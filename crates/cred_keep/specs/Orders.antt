@@ -1,14 +1,14 @@
 -- What an order makes of a kept book.
 use Rattle.std.specs.Prelude.{◌≡◌, ℕ, ◌≤◌, Bool, true, false, List, length, Option, Some, None}
-use Rattle.std.specs.Prelude.{IfErr, IfSome, Result, Ok, Err}
+use Rattle.std.specs.Prelude.{IfSome, Result, Ok, Err}
 use Rattle.std.specs.FinMap as map
 use Rattle.std.specs.Io.KnownBytes.{Keeps}
 use Rattle.cred_book.specs.Accounts.{Accounts}
 use Rattle.cred_book.specs.declared.request.Request.TheVariants as request
-use Rattle.cred_admin.specs.Causes as caused
 use Rattle.cred_admin.specs.Commands.{Adds, Asks, AsksTwice}
 use Rattle.cred_admin.specs.Import.{Imports}
 use Rattle.cred_admin.specs.Listing.{Prints, lines_text, name_line, passwd_line}
+use Rattle.cred_admin.specs.Seen.{Seen}
 use Rattle.cred_admin.specs.Statuses.{status_of_fault}
 use Rattle.cred_admin.specs.declared.fault.Fault.{Fault}
 use Rattle.cred_admin.specs.declared.loading.ImportFault.{ImportFault}
@@ -89,18 +89,6 @@ status_of_open _ = Database
 
 -- ---- what it does
 
--- a reader, a writer and a book before and after: what the reader has and what is left of it, what
--- is written before and now, the old book and the new one, and whether a call failed
-pub record Seen : Type 0 where
-  pub input : Option (List ℕ)
-  pub left : Option (List ℕ)
-  pub before : Option (List ℕ)
-  pub now : Option (List ℕ)
-  pub old : Accounts
-  pub new : Accounts
-  pub reader_failed : Bool
-  pub writer_failed : Bool
-
 -- the script was answered whole, or it met a fault
 abbrev pub Runs : Seen → Result End ScriptFault → Type 0
 Runs s (Ok end) = IfSome s.input (λ bytes. (length bytes ≤ longest_script)
@@ -108,39 +96,29 @@ Runs s (Ok end) = IfSome s.input (λ bytes. (length bytes ≤ longest_script)
 Runs s (Err e) = HasCause s.reader_failed s.writer_failed e
     × IfSome s.input (λ bytes. ScriptFails s.old bytes s.left s.before s.now s.new e)
 
--- a command, whose reader or writer failed or didn't, and of which this holds at its end, ends so
-abbrev pub Commands : Bool → Bool → (Result Status Fault → Type 0) → Result Status Failure → Type 0
-Commands reader_failed writer_failed Holds ended = (r : Result Status Fault) × Holds r
-    × IfErr r (caused.HasCause reader_failed writer_failed) × (ended ≡ command_end r)
-
-abbrev pub CommandsAs : Seen → (Result Status Fault → Type 0) → Result Status Failure → Type 0
-CommandsAs s = Commands s.reader_failed s.writer_failed
+-- a command, of which this holds at its end, ends so
+abbrev pub Commands : (Result Status Fault → Type 0) → Result Status Failure → Type 0
+Commands Holds ended = (r : Result Status Fault) × Holds r × (ended ≡ command_end r)
 
 -- what is written of the book, which stays as it is
 abbrev pub Shows : List ℕ → Seen → Result Status Failure → Type 0
 Shows text s ended =
-    Commands false s.writer_failed (Prints text s.before s.now) ended × (s.new ≡ s.old)
+    Commands (Prints text s.before s.now s.writer_failed) ended × (s.new ≡ s.old)
 
 abbrev pub Performs : Order → Seen → Result Status Failure → Type 0
 Performs Run s ended = (r : Result End ScriptFault) × Runs s r × (ended ≡ run_end r)
-Performs (Add name setting) s ended =
-    CommandsAs s (Adds name setting s.input s.old s.new s.before s.now) ended
-Performs (Check name) s ended =
-    CommandsAs s (Asks (λ pw. request.Verify name pw) s.input s.old s.new s.before s.now) ended
+Performs (Add name setting) s ended = Commands (Adds name setting s) ended
+Performs (Check name) s ended = Commands (Asks (λ pw. request.Verify name pw) s) ended
 Performs (Change name setting) s ended =
-    CommandsAs s (AsksTwice (λ pw new_pw. request.Change name pw new_pw setting)
-    s.input s.old s.new s.before s.now) ended
+    Commands (AsksTwice (λ pw new_pw. request.Change name pw new_pw setting) s) ended
 Performs (Upgrade name setting) s ended =
-    CommandsAs s (Asks (λ pw. request.Upgrade name pw setting)
-    s.input s.old s.new s.before s.now) ended
-Performs (Remove name) s ended =
-    CommandsAs s (Asks (λ pw. request.Remove name pw) s.input s.old s.new s.before s.now) ended
+    Commands (Asks (λ pw. request.Upgrade name pw setting) s) ended
+Performs (Remove name) s ended = Commands (Asks (λ pw. request.Remove name pw) s) ended
 Performs Names s ended = Shows (lines_text name_line (map.entries s.old)) s ended
 Performs Export s ended = Shows (lines_text passwd_line (map.entries s.old)) s ended
 Performs Import s ended =
-    ((r : Result Status ImportFault) × Imports s.input s.old s.new r
-    × (r ≡ Err import.Read → s.reader_failed ≡ true) × (ended ≡ import_end r))
-    × Keeps s.before s.now
+    ((r : Result Status ImportFault) × Imports s.input s.reader_failed s.old s.new r
+    × (ended ≡ import_end r)) × Keeps s.before s.now
 
 -- as it ends for the shell: Ok means that no change is lost
 abbrev pub Ends : Order → Seen → Option Lost → Result Status Failure → Type 0

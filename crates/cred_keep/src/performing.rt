@@ -1,6 +1,6 @@
 //! Doing what is asked of a kept book.
 
-ghost use Rattle.std.specs.Prelude.{◌≡◌, Err, None, OnOk, true};
+ghost use Rattle.std.specs.Prelude.{◌≡◌, None, OnOk, true};
 ghost use Rattle.cred_admin.specs.Import.{Imports};
 ghost use Rattle.cred_cli.specs.Watched.{IsNew, failed_of, inner_of};
 ghost use Rattle.cred_file.specs.Keeps.{IsOrWith, IsTableOf, LeavesOnly};
@@ -167,8 +167,8 @@ fn take_in<T: Threads + Wait + Sync, S: Alter, R: Read>(
     book: &mut FileBook<S>,
     reader: &mut Watched<R>,
 ) -> Result<Status, ImportFault>
-    ensures done { Imports (R.remaining (inner_of reader.old)) book.old.0 book.new.0 result }
-    ensures cause { result ≡ Err ImportFault.Read → failed_of reader.new ≡ true }
+    ensures { Imports (R.remaining (inner_of reader.old)) (failed_of reader.new)
+        book.old.0 book.new.0 result }
 {
     match book.book().copy() {
         Ok(copy) => import(tools.rt, tools.alloc, book, copy, reader),
