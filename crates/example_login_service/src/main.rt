@@ -6,8 +6,12 @@
 #![tactic(auto)]
 
 use anyhow::{Context, Result};
+use cred_file::crash_and_open;
+use error::ServiceError;
+use file_writer::open_book;
 use service::{Served, serve};
 use sqlite::{Alter, Connection, Wary};
+use sqlite_trees::store::Reopen;
 use std::alloc::Global;
 use std::env;
 use std::io::Write;
@@ -37,8 +41,8 @@ fn main(rt: HostRuntime) -> Result<()> {
         None => {
             writeln!(out, "No file is named: the book is kept in memory.")?;
             let conn = Connection::open_in_memory(alloc)?;
-            serve_days(&rt, alloc, &mut out, conn)?;
-            Ok(())
+            let conn = serve_days(&rt, alloc, &mut out, conn)?;
+            stop_and_open(alloc, &mut out, conn)
         }
     }
 }
@@ -66,6 +70,21 @@ fn serve_day<R: Threads + Wait + RandomSource + Sync, S: Alter + Drop + Send, W:
     let served = serve(rt, alloc, conn, day).context("serving")?;
     print_day(out, &served)?;
     Ok(served.close())
+}
+
+/// Stops the machine, in memory, and opens what was kept.
+fn stop_and_open<S: Alter + Reopen + Drop, W: Write>(
+    alloc: Global,
+    out: &mut W,
+    conn: Connection<S>,
+) -> Result<()> {
+    let file = open_book(alloc, conn)?;
+    let opened = crash_and_open(alloc, file).context("stopping the machine")?;
+    match opened {
+        Ok(file) => writeln!(out, "After a crash: {} accounts.", file.book().len())?,
+        Err((fault, _conn)) => return Err(ServiceError::Open(fault).into()),
+    }
+    Ok(())
 }
 
 fn print_day<W: Write, S: Alter>(out: &mut W, served: &Served<S>) -> Result<()> {
