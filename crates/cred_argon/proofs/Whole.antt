@@ -1,5 +1,5 @@
 -- From vectors back to the block: what the rows and columns in vectors say of each word.
-use Rattle.std.proofs.Common.{◌≡◌, ℕ, ◌<◌, ◌≤◌, ◌+◌, ◌*◌, ◌/◌, ◌%◌, List, Bool, true, false, if◌then◌else◌, slice_index, length, map, arith, refl, sym, ap, ap₂, ◌∙◌, ◌-◌, ◌⊎◌, inl, inr, bit_xor}
+use Rattle.std.proofs.Common.{◌≡◌, ℕ, ◌<◌, ◌≤◌, ◌+◌, ◌*◌, ◌/◌, ◌%◌, List, slice_index, length, map, arith, refl, sym, ap, ap₂, ◌∙◌, ◌-◌, ◌⊎◌, inl, inr, bit_xor}
 use Rattle.std.proofs.lemmas.Bool.{cases_lt}
 use Rattle.std.specs.List.{range_with_len}
 use Rattle.std.proofs.lemmas.List.FromFn.{fill_by_all, get_or-map-range_with_len}

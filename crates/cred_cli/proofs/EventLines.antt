@@ -1,5 +1,5 @@
 -- An event's line is its words and fields.
-use Rattle.std.proofs.Common.{◌≡◌, ℕ, List, [], ◌∷◌, Bool, true, false, if◌then◌else◌, nat_lt, length, Result, Ok, Err, ◌⊎◌, inl, inr, refl, ap, codes}
+use Rattle.std.proofs.Common.{◌≡◌, ℕ, List, [], ◌∷◌, Bool, true, false, if◌then◌else◌, nat_lt, length, Result, Ok, Err, ◌⊎◌, inl, inr, refl, codes}
 use Rattle.std.specs.List.{join_with_byte}
 use Rattle.std.specs.Str.{bytes_eq}
 use Rattle.cred_phc.specs.Pieces.{pieces}
@@ -14,7 +14,7 @@ use Rattle.cred_cli.specs.declared.event.Operation.{Operation}
 use Rattle.cred_cli.specs.declared.event.Operation.TheVariants as operation
 use Rattle.cred_cli.specs.declared.refusal.Refusal.{Refusal}
 use Rattle.cred_cli.specs.declared.refusal.Refusal.TheVariants.{Long}
-use Rattle.cred_cli.specs.Events.{account_event, begin_event, change_request, commit_event, event_of, event_of_pieces, key_field, load_event, longest_line, name_field, operation_of, or_bad, own_setting, password_field, record_field, request_of, setting_field, show_event}
+use Rattle.cred_cli.specs.Events.{account_event, begin_event, commit_event, event_of, event_of_pieces, key_field, load_event, longest_line, name_field, operation_of, or_bad, password_field, record_field, request_of, setting_field, show_event}
 use Rattle.cred_cli.specs.EventLines.{IsLineOf, IsRequestOf}
 
 -- where a chain of steps gave a value, its first did

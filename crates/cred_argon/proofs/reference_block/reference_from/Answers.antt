@@ -1,4 +1,4 @@
-use Rattle.std.proofs.Common.{◌≤◌, ◌<◌, arith}
+use Rattle.std.proofs.Common.{◌≤◌, arith}
 use Rattle.cred_argon.specs.Parameters.{segment_len}
 use Rattle.cred_argon.proofs.Picks.{column_of, slice_below}
 use Rattle.cred_argon.proofs.reference_block.reference_from.Goals as goal
