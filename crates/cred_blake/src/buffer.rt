@@ -56,7 +56,7 @@ impl Buffer {
         self.len = 0;
     }
 
-    /// Adds `input`, for which there is room.
+    /// Appends `input`, which has to fit.
     pub(crate) fn extend(&mut self, input: &[u8])
         requires { length self.old + length input.now ≤ BLOCK_LEN }
         ensures { self.new ≡ self.old ++ input.now }
@@ -66,7 +66,7 @@ impl Buffer {
         self.len = end;
     }
 
-    /// Fills the block with zeros.
+    /// Pads the block with zeros.
     pub(crate) fn pad(&mut self)
         ensures { self.new ≡ padded_block self.old }
     {

@@ -1,12 +1,12 @@
-//! The compression function F of BLAKE2b (RFC 7693, section 3.2): one block of 128 bytes taken into
-//! the state.
+//! The compression function F of BLAKE2b (RFC 7693, section 3.2), which takes a block of 128 bytes
+//! into the state.
 
 ghost use Rattle.std.specs.Prelude.{◌≡◌, ◌+◌, ◌≤◌, ◌<◌, [], length, slice_index, slice_index_or};
 ghost use Rattle.cred_blake.specs.Blake2b.{compress, mix, mixing, round, rounds, schedule};
 ghost use Rattle.cred_blake.specs.Blake2b.{work_vector};
 ghost use Rattle.cred_blake.specs.Words.{word_at, words_of};
 
-/// The bytes of a block.
+/// The length of a block in bytes.
 pub(crate) const BLOCK_LEN: usize = 128;
 
 /// The initialization vector (RFC 7693, section 2.6).
@@ -64,7 +64,7 @@ fn mix(v: &mut [u64; 16], i: usize, j: usize, k: usize, l: usize, x: u64, y: u64
     v[l] = d;
 }
 
-/// The word of the message that round `r` takes in its place `i`.
+/// The message word that round `r` uses at its place `i`.
 #[inline(always)]
 fn word(m: &[u64; 16], r: usize, i: usize) -> u64
     requires { (r < 10) × (i < 16) }
@@ -89,7 +89,7 @@ fn round(v: &mut [u64; 16], m: &[u64; 16], r: usize)
     mix(v, 3, 4, 9, 14, word(m, r, 14), word(m, r, 15));
 }
 
-/// The twelve rounds, unrolled so that each one's row of the schedule is a constant.
+/// The twelve rounds, unrolled so that the row of the schedule is a constant in each.
 #[inline(always)]
 fn rounds(v: &mut [u64; 16], m: &[u64; 16])
     ensures { v.new ≡ rounds v.old m.now 12 }
@@ -152,7 +152,7 @@ fn words(block: &[u8]) -> [u64; 16]
     ]
 }
 
-/// The work vector of a block with this byte counter; the last block has the flag.
+/// The work vector for a block with this byte counter. `last` sets the final block flag.
 #[inline(always)]
 fn work_vector(h: &[u64; 8], counter: u128, last: bool) -> [u64; 16]
     ensures { result ≡ work_vector h.now counter last }
@@ -180,8 +180,8 @@ fn work_vector(h: &[u64; 8], counter: u128, last: bool) -> [u64; 16]
     ]
 }
 
-/// Takes a block of 128 bytes into the state. `counter` is the number of bytes up to the block's
-/// end, without padding, and `last` is the flag of the last block.
+/// Takes a block of 128 bytes into the state. `counter` is the number of bytes up to the end
+/// of the block, without padding, and `last` is the final block flag.
 pub(crate) fn compress(h: &mut [u64; 8], block: &[u8], counter: u128, last: bool)
     requires { length block.now ≡ BLOCK_LEN }
     ensures { h.new ≡ compress h.old block.now counter last }

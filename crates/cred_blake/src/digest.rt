@@ -5,7 +5,7 @@ ghost use Rattle.cred_blake.specs.Words.{bytes_of};
 
 use std::marker::Model;
 
-/// The greatest length of a digest and of a key, in bytes (RFC 7693, section 2.1).
+/// The maximum length of a digest and of a key, in bytes (RFC 7693, section 2.1).
 pub(crate) const MAX_LEN: usize = 64;
 
 /// The digest of a message, 1 to 64 bytes.
@@ -36,7 +36,7 @@ impl Digest {
         Digest { bytes, len }
     }
 
-    /// The bytes of the digest, as many as the hasher was made for.
+    /// The bytes of the digest, of the length that the hasher was made for.
     pub fn bytes(&self) -> &[u8]
         ensures { result.now ≡ self.now }
     {

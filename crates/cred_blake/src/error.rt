@@ -10,13 +10,13 @@ use thiserror::Error;
 /// Why a hasher or a hash could not be made.
 #[derive(Clone, Copy, Debug, PartialEq, Eq, Error)]
 pub enum BlakeError {
-    /// The length of the digest is outside 1 to 64 bytes, or that of H' is 0.
+    /// The length of the digest is not 1 to 64 bytes, or that of H' is 0.
     #[error("the length of the digest is out of range")]
     OutLen,
-    /// The key is over 64 bytes.
+    /// The key is longer than 64 bytes.
     #[error("the key is longer than 64 bytes")]
     KeyLen,
-    /// There was no memory for the result.
+    /// Out of memory: there was not enough for the result.
     #[error("out of memory")]
     Memory,
 }
@@ -33,7 +33,7 @@ impl BlakeError {
         }
     }
 
-    /// The name of the error in lower case, as `outlen`.
+    /// The name of the error in lower case, such as `outlen`.
     pub fn word(self) -> &'static str
         ensures { result.now ≡ error_word self }
     {

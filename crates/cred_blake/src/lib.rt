@@ -1,4 +1,4 @@
-//! BLAKE2b (RFC 7693) and the hash H' of any length that Argon2 makes of it (RFC 9106, section
+//! BLAKE2b (RFC 7693) and H', the hash of any length that Argon2 builds from it (RFC 9106, section
 //! 3.3).
 //!
 //! ```rust

@@ -5,10 +5,11 @@ ghost use Rattle.cred_blake.specs.Blake2b.{compress, initial_state};
 
 use crate::compress::{BLOCK_LEN, IV, compress};
 
-/// The fanout and the depth in the parameter block, both 1: no tree (RFC 7693, section 2.5).
+/// The fanout and the depth in the parameter block, both 1: sequential mode, no tree (RFC 7693,
+/// section 2.5).
 const SEQUENTIAL: u64 = 0x01010000;
 
-/// The state after the blocks so far, and the bytes of those blocks.
+/// The state after the blocks so far, and how many bytes those blocks had.
 #[derive(Drop)]
 pub(crate) struct State {
     pub(crate) h: [u64; 8],
@@ -16,7 +17,7 @@ pub(crate) struct State {
 }
 
 impl State {
-    /// The state before the first block, for a digest and a key of these lengths in bytes.
+    /// The state before the first block, for a digest and a key of these lengths, in bytes.
     pub(crate) fn new(out_len: usize, key_len: usize) -> State
         requires { key_len ≤ 64 }
         ensures h { result.h ≡ initial_state out_len key_len }
@@ -27,7 +28,7 @@ impl State {
         State { h, counter: 0 }
     }
 
-    /// Takes in a block that bytes come after.
+    /// Takes in a block that is not the last.
     pub(crate) fn absorb(&mut self, block: &[u8])
         requires { length block.now ≡ BLOCK_LEN }
         ensures h { self.new.h ≡ compress self.old.h block.now self.new.counter false }
@@ -37,7 +38,7 @@ impl State {
         compress(&mut self.h, block, self.counter, false);
     }
 
-    /// Takes in the last block, whose first `len` bytes are the message's; the others are padding.
+    /// Takes in the last block. Its first `len` bytes are the message's; the rest are padding.
     pub(crate) fn absorb_last(&mut self, block: &[u8], len: usize)
         requires { length block.now ≡ BLOCK_LEN }
         ensures { self.new.h

@@ -1,4 +1,4 @@
-//! H', the hash of any length that Argon2 makes of BLAKE2b (RFC 9106, section 3.3).
+//! H', the hash of any length that Argon2 builds from BLAKE2b (RFC 9106, section 3.3).
 
 ghost use Rattle.std.specs.Prelude.{◌≡◌, ◌↔◌, ◌+◌, ◌^◌, ◌<◌, ◌≤◌, [], ◌++◌, length, take, vec_len};
 ghost use Rattle.std.specs.Prelude.{IfOk};
@@ -10,7 +10,7 @@ use crate::error::BlakeError;
 use crate::hasher::Blake2b;
 use std::alloc::Global;
 
-/// How many bytes of a hash go into a longer one: its first half.
+/// How many bytes of each hash in the chain go into a longer output: its first half.
 const HALF_LEN: usize = MAX_LEN / 2;
 
 /// The hash of two pieces, without a key.
@@ -25,7 +25,7 @@ fn hash(out_len: usize, first: &[u8], second: &[u8]) -> Digest
     hasher.finalize()
 }
 
-/// The half of a whole digest that goes into H'.
+/// The half of a 64-byte digest that goes into H'.
 fn first_half(digest: &Digest) -> &[u8]
     requires { length digest.now ≡ 64 }
     ensures value { result.now ≡ take 32 digest.now }
@@ -35,7 +35,7 @@ fn first_half(digest: &Digest) -> &[u8]
     &bytes[..HALF_LEN]
 }
 
-/// Writes `piece` into `out` from byte `at` on.
+/// Writes `piece` into `out`, starting at byte `at`.
 fn put(out: &mut [u8], at: usize, piece: &[u8])
     requires { at + length piece.now ≤ length out.old }
     ensures { take (at + length piece.now) out.new ≡ take at out.old ++ piece.now }
@@ -43,7 +43,7 @@ fn put(out: &mut [u8], at: usize, piece: &[u8])
     out[at..at + piece.len()].copy_from_slice(piece);
 }
 
-/// Fills `out` with H' of its length.
+/// Fills `out` with H' of `out`'s length.
 fn write_hash_prime(out: &mut [u8], input: &[u8])
     requires low { 1 ≤ length out.old }
     requires high { length out.old < 2 ^ 32 }
@@ -66,9 +66,9 @@ fn write_hash_prime(out: &mut [u8], input: &[u8])
     put(out, HALF_LEN * half_count, last.bytes());
 }
 
-/// H' of `input` to `len` bytes.
+/// H' of `input`, `len` bytes long.
 ///
-/// Errors: `OutLen` where `len` is 0; `Memory` where there is none for the result.
+/// Errors: `OutLen` if `len` is 0; `Memory` if there is not enough for the result.
 pub fn hprime(alloc: Global, len: u32, input: &[u8]) -> Result<Vec<u8>, BlakeError>
     ensures out_len { (result ≡ Err BlakeError.OutLen) ↔ (len ≡ 0) }
     ensures no_other { (result ≡ Err BlakeError.KeyLen) → ⊥ }
@@ -83,7 +83,7 @@ pub fn hprime(alloc: Global, len: u32, input: &[u8]) -> Result<Vec<u8>, BlakeErr
     Ok(out)
 }
 
-/// H' of `input` to 1024 bytes, the length of a block of Argon2. It takes no memory.
+/// H' of `input`, 1024 bytes long: a block of Argon2. It allocates no memory.
 pub fn hprime_block(input: &[u8]) -> [u8; 1024]
     ensures { result ≡ hash_prime 1024 input.now }
 {

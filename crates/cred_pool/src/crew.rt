@@ -1,11 +1,11 @@
-//! Who works the parts of a work.
+//! What works the parts: threads, or the caller's thread.
 ghost use Rattle.std.specs.Prelude.{ℕ, ◌<◌, length, slice_index_or};
 
 use crate::gate::Gate;
 use crate::part::{Part, work_run};
 
-/// Whoever works the parts of a work, each once: threads, or the caller's thread alone. What is
-/// made of parts can be written once for every crew.
+/// What works all the parts, each once: threads, or the caller's thread alone. Code that is made
+/// of parts can be written once, for any crew.
 pub trait Crew<C, P: Part<C>> {
     ghost ready: { Self → Type 0 };
 
@@ -18,15 +18,15 @@ pub trait Crew<C, P: Part<C>> {
             → P.works shared.now (slice_index_or parts.old i d) (slice_index_or parts.new i d) };
 }
 
-/// The caller's thread alone, which works the parts in turn, each between the gate's `enter` and
-/// `leave` with the part's index. It needs no runtime, so a library for C can have it.
+/// The caller's thread alone. It works the parts in turn, each between the gate's `enter` and
+/// `leave` with the part's index. It needs no runtime, so a library for C can use it.
 #[derive(Drop)]
 pub struct Alone<'a, G> {
     gate: &'a G,
 }
 
 impl<'a, G> Alone<'a, G> {
-    /// The caller's thread, behind this gate.
+    /// The caller's thread, with this gate around each part.
     pub fn new(gate: &'a G) -> Alone<'a, G> {
         Alone { gate }
     }
@@ -42,7 +42,7 @@ impl<'a, G: Gate, C, P: Part<C>> Crew<C, P> for Alone<'a, G> {
     }
 }
 
-/// The crew that a closure is, as one over [`run_parts`](crate::run_parts). It is ready where the
+/// A closure as a crew, such as one that calls [`run_parts`](crate::run_parts). It is ready if the
 /// closure's own contract says that each part is worked.
 #[derive(Drop)]
 pub struct CrewFn<F> {

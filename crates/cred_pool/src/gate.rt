@@ -1,7 +1,7 @@
-//! The gate round each part's work.
+//! The gate around the work of each part.
 
-/// What is called round each part's work, on the thread that works it. A gate can watch the parts,
-/// or hold one back until another has come.
+/// Called before and after the work of each part, on the thread that does the work. A gate can
+/// watch the parts, or hold one back until another has arrived.
 pub trait Gate {
     /// The work of the part with this index is about to begin.
     fn enter(&self, part: usize);

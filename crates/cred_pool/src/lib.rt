@@ -1,9 +1,10 @@
-//! Parts of a work that are dealt to threads, behind a gate that sees each part begin and end.
+//! Work that is divided into parts and shared out among threads, with a gate that sees each part
+//! begin and end.
 //!
-//! [`run_parts`] works each part once, in at most so many threads, and its contract says how each
-//! part stands to the part before and the value that all of them share. [`NoGate`] is the gate that
-//! lets every part through. A [`Crew`] is whoever works the parts: threads by way of [`CrewFn`], or
-//! the caller's thread [`Alone`].
+//! [`run_parts`] works each part once, in a limited number of threads. Its contract relates each
+//! part after the run to the part before it and to the value that all parts share. [`NoGate`] is
+//! the gate that lets every part through. A [`Crew`] is what works the parts: threads, by a
+//! [`CrewFn`], or the caller's thread, [`Alone`].
 #![tactic(auto)]
 
 mod crew;

@@ -1,4 +1,4 @@
-//! A part of a work, and the run that works each part once.
+//! One part of the work, and the run that works each part once.
 ghost use Rattle.std.specs.Prelude.{ℕ, ◌<◌, ◌+◌, ◌^◌, ◌≡◌, length, slice_index_or};
 ghost use denote.Param.Send.{IsSync, IsSend};
 
@@ -7,9 +7,9 @@ use std::marker::{Send, Sync};
 use std::thread;
 use std::thread::Threads;
 
-/// One part of a work, whose parts have a value of type `C` in common. Each implementation names
-/// what its work needs of the shared value and the part, and how the part stands afterwards to the
-/// part before.
+/// One part of some work, whose parts share a value of type `C`. An implementation names two
+/// relations: what its work requires of the shared value and the part, and how the part after the
+/// work relates to the part before.
 pub trait Part<C> {
     ghost can_work: { C → Self → Type 0 };
 
@@ -21,13 +21,12 @@ pub trait Part<C> {
         ensures { works shared.now self.old self.new };
 }
 
-/// Works each part once, in at most `workers` new threads, which the caller waits for, and calls
-/// `enter` and `leave` of the gate with the part's index before and after its work. The parts are
-/// dealt in runs of neighbours of one length.
+/// Works each part once, in at most `workers` new threads, and waits for them. The gate's `enter`
+/// and `leave` are called with the part's index before and after its work. Each thread gets a run
+/// of neighbouring parts, all runs but the last being of one length.
 ///
-/// Where `workers` is 0 or 1, or there are fewer than two parts, no thread is started. Where a
-/// thread can't be started its parts are worked by the threads that are there, so nothing is
-/// refused.
+/// If `workers` is 0 or 1, or there are fewer than two parts, no thread is started. If a thread
+/// can't be started, the other threads work its parts, so the call can't fail.
 pub fn run_parts<R: Threads + Sync, G: Gate + Sync, C: Sync, P: Part<C> + Send>(
     rt: &R,
     workers: u8,
@@ -48,7 +47,7 @@ pub fn run_parts<R: Threads + Sync, G: Gate + Sync, C: Sync, P: Part<C> + Send>(
     run_from(rt, gate, shared, 0, size, parts);
 }
 
-/// Works the parts of which the first has the index `base`, in runs of `size`.
+/// Works the parts, the first of which has the index `base`, in runs of `size`.
 #[cycle(runs)]
 fn run_from<R: Threads + Sync, G: Gate + Sync, C: Sync, P: Part<C> + Send>(
     rt: &R,
@@ -72,9 +71,9 @@ fn run_from<R: Threads + Sync, G: Gate + Sync, C: Sync, P: Part<C> + Send>(
     run_both(rt, gate, shared, base, size, run, rest);
 }
 
-/// Works a run in a new thread and the rest from here, so that one thread starts all the others and
-/// works nothing itself: a new thread is often given the processor of the one that started it, and
-/// then one of the two waits for milliseconds.
+/// Works a run in a new thread and starts the rest from here, so that one thread starts all the
+/// others and does no work itself: a new thread often gets the processor of the thread that
+/// started it, and then one of the two waits for milliseconds.
 #[cycle(runs)]
 fn run_both<R: Threads + Sync, G: Gate + Sync, C: Sync, P: Part<C> + Send>(
     rt: &R,

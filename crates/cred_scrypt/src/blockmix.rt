@@ -7,11 +7,11 @@ ghost use Rattle.cred_scrypt.specs.Xor.{xor_all};
 use crate::salsa::salsa20_8;
 use crate::xor::xor_words;
 
-/// The words of a block of 64 bytes.
+/// How many words a block of 64 bytes has.
 const BLOCK: usize = 16;
 
-/// BlockMix (RFC 7914, section 4) of `from`, which has 2r blocks of sixteen words for some r from 1
-/// on, into `into`, which is as long.
+/// Writes BlockMix (RFC 7914, section 4) of `from` into `into`. Both have 2r blocks of sixteen
+/// words, for one r of at least 1.
 #[inline(always)]
 pub fn block_mix(from: &[u32], into: &mut [u32])
     requires whole { length from.now % 32 ≡ 0 }
@@ -51,7 +51,7 @@ fn chain(x: &mut [u32; 16], from: &[u32], i: usize)
     salsa20_8(x);
 }
 
-/// Writes a block at place `i`, after those that were written before it.
+/// Writes a block at place `i`, after those already written.
 #[inline(always)]
 fn put(into: &mut [u32], i: usize, x: &[u32; 16])
     requires { 16 * i + 16 ≤ length into.old }

@@ -7,22 +7,22 @@ ghost use Rattle.cred_scrypt.specs.declared.error.ScryptError.TheVariants.{Memor
 use std::alloc::{AllocError, AllocFailed};
 use thiserror::Error;
 
-/// Why parameters were refused, or that memory was.
+/// Why parameters were refused, or that memory ran out.
 #[derive(Clone, Copy, Debug, PartialEq, Eq, Error)]
 pub enum ScryptError {
-    /// The cost is out of its range, or too high for the block size or for the table's 2 GiB.
+    /// The cost is out of range, too high for the block size, or its table would exceed 2 GiB.
     #[error("the cost is out of range, or too high for the block size or for a table of 2 GiB")]
     Cost,
     /// The block size is 0.
     #[error("the block size is 0")]
     BlockSize,
-    /// There is no piece: p is 0.
+    /// There are no pieces: p is 0.
     #[error("the parallelization is 0")]
     Blocks,
-    /// The key isn't 4 to 64 bytes long.
+    /// The length of the key is not 4 to 64 bytes.
     #[error("the key is not 4 to 64 bytes long")]
     Len,
-    /// There was no memory for the pieces, for a table or for the key.
+    /// Out of memory: there was not enough for the pieces, a table or the key.
     #[error("out of memory")]
     Memory,
 }
@@ -41,7 +41,7 @@ impl ScryptError {
         }
     }
 
-    /// The name of the error in lower case, as `blocksize`.
+    /// The name of the error in lower case, such as `blocksize`.
     pub fn word(self) -> &'static str
         ensures { result.now ≡ error_word self }
     {

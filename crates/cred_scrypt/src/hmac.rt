@@ -1,5 +1,5 @@
-//! HMAC-SHA-256 (RFC 2104, section 2), with the hashers of a key kept, so that the key is taken in
-//! once for many messages.
+//! HMAC-SHA-256 (RFC 2104, section 2). A key's hashers are kept, so that the key is processed once
+//! for many messages.
 ghost use Rattle.std.specs.Prelude.{◌≡◌, ℕ, ◌≤◌, ◌++◌, List, length, drop};
 ghost use Rattle.sha2.specs.Hashers.{Holds256};
 ghost use Rattle.cred_scrypt.specs.Hmac.{hmac, inner_pad, key_block, xor_with_byte};
@@ -7,15 +7,15 @@ ghost use Rattle.cred_scrypt.specs.Hmac.{hmac, inner_pad, key_block, xor_with_by
 use crate::xor::xor_bytes;
 use sha2::{Digest, Sha256};
 
-/// How many bytes SHA-256 takes in at a time.
+/// The length of a block of SHA-256 in bytes.
 const BLOCK: usize = 64;
 
-/// What the key is masked by in the inner and in the outer hash (RFC 2104, section 2).
+/// The masks of the key in the inner and the outer hash, ipad and opad (RFC 2104, section 2).
 const INNER: u8 = 0x36;
 
 const OUTER: u8 = 0x5c;
 
-/// HMAC with SHA-256 (RFC 2104, section 2) of `msg` under `key`: 32 bytes. Key and message have any
+/// HMAC-SHA-256 (RFC 2104, section 2) of `msg` under `key`: 32 bytes. Key and message may have any
 /// length.
 pub fn hmac_sha256(key: &[u8], msg: &[u8]) -> [u8; 32]
     ensures { result ≡ hmac key.now msg.now }
@@ -26,7 +26,7 @@ pub fn hmac_sha256(key: &[u8], msg: &[u8]) -> [u8; 32]
     mac.finish(hasher)
 }
 
-/// The hashers of a key, each after its first block.
+/// The inner and outer hasher of a key, each after its first block.
 #[derive(Drop)]
 pub(crate) struct Hmac {
     inner: Sha256,
@@ -47,7 +47,7 @@ impl Hmac {
         }
     }
 
-    /// A hasher for a message, to be handed to `finish` once the message is taken in.
+    /// A hasher for a message; once it has taken the message in, hand it to `finish`.
     pub(crate) fn begin(&self) -> Sha256
         ensures { (key : List ℕ) → IsKeyed key self.now → Holds256 result (inner_pad key) }
     {
@@ -66,7 +66,7 @@ impl Hmac {
     }
 }
 
-/// The key, or its digest where it is longer than a block, with zeros after it.
+/// The key, or its digest if the key is longer than a block, padded with zeros.
 fn key_block(key: &[u8]) -> [u8; 64]
     ensures { result ≡ key_block key.now }
 {
@@ -79,7 +79,7 @@ fn key_block(key: &[u8]) -> [u8; 64]
     block
 }
 
-/// Writes `piece` over the front of a block.
+/// Writes `piece` over the start of a block.
 fn put(block: &mut [u8; 64], piece: &[u8])
     requires { length piece.now ≤ 64 }
     ensures { block.new ≡ piece.now ++ drop (length piece.now) block.old }
@@ -87,7 +87,7 @@ fn put(block: &mut [u8; 64], piece: &[u8])
     block[..piece.len()].copy_from_slice(piece);
 }
 
-/// Each byte of `block` under exclusive or with `mask`.
+/// Each byte of `block` XOR `mask`.
 fn masked(block: &[u8; 64], mask: u8) -> [u8; 64]
     ensures { result ≡ xor_with_byte mask block.now }
 {
@@ -103,7 +103,7 @@ fn hasher_of(message: &[u8]) -> Sha256
     Sha256::new_with_prefix(message)
 }
 
-/// A copy, which takes no memory and so can't be refused.
+/// A copy, which allocates no memory and so can't fail.
 fn copy_of(hasher: &Sha256) -> Sha256
     ensures { result ≡ hasher.now }
 {

@@ -1,4 +1,4 @@
-//! scrypt itself: PBKDF2, ROMix on each piece, PBKDF2 (RFC 7914, section 6).
+//! scrypt itself: PBKDF2, ROMix on each piece, and PBKDF2 again (RFC 7914, section 6).
 ghost use Rattle.std.specs.Prelude.{◌≡◌, ◌<◌, ℕ, IfOk, length, slice_index_or};
 ghost use Rattle.cred_scrypt.specs.PieceWork.{CanWork, Works};
 ghost use Rattle.cred_scrypt.specs.Scrypt.{scrypt};
@@ -14,12 +14,12 @@ use std::alloc::Global;
 use std::marker::Sync;
 use std::thread::Threads;
 
-/// scrypt (RFC 7914, section 6): the key of a password and a salt, of any lengths. The pieces are
-/// mixed in at most `workers` new threads, between the gate's `enter` and `leave` with the piece's
-/// index. Each piece has a table of 128 * r * N bytes while it is worked.
+/// scrypt (RFC 7914, section 6): the key of a password and a salt, each of any length. The pieces
+/// are mixed in at most `workers` new threads, each piece between the gate's `enter` and `leave`
+/// with its index. A piece has a table of 128 * r * N bytes while it is mixed.
 ///
-/// Errors: `Memory` where there is none for one of the tables, for the 128 * r * p bytes of the
-/// pieces or for the key.
+/// Errors: `Memory` if there is not enough for a table, for the 128 * r * p bytes of the pieces or
+/// for the key.
 pub fn scrypt<R: Threads + Sync, G: Gate + Sync>(
     rt: &R,
     alloc: Global,
@@ -45,8 +45,8 @@ pub fn scrypt<R: Threads + Sync, G: Gate + Sync>(
     scrypt_by(&CrewFn { work_each }, alloc, params, pw, salt)
 }
 
-/// The same with all the work done on the caller's thread, so that it needs no runtime: each piece
-/// in turn, behind the gate. The errors are the same.
+/// The same key with all work on the caller's thread, so that no runtime is needed: the pieces are
+/// mixed in turn, with the gate around each. The errors are the same.
 pub fn scrypt_alone<G: Gate>(
     alloc: Global,
     gate: &G,
@@ -62,7 +62,7 @@ pub fn scrypt_alone<G: Gate>(
     scrypt_by(&Alone::new(gate), alloc, params, pw, salt)
 }
 
-/// The same with the pieces mixed by this crew.
+/// The same key with the pieces mixed by this crew.
 fn scrypt_by<W: Crew<Mixing, Piece>>(
     crew: &W,
     alloc: Global,

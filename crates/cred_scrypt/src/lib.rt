@@ -1,9 +1,9 @@
-//! scrypt (RFC 7914) with what it is made of: HMAC-SHA-256 (RFC 2104), PBKDF2 (RFC 8018),
+//! scrypt (RFC 7914) and its building blocks: HMAC-SHA-256 (RFC 2104), PBKDF2 (RFC 8018),
 //! Salsa20/8, BlockMix and ROMix.
 //!
-//! [`scrypt`] derives a key from a password and a salt. Its p pieces are the parts of a run of
-//! worker threads, and the key is the standard's for any number of workers; [`scrypt_alone`] mixes
-//! them on the caller's thread.
+//! [`scrypt`] derives a key from a password and a salt. Worker threads mix its p pieces, and the
+//! key is the standard's whatever their number. [`scrypt_alone`] mixes them on the caller's
+//! thread.
 #![tactic(auto)]
 
 mod blockmix;
@@ -22,7 +22,10 @@ pub use blockmix::block_mix;
 pub use error::ScryptError;
 pub use hmac::hmac_sha256;
 pub use key_derivation::{scrypt, scrypt_alone};
-pub use params::{MAX_BLOCK_SIZE, MAX_BLOCKS, MAX_LEN, MAX_LN, MAX_ROWS, MIN_LEN, ScryptParams};
+pub use params::{
+    MAX_BLOCK_SIZE, MAX_BLOCKS, MAX_LEN, MAX_LN, MAX_ROWS, MIN_LEN, ScryptParams,
+    ranges_are_these_numbers,
+};
 pub use pbkdf::pbkdf2;
 pub use romix::ro_mix;
 pub use salsa::salsa20_8;

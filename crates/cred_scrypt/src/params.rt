@@ -1,20 +1,21 @@
-//! The numbers that scrypt is run with, each in its range (RFC 7914, section 2).
+//! scrypt's parameters, each in its range (RFC 7914, section 2).
 ghost use Rattle.std.specs.Prelude.{◌≡◌, ◌<◌, ◌≤◌, ◌*◌, ◌^◌, ◌↔◌, IsTrue, IfOk};
-ghost use Rattle.cred_scrypt.specs.declared.params.TheConstants.{MAX_LN, MAX_ROWS};
+ghost use Rattle.cred_scrypt.specs.declared.params.TheConstants.{MAX_BLOCK_SIZE, MAX_BLOCKS};
+ghost use Rattle.cred_scrypt.specs.declared.params.TheConstants.{MAX_LEN, MAX_LN, MAX_ROWS, MIN_LEN};
 ghost use Rattle.cred_scrypt.specs.Params.{IsBadLen, IsCostly};
 
 use crate::error::ScryptError;
 
-/// The most that r * N may be: a table has 128 bytes for each unit of it, and 2 GiB at most.
+/// The maximum of r * N. A table takes 128 bytes for each unit of it, so at most 2 GiB.
 pub const MAX_ROWS: u64 = 16_777_216;
 
-/// The greatest ln, at which a table has 2 GiB with the least block size.
+/// The maximum of ln, at which the table takes 2 GiB with the smallest block size.
 pub const MAX_LN: u8 = 24;
 
-/// The greatest block size: it is kept in a byte.
+/// The maximum block size, which is kept in a byte.
 pub const MAX_BLOCK_SIZE: u8 = 255;
 
-/// The most pieces: their number is kept in a byte.
+/// The maximum number of pieces, which is kept in a byte.
 pub const MAX_BLOCKS: u8 = 255;
 
 /// The shortest key in bytes that a record can hold.
@@ -23,14 +24,24 @@ pub const MIN_LEN: u32 = 4;
 /// The longest key in bytes that a record can hold.
 pub const MAX_LEN: u32 = 64;
 
-/// scrypt's numbers (RFC 7914, section 2), of which the table fits into 2 GiB.
+/// A law: the ranges that definitions take from the constants above are these numbers.
+pub fn ranges_are_these_numbers()
+    ensures rows { MAX_ROWS ≡ 16777216 }
+    ensures ln { MAX_LN ≡ 24 }
+    ensures block_size { MAX_BLOCK_SIZE ≡ 255 }
+    ensures blocks { MAX_BLOCKS ≡ 255 }
+    ensures shortest_key { MIN_LEN ≡ 4 }
+    ensures longest_key { MAX_LEN ≡ 64 }
+{}
+
+/// scrypt's parameters (RFC 7914, section 2), with a table of at most 2 GiB.
 #[derive(Clone, Copy, Debug, PartialEq, Eq)]
 pub struct ScryptParams {
     /// The cost as a power of two: N is 2 to the power of `ln`.
     pub ln: u8,
     /// The block size: BlockMix works on 2r blocks of 64 bytes.
     pub r: u8,
-    /// The parallelization: how many pieces of 128r bytes are mixed, each by itself.
+    /// The parallelization: how many pieces of 128r bytes are mixed independently.
     pub p: u8,
     /// The length of the key in bytes.
     pub len: u32,
@@ -44,12 +55,12 @@ pub struct ScryptParams {
 }
 
 impl ScryptParams {
-    /// The numbers with N = 2^`ln`, block size `r`, parallelization `p` and a key of `len` bytes
+    /// Parameters with N = 2^`ln`, block size `r`, parallelization `p` and a key of `len` bytes
     /// (RFC 7914, section 2).
     ///
-    /// Errors: `BlockSize` where `r` is 0; else `Blocks` where `p` is 0; else `Cost` where `ln` is
-    /// outside 1 to 24 or not below 16r, or the table is over 2 GiB; else `Len` where the key isn't
-    /// 4 to 64 bytes long.
+    /// Errors: `BlockSize` if `r` is 0; otherwise `Blocks` if `p` is 0; otherwise `Cost` if `ln`
+    /// is not 1 to 24, is not below 16r, or the table would exceed 2 GiB; otherwise `Len` if `len`
+    /// is not 4 to 64.
     pub fn new(ln: u8, r: u8, p: u8, len: u32) -> Result<ScryptParams, ScryptError>
         ensures block_size { (result ≡ Err ScryptError.BlockSize) ↔ (r ≡ 0) }
         ensures blocks { (result ≡ Err ScryptError.Blocks) ↔ ((1 ≤ r) × (p ≡ 0)) }
@@ -67,9 +78,9 @@ impl ScryptParams {
         Ok(params)
     }
 
-    /// The same for a key that no record has to hold: of any length but 0.
+    /// The same for a key that need not fit into a record: of any length but 0.
     ///
-    /// Errors: those of [`new`](ScryptParams::new), but `Len` where `len` is 0 alone.
+    /// Errors: those of [`new`](ScryptParams::new), except that `Len` comes only if `len` is 0.
     pub fn raw(ln: u8, r: u8, p: u8, len: u32) -> Result<ScryptParams, ScryptError>
         ensures block_size { (result ≡ Err ScryptError.BlockSize) ↔ (r ≡ 0) }
         ensures blocks { (result ≡ Err ScryptError.Blocks) ↔ ((1 ≤ r) × (p ≡ 0)) }
@@ -96,7 +107,7 @@ impl ScryptParams {
     }
 }
 
-/// Whether the cost is out of its range, or too high for the block size or for the table.
+/// Whether the cost is out of range, too high for the block size, or its table too large.
 fn is_costly(ln: u8, r: u8) -> bool
     ensures { IsTrue result ↔ IsCostly ln r }
 {

@@ -12,10 +12,10 @@ use std::alloc::Global;
 /// The length of an HMAC in bytes.
 const MAC: usize = 32;
 
-/// PBKDF2 (RFC 8018, section 5.2) with HMAC-SHA-256: `len` bytes, by `c` iterations, at least one,
-/// for each 32 of them. Password and salt have any length.
+/// PBKDF2 (RFC 8018, section 5.2) with HMAC-SHA-256: a key of `len` bytes by `c` iterations, at
+/// least one. Password and salt may have any length.
 ///
-/// Errors: `Memory` where there is none for the key.
+/// Errors: `Memory` if there is not enough for the key.
 pub fn pbkdf2(
     alloc: Global,
     pw: &[u8],
@@ -39,7 +39,7 @@ pub fn pbkdf2(
     Ok(key)
 }
 
-/// T_i, block i of the key: the exclusive or of `c` iterations.
+/// T_i, block i of the key: the XOR of `c` iterations.
 fn derived_block(mac: &Hmac, salt: &[u8], c: u32, i: u32) -> [u8; 32]
     requires { 1 ≤ c }
     ensures { (pw : List ℕ) → IsKeyed pw mac.now
@@ -54,7 +54,7 @@ fn derived_block(mac: &Hmac, salt: &[u8], c: u32, i: u32) -> [u8; 32]
     all
 }
 
-/// U_1, of the salt and the number of the block.
+/// U_1, made from the salt and the number of the block.
 fn first_iteration(mac: &Hmac, salt: &[u8], i: u32) -> [u8; 32]
     ensures { (pw : List ℕ) → IsKeyed pw mac.now → result ≡ iteration pw salt.now i 0 }
 {

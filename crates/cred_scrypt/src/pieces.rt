@@ -1,5 +1,5 @@
-//! The pieces that scrypt mixes, each by itself, as the parts of a run of workers (RFC 7914,
-//! section 6, step 2).
+//! The pieces that scrypt mixes independently, as the parts of a run of workers (RFC 7914, section
+//! 6, step 2).
 ghost use Rattle.std.specs.Prelude.{◌≡◌, ℕ, ◌*◌, ◌^◌, ◌<◌, List, IfOk, false, length};
 ghost use Rattle.cred_scrypt.specs.PieceWork.{CanWork, Works};
 ghost use Rattle.cred_scrypt.specs.Scrypt.{mixed_pieces};
@@ -11,7 +11,7 @@ use crate::words::{put_words, words_of};
 use cred_pool::{Crew, Part};
 use std::alloc::Global;
 
-/// How many bytes a piece has for each unit of the block size: two blocks.
+/// The bytes of a piece for each unit of the block size: two blocks.
 const PAIR: usize = 128;
 
 /// What the pieces share.
@@ -25,7 +25,7 @@ pub(crate) struct Mixing {
 #[derive(Drop)]
 pub(crate) struct Piece {
     words: Vec<u32>,
-    /// There was no memory for its table, and its words are as they were.
+    /// Whether there was not enough memory for its table; its words are then unchanged.
     refused: bool,
 }
 
@@ -34,7 +34,7 @@ impl Part<Mixing> for Piece {
 
     ghost works = { Works };
 
-    /// Mixes the piece by ROMix, over a table that stands while the piece is worked and no longer.
+    /// Mixes the piece by ROMix, with a table that is freed when the piece is done.
     fn work(&mut self, shared: &Mixing) {
         let mixed = ro_mix(
             shared.alloc,
@@ -46,7 +46,7 @@ impl Part<Mixing> for Piece {
     }
 }
 
-/// The `p` pieces of `bytes`, each mixed by itself, by this crew, and then one after another again.
+/// The `p` pieces of `bytes`, each mixed by itself by this crew, and joined again in order.
 pub(crate) fn mixed<W: Crew<Mixing, Piece>>(
     crew: &W,
     alloc: Global,
@@ -67,7 +67,7 @@ pub(crate) fn mixed<W: Crew<Mixing, Piece>>(
 impl Piece {
     ghost use Rattle.cred_scrypt.specs.Pieces.{AreCut, AreMixed, AreWhole};
 
-    /// The `p` pieces of `bytes`.
+    /// Cuts `bytes` into `p` pieces.
     fn cut(alloc: Global, r: usize, p: usize, bytes: &[u8]) -> Result<Vec<Piece>, ScryptError>
         requires small { 128 * r * p < 2 ^ 32 }
         requires size { length bytes.now ≡ 128 * r * p }
@@ -107,9 +107,9 @@ impl Piece {
         crew.work_each(&shared, pieces);
     }
 
-    /// The bytes of all the pieces in turn.
+    /// The bytes of all the pieces, in order.
     ///
-    /// Errors: `Memory` where a piece was refused its table, or there is none for the bytes.
+    /// Errors: `Memory` if there was not enough for a piece's table, or is not for the bytes.
     fn joined(alloc: Global, size: usize, pieces: &[Piece]) -> Result<Vec<u8>, ScryptError>
         ensures memory { (e : _) → result ≡ Err e → e ≡ ScryptError.Memory }
         ensures ok { (ln r : ℕ) (b : List ℕ) → AreMixed ln r b pieces.now

@@ -1,4 +1,4 @@
-//! ROMix, with the table of rows that it looks back into (RFC 7914, section 5).
+//! ROMix, with its table of rows (RFC 7914, section 5).
 ghost use Rattle.std.specs.Prelude.{◌≡◌, ℕ, ◌+◌, ◌*◌, ◌^◌, ◌%◌, ◌<◌, ◌≤◌, List, length, OnOk};
 ghost use Rattle.std.specs.Prelude.{OnErr, IfOk};
 ghost use Rattle.cred_scrypt.specs.declared.params.TheConstants.{MAX_LN, MAX_ROWS};
@@ -12,12 +12,12 @@ use crate::xor::xor_words;
 use std::alloc::Global;
 use std::mem;
 
-/// ROMix (RFC 7914, section 5) with N = 2^`ln`, in place, on `block`: 2r blocks of sixteen words,
-/// of which each has 32 bits. r is at least 1, `ln` at most 24, and `r * N` at most
-/// [`MAX_ROWS`](crate::MAX_ROWS), so the table has 2 GiB at most.
+/// ROMix (RFC 7914, section 5) with N = 2^`ln`, in place, on `block`: 2r blocks of sixteen 32-bit
+/// words. r is at least 1, `ln` at most 24, and `r * N` at most [`MAX_ROWS`](crate::MAX_ROWS), so
+/// the table takes at most 2 GiB.
 ///
-/// Errors: `Memory` where there is none for the table and two pieces more; `block` is then as it
-/// was.
+/// Errors: `Memory` if there is not enough for the table and two more pieces; `block` is then
+/// unchanged.
 pub fn ro_mix(alloc: Global, r: u8, ln: u8, block: &mut [u32]) -> Result<(), ScryptError>
     requires block_size { 1 ≤ r }
     requires cost { ln ≤ MAX_LN }
@@ -36,7 +36,7 @@ pub fn ro_mix(alloc: Global, r: u8, ln: u8, block: &mut [u32]) -> Result<(), Scr
     Ok(())
 }
 
-/// N, which is how many rows the table has.
+/// N, the number of rows in the table.
 fn rows_of(ln: u8) -> usize
     requires { ln ≤ MAX_LN }
     ensures value { result ≡ 2 ^ ln }
@@ -45,7 +45,7 @@ fn rows_of(ln: u8) -> usize
     1 << ln
 }
 
-/// The table of the rows that `x` goes through as it is mixed `n` times.
+/// The table: the values that `x` has as it is mixed `n` times.
 fn filled(
     alloc: Global,
     r: usize,
@@ -71,7 +71,7 @@ fn filled(
     Ok(table)
 }
 
-/// Mixes `x` 2^`ln` times, each time after it took in the row of the table that it names itself.
+/// Mixes `x` 2^`ln` times, each time after XOR with the row of the table that `x` itself selects.
 fn walk(r: usize, ln: u8, table: &[u32], x: &mut Vec<u32>, y: &mut Vec<u32>)
     requires block_size { 1 ≤ r }
     requires cost { ln ≤ MAX_LN }
@@ -89,8 +89,8 @@ fn walk(r: usize, ln: u8, table: &[u32], x: &mut Vec<u32>, y: &mut Vec<u32>)
     }
 }
 
-/// The row that `x` names, which is Integerify mod N: N is a power of two below that of a word, so
-/// the low word of the last block tells it.
+/// The row that `x` selects, Integerify mod N. N is a power of two that fits into a word, so the
+/// low word of the last block is enough.
 #[tactic(auto, using(crate::proofs::TableRows::integerify_low_word))]
 fn named_row(r: usize, ln: u8, x: &[u32]) -> usize
     requires block_size { 1 ≤ r }
@@ -102,7 +102,7 @@ fn named_row(r: usize, ln: u8, x: &[u32]) -> usize
     x[32 * r - 16] as usize % rows_of(ln)
 }
 
-/// Takes row `j` of the table into `x`.
+/// XORs row `j` of the table into `x`.
 fn absorb(r: usize, x: &mut Vec<u32>, table: &[u32], j: usize)
     requires size { length x.old.items ≡ 32 * r }
     requires row { 32 * r * j + 32 * r ≤ length table.now }
@@ -112,7 +112,7 @@ fn absorb(r: usize, x: &mut Vec<u32>, table: &[u32], j: usize)
     xor_words(x, &table[32 * r * j..32 * r * j + 32 * r]);
 }
 
-/// Mixes `x`, with `y` to write into. The two then change places.
+/// Mixes `x` by way of `y`, and swaps the two.
 fn advance(r: usize, x: &mut Vec<u32>, y: &mut Vec<u32>)
     requires block_size { 1 ≤ r }
     requires size { length x.old.items ≡ 32 * r }

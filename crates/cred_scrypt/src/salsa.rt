@@ -1,4 +1,4 @@
-//! The Salsa20/8 core, which BlockMix is made of (RFC 7914, section 3).
+//! The Salsa20/8 core, from which BlockMix is built (RFC 7914, section 3).
 ghost use Rattle.std.specs.Prelude.{◌≡◌, ◌<◌};
 ghost use Rattle.cred_scrypt.specs.Salsa.{quarter_step, quarter_round, column_round, row_round};
 ghost use Rattle.cred_scrypt.specs.Salsa.{double_rounds, salsa20_8};
@@ -24,7 +24,7 @@ fn quarter_round(a: u32, b: u32, c: u32, d: u32) -> (u32, u32, u32, u32)
     (a1, b1, c1, d1)
 }
 
-/// Quarter rounds on the columns of the square of sixteen words.
+/// Quarter rounds on the columns of the four by four words.
 #[inline(always)]
 fn column_round(x: [u32; 16]) -> [u32; 16]
     ensures { result ≡ column_round x }
@@ -71,8 +71,8 @@ fn eight_rounds(x: [u32; 16]) -> [u32; 16]
     double_round(x)
 }
 
-/// The Salsa20/8 core (RFC 7914, section 3), in place, on sixteen words that are little-endian in a
-/// block of 64 bytes.
+/// The Salsa20/8 core (RFC 7914, section 3), in place, on sixteen words: a block of 64 bytes, read
+/// as little-endian words.
 #[inline(always)]
 pub fn salsa20_8(x: &mut [u32; 16])
     ensures { x.new ≡ salsa20_8 x.old }

@@ -4,10 +4,10 @@ ghost use Rattle.cred_scrypt.specs.Scrypt.{bytes_of, words_of};
 
 use std::alloc::{AllocError, Global};
 
-/// How many bytes a word has.
+/// The length of a word in bytes.
 const WORD: usize = 4;
 
-/// The words that `bytes` stand for.
+/// `bytes` as words.
 pub(crate) fn words_of(alloc: Global, bytes: &[u8]) -> Result<Vec<u32>, AllocError>
     ensures { IfOk result (λ words. words.items ≡ words_of bytes.now (length bytes.now / 4)) }
 {

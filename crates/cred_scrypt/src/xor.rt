@@ -1,8 +1,8 @@
-//! Exclusive or of slices, in place.
+//! XOR of slices, in place.
 ghost use Rattle.std.specs.Prelude.{◌≡◌, length};
 ghost use Rattle.cred_scrypt.specs.Xor.{xor_all};
 
-/// Takes the words of `with` into those of `into` by exclusive or.
+/// XORs the words of `with` into those of `into`.
 #[inline(always)]
 pub(crate) fn xor_words(into: &mut [u32], with: &[u32])
     requires { length into.old ≡ length with.now }
@@ -13,7 +13,7 @@ pub(crate) fn xor_words(into: &mut [u32], with: &[u32])
     }
 }
 
-/// Takes the bytes of `with` into those of `into` by exclusive or.
+/// XORs the bytes of `with` into those of `into`.
 pub(crate) fn xor_bytes(into: &mut [u8], with: &[u8])
     requires { length into.old ≡ length with.now }
     ensures { into.new ≡ xor_all into.old with.now }
