@@ -6,16 +6,16 @@ use Rattle.std.proofs.lemmas.Nat.{div-mul-add, le-div, div_below, mul-add-lt}
 use Rattle.std.proofs.lemmas.Bool.{cases_eq}
 use Rattle.std.proofs.lemmas.Bool.Decides.{nat_tests}
 use Rattle.cred_argon.specs.declared.place.Place.{Place}
-use Rattle.cred_argon.specs.declared.segment.Shared.{Shared}
+use Rattle.cred_argon.specs.declared.turn.Turn.{Turn}
 use Rattle.cred_argon.specs.Parameters.{segment_len}
 use Rattle.cred_argon.specs.Places.{place, segment_of, IsComputed}
 use Rattle.cred_argon.specs.Times.{time_of, IsBefore}
 use Rattle.cred_argon.specs.Cells.{previous}
-use Rattle.cred_argon.specs.Segments.{number, first_offset, place_in}
+use Rattle.cred_argon.specs.Turns.{number, first_offset, place_in}
 use Rattle.cred_argon.proofs.Sets.{time_is}
 
 -- the place of an offset is computed from others
-pub place_computed : (c : Shared) (l k : ℕ) → c.slice < 4 → l < c.params.lanes → k < segment_len c.params → 2 ≤ segment_len c.params
+pub place_computed : (c : Turn) (l k : ℕ) → c.slice < 4 → l < c.params.lanes → k < segment_len c.params → 2 ≤ segment_len c.params
     → first_offset c ≤ k → IsComputed (segment_len c.params) c.params.lanes (place_in c l k)
 place_computed c l k four lane inside some begun = record {
   lane_inside = lane;
@@ -111,7 +111,7 @@ distance_own r u s l k there back four distance same =
     rw (pass, slice, distance.column, ← distance.own_lane same) refl
 
 -- an empty segment that is to be worked isn't the first of all
-pub begun_later : (c : Shared) (k : ℕ) → first_offset c ≤ k → k ≡ 0 → 0 < number c
+pub begun_later : (c : Turn) (k : ℕ) → first_offset c ≤ k → k ≡ 0 → 0 < number c
 begun_later c k begun none = go (number c) refl
   where
     go : (n : ℕ) → number c ≡ n → 0 < number c

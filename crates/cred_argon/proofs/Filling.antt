@@ -4,7 +4,7 @@ use Rattle.cred_argon.specs.declared.memory.Memory.{Memory}
 use Rattle.cred_argon.specs.Slices.{IsMemory, MemoryHolds}
 
 pub record IsFilled (start now : Memory) (passes g : ℕ) : Type 0 where
-  pub params : now.shared.params ≡ start.shared.params
-  pub passes_are : passes ≡ start.shared.params.passes
+  pub params : now.shared.turn.params ≡ start.shared.turn.params
+  pub passes_are : passes ≡ start.shared.turn.params.passes
   pub shape : IsMemory g now
   pub holds : (h : List ℕ) → MemoryHolds h 0 start → MemoryHolds h g now

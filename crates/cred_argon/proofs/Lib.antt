@@ -12,5 +12,7 @@ pub mod SliceWork
 pub mod Filling
 pub mod FirstCells
 pub mod LastBlocks
+pub mod FirstBlocks
+pub mod Runs
 pub mod Halves
 pub mod Vectors

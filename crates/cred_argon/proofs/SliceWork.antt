@@ -1,43 +1,66 @@
 -- A slice before and after its lanes are worked.
-use Rattle.std.proofs.Common.{◌≡◌, ℕ, zero, suc, ◌<◌, ◌+◌, ◌-◌, ◌*◌, ◌/◌, ◌%◌, List, false, ◌==◌, slice_index_or, refl, arith}
+use Rattle.std.proofs.Common.{◌≡◌, ℕ, zero, suc, ◌<◌, ◌≤◌, ◌+◌, ◌-◌, ◌*◌, ◌/◌, ◌%◌, List, false, ◌==◌, slice_index_or, refl, arith}
 use Rattle.std.proofs.lemmas.Bool.Decides.{nat_tests}
 use Rattle.cred_argon.specs.declared.block.Block.{Block}
 use Rattle.cred_argon.specs.declared.segment.Segment.{Segment}
-use Rattle.cred_argon.specs.declared.segment.Shared.{Shared}
+use Rattle.cred_argon.specs.declared.turn.Turn.{Turn}
 use Rattle.cred_argon.specs.declared.memory.Memory.{Memory}
-use Rattle.cred_argon.specs.Parameters.{segment_len}
+use Rattle.cred_argon.specs.Parameters.{Parameters, segment_len}
+use Rattle.cred_argon.specs.Places.{place}
 use Rattle.cred_argon.specs.Cells.{cell}
-use Rattle.cred_argon.specs.Segments.{number, first_offset, place_in, SharedHolds, OwnHolds, HoldsSegment}
-use Rattle.cred_argon.specs.Slices.{MemoryHolds}
+use Rattle.cred_argon.specs.Turns.{number, first_offset, place_in, OwnHolds}
+use Rattle.cred_argon.specs.SegmentWork.{VecIsFull, VecHolds}
+use Rattle.cred_argon.specs.Segments.{IsSlice, IsFull, IsShaped, SharedHolds, HoldsSegment}
+use Rattle.cred_argon.specs.Slices.{IsMemory, MemoryHolds}
 
-pub shared_begins : (h : List ℕ) (m : Memory) → MemoryHolds h (number m.shared) m → SharedHolds h m.shared
+slice_full : (a : Parameters) (g n start : ℕ) (segments : List Segment) → IsSlice a g n start segments → n ≤ g → IsFull a segments
+slice_full a g n start segments slice late = record { count = slice.count; full = slice.full late }
+
+pub shared_shaped : (m : Memory) → m.shared.turn.slice < 4 → IsMemory (number m.shared.turn) m → IsShaped VecIsFull m.shared
+shared_shaped m four shape = record {
+  slice = four;
+  oldest = λ late. slice_full m.shared.turn.params (number m.shared.turn) 3 0 m.shared.oldest.items shape.at_oldest late;
+  middle = λ late. slice_full m.shared.turn.params (number m.shared.turn) 2 0 m.shared.middle.items shape.at_middle late;
+  newest = λ late. slice_full m.shared.turn.params (number m.shared.turn) 1 0 m.shared.newest.items shape.at_newest late;
+}
+
+pub shared_begins : (h : List ℕ) (m : Memory) → MemoryHolds h (number m.shared.turn) m → SharedHolds VecHolds h m.shared
 shared_begins h m held = record { oldest = held.at_oldest; middle = held.at_middle; newest = held.at_newest }
 
-pub own_begins : (h : List ℕ) (m : Memory) → m.shared.slice < 4 → MemoryHolds h (number m.shared) m
-    → (l : ℕ) (d : Segment) → l < m.shared.params.lanes
-    → OwnHolds h m.shared l (first_offset m.shared) (slice_index_or m.current.items l d).blocks.items
-own_begins h m four held l d lane = record {
-  new = λ i e below. first (number m.shared) refl i e below;
+-- a segment that is to be worked, where it has the first two blocks, or those of the pass before
+pub own_begun : (h : List ℕ) (c : Turn) (l : ℕ) (blocks : List Block) → c.slice < 4
+    → (number c ≡ 0 → (i : ℕ) (e : Block) → i < 2 → (slice_index_or blocks i e).0 ≡ cell c.params h (place 0 l i))
+    → (4 ≤ number c → HoldsSegment c.params h (number c - 4) l blocks)
+    → OwnHolds h c l (first_offset c) blocks
+own_begun h c l blocks four begun before = record {
+  new = λ i e below. first (number c) refl i e below;
   old = λ i e above below later.
-      let pass : (number m.shared - 4) / 4 ≡ m.shared.pass - 1 = omega (arith, four, later) in
-      let slice : (number m.shared - 4) % 4 ≡ m.shared.slice = omega (arith, four, later) in
-      rw (pass, slice) at (held.at_current (omega (arith, later)) l d lane i e below);
+      let pass : (number c - 4) / 4 ≡ c.pass - 1 = omega (arith, four, later) in
+      let slice : (number c - 4) % 4 ≡ c.slice = omega (arith, four, later) in
+      rw (pass, slice) at (before (omega (arith, later)) i e below);
 }
   where
-    first : (n : ℕ) → number m.shared ≡ n → (i : ℕ) (e : Block) → i < first_offset m.shared
-        → (slice_index_or (slice_index_or m.current.items l d).blocks.items i e).0 ≡ cell m.shared.params h (place_in m.shared l i)
+    first : (n : ℕ) → number c ≡ n → (i : ℕ) (e : Block) → i < first_offset c
+        → (slice_index_or blocks i e).0 ≡ cell c.params h (place_in c l i)
     first zero same i e below =
         let two : i < 2 = rw same at below in
-        let pass : m.shared.pass ≡ 0 = omega (arith, same) in
-        let slice : m.shared.slice ≡ 0 = omega (arith, same) in
-        let column : 0 * segment_len m.shared.params + i ≡ i = omega arith in
-        rw (pass, slice, column) (held.begun same l d i e lane two)
+        let pass : c.pass ≡ 0 = omega (arith, same) in
+        let slice : c.slice ≡ 0 = omega (arith, same) in
+        let column : 0 * segment_len c.params + i ≡ i = omega arith in
+        rw (pass, slice, column) (begun same i e two)
     first (suc n) same i e below =
         let later : (suc n == 0) ≡ false = grind (arith, nat_tests) in
         let none : i < 0 = rw (same, later) at below in
         absurd (omega (arith, none))
 
-pub segment_worked : (h : List ℕ) (c : Shared) (l : ℕ) (blocks : List Block) → c.slice < 4
+pub own_begins : (h : List ℕ) (m : Memory) → m.shared.turn.slice < 4 → MemoryHolds h (number m.shared.turn) m
+    → (l : ℕ) (d : Segment) → l < m.shared.turn.params.lanes
+    → OwnHolds h m.shared.turn l (first_offset m.shared.turn) (slice_index_or m.current.items l d).blocks.items
+own_begins h m four held l d lane =
+    own_begun h m.shared.turn l (slice_index_or m.current.items l d).blocks.items four
+    (λ same i e below. held.begun same l d i e lane below) (λ late. held.at_current late l d lane)
+
+pub segment_worked : (h : List ℕ) (c : Turn) (l : ℕ) (blocks : List Block) → c.slice < 4
     → OwnHolds h c l (segment_len c.params) blocks → HoldsSegment c.params h (number c) l blocks
 segment_worked h c l blocks four own k d below =
     let pass : number c / 4 ≡ c.pass = omega (arith, four) in

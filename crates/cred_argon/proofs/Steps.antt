@@ -6,14 +6,14 @@ use Rattle.std.proofs.lemmas.Bool.Decides.{nat_tests}
 use Rattle.std.proofs.lemmas.List.{get_or_append_left, get_or-append_right, set-append_right, get_or-set_same, get_or-set_other, length-append}
 use Rattle.cred_argon.specs.declared.block.Block.{Block}
 use Rattle.cred_argon.specs.declared.place.Place.{Place}
-use Rattle.cred_argon.specs.declared.segment.Shared.{Shared}
+use Rattle.cred_argon.specs.declared.turn.Turn.{Turn}
 use Rattle.cred_argon.specs.declared.position.Reference.{Reference}
 use Rattle.cred_argon.specs.Times.{IsBefore}
 use Rattle.cred_argon.specs.Parameters.{Parameters, segment_len}
 use Rattle.cred_argon.specs.Compress.{compress, xor_words}
 use Rattle.cred_argon.specs.Places.{IsComputed, reference_place}
 use Rattle.cred_argon.specs.Cells.{is_dependent, address_block, previous, older, word_by, compression_at, is_first, is_fresh, cell_by, cell}
-use Rattle.cred_argon.specs.Segments.{place_in, DoneHolds, OwnHolds}
+use Rattle.cred_argon.specs.Turns.{place_in, DoneHolds, OwnHolds}
 use Rattle.cred_argon.specs.declared.address.AddressBlock.{AddressBlock}
 use Rattle.cred_argon.specs.Addresses.{ServesOffset, word_from}
 use Rattle.cred_argon.proofs.Picks.{reference_before}
@@ -34,7 +34,7 @@ equation a h p some computed fresh same =
     ∙ rw (not_first (segment_len a) a.lanes p computed, same) refl
 
 -- the word that the code reads is the one that names the reference
-pub word_is : (c : Shared) (h before : List ℕ) (addresses : Option AddressBlock) (l k : ℕ) → k < segment_len c.params
+pub word_is : (c : Turn) (h before : List ℕ) (addresses : Option AddressBlock) (l k : ℕ) → k < segment_len c.params
     → before ≡ cell c.params h (previous (segment_len c.params) (place_in c l k)) → ServesOffset c l k addresses
     → word_from addresses before (k % 128) ≡ word_by c.params (cell c.params h) (place_in c l k)
 word_is c h before addresses l k inside before_is serves =
@@ -58,7 +58,7 @@ mixed_is a h before other p w before_is word other_is =
     ap₂ compress before_is (other_is ∙ ap (λ (v : ℕ). cell a h (reference_place (segment_len a) a.lanes p (v % 2 ^ 32) (v / 2 ^ 32))) word)
 
 -- the same of what the code computes at an offset: its blocks, its word and its reference
-pub offset_mixed_is : (c : Shared) (h before other : List ℕ) (addresses : Option AddressBlock) (l k w : ℕ) (there : Reference)
+pub offset_mixed_is : (c : Turn) (h before other : List ℕ) (addresses : Option AddressBlock) (l k w : ℕ) (there : Reference)
     → 2 ≤ segment_len c.params → IsComputed (segment_len c.params) c.params.lanes (place_in c l k) → k < segment_len c.params
     → before ≡ cell c.params h (previous (segment_len c.params) (place_in c l k)) → ServesOffset c l k addresses
     → w ≡ word_from addresses before (k % 128)
@@ -88,7 +88,7 @@ added_is a h old mixed out p some computed later old_is mixed_is made =
     made ∙ ap₂ xor_words (old_is (later_pass a.version p.pass later)) mixed_is ∙ sym (equation a h p some computed false later)
 
 -- a segment whose blocks before k are done, once the block at k is made of them
-pub own_step : (h : List ℕ) (c : Shared) (l k : ℕ) (done rest : List Block) (made d : Block) → length done ≡ k → 0 < length rest
+pub own_step : (h : List ℕ) (c : Turn) (l k : ℕ) (done rest : List Block) (made d : Block) → length done ≡ k → 0 < length rest
     → k < segment_len c.params → OwnHolds h c l k (done ++ rest)
     → (DoneHolds h c l done → (0 < c.pass → (slice_index_or rest 0 d).0 ≡ cell c.params h (older (place_in c l (length done))))
     → made.0 ≡ cell c.params h (place_in c l (length done)))

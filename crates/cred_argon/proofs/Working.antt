@@ -1,40 +1,53 @@
 -- A segment while it is worked.
-use Rattle.std.proofs.Common.{◌≡◌, ℕ, ◌<◌, ◌≤◌, List, Option, slice_index_or, vec_len, vec_capacity, inl, inr, arith}
+use Rattle.std.proofs.Common.{◌≡◌, ℕ, ◌<◌, ◌≤◌, List, Option, Vec, length, slice_index_or, vec_len, vec_capacity, inl, inr, arith}
 use Rattle.std.proofs.lemmas.Bool.{cases_lt}
 use Rattle.cred_argon.specs.declared.block.Block.{Block}
 use Rattle.cred_argon.specs.declared.segment.Segment.{Segment}
 use Rattle.cred_argon.specs.declared.segment.Shared.{Shared}
 use Rattle.cred_argon.specs.declared.address.AddressBlock.{AddressBlock}
-use Rattle.cred_argon.specs.Parameters.{segment_len}
+use Rattle.cred_argon.specs.Parameters.{Parameters, segment_len}
 use Rattle.cred_argon.specs.Addresses.{KeepsAddresses}
-use Rattle.cred_argon.specs.Segments.{SharedHolds, OwnHolds, first_offset}
+use Rattle.cred_argon.specs.SegmentWork.{VecHolds}
+use Rattle.cred_argon.specs.Segments.{SharedHolds}
+use Rattle.cred_argon.specs.Turns.{OwnHolds, first_offset}
 
-pub record IsWorking (c : Shared) (start now : Segment) (addresses : Option AddressBlock) (s k : ℕ) : Type 0 where
+pub record IsWorking {A : Type 0} (c : Shared (Vec Segment A)) (start now : Segment) (addresses : Option AddressBlock) (s k : ℕ) : Type 0 where
   pub lane : now.lane ≡ start.lane
-  pub length_is : s ≡ segment_len c.params
+  pub length_is : s ≡ segment_len c.turn.params
   pub some : 2 ≤ s
-  pub begun : first_offset c ≤ k
+  pub begun : first_offset c.turn ≤ k
   pub inside : k ≤ s
   pub room : s ≤ vec_capacity now.blocks
-  pub first : c.pass ≡ 0 → vec_len now.blocks ≡ k
-  pub later : 0 < c.pass → vec_len now.blocks ≡ s
-  pub kept : KeepsAddresses c now.lane addresses
-  pub own : (h : List ℕ) → SharedHolds h c → OwnHolds h c start.lane (first_offset c) start.blocks.items → OwnHolds h c now.lane k now.blocks.items
+  pub first : c.turn.pass ≡ 0 → vec_len now.blocks ≡ k
+  pub later : 0 < c.turn.pass → vec_len now.blocks ≡ s
+  pub kept : KeepsAddresses c.turn now.lane addresses
+  pub own : (h : List ℕ) → SharedHolds VecHolds h c → OwnHolds h c.turn start.lane (first_offset c.turn) start.blocks.items → OwnHolds h c.turn now.lane k now.blocks.items
 
 -- as many blocks are there as were worked before
-at_least : (c : Shared) (start now : Segment) (addresses : Option AddressBlock) (s k : ℕ) → IsWorking c start now addresses s k → k ≤ vec_len now.blocks
-at_least c start now addresses s k working = elim (cases_lt 0 c.pass) [
+at_least : {A : Type 0} (c : Shared (Vec Segment A)) (start now : Segment) (addresses : Option AddressBlock) (s k : ℕ) → IsWorking c start now addresses s k → k ≤ vec_len now.blocks
+at_least c start now addresses s k working = elim (cases_lt 0 c.turn.pass) [
   | inl later ↦ omega (arith, working.later later, working.inside)
   | inr first ↦ omega (arith, working.first (omega (arith, first)))
 ]
 
 -- the same cells, where a block more may have come behind them
-pub own_extended : (c : Shared) (start now : Segment) (addresses : Option AddressBlock) (s k : ℕ) (h : List ℕ) (items : List Block)
+pub own_extended : {A : Type 0} (c : Shared (Vec Segment A)) (start now : Segment) (addresses : Option AddressBlock) (s k : ℕ) (h : List ℕ) (items : List Block)
     → IsWorking c start now addresses s k
     → ((i : ℕ) (d : Block) → i < vec_len now.blocks → slice_index_or items i d ≡ slice_index_or now.blocks.items i d)
-    → OwnHolds h c now.lane k now.blocks.items → OwnHolds h c now.lane k items
+    → OwnHolds h c.turn now.lane k now.blocks.items → OwnHolds h c.turn now.lane k items
 own_extended c start now addresses s k h items working same own = record {
   new = λ i d below. rw (same i d (omega (arith, below, at_least c start now addresses s k working))) (own.new i d below);
   old = λ i d above below later.
       rw (same i d (omega (arith, below, working.later later, working.length_is))) (own.old i d above below later);
 }
+
+-- the same of blocks that are all there
+pub record IsWorkingAll {S : Type 0} (holds : Parameters → List ℕ → ℕ → S → Type 0) (c : Shared S) (l : ℕ) (start now : List Block)
+    (addresses : Option AddressBlock) (s k : ℕ) : Type 0 where
+  pub length_is : s ≡ segment_len c.turn.params
+  pub some : 2 ≤ s
+  pub begun : first_offset c.turn ≤ k
+  pub inside : k ≤ s
+  pub there : length now ≡ s
+  pub kept : KeepsAddresses c.turn l addresses
+  pub own : (h : List ℕ) → SharedHolds holds h c → OwnHolds h c.turn l (first_offset c.turn) start → OwnHolds h c.turn l k now

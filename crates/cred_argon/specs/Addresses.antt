@@ -2,16 +2,16 @@
 use Rattle.std.specs.Prelude.{◌≡◌, ℕ, ◌+◌, ◌/◌, List, Bool, true, false, Option, None, Some}
 use Rattle.std.specs.Prelude.{slice_index}
 use Rattle.cred_argon.specs.declared.address.AddressBlock.{AddressBlock}
-use Rattle.cred_argon.specs.declared.segment.Shared.{Shared}
+use Rattle.cred_argon.specs.declared.turn.Turn.{Turn}
 use Rattle.cred_argon.specs.Cells.{is_dependent, address_block}
 
 -- whether the slice that is worked has its words from the blocks before
-abbrev pub follows_blocks : Shared → Bool
+abbrev pub follows_blocks : Turn → Bool
 follows_blocks c = is_dependent c.params.kind c.pass c.slice
 
 -- what is at hand in a lane's segment: nothing, or the address block of its number, where words
 -- come from the place alone
-abbrev pub KeepsAddresses : Shared → ℕ → Option AddressBlock → Type 0
+abbrev pub KeepsAddresses : Turn → ℕ → Option AddressBlock → Type 0
 KeepsAddresses c lane None = Unit {0}
 KeepsAddresses c lane (Some kept) =
     (follows_blocks c ≡ false)
@@ -19,7 +19,7 @@ KeepsAddresses c lane (Some kept) =
 
 -- what serves an offset: nothing where words come from the blocks before, and else the address
 -- block of the offset
-abbrev pub ServesOffset : Shared → ℕ → ℕ → Option AddressBlock → Type 0
+abbrev pub ServesOffset : Turn → ℕ → ℕ → Option AddressBlock → Type 0
 ServesOffset c lane k None = follows_blocks c ≡ true
 ServesOffset c lane k (Some kept) =
     (follows_blocks c ≡ false)

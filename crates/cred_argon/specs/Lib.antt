@@ -9,9 +9,11 @@ pub mod Places
 pub mod Times
 pub mod Cells
 pub mod Addresses
+pub mod Turns
 pub mod Segments
 pub mod SegmentWork
 pub mod Argon
 pub mod Slices
+pub mod Lanes
 pub use Rattle.cred_blake.specs.Blake2b
 pub use Rattle.cred_blake.specs.HashPrime

@@ -11,20 +11,21 @@ use Rattle.cred_argon.specs.Segments.{IsSlice, HoldsSlice}
 
 -- the shapes of the four slices before segment g of each lane is worked
 pub record IsMemory (g : ℕ) (m : Memory) : Type 0 where
-  pub at_current : IsSlice m.shared.params g 4 (if g == 0 then 2 else 0) m.current.items
-  pub at_oldest : IsSlice m.shared.params g 3 0 m.shared.oldest.items
-  pub at_middle : IsSlice m.shared.params g 2 0 m.shared.middle.items
-  pub at_newest : IsSlice m.shared.params g 1 0 m.shared.newest.items
+  pub at_current : IsSlice m.shared.turn.params g 4 (if g == 0 then 2 else 0) m.current.items
+  pub at_oldest : IsSlice m.shared.turn.params g 3 0 m.shared.oldest.items
+  pub at_middle : IsSlice m.shared.turn.params g 2 0 m.shared.middle.items
+  pub at_newest : IsSlice m.shared.turn.params g 1 0 m.shared.newest.items
 
 -- what they hold: the segment to be worked as it was on the pass before, and the three before it
 pub record MemoryHolds (h : List ℕ) (g : ℕ) (m : Memory) : Type 0 where
-  pub begun : g ≡ 0 → (l : ℕ) (d : Segment) (i : ℕ) (e : Block) → l < m.shared.params.lanes → i < 2
+  pub begun : g ≡ 0 → (l : ℕ) (d : Segment) (i : ℕ) (e : Block)
+      → l < m.shared.turn.params.lanes → i < 2
       → (slice_index_or (slice_index_or m.current.items l d).blocks.items i e).0
-      ≡ cell m.shared.params h (place 0 l i)
-  pub at_current : 4 ≤ g → HoldsSlice m.shared.params h (g - 4) m.current.items
-  pub at_oldest : 3 ≤ g → HoldsSlice m.shared.params h (g - 3) m.shared.oldest.items
-  pub at_middle : 2 ≤ g → HoldsSlice m.shared.params h (g - 2) m.shared.middle.items
-  pub at_newest : 1 ≤ g → HoldsSlice m.shared.params h (g - 1) m.shared.newest.items
+      ≡ cell m.shared.turn.params h (place 0 l i)
+  pub at_current : 4 ≤ g → HoldsSlice m.shared.turn.params h (g - 4) m.current.items
+  pub at_oldest : 3 ≤ g → HoldsSlice m.shared.turn.params h (g - 3) m.shared.oldest.items
+  pub at_middle : 2 ≤ g → HoldsSlice m.shared.turn.params h (g - 2) m.shared.middle.items
+  pub at_newest : 1 ≤ g → HoldsSlice m.shared.turn.params h (g - 1) m.shared.newest.items
 
 -- segments of the first n lanes with room for s blocks, and none there
 pub record IsEmptySlice (s n : ℕ) (segments : List Segment) : Type 0 where

@@ -6,13 +6,12 @@ ghost use Rattle.cred_argon.specs.SegmentWork.{CanWork, Works};
 ghost use Rattle.cred_argon.specs.declared.segment.Segment.{Segment};
 ghost use denote.Param.Send.{IsSync};
 
-use crate::bytes::bytes_of_block;
 use crate::error::ArgonError;
-use crate::inputs::first_hash;
+use crate::inputs::{first_hash, is_any_too_long};
 use crate::params::Params;
 use crate::segment::{Segment, Shared};
 use crate::start::start;
-use cred_blake::hprime;
+use crate::tag::tag_of;
 use cred_pool::{Alone, Crew, CrewFn, Gate, run_parts};
 use std::alloc::Global;
 use std::marker::Sync;
@@ -45,7 +44,7 @@ pub fn argon2<R: Threads + Sync, G: Gate + Sync>(
         ⊎ (2 ^ 32 ≤ length secret.now) ⊎ (2 ^ 32 ≤ length assoc.now)) }
     ensures err { IfErr result (λ e. (e ≡ ArgonError.InputLen) ⊎ (e ≡ ArgonError.Memory)) }
 {
-    let work_each = |shared: &Shared, parts: &mut [Segment]|
+    let work_each = |shared: &Shared<Vec<Segment>>, parts: &mut [Segment]|
         requires { IsSync R.row × IsSync G.row
             × ((i : ℕ) (d : Segment) → i < length parts.now
             → CanWork shared.now (slice_index_or parts.now i d)) }
@@ -87,7 +86,7 @@ pub fn argon2_alone<G: Gate>(
 }
 
 /// The same with the lanes of each slice worked by this crew.
-fn argon2_by<W: Crew<Shared, Segment>>(
+fn argon2_by<W: Crew<Shared<Vec<Segment>>, Segment>>(
     crew: &W,
     alloc: Global,
     params: &Params,
@@ -111,24 +110,5 @@ fn argon2_by<W: Crew<Shared, Segment>>(
     let hash = first_hash(params, pw, salt, secret, assoc);
     let mut memory = start(alloc, params, hash.bytes())?;
     memory.fill(crew);
-    let last = bytes_of_block(&memory.last_blocks());
-    match hprime(alloc, params.tag_len(), &last) {
-        Ok(tag) => Ok(tag),
-        Err(_) => Err(ArgonError::Memory),
-    }
-}
-
-/// Whether one of the inputs is too long.
-fn is_any_too_long(pw: &[u8], salt: &[u8], secret: &[u8], assoc: &[u8]) -> bool
-    ensures { IsTrue result ↔ ((2 ^ 32 ≤ length pw.now) ⊎ (2 ^ 32 ≤ length salt.now)
-        ⊎ (2 ^ 32 ≤ length secret.now) ⊎ (2 ^ 32 ≤ length assoc.now)) }
-{
-    is_too_long(pw) || is_too_long(salt) || is_too_long(secret) || is_too_long(assoc)
-}
-
-/// Whether an input's length doesn't fit the 32 bits that it is written in.
-fn is_too_long(input: &[u8]) -> bool
-    ensures { IsTrue result ↔ (2 ^ 32 ≤ length input.now) }
-{
-    u32::try_from(input.len()).is_err()
+    tag_of(alloc, params, &memory.shared.newest)
 }

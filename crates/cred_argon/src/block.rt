@@ -9,6 +9,7 @@ use crate::rows_columns::{four_columns, four_rows};
 use std::simd::u64x4;
 
 /// A block of 1024 bytes, as 128 words of 64 bits.
+#[repr(C)]
 #[derive(Clone, Copy, Debug, PartialEq, Eq)]
 pub struct Block(pub [u64; 128]);
 

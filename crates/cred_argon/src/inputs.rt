@@ -1,6 +1,7 @@
 //! The first hash of all inputs, and the first two blocks of each lane (RFC 9106, section 3.2,
 //! steps 1, 3 and 4).
-ghost use Rattle.std.specs.Prelude.{◌≡◌, ℕ, ◌+◌, ◌^◌, ◌<◌, ◌≤◌, List, ◌++◌, length, take};
+ghost use Rattle.std.specs.Prelude.{◌≡◌, ℕ, ◌+◌, ◌^◌, ◌<◌, ◌≤◌, ◌↔◌, ◌⊎◌, List, ◌++◌, length};
+ghost use Rattle.std.specs.Prelude.{IsTrue, take};
 ghost use Rattle.cred_blake.specs.Hasher.{Holds};
 ghost use Rattle.cred_argon.specs.Argon.{le32, first_hash};
 ghost use Rattle.cred_argon.specs.Cells.{first_cell};
@@ -79,4 +80,19 @@ fn put(out: &mut [u8; 72], at: usize, piece: &[u8])
     ensures front { take (at + length piece.now) out.new ≡ take at out.old ++ piece.now }
 {
     out[at..at + piece.len()].copy_from_slice(piece);
+}
+
+/// Whether one of the inputs is too long.
+pub(crate) fn is_any_too_long(pw: &[u8], salt: &[u8], secret: &[u8], assoc: &[u8]) -> bool
+    ensures { IsTrue result ↔ ((2 ^ 32 ≤ length pw.now) ⊎ (2 ^ 32 ≤ length salt.now)
+        ⊎ (2 ^ 32 ≤ length secret.now) ⊎ (2 ^ 32 ≤ length assoc.now)) }
+{
+    is_too_long(pw) || is_too_long(salt) || is_too_long(secret) || is_too_long(assoc)
+}
+
+/// Whether an input's length doesn't fit the 32 bits that it is written in.
+fn is_too_long(input: &[u8]) -> bool
+    ensures { IsTrue result ↔ (2 ^ 32 ≤ length input.now) }
+{
+    u32::try_from(input.len()).is_err()
 }

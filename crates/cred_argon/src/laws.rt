@@ -1,9 +1,11 @@
-//! The law of the definitions that the contract of `argon2` rests on.
-ghost use Rattle.std.specs.Prelude.{◌≡◌, List, ℕ};
-ghost use Rattle.cred_argon.specs.Parameters.{Parameters, IsUpTo, segment_len};
+//! The laws of the definitions that the contracts of `argon2` and of its parts rest on.
+ghost use Rattle.std.specs.Prelude.{◌≡◌, List, ℕ, ◌*◌, ◌-◌};
+ghost use Rattle.cred_argon.specs.Parameters.{Parameters, IsRaw, IsUpTo, segment_len};
 ghost use Rattle.cred_argon.specs.Places.{IsPlace};
 ghost use Rattle.cred_argon.specs.Cells.{cell, cell_by};
 ghost use Rattle.cred_argon.specs.declared.place.Place.{Place};
+ghost use Rattle.cred_argon.specs.declared.block.Block.{Block};
+ghost use Rattle.cred_argon.specs.Lanes.{HoldsBlocks, IsRun};
 
 /// Each block of the memory is what its equation says of the blocks that it names (RFC 9106,
 /// section 3.2): those of the first two columns are hashes, and every other is made of the block
@@ -13,4 +15,13 @@ pub fn cells_meet_their_equation()
     ensures { (most : ℕ) (a : Parameters) (h : List ℕ) (p : Place)
         → IsUpTo most a → IsPlace (segment_len a) a.lanes p
         → cell a h p ≡ cell_by a h (cell a h) p }
+{}
+
+/// If [`work_lane`](crate::work_lane) works each segment once, after the three slices before it,
+/// the last slice comes to hold its cells, and [`tag_of_lanes`](crate::tag_of_lanes) makes the tag
+/// of it. The call does nothing: its contract is the law.
+pub fn lanes_in_turn_fill_the_memory()
+    ensures { (a : Parameters) (h : List ℕ) (fresh worked : ℕ → List Block)
+        → IsRaw a → IsRun a h fresh worked
+        → HoldsBlocks a h (4 * a.passes - 1) (worked (4 * a.passes - 1)) }
 {}

@@ -2,7 +2,8 @@
 //! 0x10.
 //!
 //! [`argon2`] makes a tag from a password, a salt and [`Params`], its lanes worked by threads;
-//! [`argon2_alone`] makes it on the caller's thread.
+//! [`argon2_alone`] makes it on the caller's thread. [`begin_lanes`], [`work_lane`] and
+//! [`tag_of_lanes`] are its parts, for a caller who has threads and memory of its own.
 //! [`compress`] and [`reference`] are the two parts that its memory is filled with, for whoever
 //! wants to look at them alone.
 #![tactic(auto)]
@@ -12,8 +13,10 @@ mod argon;
 mod block;
 mod bytes;
 mod error;
+mod flat_slice;
 mod inputs;
 mod kind;
+mod lanes;
 mod laws;
 mod memory;
 mod params;
@@ -23,13 +26,20 @@ mod position;
 mod reference_block;
 mod rows_columns;
 mod segment;
+mod slice;
 mod start;
+mod tag;
+mod turn;
 
 pub use argon::{argon2, argon2_alone};
 pub use block::{Block, compress};
 pub use error::ArgonError;
 pub use kind::{Kind, Version};
-pub use laws::cells_meet_their_equation;
-pub use params::{MAX_LANES, MAX_MEMORY, MAX_PASSES, MAX_RAW_TAG, MAX_TAG, MIN_TAG, Params};
+pub use lanes::{EarlierSlices, SegmentIndex, begin_lanes, tag_of_lanes, work_lane};
+pub use laws::{cells_meet_their_equation, lanes_in_turn_fill_the_memory};
+pub use params::{
+    MAX_LANES, MAX_MEMORY, MAX_PASSES, MAX_RAW_TAG, MAX_TAG, MIN_TAG, Params,
+    ranges_are_these_numbers,
+};
 pub use place::Place;
 pub use reference_block::reference;

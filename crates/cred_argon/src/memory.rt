@@ -2,12 +2,11 @@
 //! that threads work, and the other three are shared (RFC 9106, section 3.4).
 ghost use Rattle.std.specs.Prelude.{◌≡◌, ℕ, ◌+◌, ◌*◌, ◌<◌, ◌≤◌, List};
 ghost use Rattle.cred_argon.specs.Parameters.{segment_len};
-ghost use Rattle.cred_argon.specs.Segments.{IsSlice, HoldsSlice, number};
+ghost use Rattle.cred_argon.specs.Segments.{IsSlice, HoldsSlice};
+ghost use Rattle.cred_argon.specs.Turns.{number};
 ghost use Rattle.cred_argon.specs.Slices.{IsMemory, MemoryHolds};
-ghost use Rattle.cred_argon.specs.Argon.{last_blocks};
 
-use crate::block::{Block, add_onto};
-use crate::segment::{Segment, Shared, block_of};
+use crate::segment::{Segment, Shared};
 use cred_pool::Crew;
 use std::mem;
 
@@ -15,21 +14,21 @@ use std::mem;
 #[derive(Drop)]
 pub(crate) struct Memory {
     pub(crate) current: Vec<Segment>,
-    pub(crate) shared: Shared,
+    pub(crate) shared: Shared<Vec<Segment>>,
 }
 
 impl Memory {
     /// Makes all passes.
-    pub(crate) fn fill<W: Crew<Shared, Segment>>(&mut self, crew: &W)
+    pub(crate) fn fill<W: Crew<Shared<Vec<Segment>>, Segment>>(&mut self, crew: &W)
         requires crew { W.ready crew.now }
         requires shape { IsMemory 0 self.old }
-        ensures params { self.new.shared.params ≡ self.old.shared.params }
-        ensures some { 1 ≤ self.old.shared.params.passes }
-        ensures shape { IsMemory (4 * self.old.shared.params.passes) self.new }
+        ensures params { self.new.shared.turn.params ≡ self.old.shared.turn.params }
+        ensures some { 1 ≤ self.old.shared.turn.params.passes }
+        ensures shape { IsMemory (4 * self.old.shared.turn.params.passes) self.new }
         ensures holds { (h : List ℕ) → MemoryHolds h 0 self.old
-            → MemoryHolds h (4 * self.old.shared.params.passes) self.new }
+            → MemoryHolds h (4 * self.old.shared.turn.params.passes) self.new }
     {
-        let passes = self.shared.params.passes();
+        let passes = self.shared.turn.params.passes();
         'passes: for pass in 0..passes {
             'slices: for slice in 0..4 {
                 self.work(crew, pass, slice);
@@ -38,31 +37,32 @@ impl Memory {
     }
 
     /// Works a slice of a pass, and hands the slices on.
-    fn work<W: Crew<Shared, Segment>>(&mut self, crew: &W, pass: u32, slice: u32)
+    fn work<W: Crew<Shared<Vec<Segment>>, Segment>>(&mut self, crew: &W, pass: u32, slice: u32)
         requires crew { W.ready crew.now }
         requires slice { slice < 4 }
         requires shape { IsMemory (4 * pass + slice) self.old }
-        ensures params { self.new.shared.params ≡ self.old.shared.params }
+        ensures params { self.new.shared.turn.params ≡ self.old.shared.turn.params }
         ensures shape { IsMemory (4 * pass + slice + 1) self.new }
         ensures holds { (h : List ℕ) → MemoryHolds h (4 * pass + slice) self.old
             → MemoryHolds h (4 * pass + slice + 1) self.new }
     {
-        self.shared.pass = pass;
-        self.shared.slice = slice;
+        self.shared.turn.pass = pass;
+        self.shared.turn.slice = slice;
         self.work_current(crew);
         self.hand_on();
     }
 
     /// Works the segments of the current slice.
-    fn work_current<W: Crew<Shared, Segment>>(&mut self, crew: &W)
+    fn work_current<W: Crew<Shared<Vec<Segment>>, Segment>>(&mut self, crew: &W)
         requires crew { W.ready crew.now }
-        requires slice { self.old.shared.slice < 4 }
-        requires shape { IsMemory (number self.old.shared) self.old }
+        requires slice { self.old.shared.turn.slice < 4 }
+        requires shape { IsMemory (number self.old.shared.turn) self.old }
         ensures shared { self.new.shared ≡ self.old.shared }
-        ensures shape { IsSlice self.old.shared.params (number self.old.shared) 0 0
+        ensures shape { IsSlice self.old.shared.turn.params (number self.old.shared.turn) 0 0
             self.new.current.items }
-        ensures holds { (h : List ℕ) → MemoryHolds h (number self.old.shared) self.old
-            → HoldsSlice self.old.shared.params h (number self.old.shared) self.new.current.items }
+        ensures holds { (h : List ℕ) → MemoryHolds h (number self.old.shared.turn) self.old
+            → HoldsSlice self.old.shared.turn.params h (number self.old.shared.turn)
+            self.new.current.items }
     {
         crew.work_each(&self.shared, &mut self.current);
     }
@@ -79,20 +79,5 @@ impl Memory {
         mem::swap(&mut self.current, &mut self.shared.oldest);
         mem::swap(&mut self.shared.oldest, &mut self.shared.middle);
         mem::swap(&mut self.shared.middle, &mut self.shared.newest);
-    }
-
-    /// The last blocks of all lanes under exclusive or, when all passes are made.
-    pub(crate) fn last_blocks(&self) -> Block
-        requires some { 1 ≤ self.now.shared.params.passes }
-        requires shape { IsMemory (4 * self.now.shared.params.passes) self.now }
-        ensures { (h : List ℕ) → MemoryHolds h (4 * self.now.shared.params.passes) self.now
-            → result.0 ≡ last_blocks self.now.shared.params h self.now.shared.params.lanes }
-    {
-        let last = self.shared.params.segment_len() - 1;
-        let mut sum = Block::ZERO;
-        'lanes: for lane in 0..self.shared.params.lanes() {
-            add_onto(block_of(&self.shared.newest, lane, last), &mut sum);
-        }
-        sum
     }
 }

@@ -1,6 +1,7 @@
 //! What an Argon2 tag is asked for.
 ghost use Rattle.std.specs.Prelude.{◌≡◌, ◌*◌, ◌≤◌, ◌↔◌, IfOk};
-ghost use Rattle.cred_argon.specs.declared.params.TheConstants.{MAX_LANES, MAX_MEMORY, MIN_TAG};
+ghost use Rattle.cred_argon.specs.declared.params.TheConstants.{MAX_LANES, MAX_MEMORY, MAX_PASSES};
+ghost use Rattle.cred_argon.specs.declared.params.TheConstants.{MAX_RAW_TAG, MAX_TAG, MIN_TAG};
 ghost use Rattle.cred_argon.specs.Faults.{IsFaultUpTo, IsFirstFault, IsFirstRawFault};
 ghost use Rattle.cred_argon.specs.Parameters.{parameters, IsParameters, IsRaw, IsUpTo, segment_len};
 
@@ -25,6 +26,16 @@ pub const MAX_TAG: u32 = 64;
 
 /// The most bytes of any tag: its length is written in 32 bits (RFC 9106, section 3.1).
 pub const MAX_RAW_TAG: u32 = 4_294_967_295;
+
+/// The law that the ranges, which definitions take from the constants above, are these numbers.
+pub fn ranges_are_these_numbers()
+    ensures lanes { MAX_LANES ≡ 255 }
+    ensures memory { MAX_MEMORY ≡ 2097152 }
+    ensures passes { MAX_PASSES ≡ 4294967295 }
+    ensures shortest_tag { MIN_TAG ≡ 4 }
+    ensures longest_tag { MAX_TAG ≡ 64 }
+    ensures longest_raw_tag { MAX_RAW_TAG ≡ 4294967295 }
+{}
 
 /// The version, kind, costs and tag length of an Argon2 tag (RFC 9106, section 3.1), always in
 /// range.
@@ -216,11 +227,12 @@ impl Params {
     }
 
     /// How many columns a segment has: a quarter of a lane.
-    pub(crate) fn segment_len(&self) -> u32
+    pub fn segment_len(&self) -> u32
         ensures value { result ≡ segment_len self.now }
         ensures at_least { 2 ≤ result }
         ensures fits { 4 * result * self.now.lanes ≤ MAX_MEMORY }
         ensures at_most { 4 * result ≤ MAX_MEMORY }
+        ensures some_pass { 1 ≤ self.now.passes }
     {
         self.segment
     }

@@ -1,5 +1,5 @@
-//! The segments of a slice as parts that threads work, each a lane's own, and the three slices
-//! before that all of them read (RFC 9106, section 3.4).
+//! The work on a lane's segment, which reads the three slices before, and the segments of a slice
+//! as parts that threads work (RFC 9106, section 3.4).
 ghost use Rattle.std.specs.Prelude.{◌≡◌, ℕ, [], ◌∷◌, ◌++◌, ◌+◌, ◌-◌, ◌*◌, ◌/◌, ◌%◌, ◌^◌, ◌<◌, ◌≤◌};
 ghost use Rattle.std.specs.Prelude.{List, length, slice_index, slice_index_or, vec_len};
 ghost use Rattle.std.specs.Prelude.{vec_capacity, if◌then◌else◌};
@@ -12,16 +12,17 @@ ghost use Rattle.cred_argon.specs.Times.{IsBefore};
 ghost use Rattle.cred_argon.specs.Cells.{cell, is_dependent, is_fresh, previous, older};
 ghost use Rattle.cred_argon.specs.Addresses.{KeepsAddresses, ServesOffset, word_from};
 ghost use Rattle.cred_argon.specs.SegmentWork.{CanWork, Works};
-ghost use Rattle.cred_argon.specs.Segments.{IsSlice, HoldsSlice, IsShaped, SharedHolds, OwnHolds};
-ghost use Rattle.cred_argon.specs.Segments.{DoneHolds, IsReadable, first_offset, begun_len, number};
-ghost use Rattle.cred_argon.specs.Segments.{position_in, place_in};
+ghost use Rattle.cred_argon.specs.Turns.{first_offset, number, place_in, position_in, OwnHolds};
+ghost use Rattle.cred_argon.specs.Turns.{DoneHolds, IsReadable};
+ghost use Rattle.cred_argon.specs.Segments.{IsFull, HoldsSlice, IsShaped, SharedHolds};
 
 use crate::address::AddressBlock;
 use crate::block::{Block, compress_onto, compress_over};
-use crate::kind::{Kind, Version};
 use crate::params::Params;
 use crate::position::{Position, Reference};
 use crate::reference_block::reference_from;
+use crate::slice::Slice;
+use crate::turn::Turn;
 use cred_pool::Part;
 
 /// The blocks of one lane in one slice. It has room for all of them from the start; on the first
@@ -35,163 +36,143 @@ pub(crate) struct Segment {
 /// What the lanes of a slice share while it is worked: where in the run it stands, and the three
 /// slices before.
 #[derive(Drop)]
-pub(crate) struct Shared {
-    pub(crate) params: Params,
-    pub(crate) pass: u32,
-    pub(crate) slice: u32,
-    pub(crate) oldest: Vec<Segment>,
-    pub(crate) middle: Vec<Segment>,
-    pub(crate) newest: Vec<Segment>,
+pub(crate) struct Shared<S> {
+    pub(crate) turn: Turn,
+    pub(crate) oldest: S,
+    pub(crate) middle: S,
+    pub(crate) newest: S,
 }
 
-impl Part<Shared> for Segment {
+impl Part<Shared<Vec<Segment>>> for Segment {
     ghost can_work = { CanWork };
 
     ghost works = { Works };
 
-    fn work(&mut self, shared: &Shared) {
-        let segment_len = shared.params.segment_len();
+    fn work(&mut self, shared: &Shared<Vec<Segment>>) {
+        let segment_len = shared.turn.params.segment_len();
         let mut addresses = None;
-        'columns: for offset in shared.first_offset()..segment_len {
-            extend(shared, &mut self.blocks);
-            refresh(shared, self.lane, offset, &mut addresses);
+        'columns: for offset in shared.turn.first_offset()..segment_len {
+            extend(&shared.turn, &mut self.blocks);
+            refresh(&shared.turn, self.lane, offset, &mut addresses);
             work_offset(shared, self.lane, offset, &addresses, &mut self.blocks);
         }
     }
 }
 
-impl Shared {
-    /// Whether the words that name references come from the blocks before them.
-    fn is_dependent(&self) -> bool
-        ensures { result ≡ is_dependent self.now.params.kind self.now.pass self.now.slice }
-    {
-        match self.params.kind() {
-            Kind::D => true,
-            Kind::I => false,
-            Kind::Id => self.pass > 0 || self.slice >= 2,
-        }
-    }
+impl Slice for Vec<Segment> {
+    ghost is_full = { λ a slice. IsFull a slice.items };
 
-    /// Whether a block replaces what stood at its place.
-    fn is_fresh(&self) -> bool
-        ensures { result ≡ is_fresh self.now.params.version self.now.pass }
-    {
-        match self.params.version() {
-            Version::V10 => true,
-            Version::V13 => self.pass == 0,
-        }
-    }
+    ghost holds = { λ a h g slice. HoldsSlice a h g slice.items };
 
-    /// The position of an offset in a lane's segment.
-    fn position(&self, lane: u32, offset: u32) -> Position
-        ensures { result ≡ position_in self.now lane offset }
-    {
-        Position {
-            pass: self.pass,
-            lane,
-            slice: self.slice,
-            offset,
-        }
+    fn block_of(&self, _params: &Params, lane: u32, offset: u32) -> &Block {
+        let segment = &self[lane as usize];
+        &segment.blocks[offset as usize]
     }
+}
 
-    /// The first offset that is worked: the first two blocks of a lane are made of the inputs.
-    fn first_offset(&self) -> u32
-        ensures { result ≡ first_offset self.now }
-    {
-        if self.pass == 0 && self.slice == 0 {
-            2
-        } else {
-            0
-        }
+/// Works a lane's segment whose blocks are all there, on the first pass in any state.
+pub(crate) fn work_segment<S: Slice>(shared: &Shared<S>, lane: u32, blocks: &mut [Block])
+    requires shaped { IsShaped S.is_full shared.now }
+    requires lane { lane < shared.now.turn.params.lanes }
+    requires there { length blocks.old ≡ segment_len shared.now.turn.params }
+    ensures { (h : List ℕ) → SharedHolds S.holds h shared.now
+        → OwnHolds h shared.now.turn lane (first_offset shared.now.turn) blocks.old
+        → OwnHolds h shared.now.turn lane (segment_len shared.now.turn.params) blocks.new }
+{
+    let segment_len = shared.turn.params.segment_len();
+    let mut addresses = None;
+    'columns: for offset in shared.turn.first_offset()..segment_len {
+        refresh(&shared.turn, lane, offset, &mut addresses);
+        work_offset(shared, lane, offset, &addresses, blocks);
     }
 }
 
 /// On the first pass, puts a block more behind a segment's blocks, which have room for it.
-fn extend(shared: &Shared, blocks: &mut Vec<Block>)
-    requires { shared.now.pass ≡ 0 → vec_len blocks.old < vec_capacity blocks.old }
+fn extend(turn: &Turn, blocks: &mut Vec<Block>)
+    requires { turn.now.pass ≡ 0 → vec_len blocks.old < vec_capacity blocks.old }
     ensures items { (i : ℕ) (d : Block) → i < vec_len blocks.old
         → slice_index_or blocks.new.items i d ≡ slice_index_or blocks.old.items i d }
-    ensures first { shared.now.pass ≡ 0 → vec_len blocks.new ≡ vec_len blocks.old + 1 }
-    ensures later { 0 < shared.now.pass → vec_len blocks.new ≡ vec_len blocks.old }
+    ensures first { turn.now.pass ≡ 0 → vec_len blocks.new ≡ vec_len blocks.old + 1 }
+    ensures later { 0 < turn.now.pass → vec_len blocks.new ≡ vec_len blocks.old }
     ensures capacity { vec_capacity blocks.old ≤ vec_capacity blocks.new }
 {
-    if shared.pass == 0 {
+    if turn.pass == 0 {
         blocks.push_reserved(Block::ZERO);
     }
 }
 
 /// Where the words that name references come from the place alone, makes the address block of an
 /// offset, unless it is at hand.
-fn refresh(shared: &Shared, lane: u32, offset: u32, addresses: &mut Option<AddressBlock>)
-    ensures keeps { KeepsAddresses shared.now lane addresses.old
-        → KeepsAddresses shared.now lane addresses.new }
-    ensures here { KeepsAddresses shared.now lane addresses.old
-        → ServesOffset shared.now lane offset addresses.new }
+fn refresh(turn: &Turn, lane: u32, offset: u32, addresses: &mut Option<AddressBlock>)
+    ensures keeps { KeepsAddresses turn.now lane addresses.old
+        → KeepsAddresses turn.now lane addresses.new }
+    ensures here { KeepsAddresses turn.now lane addresses.old
+        → ServesOffset turn.now lane offset addresses.new }
 {
-    if shared.is_dependent() {
+    if turn.is_dependent() {
         return;
     }
-    let position = shared.position(lane, offset);
+    let position = turn.position(lane, offset);
     let is_there = match addresses {
         Some(kept) => kept.is_of(&position),
         None => false,
     };
     if !is_there {
-        *addresses = Some(AddressBlock::at(&shared.params, &position));
+        *addresses = Some(AddressBlock::at(&turn.params, &position));
     }
 }
 
 /// Works the block at an offset of a lane's segment.
-fn work_offset(
-    shared: &Shared,
+fn work_offset<S: Slice>(
+    shared: &Shared<S>,
     lane: u32,
     offset: u32,
     addresses: &Option<AddressBlock>,
     blocks: &mut [Block],
 )
-    requires shaped { IsShaped shared.now }
-    requires some { 2 ≤ segment_len shared.now.params }
-    requires lane { lane < shared.now.params.lanes }
-    requires offset { offset < segment_len shared.now.params }
-    requires computed { first_offset shared.now ≤ offset }
+    requires shaped { IsShaped S.is_full shared.now }
+    requires some { 2 ≤ segment_len shared.now.turn.params }
+    requires lane { lane < shared.now.turn.params.lanes }
+    requires offset { offset < segment_len shared.now.turn.params }
+    requires computed { first_offset shared.now.turn ≤ offset }
     requires there { offset < length blocks.old }
-    ensures { (h : List ℕ) → SharedHolds h shared.now
-        → ServesOffset shared.now lane offset addresses.now
-        → OwnHolds h shared.now lane offset blocks.old
-        → OwnHolds h shared.now lane (offset + 1) blocks.new }
+    ensures { (h : List ℕ) → SharedHolds S.holds h shared.now
+        → ServesOffset shared.now.turn lane offset addresses.now
+        → OwnHolds h shared.now.turn lane offset blocks.old
+        → OwnHolds h shared.now.turn lane (offset + 1) blocks.new }
 {
-    let position = shared.position(lane, offset);
+    let position = shared.turn.position(lane, offset);
     let (done, rest) = blocks.split_at_mut(offset as usize);
     work_block(shared, &position, done, addresses, &mut rest[0]);
 }
 
 /// Works a block, the due one, behind those of its segment that are done.
-fn work_block(
-    shared: &Shared,
+fn work_block<S: Slice>(
+    shared: &Shared<S>,
     position: &Position,
     done: &[Block],
     addresses: &Option<AddressBlock>,
     due: &mut Block,
 )
-    requires shaped { IsShaped shared.now }
-    requires some { 2 ≤ segment_len shared.now.params }
-    requires here { position.now ≡ position_in shared.now position.now.lane (length done.now) }
-    requires lane { position.now.lane < shared.now.params.lanes }
-    requires offset { length done.now < segment_len shared.now.params }
-    requires computed { first_offset shared.now ≤ length done.now }
+    requires shaped { IsShaped S.is_full shared.now }
+    requires some { 2 ≤ segment_len shared.now.turn.params }
+    requires here { position.now ≡ position_in shared.now.turn position.now.lane (length done.now) }
+    requires lane { position.now.lane < shared.now.turn.params.lanes }
+    requires offset { length done.now < segment_len shared.now.turn.params }
+    requires computed { first_offset shared.now.turn ≤ length done.now }
     ensures { let lane = position.now.lane in let offset = length done.now in
-        (h : List ℕ) → SharedHolds h shared.now → DoneHolds h shared.now lane done.now
-        → ServesOffset shared.now lane offset addresses.now
-        → (0 < shared.now.pass
-        → due.old.0 ≡ cell shared.now.params h (older (place_in shared.now lane offset)))
-        → due.new.0 ≡ cell shared.now.params h (place_in shared.now lane offset) }
+        (h : List ℕ) → SharedHolds S.holds h shared.now → DoneHolds h shared.now.turn lane done.now
+        → ServesOffset shared.now.turn lane offset addresses.now
+        → (0 < shared.now.turn.pass
+        → due.old.0 ≡ cell shared.now.turn.params h (older (place_in shared.now.turn lane offset)))
+        → due.new.0 ≡ cell shared.now.turn.params h (place_in shared.now.turn lane offset) }
 {
     let before = block_before(shared, position.lane, done);
     let word = word_at(before, addresses, position.offset);
     let (j1, j2) = halves(word);
-    let reference = reference_from(&shared.params, position, j1, j2);
+    let reference = reference_from(&shared.turn.params, position, j1, j2);
     let other = block_at(shared, position.lane, done, &reference);
-    if shared.is_fresh() {
+    if shared.turn.is_fresh() {
         compress_over(before, other, due);
     } else {
         compress_onto(before, other, due);
@@ -217,42 +198,46 @@ fn halves(word: u64) -> (u32, u32)
 }
 
 /// The block before the due one in its lane.
-fn block_before<'a>(shared: &'a Shared, lane: u32, done: &'a [Block]) -> &'a Block
-    requires shaped { IsShaped shared.now }
-    requires lane { lane < shared.now.params.lanes }
-    requires computed { first_offset shared.now ≤ length done.now }
-    ensures { (h : List ℕ) → SharedHolds h shared.now → DoneHolds h shared.now lane done.now
-        → result.now.0 ≡ cell shared.now.params h
-        (previous (segment_len shared.now.params) (place_in shared.now lane (length done.now))) }
+fn block_before<'a, S: Slice>(shared: &'a Shared<S>, lane: u32, done: &'a [Block]) -> &'a Block
+    requires shaped { IsShaped S.is_full shared.now }
+    requires lane { lane < shared.now.turn.params.lanes }
+    requires computed { first_offset shared.now.turn ≤ length done.now }
+    ensures { (h : List ℕ) → SharedHolds S.holds h shared.now
+        → DoneHolds h shared.now.turn lane done.now
+        → result.now.0 ≡ cell shared.now.turn.params h
+        (previous (segment_len shared.now.turn.params)
+        (place_in shared.now.turn lane (length done.now))) }
 {
     if done.is_empty() {
-        block_of(&shared.newest, lane, shared.params.segment_len() - 1)
+        let last = shared.turn.params.segment_len() - 1;
+        shared.newest.block_of(&shared.turn.params, lane, last)
     } else {
         &done[done.len() - 1]
     }
 }
 
 /// The block that the due one refers to.
-fn block_at<'a>(
-    shared: &'a Shared,
+fn block_at<'a, S: Slice>(
+    shared: &'a Shared<S>,
     lane: u32,
     done: &'a [Block],
     reference: &Reference,
 ) -> &'a Block
-    requires shaped { IsShaped shared.now }
-    requires offset { length done.now < segment_len shared.now.params }
-    requires readable { IsReadable shared.now lane (length done.now) reference.now }
+    requires shaped { IsShaped S.is_full shared.now }
+    requires offset { length done.now < segment_len shared.now.turn.params }
+    requires readable { IsReadable shared.now.turn lane (length done.now) reference.now }
     ensures { (p : Place)
-        → IsBefore (segment_len shared.now.params) shared.now.params.lanes
-        (place_in shared.now lane (length done.now)) p
+        → IsBefore (segment_len shared.now.turn.params) shared.now.turn.params.lanes
+        (place_in shared.now.turn lane (length done.now)) p
         → p.lane ≡ reference.now.lane → p.column ≡ reference.now.column
-        → (h : List ℕ) → SharedHolds h shared.now → DoneHolds h shared.now lane done.now
-        → result.now.0 ≡ cell shared.now.params h p }
+        → (h : List ℕ) → SharedHolds S.holds h shared.now
+        → DoneHolds h shared.now.turn lane done.now
+        → result.now.0 ≡ cell shared.now.turn.params h p }
 {
-    let segment_len = shared.params.segment_len();
+    let segment_len = shared.turn.params.segment_len();
     let slice = reference.column / segment_len;
     let offset = reference.column % segment_len;
-    let back = (shared.slice + 4 - slice) % 4;
+    let back = (shared.turn.slice + 4 - slice) % 4;
     if back == 0 {
         &done[offset as usize]
     } else {
@@ -261,32 +246,21 @@ fn block_at<'a>(
 }
 
 /// A block of the slice so many slices back.
-fn earlier_block(shared: &Shared, back: u32, lane: u32, offset: u32) -> &Block
-    requires shaped { IsShaped shared.now }
-    requires lane { lane < shared.now.params.lanes }
-    requires offset { offset < segment_len shared.now.params }
+fn earlier_block<S: Slice>(shared: &Shared<S>, back: u32, lane: u32, offset: u32) -> &Block
+    requires shaped { IsShaped S.is_full shared.now }
+    requires lane { lane < shared.now.turn.params.lanes }
+    requires offset { offset < segment_len shared.now.turn.params }
     requires some { 0 < back }
     requires few { back < 4 }
-    requires worked { back ≤ number shared.now }
-    ensures { (h : List ℕ) → SharedHolds h shared.now → result.now.0 ≡ cell shared.now.params h
-        (place ((number shared.now - back) / 4) lane
-        ((number shared.now - back) % 4 * segment_len shared.now.params + offset)) }
+    requires worked { back ≤ number shared.now.turn }
+    ensures { (h : List ℕ) → SharedHolds S.holds h shared.now
+        → result.now.0 ≡ cell shared.now.turn.params h
+        (place ((number shared.now.turn - back) / 4) lane
+        ((number shared.now.turn - back) % 4 * segment_len shared.now.turn.params + offset)) }
 {
     match back {
-        1 => block_of(&shared.newest, lane, offset),
-        2 => block_of(&shared.middle, lane, offset),
-        _ => block_of(&shared.oldest, lane, offset),
+        1 => shared.newest.block_of(&shared.turn.params, lane, offset),
+        2 => shared.middle.block_of(&shared.turn.params, lane, offset),
+        _ => shared.oldest.block_of(&shared.turn.params, lane, offset),
     }
-}
-
-/// A block of a lane in a slice.
-pub(crate) fn block_of(segments: &[Segment], lane: u32, offset: u32) -> &Block
-    requires lane { lane < length segments.now }
-    requires offset { (d : Segment) → offset < vec_len (slice_index_or segments.now lane d).blocks }
-    ensures { (a : Parameters) (h : List ℕ) (g : ℕ)
-        → HoldsSlice a h g segments.now → lane < a.lanes → offset < segment_len a
-        → result.now.0 ≡ cell a h (place (g / 4) lane (g % 4 * segment_len a + offset)) }
-{
-    let segment = &segments[lane as usize];
-    &segment.blocks[offset as usize]
 }

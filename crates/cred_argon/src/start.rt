@@ -13,23 +13,26 @@ use crate::inputs::first_block;
 use crate::memory::Memory;
 use crate::params::Params;
 use crate::segment::{Segment, Shared};
+use crate::turn::Turn;
 use std::alloc::{AllocError, Global};
 
 /// The memory with the first two blocks of each lane, from the first hash.
 pub(crate) fn start(alloc: Global, params: &Params, hash: &[u8]) -> Result<Memory, AllocError>
     requires { length hash.now ≡ 64 }
-    ensures params { IfOk result (λ m. m.shared.params ≡ params.now) }
+    ensures params { IfOk result (λ m. m.shared.turn.params ≡ params.now) }
     ensures shape { IfOk result (λ m. IsMemory 0 m) }
     ensures holds { IfOk result (λ m. MemoryHolds hash.now 0 m) }
 {
     let lanes = params.lanes();
     let segment_len = params.segment_len();
     let mut current = empty_slice(alloc, lanes, segment_len)?;
-    begin_lanes(params, &mut current, hash);
+    begin_segments(params, &mut current, hash);
     let shared = Shared {
-        params: *params,
-        pass: 0,
-        slice: 0,
+        turn: Turn {
+            params: *params,
+            pass: 0,
+            slice: 0,
+        },
         oldest: empty_slice(alloc, lanes, segment_len)?,
         middle: empty_slice(alloc, lanes, segment_len)?,
         newest: empty_slice(alloc, lanes, segment_len)?,
@@ -50,7 +53,7 @@ fn empty_slice(alloc: Global, lanes: u32, segment_len: u32) -> Result<Vec<Segmen
 }
 
 /// Makes the first two blocks of each lane.
-fn begin_lanes(params: &Params, segments: &mut [Segment], hash: &[u8])
+fn begin_segments(params: &Params, segments: &mut [Segment], hash: &[u8])
     requires hash { length hash.now ≡ 64 }
     requires some { 2 ≤ segment_len params.now }
     requires empty { IsEmptySlice (segment_len params.now) params.now.lanes segments.old }

@@ -5,8 +5,8 @@ use Rattle.cred_argon.proofs.Distances.{distance_of, distance_own, distance_plac
 use Rattle.cred_argon.proofs.segment.block_at.Goals as goal
 
 pub bounds-done-offset : goal.bounds-done-offset
-bounds-done-offset c =
-    let shared = c.args.shared.now in
+bounds-done-offset g c =
+    let shared = c.args.shared.now.turn in
     let s = segment_len shared.params in
     let value = c.segment_len-segment_len.ensures.value in
     let there = c.requires.readable in
@@ -15,8 +15,8 @@ bounds-done-offset c =
     rw value (rw there.3 at (distance.own none))
 
 pub earlier_block-requires-clause-worked : goal.earlier_block-requires-clause-worked
-earlier_block-requires-clause-worked c =
-    let shared = c.args.shared.now in
+earlier_block-requires-clause-worked g c =
+    let shared = c.args.shared.now.turn in
     let s = segment_len shared.params in
     let value = c.segment_len-segment_len.ensures.value in
     let there = c.requires.readable in
@@ -24,8 +24,8 @@ earlier_block-requires-clause-worked c =
     rw (value, ← there.3) (omega (arith, distance.number))
 
 pub returns-then-back-eq0 : goal.returns-then-back-eq0
-returns-then-back-eq0 c p before lane column h held done =
-    let shared = c.args.shared.now in
+returns-then-back-eq0 g c p before lane column h held done =
+    let shared = c.args.shared.now.turn in
     let a = shared.params in
     let s = segment_len a in
     let value = c.segment_len-segment_len.ensures.value in
@@ -35,8 +35,8 @@ returns-then-back-eq0 c p before lane column h held done =
     ∙ ap (cell a h) (distance_own shared.pass shared.slice s c.args.lane (length c.args.done.now) p _ c.requires.shaped.slice distance none))
 
 pub returns-else-back-eq0 : goal.returns-else-back-eq0
-returns-else-back-eq0 c p before lane column h held done =
-    let shared = c.args.shared.now in
+returns-else-back-eq0 g c p before lane column h held done =
+    let shared = c.args.shared.now.turn in
     let a = shared.params in
     let s = segment_len a in
     let value = c.segment_len-segment_len.ensures.value in

@@ -2,7 +2,7 @@ use Rattle.std.proofs.Common.{◌≡◌, ◌/◌, ◌%◌, ◌^◌, ◌∙◌, l
 use Rattle.cred_argon.specs.Parameters.{segment_len}
 use Rattle.cred_argon.specs.Compress.{compress}
 use Rattle.cred_argon.specs.Places.{IsComputed, place_of, reference_place}
-use Rattle.cred_argon.specs.Segments.{place_in}
+use Rattle.cred_argon.specs.Turns.{place_in}
 use Rattle.cred_argon.specs.declared.position.Position.{Position}
 use Rattle.cred_argon.proofs.Picks.{reference_before}
 use Rattle.cred_argon.proofs.Distances.{place_computed}
@@ -11,8 +11,8 @@ use Rattle.cred_argon.proofs.segment.work_block.Goals as goal
 
 pub reference_from-reference-requires-clause-computed :
     goal.reference_from-reference-requires-clause-computed
-reference_from-reference-requires-clause-computed c =
-    let shared = c.args.shared.now in
+reference_from-reference-requires-clause-computed g c =
+    let shared = c.args.shared.now.turn in
     let s = segment_len shared.params in
     let at = c.args.position.now in
     let here : place_of s at ≡ place_in shared at.lane (length c.args.done.now) = ap (place_of s) c.requires.here in
@@ -20,8 +20,8 @@ reference_from-reference-requires-clause-computed c =
     (place_computed shared at.lane (length c.args.done.now) c.requires.shaped.slice c.requires.lane c.requires.offset c.requires.some c.requires.computed)
 
 pub block_at-other-requires-clause-readable : goal.block_at-other-requires-clause-readable
-block_at-other-requires-clause-readable c =
-    let shared = c.args.shared.now in
+block_at-other-requires-clause-readable g c =
+    let shared = c.args.shared.now.turn in
     let a = shared.params in
     let s = segment_len a in
     let at = c.args.position.now in
@@ -37,8 +37,8 @@ block_at-other-requires-clause-readable c =
     )
 
 pub returns-then-is_fresh : goal.returns-then-is_fresh
-returns-then-is_fresh c h held done addresses due =
-    let shared = c.args.shared.now in
+returns-then-is_fresh g c h held done addresses due =
+    let shared = c.args.shared.now.turn in
     let a = shared.params in
     let s = segment_len a in
     let at = c.args.position.now in
@@ -60,8 +60,8 @@ returns-then-is_fresh c h held done addresses due =
     replaced_is a h (compress before other) c.compress_over.new.out.0 p c.requires.some computed (sym c.is_fresh.ensures ∙ c.if-is_fresh.true) mixed c.compress_over.ensures
 
 pub returns-else-is_fresh : goal.returns-else-is_fresh
-returns-else-is_fresh c h held done addresses due =
-    let shared = c.args.shared.now in
+returns-else-is_fresh g c h held done addresses due =
+    let shared = c.args.shared.now.turn in
     let a = shared.params in
     let s = segment_len a in
     let at = c.args.position.now in

@@ -12,4 +12,4 @@ returns-clause-holds g c h held l d lane =
     let lane_is = c.requires.shape.at_current.lane l d lane in
     let after = works.3 h (shared_begins h memory held) (rw lane_is (own_begins h memory c.requires.slice held l d lane)) in
     rw (with_items_is memory.current c.work_each.new.parts same_length)
-    (segment_worked h memory.shared l (slice_index_or c.work_each.new.parts l d).blocks.items c.requires.slice (rw (works.1, lane_is) at after))
+    (segment_worked h memory.shared.turn l (slice_index_or c.work_each.new.parts l d).blocks.items c.requires.slice (rw (works.1, lane_is) at after))

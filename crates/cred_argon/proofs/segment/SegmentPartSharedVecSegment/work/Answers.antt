@@ -1,7 +1,7 @@
 use Rattle.std.proofs.Common.{◌≡◌, length, vec_len, arith}
 use Rattle.std.proofs.lemmas.List.{with_items_is}
 use Rattle.cred_argon.proofs.Working.{own_extended}
-use Rattle.cred_argon.proofs.segment.SegmentPartShared.work.Goals as goal
+use Rattle.cred_argon.proofs.segment.SegmentPartSharedVecSegment.work.Goals as goal
 
 pub columns-preserved : goal.columns-preserved
 columns-preserved c =

@@ -1,5 +1,5 @@
 use Rattle.cred_argon.proofs.Working.{IsWorking}
-use Rattle.cred_argon.proofs.segment.SegmentPartShared.work.Given as goal
+use Rattle.cred_argon.proofs.segment.SegmentPartSharedVecSegment.work.Given as goal
 
 abbrev pub invariant-columns : goal.invariant-columns
 invariant-columns l = IsWorking l.shared l.initial.self l.self l.addresses l.segment_len l.offset

@@ -1,0 +1,134 @@
+//! Argon2 in parts, for a caller who works the lanes in threads of its own (RFC 9106, section 3.4).
+//! The memory is four slices of blocks, each with the segments of its lanes one after another.
+ghost use Rattle.std.specs.Prelude.{◌≡◌, ℕ, ◌+◌, ◌-◌, ◌*◌, ◌^◌, ◌<◌, ◌≤◌, ◌↔◌, ◌⊎◌, List, IfOk};
+ghost use Rattle.std.specs.Prelude.{IfErr, length, slice_index_or};
+ghost use Rattle.cred_argon.specs.declared.block.Block.{Block};
+ghost use Rattle.cred_argon.specs.Parameters.{Parameters, segment_len};
+ghost use Rattle.cred_argon.specs.Argon.{argon, first_hash};
+ghost use Rattle.cred_argon.specs.Lanes.{HoldsBlocks, HoldsFirstBlocks, WorksSegment};
+
+use crate::block::Block;
+use crate::error::ArgonError;
+use crate::flat_slice::{FlatSlice, segment_start};
+use crate::inputs::{first_block, first_hash, is_any_too_long};
+use crate::params::Params;
+use crate::segment::{Shared, work_segment};
+use crate::tag::tag_of;
+use crate::turn::Turn;
+use std::alloc::Global;
+
+/// Which segment it is: that of a lane in a slice, 0 to 3, of a pass. All are counted from 0.
+#[repr(C)]
+#[derive(Clone, Copy, Debug, PartialEq, Eq)]
+pub struct SegmentIndex {
+    pub pass: u32,
+    pub slice: u32,
+    pub lane: u32,
+}
+
+/// The three slices before the one that is worked: `newest` is the one before it, `oldest` the one
+/// after it, as it was worked on the pass before. On the first pass those that haven't been worked
+/// yet are never read.
+#[derive(Clone, Copy, Drop)]
+pub struct EarlierSlices<'a> {
+    pub oldest: &'a [Block],
+    pub middle: &'a [Block],
+    pub newest: &'a [Block],
+}
+
+/// Writes the first two blocks of each lane into the first slice (RFC 9106, section 3.2, steps 1 to
+/// 4). Its other blocks may be anything.
+///
+/// Errors: `InputLen` if an input has 2^32 bytes or more; `first` is as it was then.
+pub fn begin_lanes(
+    params: &Params,
+    pw: &[u8],
+    salt: &[u8],
+    secret: &[u8],
+    assoc: &[u8],
+    first: &mut [Block],
+) -> Result<(), ArgonError>
+    requires { length first.old ≡ params.now.lanes * segment_len params.now }
+    ensures made { IfOk result (λ _. HoldsFirstBlocks params.now
+        (first_hash params.now pw.now salt.now secret.now assoc.now) params.now.lanes first.new) }
+    ensures input_len { (result ≡ Err ArgonError.InputLen)
+        ↔ ((2 ^ 32 ≤ length pw.now) ⊎ (2 ^ 32 ≤ length salt.now)
+        ⊎ (2 ^ 32 ≤ length secret.now) ⊎ (2 ^ 32 ≤ length assoc.now)) }
+    ensures err { IfErr result (λ e. (e ≡ ArgonError.InputLen) × (first.new ≡ first.old)) }
+{
+    if is_any_too_long(pw, salt, secret, assoc) {
+        return Err(ArgonError::InputLen);
+    }
+    let hash = first_hash(params, pw, salt, secret, assoc);
+    write_first_blocks(params, hash.bytes(), first);
+    Ok(())
+}
+
+/// The same from the first hash.
+fn write_first_blocks(params: &Params, hash: &[u8], first: &mut [Block])
+    requires hash { length hash.now ≡ 64 }
+    requires room { length first.old ≡ params.now.lanes * segment_len params.now }
+    ensures { HoldsFirstBlocks params.now hash.now params.now.lanes first.new }
+{
+    'lanes: for lane in 0..params.lanes() {
+        let start = segment_start(params, lane);
+        first[start] = first_block(hash, lane, 0);
+        first[start + 1] = first_block(hash, lane, 1);
+    }
+}
+
+/// Works a segment (RFC 9106, section 3.2, steps 5 and 6). `own` are its blocks: on the first pass
+/// they may be anything, but for the first two of a lane; later they are those of the pass before.
+///
+/// If the earlier slices have been worked, the blocks are the standard's after the call. Segments
+/// of one slice read nothing of each other, so they may be worked at the same time.
+pub fn work_lane(
+    params: &Params,
+    index: SegmentIndex,
+    earlier: &EarlierSlices<'_>,
+    own: &mut [Block],
+)
+    requires slice { index.slice < 4 }
+    requires lane { index.lane < params.now.lanes }
+    requires oldest { length earlier.now.oldest.now ≡ params.now.lanes * segment_len params.now }
+    requires middle { length earlier.now.middle.now ≡ params.now.lanes * segment_len params.now }
+    requires newest { length earlier.now.newest.now ≡ params.now.lanes * segment_len params.now }
+    requires own { length own.old ≡ segment_len params.now }
+    ensures { (h : List ℕ)
+        → WorksSegment params.now h (4 * index.pass + index.slice) index.lane
+        earlier.now.oldest.now earlier.now.middle.now earlier.now.newest.now own.old own.new }
+{
+    let shared = Shared {
+        turn: Turn {
+            params: *params,
+            pass: index.pass,
+            slice: index.slice,
+        },
+        oldest: FlatSlice {
+            blocks: earlier.oldest,
+        },
+        middle: FlatSlice {
+            blocks: earlier.middle,
+        },
+        newest: FlatSlice {
+            blocks: earlier.newest,
+        },
+    };
+    work_segment(&shared, index.lane, own);
+}
+
+/// The tag, if `last` is the last slice and has been worked on the last pass (RFC 9106, section
+/// 3.2, steps 7 and 8).
+///
+/// Errors: `Memory` if there is none for the tag.
+pub fn tag_of_lanes(alloc: Global, params: &Params, last: &[Block]) -> Result<Vec<u8>, ArgonError>
+    requires { length last.now ≡ params.now.lanes * segment_len params.now }
+    ensures ok { (pw salt secret assoc : List ℕ)
+        → HoldsBlocks params.now (first_hash params.now pw salt secret assoc)
+        (4 * params.now.passes - 1) last.now
+        → IfOk result (λ tag. tag.items ≡ argon params.now pw salt secret assoc) }
+    ensures size { IfOk result (λ tag. length tag.items ≡ params.now.tag_len) }
+    ensures err { IfErr result (λ e. e ≡ ArgonError.Memory) }
+{
+    tag_of(alloc, params, &FlatSlice { blocks: last })
+}
