@@ -1,14 +1,16 @@
 -- Base64 by the strict engine with no padding: a text decodes to bytes exactly where it is their
 -- encoding.
-use Rattle.std.proofs.Common.{◌≡◌, ◌∙◌, ℕ, zero, suc, ◌+◌, ◌*◌, ◌/◌, ◌%◌, ◌<◌, ◌≤◌, ◌==◌, not, true, List, [], ◌∷◌, length, get_or, Some, None, Result, Ok, Err, arith, refl, ap, append-nil}
+use Rattle.std.proofs.Common.{◌≡◌, ◌∙◌, ℕ, zero, suc, ◌+◌, ◌*◌, ◌/◌, ◌%◌, ◌<◌, ◌≤◌, ◌==◌, not, true, if◌then◌else◌, List, [], ◌∷◌, length, get_or, Some, None, Result, Ok, Err, arith, refl, ap, append-nil}
 use Rattle.std.proofs.lemmas.Bool.Decides.{nat_tests}
 use Rattle.base64.specs.declared.decode.DecodeError.{DecodeError}
 use Rattle.base64.specs.Engines.{standard_no_pad}
-use Rattle.base64.specs.GeneralPurpose.{IsBytes, engine_symbols}
+use Rattle.base64.specs.GeneralPurpose.{IsBytes, decode_of, decoded_of, engine_symbols}
 use Rattle.base64.proofs.EngineFacts.{decode_of_strict, decode_of-encode_of}
 use Rattle.base64.specs.Rfc4648.{encode_symbols}
 use Rattle.base64.proofs.RoundTrip.{length-encode_symbols}
 use Rattle.std.specs.Cmp.{first_so, second_so}
+use Rattle.std.specs.Result.{result_ok}
+use Rattle.cred_base64.specs.Letters.{bytes_with}
 use Rattle.cred_phc.proofs.CaseLaws.{if_some}
 use Rattle.cred_phc.proofs.PieceLaws.{lacks}
 use Rattle.cred_phc.specs.Ranges.{between}
@@ -67,3 +69,22 @@ bytes_of_is low high text bytes is_bytes h = unbase64_is text bytes is_bytes (fo
 -- what is written by letters is what they stand for
 pub bytes_of-base64 : (low high : ℕ) (bytes : List ℕ) → IsBytes bytes → between low high (length bytes) ≡ true → bytes_of low high (base64 bytes) ≡ Some bytes
 bytes_of-base64 low high bytes is_bytes fits = rw (unbase64-base64 bytes is_bytes, fits) refl
+
+within_found : (low high : ℕ) (r : Result (List ℕ) DecodeError) (bytes : List ℕ) → result_ok r ≡ Some bytes
+    → (if between low high (length bytes) then Some bytes else None) ≡ bytes_within low high r
+within_found low high (Ok b) bytes h = let same : b ≡ bytes = cc h in rw same refl
+within_found low high (Err e) bytes h = cc h
+
+within_none : (low high : ℕ) (r : Result (List ℕ) DecodeError) → result_ok r ≡ None → None ≡ bytes_within low high r
+within_none low high (Ok b) h = cc h
+within_none low high (Err e) h = refl
+
+-- the bytes with these letters, by either crate's word for it
+pub bytes_read : (low high : ℕ) (text bytes found : List ℕ) → bytes_with text ≡ Some bytes → found ≡ bytes
+    → (if between low high (length found) then Some found else None) ≡ bytes_of low high text
+unfolding bytes_with decoded_of unbase64
+bytes_read low high text bytes found h same = rw same (within_found low high (decode_of standard_no_pad text) bytes h)
+
+pub no_bytes_read : (low high : ℕ) (text : List ℕ) → bytes_with text ≡ None → None ≡ bytes_of low high text
+unfolding bytes_with decoded_of unbase64
+no_bytes_read low high text h = within_none low high (decode_of standard_no_pad text) h

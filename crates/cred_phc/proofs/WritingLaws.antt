@@ -20,10 +20,12 @@ record_joined (Argon2 version variant m t p) salt last = join-push 36 [] (drop 1
 record_joined (Scrypt ln r p) salt last = join-push 36 [] (drop 1 (scheme_fields (Scrypt ln r p)) ++ salt ∷ []) last
 
 -- behind the scheme stands the salt
-pub setting_written : (v : SettingValue) (before between after : List ℕ) → between ≡ before ++ scheme_text v.scheme → after ≡ between ++ 36 ∷ base64 v.salt → after ≡ before ++ setting_text v
+pub setting_written : (v : SettingValue) (start between after salt : List ℕ) (scheme : Scheme) → start ≡ [] → scheme ≡ v.scheme → salt ≡ v.salt
+    → between ≡ start ++ scheme_text scheme → after ≡ between ++ 36 ∷ base64 salt → after ≡ setting_text v
 unfolding setting_text scheme_text
-setting_written v before between after scheme salt =
-    salt ∙ ap (λ xs. xs ++ 36 ∷ base64 v.salt) scheme ∙ append_assoc before _ (36 ∷ base64 v.salt) ∙ ap (λ xs. before ++ xs) (sym (setting_joined v.scheme (base64 v.salt)))
+setting_written v start between after salt scheme none same_scheme same_salt first last =
+    let front : between ≡ join_with_byte 36 (scheme_fields v.scheme) = first ∙ rw (none, same_scheme) refl in
+    last ∙ rw (front, same_salt) (sym (setting_joined v.scheme (base64 v.salt)))
 
 -- behind the setting stands the tag
 pub record_written : (v : RecordValue) (between after : List ℕ) → between ≡ setting_text v.setting → after ≡ between ++ 36 ∷ base64 v.tag → after ≡ record_text v

@@ -1,10 +1,11 @@
 //! The tag of a password under a setting.
 
-ghost use Rattle.std.specs.Prelude.{◌≡◌, ◌<◌, ◌≤◌, ◌^◌, List, ℕ, codes, length, IfOk, IsTrue};
-ghost use Rattle.cred_argon.specs.Parameters.{parameters};
+ghost use Rattle.std.specs.Prelude.{◌≡◌, ◌<◌, ◌≤◌, ◌^◌, List, ℕ, codes, length, IfOk};
+ghost use Rattle.std.specs.Prelude.{IfSome, IsTrue};
+ghost use Rattle.cred_argon.specs.Parameters.{IsRaw, parameters};
 ghost use Rattle.cred_phc.specs.Functions.{key, key_len};
 ghost use Rattle.cred_phc.specs.Ranges.{argon_fits, scrypt_fits};
-ghost use Rattle.cred_phc.specs.Tags.{argon_kind, tag};
+ghost use Rattle.cred_phc.specs.Tags.{argon_kind, argon_parameters, tag};
 ghost use Rattle.cred_phc.specs.Values.{IsTag};
 
 use crate::password::Password;
@@ -117,6 +118,26 @@ pub fn tag_alone<G: Gate>(
     }
 }
 
+/// The parameters of Argon2 for a tag of `len` bytes, 4 to 64, that the setting gives; none if it is
+/// one of scrypt.
+pub fn argon2_params(setting: &Setting, len: u8) -> Option<Params>
+    requires low { 4 ≤ len }
+    requires high { len ≤ 64 }
+    ensures value { result ≡ argon_parameters setting.now.scheme len }
+    ensures ranges { IfSome result IsRaw }
+{
+    match setting.scheme() {
+        Scheme::Argon2 {
+            version,
+            variant,
+            m,
+            t,
+            p,
+        } => Some(argon_params(version, variant, m, t, p, len)),
+        Scheme::Scrypt { .. } => None,
+    }
+}
+
 /// The function that a setting asks for, with all its numbers.
 enum Function {
     Argon2(Params),
@@ -179,7 +200,8 @@ fn argon_params(version: Version, variant: Variant, m: u32, t: u32, p: u8, len: 
     requires fits { IsTrue (argon_fits m t p) }
     requires low { 4 ≤ len }
     requires high { len ≤ 64 }
-    ensures { result ≡ parameters version (argon_kind variant) m t p len }
+    ensures value { result ≡ parameters version (argon_kind variant) m t p len }
+    ensures ranges { IsRaw result }
 {
     match Params::with_version(
         version,

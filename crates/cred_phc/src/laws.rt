@@ -4,7 +4,8 @@
 ghost use Rattle.std.specs.Prelude.{◌≡◌, ◌↔◌, codes, false, replicate, true, IsTrue, List, ℕ};
 ghost use Rattle.base64.specs.GeneralPurpose.{IsBytes};
 ghost use Rattle.cred_phc.specs.Faults.{record_fault, setting_fault};
-ghost use Rattle.cred_phc.specs.Ranges.{is_current};
+ghost use Rattle.cred_phc.specs.Ranges.{MAX_PASSWORD, MAX_SALT, MAX_TAG, MAX_TEXT, MIN_ARGON2_SALT};
+ghost use Rattle.cred_phc.specs.Ranges.{MIN_SCRYPT_SALT, MIN_TAG, is_current};
 ghost use Rattle.cred_phc.specs.Reading.{read_record, read_setting};
 ghost use Rattle.cred_phc.specs.Text.{IsRecordText, IsSettingText, bare_text, record_text};
 ghost use Rattle.cred_phc.specs.Text.{setting_text};
@@ -161,4 +162,15 @@ pub fn known_faults()
         ≡ Some PhcError.Version }
     ensures longest { record_fault (replicate 512 120) ≡ Some PhcError.Shape }
     ensures too_long { record_fault (replicate 513 120) ≡ Some PhcError.TooLong }
+{}
+
+/// The ranges of bytes, which definitions take from the constants of this crate, as numbers.
+pub fn ranges_are_these_numbers()
+    ensures text { MAX_TEXT ≡ 512 }
+    ensures password { MAX_PASSWORD ≡ 256 }
+    ensures argon2_salt { MIN_ARGON2_SALT ≡ 8 }
+    ensures scrypt_salt { MIN_SCRYPT_SALT ≡ 1 }
+    ensures longest_salt { MAX_SALT ≡ 48 }
+    ensures shortest_tag { MIN_TAG ≡ 4 }
+    ensures longest_tag { MAX_TAG ≡ 64 }
 {}

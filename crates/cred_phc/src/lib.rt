@@ -19,11 +19,11 @@ mod write;
 
 pub use cred_argon::Version;
 pub use error::PhcError;
-pub use hashing::{TagError, tag_alone, tag_of};
+pub use hashing::{TagError, argon2_params, tag_alone, tag_of};
 pub use laws::{
     equal_passwords, equal_records, equal_schemes, equal_settings, equal_tags, equal_variants,
-    equal_versions, known_faults, known_texts, old_not_read, one_value_each, read_as_written,
-    reading_is_the_grammar, two_old_texts,
+    equal_versions, known_faults, known_texts, old_not_read, one_value_each,
+    ranges_are_these_numbers, read_as_written, reading_is_the_grammar, two_old_texts,
 };
 pub use number::decimal;
 pub use parse::{parse_record, parse_setting};

@@ -5,8 +5,14 @@ ghost use Rattle.base64.specs.GeneralPurpose.{IsBytes};
 ghost use Rattle.cred_phc.specs.Base64.{bytes_of};
 ghost use Rattle.cred_phc.specs.Ranges.{between};
 
-use base64::engine::general_purpose::STANDARD_NO_PAD;
+use cred_base64::{decode, decoded_len};
 use std::marker::Model;
+
+/// The longest `CAP` that is read from letters.
+const MOST_BYTES: usize = 256;
+
+/// How many letters so many bytes have.
+const MOST_LETTERS: usize = 342;
 
 /// At most `CAP` bytes. The room behind them is zero, so that equal bytes are equal values.
 #[derive(Clone, Copy, Debug)]
@@ -55,19 +61,17 @@ impl<const CAP: usize> ShortBytes<CAP> {
 
     /// The bytes that these letters stand for, in base64 with no padding (RFC 4648, section 4), if
     /// there are at least `low` of them and at most `CAP`, which is at most 256.
-    #[tactic(auto, unfolding(crate::specs::Base64::unbase64))]
     pub fn from_base64(letters: &[u8], low: usize) -> Option<ShortBytes<CAP>>
         requires { CAP ≤ 256 }
         ensures { result ≡ bytes_of low CAP letters.now }
     {
-        // 256 bytes have 342 letters, and the decoder asks for three bytes of room for each four
-        // letters.
-        if letters.len() > 342 {
+        if letters.len() > MOST_LETTERS {
             return None;
         }
-        let mut buffer = [0; 258];
-        match STANDARD_NO_PAD.decode_slice_unchecked(letters, &mut buffer) {
-            Ok(len) => ShortBytes::new(&buffer[..len], low),
+        let mut buffer = [0; MOST_BYTES];
+        let len = decoded_len(letters.len());
+        match decode(letters, &mut buffer[..len]) {
+            Ok(()) => ShortBytes::new(&buffer[..len], low),
             Err(_) => None,
         }
     }

@@ -1,6 +1,6 @@
 //! From settings and records to text.
 
-ghost use Rattle.std.specs.Prelude.{◌≡◌, ◌∷◌, ◌++◌, IfErr, IfOk, OnOk};
+ghost use Rattle.std.specs.Prelude.{◌≡◌, ◌≤◌, ◌∷◌, ◌++◌, length, IfErr, IfOk, OnOk};
 ghost use Rattle.std.specs.String.{string_bytes};
 ghost use Rattle.cred_phc.specs.Base64.{base64};
 ghost use Rattle.cred_phc.specs.Text.{label, numbers_text, record_text, scheme_text, setting_text};
@@ -13,7 +13,8 @@ use crate::scheme::{
     version_text,
 };
 use crate::setting::Setting;
-use base64::engine::general_purpose::STANDARD_NO_PAD;
+use crate::tag::MAX_TAG;
+use cred_base64::{encode, encoded_len};
 use itoa::Buffer;
 use std::alloc::{AllocError, Global};
 
@@ -21,8 +22,11 @@ use std::alloc::{AllocError, Global};
 /// 64 letters of salt.
 const LONGEST_SETTING: usize = 108;
 
-/// The same with `$` and the 86 letters of a tag behind it.
+/// The same with `$` and the letters of a tag behind it.
 const LONGEST_RECORD: usize = 195;
+
+/// The letters of the longest tag.
+const LONGEST_LETTERS: usize = 86;
 
 /// The text of a setting, as `$scrypt$ln=10,r=8,p=16$TmFDbA`. That of a setting of version 0x10 is
 /// not read again.
@@ -33,9 +37,7 @@ pub fn write_setting(alloc: Global, setting: &Setting) -> Result<Vec<u8>, PhcErr
     ensures memory { IfErr result (λ fault. fault ≡ PhcError.Memory) }
     ensures ranges { OnOk result (IsSetting setting.now) }
 {
-    let mut text = String::with_capacity(alloc, LONGEST_SETTING)?;
-    push_setting(&mut text, setting)?;
-    Ok(text.into_bytes())
+    Ok(setting_in(alloc, LONGEST_SETTING, setting)?)
 }
 
 /// The text of a record, which is read as this record: its setting's, then `$` and the tag in
@@ -48,20 +50,21 @@ pub fn write_record(alloc: Global, stored: &Record) -> Result<Vec<u8>, PhcError>
     ensures memory { IfErr result (λ fault. fault ≡ PhcError.Memory) }
     ensures ranges { OnOk result (IsRecord stored.now) }
 {
-    let mut text = String::with_capacity(alloc, LONGEST_RECORD)?;
-    push_setting(&mut text, &stored.setting())?;
+    let mut text = setting_in(alloc, LONGEST_RECORD, &stored.setting())?;
     push_bytes(&mut text, stored.tag().bytes())?;
-    Ok(text.into_bytes())
+    Ok(text)
 }
 
-#[tactic(auto, using(crate::proofs::WritingLaws::setting_written))]
-fn push_setting(text: &mut String, setting: &Setting) -> Result<(), AllocError>
-    ensures text { OnOk result
-        (string_bytes text.new ≡ string_bytes text.old ++ setting_text setting.now) }
-    ensures ranges { IsSetting setting.now }
+/// The text of a setting, in this much room.
+fn setting_in(alloc: Global, capacity: usize, setting: &Setting) -> Result<Vec<u8>, AllocError>
+    ensures text { IfOk result (λ text. text.items ≡ setting_text setting.now) }
+    ensures ranges { OnOk result (IsSetting setting.now) }
 {
-    push_scheme(text, setting.scheme())?;
-    push_bytes(text, setting.salt())
+    let mut scheme = String::with_capacity(alloc, capacity)?;
+    push_scheme(&mut scheme, setting.scheme())?;
+    let mut text = scheme.into_bytes();
+    push_bytes(&mut text, setting.salt())?;
+    Ok(text)
 }
 
 #[tactic(auto, unfolding(crate::specs::Text::scheme_text))]
@@ -147,11 +150,15 @@ fn push_number(text: &mut String, number: Labelled) -> Result<(), AllocError>
     text.push_str(Buffer::new().format(number.number))
 }
 
-/// A field with the letters of the bytes.
-#[tactic(auto, unfolding(crate::specs::Base64::base64))]
-fn push_bytes(text: &mut String, bytes: &[u8]) -> Result<(), AllocError>
-    ensures { OnOk result (string_bytes text.new ≡ string_bytes text.old ++ 36 ∷ base64 bytes.now) }
+/// A field with the letters of the bytes, of which there are as many as a tag has at most.
+#[tactic(auto, unfolding(crate::specs::Base64::base64, cred_base64::specs::Letters::letters_of))]
+fn push_bytes(text: &mut Vec<u8>, bytes: &[u8]) -> Result<(), AllocError>
+    requires { length bytes.now ≤ MAX_TAG }
+    ensures { OnOk result (text.new.items ≡ text.old.items ++ 36 ∷ base64 bytes.now) }
 {
-    text.push('$')?;
-    STANDARD_NO_PAD.encode_string(bytes, text)
+    let mut letters = [0; LONGEST_LETTERS];
+    let len = encoded_len(bytes.len());
+    encode(bytes, &mut letters[..len]);
+    text.push(b'$')?;
+    text.extend_from_slice(&letters[..len])
 }

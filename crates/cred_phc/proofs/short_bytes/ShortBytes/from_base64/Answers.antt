@@ -1,16 +1,15 @@
-use Rattle.std.proofs.Common.{rules, arith}
-use Rattle.cred_phc.specs.Base64.{unbase64}
-use Rattle.cred_phc.proofs.Base64Laws.{too_long}
+use Rattle.std.proofs.Common.{◌≡◌, ◌∙◌, length, sym, arith}
+use Rattle.std.proofs.lemmas.List.{take_at}
+use Rattle.cred_phc.proofs.Base64Laws.{too_long, bytes_read, no_bytes_read}
 use Rattle.cred_phc.proofs.short_bytes.ShortBytes.from_base64.Goals as goal
 
-pub returns-then-letters-gt342 : goal.returns-then-letters-gt342
-returns-then-letters-gt342 g c = too_long _ _ _ c.requires (λ i. omega (arith, c.type_inv.letters i)) c.if-letters-gt342.true
+pub returns-then-letters-gt-MOST_LETTERS : goal.returns-then-letters-gt-MOST_LETTERS
+returns-then-letters-gt-MOST_LETTERS g c = too_long _ _ _ c.requires (λ i. omega (arith, c.type_inv.letters i)) c.if-letters-gt-MOST_LETTERS.true
 
--- written out, so that a body that doesn't meet these is refused here, without a long search
 pub returns-in-Ok : goal.returns-in-Ok
-unfolding unbase64
-returns-in-Ok g c = search rules
+returns-in-Ok g c =
+    let size : length c.decode.new.bytes ≡ c.decoded_len-len.result = c.decode.ensures.size ∙ sym c.decoded_len-len.ensures in
+    c.new.ensures ∙ bytes_read _ _ _ c.decode.new.bytes _ c.in-Ok.ensures.ok (take_at c.decode.new.bytes _ c.decoded_len-len.result size)
 
 pub returns-in-Err : goal.returns-in-Err
-unfolding unbase64
-returns-in-Err g c = search rules
+returns-in-Err g c = no_bytes_read _ _ _ c.in-Err.ensures.not_base64
