@@ -33,7 +33,7 @@ three now true false a b d first second third = third
 three now false s a b d first second third = first
 
 -- where an operation makes no change, it leaves what stood
-whole_stays : (request : Request) (now : Option RecordValue) → IsStill now (whole request now)
+pub whole_stays : (request : Request) (now : Option RecordValue) → IsStill now (whole request now)
 whole_stays (Enrol name pw setting) None = λ stays. absurd cc
 whole_stays (Enrol name pw setting) (Some stored) = λ stays. refl
 whole_stays (Verify name pw) None = λ stays. refl

@@ -6,3 +6,5 @@ pub mod Entries
 pub mod Equality
 pub mod Kept
 pub mod Passwords
+pub mod Updating
+pub mod Registered

@@ -22,3 +22,12 @@ pub record IsKept (entries : List (List ℕ × Option RecordValue)) (capacity : 
   pub sorted : IsTrue (map.is_sorted name_cmp entries)
   pub few : length entries ≤ most_accounts
   pub room : most_accounts ≤ capacity
+
+-- how many names a register may have
+abbrev pub register_capacity : ℕ
+register_capacity = 16777216
+
+-- how a register keeps it: entries in the order of their names, and not too many
+pub record IsRegister (entries : List (List ℕ × Option RecordValue)) : Type 0 where
+  pub sorted : IsTrue (map.is_sorted name_cmp entries)
+  pub few : length entries ≤ register_capacity

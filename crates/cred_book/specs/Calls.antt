@@ -7,19 +7,28 @@ use Rattle.cred_book.specs.Accounts.{Accounts, most_accounts}
 use Rattle.cred_book.specs.declared.error.BookError.{BookError}
 use Rattle.cred_book.specs.declared.error.BookError.TheVariants as error
 
--- a new name is there from now on, with no record; memory is wanting only where it would have been
--- added
+-- a new name is there from now on, with this record or none, where there is room for so many names;
+-- memory is wanting only where it would have been added
+abbrev pub EntersWithin : ℕ → Accounts → Accounts → List ℕ → Option RecordValue
+    → Result (Unit {0}) BookError → Type 0
+EntersWithin room old new name now (Ok _) =
+    (map.contains_key old name ≡ false) × (map.len old < room) × (new ≡ map.insert old name now)
+EntersWithin room old new name now (Err error.Exists) =
+    (map.contains_key old name ≡ true) × (new ≡ old)
+EntersWithin room old new name now (Err error.Full) =
+    (map.contains_key old name ≡ false) × (room ≤ map.len old) × (new ≡ old)
+EntersWithin room old new name now (Err error.Memory) =
+    (map.contains_key old name ≡ false) × (map.len old < room) × (new ≡ old)
+EntersWithin room old new name now (Err error.Name) = ⊥
+EntersWithin room old new name now (Err error.NoAccount) = ⊥
+
+-- likewise, with no record
+abbrev pub AdmitsWithin : ℕ → Accounts → Accounts → List ℕ → Result (Unit {0}) BookError → Type 0
+AdmitsWithin room old new name result = EntersWithin room old new name None result
+
+-- the room of a book
 abbrev pub Admits : Accounts → Accounts → List ℕ → Result (Unit {0}) BookError → Type 0
-Admits old new name (Ok _) =
-    (map.contains_key old name ≡ false) × (map.len old < most_accounts)
-    × (new ≡ map.insert old name None)
-Admits old new name (Err error.Exists) = (map.contains_key old name ≡ true) × (new ≡ old)
-Admits old new name (Err error.Full) =
-    (map.contains_key old name ≡ false) × (most_accounts ≤ map.len old) × (new ≡ old)
-Admits old new name (Err error.Memory) =
-    (map.contains_key old name ≡ false) × (map.len old < most_accounts) × (new ≡ old)
-Admits old new name (Err error.Name) = ⊥
-Admits old new name (Err error.NoAccount) = ⊥
+Admits old new name result = AdmitsWithin most_accounts old new name result
 
 -- the name has this record from now on; memory is wanting only where the name is there
 abbrev pub Loads : Accounts → Accounts → List ℕ → RecordValue → Result (Unit {0}) BookError → Type 0

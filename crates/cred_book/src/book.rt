@@ -1,6 +1,6 @@
-//! The book: the names of all accounts, and the record that stands at each.
+//! The book: the names of all accounts, and the record of each.
 
-ghost use Rattle.std.specs.Prelude.{◌≡◌, ◌<◌, ◌≤◌, IfOk, IfErr, IsTrue, MatchBool, MatchResult};
+ghost use Rattle.std.specs.Prelude.{◌≡◌, ◌⊎◌, ◌<◌, ◌≤◌, IfOk, IfErr, IsTrue, MatchBool, MatchResult};
 ghost use Rattle.std.specs.Prelude.{true};
 ghost use Rattle.std.specs.FinMap as map;
 ghost use Rattle.std.specs.Slice.Iter.{iter_rest};
@@ -13,6 +13,7 @@ ghost use Rattle.cred_book.specs.Works.{is_for_current};
 
 use crate::error::BookError;
 use crate::name::Name;
+use crate::register::Register;
 use crate::reply::Reply;
 use crate::request::Request;
 use crate::ticket::{Ticket, Worked};
@@ -21,12 +22,12 @@ use std::alloc::Global;
 use std::marker::Model;
 use std::slice;
 
-/// How many names a book has room for.
+/// How many names a book can hold.
 const MOST_ACCOUNTS: usize = 4096;
 
 /// A map from at most 4096 names to at most one record each.
 ///
-/// It takes the memory for all names as it is made, so that no later call takes any.
+/// All its memory is allocated when it is made, so no later call on it can run out of memory.
 #[derive(Drop)]
 pub struct Book {
     accounts: Vec<(Name, Option<Record>)>,
@@ -49,9 +50,9 @@ impl Model for Book {
 }
 
 impl Book {
-    /// A book with no name.
+    /// A book with no names.
     ///
-    /// Errors: `Memory` where there is none for 4096 accounts.
+    /// Errors: `Memory` if there is not enough for 4096 accounts.
     pub fn new(alloc: Global) -> Result<Book, BookError>
         ensures empty { IfOk result (λ book. book ≡ map.empty) }
         ensures memory { IfErr result (λ e. e ≡ BookError.Memory) }
@@ -60,9 +61,31 @@ impl Book {
         Ok(Book { accounts })
     }
 
+    /// The book of a register, for code that works on a `Book` alone.
+    ///
+    /// Errors: `Full` if the register has more than 4096 names; `Memory` if there is not enough
+    /// for 4096 accounts.
+    pub fn from_register(alloc: Global, register: &Register) -> Result<Book, BookError>
+        ensures equal { IfOk result (λ book. book ≡ register.now) }
+        ensures refused { IfErr result (λ e. (e ≡ BookError.Memory)
+            ⊎ ((e ≡ BookError.Full) × (most_accounts < map.len register.now))) }
+    {
+        if register.len() > MOST_ACCOUNTS {
+            return Err(BookError::Full);
+        }
+        let mut copied = Vec::with_capacity(alloc, MOST_ACCOUNTS)?;
+        for (name, slot) in register.iter() {
+            match copied.push((*name, slot.stored())) {
+                Ok(()) => {}
+                Err(_) => return Err(BookError::Memory),
+            }
+        }
+        Ok(Book { accounts: copied })
+    }
+
     /// Adds a name, with no record.
     ///
-    /// Errors: `Exists` where the name is there; `Full` where the book has 4096 names.
+    /// Errors: `Exists` if the book has the name; `Full` if it has 4096 names.
     pub fn admit(&mut self, name: Name) -> Result<(), BookError>
         ensures done { Admits self.old self.new name result }
         ensures granted { result ≡ Err BookError.Memory → ⊥ }
@@ -99,9 +122,9 @@ impl Book {
         self.accounts.iter()
     }
 
-    /// Puts a record at a name, in the place of one that stands there.
+    /// Gives the account this record, in place of any other.
     ///
-    /// Errors: `NoAccount` where the name isn't there.
+    /// Errors: `NoAccount` if the book doesn't have the name.
     pub fn load(&mut self, name: &Name, stored: Record) -> Result<(), BookError>
         ensures done { Loads self.old self.new name.now stored result }
         ensures granted { result ≡ Err BookError.Memory → ⊥ }
@@ -109,9 +132,9 @@ impl Book {
         self.set(name, Some(stored))
     }
 
-    /// The record that stands at a name, if one does.
+    /// The account's record, if it has one.
     ///
-    /// Errors: `NoAccount` where the name isn't there.
+    /// Errors: `NoAccount` if the book doesn't have the name.
     pub fn show(&self, name: &Name) -> Result<Option<Record>, BookError>
         ensures { Shows self.now name.now result }
     {
@@ -121,10 +144,10 @@ impl Book {
         }
     }
 
-    /// Copies the record of the request's account into a ticket. A setting in the request isn't of
-    /// version 0x10, as `Request::is_for_current` tells.
+    /// Copies the record of the request's account into a ticket. A setting in the request must not
+    /// be of version 0x10 (`Request::is_for_current`).
     ///
-    /// Errors: `NoAccount` where the name isn't there; the request comes back.
+    /// Errors: `NoAccount` if the book doesn't have the name; the request comes back.
     pub fn begin(&self, request: Request) -> Result<Ticket, (Request, BookError)>
         requires { is_for_current request ≡ true }
         ensures { Begins self.now request result }
@@ -135,7 +158,7 @@ impl Book {
         }
     }
 
-    /// Does the whole operation, if the record is the one that was copied, and else nothing.
+    /// Does the whole operation if the record still equals the copy, and otherwise nothing.
     pub fn commit(&mut self, worked: Worked) -> Reply
         ensures { (result, self.new) ≡ commit_outcome self.old worked }
     {
@@ -149,8 +172,8 @@ impl Book {
         }
     }
 
-    /// What `commit` would answer, the record that would stand then (none where the name isn't
-    /// there), and whether that would be a change.
+    /// What `commit` would answer, the record that the account would have then (none if the book
+    /// doesn't have the name), and whether that would be a change.
     pub fn judge(&self, worked: &Worked) -> (Reply, Option<Record>, bool)
         ensures { result ≡ judgement self.now worked.now }
     {
@@ -160,9 +183,9 @@ impl Book {
         }
     }
 
-    /// Puts a record, or none, at a name.
+    /// Gives the account this record, or none.
     ///
-    /// Errors: `NoAccount` where the name isn't there.
+    /// Errors: `NoAccount` if the book doesn't have the name.
     pub fn set(&mut self, name: &Name, now: Option<Record>) -> Result<(), BookError>
         ensures { Sets self.old self.new name.now now result }
     {
@@ -175,8 +198,8 @@ impl Book {
         }
     }
 
-    /// Puts a record, or none, at a name, and adds the name where it is new and there is room for
-    /// it. It can't fail: without room nothing changes.
+    /// Gives the account this record, or none. A new name is added if there is room. It can't
+    /// fail: without room nothing changes.
     pub fn put(&mut self, name: &Name, now: Option<Record>)
         ensures { self.new ≡ with_entry self.old name.now now }
     {
@@ -195,18 +218,18 @@ impl Book {
 
     /// An equal book.
     ///
-    /// Errors: `Memory` where there is none for 4096 accounts.
+    /// Errors: `Memory` if there is not enough for 4096 accounts.
     pub fn copy(&self) -> Result<Book, BookError>
         ensures equal { IfOk result (λ book. book ≡ self.now) }
         ensures memory { IfErr result (λ e. e ≡ BookError.Memory) }
     {
-        let mut accounts = Vec::with_capacity(*self.accounts.allocator(), MOST_ACCOUNTS)?;
-        accounts.extend_from_slice(&self.accounts)?;
-        Ok(Book { accounts })
+        let mut entries = Vec::with_capacity(*self.accounts.allocator(), MOST_ACCOUNTS)?;
+        entries.extend_from_slice(&self.accounts)?;
+        Ok(Book { accounts: entries })
     }
 }
 
-/// The place of the name, or the place where it would go.
+/// The index of the name, or the index at which it would be inserted.
 fn place_of(accounts: &[(Name, Option<Record>)], name: &Name) -> Result<usize, usize>
     requires { IsTrue (map.is_sorted name_cmp accounts.now) }
     ensures { MatchResult result (IsPlaceOf name_cmp accounts.now name.now)

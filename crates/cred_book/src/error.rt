@@ -7,22 +7,22 @@ ghost use Rattle.cred_book.specs.declared.error.BookError.TheVariants.{Memory as
 use std::alloc::AllocError;
 use thiserror::Error;
 
-/// Why a name isn't one, or why a book doesn't do what it is asked.
+/// Why bytes are not a name, or why a book doesn't do what it is asked.
 #[derive(Clone, Copy, Debug, PartialEq, Eq, Error)]
 pub enum BookError {
-    /// The name is there already.
+    /// The book has the name already.
     #[error("the name is there already")]
     Exists,
     /// The book has 4096 names.
     #[error("the book has 4096 names")]
     Full,
-    /// The bytes aren't a name.
+    /// The bytes are not a name.
     #[error("the bytes are not a name")]
     Name,
-    /// There was no memory for the book or the work.
+    /// Out of memory.
     #[error("out of memory")]
     Memory,
-    /// The name isn't there.
+    /// The book doesn't have the name.
     #[error("the name is not there")]
     NoAccount,
 }
@@ -41,7 +41,7 @@ impl BookError {
         }
     }
 
-    /// The name of the error in lower case, as `noaccount`.
+    /// The name of the error in lower case, such as `noaccount`.
     pub fn word(self) -> &'static str
         ensures { result.now ≡ error_word self }
     {

@@ -1,4 +1,4 @@
-//! What a script needs of the one who keeps a book.
+//! The trait of everything that keeps a book.
 
 use crate::book::Book;
 use crate::error::BookError;
@@ -9,46 +9,49 @@ use crate::ticket::{Ticket, Worked};
 use cred_phc::Record;
 use std::sync::Wait;
 
-/// Keeps a book, which its calls answer from and change.
+/// Keeps a book: its calls answer from the book and change it.
 ///
-/// Those that take `rt` may wait, and may answer `Memory` where there is none and no other error is
-/// due; nothing is changed then.
+/// The calls that take `rt` may wait. They answer `Memory` if memory runs out and no other error
+/// is due; nothing is changed then.
 pub trait Keeper {
-    ghost use Rattle.cred_book.specs.Accounts.{Accounts};
-    ghost use Rattle.std.specs.Prelude.{◌≡◌, true};
-    ghost use Rattle.cred_book.specs.Calls.{Admits, Loads, Shows};
+    ghost use Rattle.cred_book.specs.Accounts.{Accounts, most_accounts};
+    ghost use Rattle.std.specs.Prelude.{◌≡◌, ℕ, true};
+    ghost use Rattle.cred_book.specs.Calls.{AdmitsWithin, Loads, Shows};
     ghost use Rattle.cred_book.specs.Commits.{Begins, Commits};
     ghost use Rattle.cred_book.specs.Works.{is_for_current};
 
     ghost book: { Self → Accounts };
 
+    ghost capacity: { ℕ } = { most_accounts };
+
     /// Adds a name, with no record.
     ///
-    /// Errors: `Exists` where the name is there; `Full` where the book has 4096 names; `Memory`.
+    /// Errors: `Exists` if the book has the name; `Full` if it has as many names as it can hold,
+    /// which is 4096 for a `Book`; `Memory`.
     fn admit<R: Wait>(&mut self, rt: &R, name: Name) -> Result<(), BookError>
-        ensures { Admits (book self.old) (book self.new) name result };
+        ensures { AdmitsWithin capacity (book self.old) (book self.new) name result };
 
-    /// Puts a record at a name, in the place of one that stands there.
+    /// Gives the account this record, in place of any other.
     ///
-    /// Errors: `NoAccount` where the name isn't there; `Memory`.
+    /// Errors: `NoAccount` if the book doesn't have the name; `Memory`.
     fn load<R: Wait>(&mut self, rt: &R, name: &Name, stored: Record) -> Result<(), BookError>
         ensures { Loads (book self.old) (book self.new) name.now stored result };
 
-    /// The record that stands at a name, if one does.
+    /// The account's record, if it has one.
     ///
-    /// Errors: `NoAccount` where the name isn't there.
+    /// Errors: `NoAccount` if the book doesn't have the name.
     fn show(&self, name: &Name) -> Result<Option<Record>, BookError>
         ensures { Shows (book self.now) name.now result };
 
-    /// Copies the record of the request's account into a ticket. A setting in the request isn't of
-    /// version 0x10, as `Request::is_for_current` tells.
+    /// Copies the record of the request's account into a ticket. A setting in the request must not
+    /// be of version 0x10 (`Request::is_for_current`).
     ///
-    /// Errors: `NoAccount` where the name isn't there; the request comes back.
+    /// Errors: `NoAccount` if the book doesn't have the name; the request comes back.
     fn begin(&self, request: Request) -> Result<Ticket, (Request, BookError)>
         requires { is_for_current request ≡ true }
         ensures { Begins (book self.now) request result };
 
-    /// Does the whole operation, if the record is the one that was copied, and else nothing.
+    /// Does the whole operation if the record still equals the copy, and otherwise nothing.
     ///
     /// Errors: `Memory`; the work comes back.
     fn commit<R: Wait>(&mut self, rt: &R, worked: Worked) -> Result<Reply, (Worked, BookError)>

@@ -1,8 +1,9 @@
-//! The book of accounts: names, each with at most one record.
+//! The library of accounts: a book of names, each with at most one record. (The library of the
+//! program `credbook` is `cred_cli`.)
 //!
-//! [`Book::begin`] copies an account's record into a [`Ticket`], [`Ticket::work`] hashes with
-//! nothing held, and [`Book::commit`] does the whole operation where the record that stands is the
-//! copy. [`Keeper`] is what a script asks of whoever keeps a book.
+//! [`Book::begin`] copies an account's record into a [`Ticket`], [`Ticket::work`] hashes with no
+//! lock held, and [`Book::commit`] does the whole operation if the record still equals the copy.
+//! [`Register`] is a book that grows. [`Keeper`] is the trait of everything that keeps a book.
 #![tactic(auto)]
 
 mod book;
@@ -12,19 +13,23 @@ mod keeper;
 mod laws;
 mod name;
 mod outcome;
+mod register;
 mod reply;
 mod request;
 mod same;
+mod slot;
 mod ticket;
 
 pub use book::Book;
 pub use change::Change;
 pub use error::BookError;
 pub use keeper::Keeper;
-pub use laws::{change_is_committed, yes_is_the_password};
+pub use laws::{change_is_committed, updates_are_one_history, yes_is_the_password};
 pub use name::Name;
 pub use outcome::Hashing;
+pub use register::Register;
 pub use reply::Reply;
 pub use request::Request;
 pub use same::same_is_equality;
+pub use slot::Slot;
 pub use ticket::{Ticket, VerifyWorked, Worked};

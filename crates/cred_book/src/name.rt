@@ -9,12 +9,12 @@ use cred_phc::ShortBytes;
 use std::cmp::Ordering;
 use std::marker::Model;
 
-/// How many bytes a name has at most.
+/// The maximum length of a name in bytes.
 const MAX_NAME: usize = 32;
 
-/// The name of an account: 1 to 32 bytes out of `a-z`, `0-9`, `.`, `_` and `-`.
+/// The name of an account: 1 to 32 of the bytes `a-z`, `0-9`, `.`, `_` and `-`.
 ///
-/// Names are in the order of their bytes.
+/// Names are ordered by their bytes.
 #[derive(Clone, Copy, Debug, PartialEq, Eq)]
 pub struct Name {
     bytes: ShortBytes<MAX_NAME>,
@@ -36,7 +36,7 @@ impl Model for Name {
 impl Name {
     /// These bytes as a name.
     ///
-    /// Errors: `Name` where they aren't one.
+    /// Errors: `Name` if they are not a name.
     pub fn new(bytes: &[u8]) -> Result<Name, BookError>
         ensures { result ≡ made_name bytes.now }
     {
@@ -92,7 +92,7 @@ impl Ord for Name {
     }
 }
 
-/// Whether each byte may stand in a name.
+/// Whether a name may contain each of the bytes.
 fn has_name_bytes(bytes: &[u8]) -> bool
     ensures { result ≡ list_all is_name_byte bytes.now }
 {

@@ -1,29 +1,31 @@
-//! What a whole operation does at a record: the part that hashes.
+//! What a whole operation does at a record: the part of it that hashes.
 
 ghost use Rattle.std.specs.Prelude.{◌≡◌, ◌≤◌, IfOk, if◌then◌else◌};
 ghost use Rattle.cred_phc.specs.Tags.{tag};
 ghost use Rattle.cred_book.specs.Works.{new_record, right, upgrade_outcome, whole};
+ghost use denote.Param.Send.{IsSync};
 
 use crate::reply::Reply;
 use crate::request::Request;
 use crate::ticket::Ticket;
-use cred_phc::{Password, Record, Setting, Tag, TagError, tag_of};
+use cred_phc::{Password, Record, Setting, Tag, TagError, tag_alone, tag_of};
 use cred_pool::Gate;
 use std::alloc::Global;
 use std::thread::Threads;
 
-/// How many bytes the tag of a new record has.
+/// The length of the tag of a new record in bytes.
 const NEW_TAG: u8 = 32;
 
 /// A reply, and the record after it.
 pub(crate) type Outcome = (Reply, Option<Record>);
 
-/// With what passwords are hashed: at most `workers` threads, each lane or piece behind the gate.
+/// How passwords are hashed: in at most `workers` threads, with the gate around each lane or
+/// piece.
 #[derive(Drop)]
 pub struct Hashing<'a, R, G> {
     pub rt: &'a R,
     pub alloc: Global,
-    /// How many threads work one hash, at most.
+    /// The maximum number of threads for one hash.
     pub workers: u8,
     pub gate: &'a G,
 }
@@ -33,6 +35,128 @@ impl<R: Threads + Sync, G: Gate + Sync> Hashing<'_, R, G> {
     pub(crate) fn outcome(&self, ticket: &Ticket) -> Result<Outcome, TagError>
         ensures { IfOk result (λ outcome. outcome ≡ whole ticket.now.0 ticket.now.1) }
     {
+        let tag = |setting: &Setting, len: u8, pw: &Password|
+            requires { IsSync R.row × IsSync G.row × (4 ≤ len) × (len ≤ 64) }
+            ensures { IfOk result (λ found. found ≡ tag setting.entry.now len pw.entry.now) }
+        { self.tag(setting, len, pw) };
+        Operations {
+            maker: TagFn { tag },
+        }
+        .outcome(ticket)
+    }
+
+    /// Whether the record is one of this password: the tag of the password under the record's
+    /// setting, with the length of the record's tag, is the record's tag.
+    ///
+    /// Errors: `Memory` if there is not enough for the setting.
+    pub fn is_right(&self, stored: &Record, pw: &Password) -> Result<bool, TagError>
+        ensures { IfOk result (λ answer. answer ≡ right stored.now pw.now) }
+    {
+        let tag = |setting: &Setting, len: u8, pw: &Password|
+            requires { IsSync R.row × IsSync G.row × (4 ≤ len) × (len ≤ 64) }
+            ensures { IfOk result (λ found. found ≡ tag setting.entry.now len pw.entry.now) }
+        { self.tag(setting, len, pw) };
+        Operations {
+            maker: TagFn { tag },
+        }
+        .is_right(stored, pw)
+    }
+
+    /// The record of this password under this setting, with a tag of 32 bytes.
+    ///
+    /// Errors: `Memory` if there is not enough for the setting.
+    pub fn made(&self, setting: &Setting, pw: &Password) -> Result<Record, TagError>
+        ensures { IfOk result (λ stored. stored ≡ new_record setting.now pw.now) }
+    {
+        let tag = |setting: &Setting, len: u8, pw: &Password|
+            requires { IsSync R.row × IsSync G.row × (4 ≤ len) × (len ≤ 64) }
+            ensures { IfOk result (λ found. found ≡ tag setting.entry.now len pw.entry.now) }
+        { self.tag(setting, len, pw) };
+        Operations {
+            maker: TagFn { tag },
+        }
+        .made(setting, pw)
+    }
+
+    fn tag(&self, setting: &Setting, len: u8, pw: &Password) -> Result<Tag, TagError>
+        requires low { 4 ≤ len }
+        requires high { len ≤ 64 }
+        ensures { IfOk result (λ found. found ≡ tag setting.now len pw.now) }
+    {
+        tag_of(
+            self.rt,
+            self.alloc,
+            self.workers,
+            self.gate,
+            setting,
+            len,
+            pw,
+        )
+    }
+}
+
+/// What makes the tags of passwords: threads, or the caller's thread alone. What an operation does
+/// is written once for both.
+pub(crate) trait TagMaker {
+    ghost ready: { Self → Type 0 };
+
+    /// The tag of `len` bytes, 4 to 64, that the setting gives the password.
+    ///
+    /// Errors: `Memory` if there is not enough for the setting.
+    fn tag(&self, setting: &Setting, len: u8, pw: &Password) -> Result<Tag, TagError>
+        requires ready { ready self.now }
+        requires low { 4 ≤ len }
+        requires high { len ≤ 64 }
+        ensures { IfOk result (λ found. found ≡ tag setting.now len pw.now) };
+}
+
+/// A closure as a maker of tags, such as one that calls [`tag_of`]. It is ready if the closure's
+/// own contract says that it makes tags.
+#[derive(Drop)]
+struct TagFn<F> {
+    tag: F,
+}
+
+impl<F: Fn(&Setting, u8, &Password) -> Result<Tag, TagError>> TagMaker for TagFn<F> {
+    ghost use Rattle.cred_book.specs.Makers.{MakesTags};
+
+    ghost ready = { λ maker. MakesTags F.Fn maker.tag };
+
+    fn tag(&self, setting: &Setting, len: u8, pw: &Password) -> Result<Tag, TagError> {
+        (self.tag)(setting, len, pw)
+    }
+}
+
+/// The caller's thread, which makes tags by itself and so needs no runtime. It works the lanes or
+/// pieces in turn, with the gate around each.
+#[derive(Drop)]
+pub(crate) struct HashingAlone<'a, G> {
+    pub(crate) alloc: Global,
+    pub(crate) gate: &'a G,
+}
+
+impl<G: Gate> TagMaker for HashingAlone<'_, G> {
+    ghost use Rattle.std.specs.Prelude.{⊤};
+
+    ghost ready = { λ _. ⊤ };
+
+    fn tag(&self, setting: &Setting, len: u8, pw: &Password) -> Result<Tag, TagError> {
+        tag_alone(self.alloc, self.gate, setting, len, pw.bytes())
+    }
+}
+
+/// What operations do, by the tags that `maker` makes.
+#[derive(Drop)]
+pub(crate) struct Operations<M> {
+    pub(crate) maker: M,
+}
+
+impl<M: TagMaker> Operations<M> {
+    /// What the whole operation does at the ticket's copy.
+    pub(crate) fn outcome(&self, ticket: &Ticket) -> Result<Outcome, TagError>
+        requires { M.ready self.now.maker }
+        ensures { IfOk result (λ outcome. outcome ≡ whole ticket.now.0 ticket.now.1) }
+    {
         match ticket.copy() {
             None => self.at_none(&ticket.request()),
             Some(stored) => self.at_record(&ticket.request(), &stored),
@@ -40,6 +164,7 @@ impl<R: Threads + Sync, G: Gate + Sync> Hashing<'_, R, G> {
     }
 
     fn at_none(&self, request: &Request) -> Result<Outcome, TagError>
+        requires { M.ready self.now.maker }
         ensures { IfOk result (λ outcome. outcome ≡ whole request.now None) }
     {
         match *request {
@@ -55,6 +180,7 @@ impl<R: Threads + Sync, G: Gate + Sync> Hashing<'_, R, G> {
     }
 
     fn at_record(&self, request: &Request, stored: &Record) -> Result<Outcome, TagError>
+        requires { M.ready self.now.maker }
         ensures { IfOk result (λ outcome. outcome ≡ whole request.now (Some stored.now)) }
     {
         match *request {
@@ -72,6 +198,7 @@ impl<R: Threads + Sync, G: Gate + Sync> Hashing<'_, R, G> {
     }
 
     fn verify(&self, stored: &Record, pw: &Password) -> Result<Outcome, TagError>
+        requires { M.ready self.now.maker }
         ensures { IfOk result (λ outcome. outcome
             ≡ (if right stored.now pw.now then Reply.Yes else Reply.No, Some stored.now)) }
     {
@@ -90,6 +217,7 @@ impl<R: Threads + Sync, G: Gate + Sync> Hashing<'_, R, G> {
         new_pw: &Password,
         setting: &Setting,
     ) -> Result<Outcome, TagError>
+        requires { M.ready self.now.maker }
         ensures { IfOk result (λ outcome. outcome
             ≡ (if right stored.now pw.now
             then (Reply.Replaced, Some (new_record setting.now new_pw.now))
@@ -108,6 +236,7 @@ impl<R: Threads + Sync, G: Gate + Sync> Hashing<'_, R, G> {
         pw: &Password,
         setting: &Setting,
     ) -> Result<Outcome, TagError>
+        requires { M.ready self.now.maker }
         ensures { IfOk result (λ outcome. outcome ≡ upgrade_outcome stored.now pw.now setting.now) }
     {
         if !self.is_right(stored, pw)? {
@@ -121,6 +250,7 @@ impl<R: Threads + Sync, G: Gate + Sync> Hashing<'_, R, G> {
     }
 
     fn remove(&self, stored: &Record, pw: &Password) -> Result<Outcome, TagError>
+        requires { M.ready self.now.maker }
         ensures { IfOk result (λ outcome. outcome
             ≡ (if right stored.now pw.now then (Reply.Removed, None)
             else (Reply.Wrong, Some stored.now))) }
@@ -131,42 +261,25 @@ impl<R: Threads + Sync, G: Gate + Sync> Hashing<'_, R, G> {
         Ok((Reply::Removed, None))
     }
 
-    /// Whether the record is one of this password: the tag of the password under the record's
-    /// setting, with the length of the record's tag, is the record's tag.
-    ///
-    /// Errors: `Memory` where there is too little for the setting.
+    /// Whether the record is one of this password.
     #[tactic(auto, unfolding(crate::specs::Works::right))]
-    pub fn is_right(&self, stored: &Record, pw: &Password) -> Result<bool, TagError>
+    fn is_right(&self, stored: &Record, pw: &Password) -> Result<bool, TagError>
+        requires { M.ready self.now.maker }
         ensures { IfOk result (λ answer. answer ≡ right stored.now pw.now) }
     {
         let tag = stored.tag();
-        let found = self.tag(&stored.setting(), tag.bytes().len() as u8, pw)?;
+        let found = self
+            .maker
+            .tag(&stored.setting(), tag.bytes().len() as u8, pw)?;
         Ok(found == tag)
     }
 
-    /// The record of this password under this setting, with a tag of 32 bytes.
-    ///
-    /// Errors: `Memory` where there is too little for the setting.
-    pub fn made(&self, setting: &Setting, pw: &Password) -> Result<Record, TagError>
+    /// The record of this password under this setting.
+    fn made(&self, setting: &Setting, pw: &Password) -> Result<Record, TagError>
+        requires { M.ready self.now.maker }
         ensures { IfOk result (λ stored. stored ≡ new_record setting.now pw.now) }
     {
-        let tag = self.tag(setting, NEW_TAG, pw)?;
+        let tag = self.maker.tag(setting, NEW_TAG, pw)?;
         Ok(Record::with_tag(*setting, tag))
-    }
-
-    fn tag(&self, setting: &Setting, len: u8, pw: &Password) -> Result<Tag, TagError>
-        requires low { 4 ≤ len }
-        requires high { len ≤ 64 }
-        ensures { IfOk result (λ found. found ≡ tag setting.now len pw.now) }
-    {
-        tag_of(
-            self.rt,
-            self.alloc,
-            self.workers,
-            self.gate,
-            setting,
-            len,
-            pw,
-        )
     }
 }

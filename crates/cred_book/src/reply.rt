@@ -5,27 +5,27 @@ use cred_phc::Record;
 /// The answer to an operation, at the moment of its commit.
 #[derive(Clone, Copy, Debug, PartialEq, Eq)]
 pub enum Reply {
-    /// The account has its first record.
+    /// The account has its first record now.
     Enrolled,
-    /// A record stands already.
+    /// The account has a record already.
     Exists,
     /// The password is right.
     Yes,
     /// The password is wrong.
     No,
-    /// No record stands.
+    /// The account has no record.
     Absent,
-    /// The new password's record stands.
+    /// The account has the new password's record now.
     Replaced,
     /// The password is wrong, and nothing was done.
     Wrong,
     /// The record was made anew.
     Upgraded,
-    /// The record is of this scheme with these numbers already.
+    /// The record has this scheme with these costs already.
     Kept,
-    /// The record was taken away.
+    /// The record was removed.
     Removed,
-    /// The record isn't the one that was copied at the beginning, but `now`; nothing was done.
+    /// The record isn't the one that was copied at the begin, but `now`; nothing was done.
     Changed { now: Option<Record> },
     /// The book doesn't have the name; nothing was done.
     NoAccount,

@@ -1,4 +1,4 @@
-//! What is asked of an account.
+//! What can be asked of an account.
 
 ghost use Rattle.std.specs.Prelude.{◌≡◌};
 
@@ -19,21 +19,21 @@ pub enum Request {
         name: Name,
         pw: Password,
     },
-    /// Puts a record of `new_pw` in the place of that of `pw`.
+    /// Replaces the record of `pw` by one of `new_pw`.
     Change {
         name: Name,
         pw: Password,
         new_pw: Password,
         setting: Setting,
     },
-    /// Makes the record of the same password anew, where it isn't of this scheme with these
-    /// numbers.
+    /// Makes the record of the same password anew, unless it has this scheme with these costs
+    /// already.
     Upgrade {
         name: Name,
         pw: Password,
         setting: Setting,
     },
-    /// Takes the record away; the name stays.
+    /// Removes the record; the name stays.
     Remove {
         name: Name,
         pw: Password,
@@ -56,8 +56,8 @@ impl Request {
         }
     }
 
-    /// Whether the setting of a new record, if one may be made, isn't of the version 0x10 of old
-    /// ones.
+    /// Whether the setting of a new record, if the request has one, is not of version 0x10, which
+    /// only old records have.
     pub fn is_for_current(&self) -> bool
         ensures { result ≡ is_for_current self.now }
     {

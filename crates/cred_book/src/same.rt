@@ -19,7 +19,7 @@ fn is_equal(a: &Option<Record>, b: &Option<Record>) -> bool
     *a == *b
 }
 
-/// The law that the test by which records are compared in definitions is equality.
+/// A law: the test by which definitions compare records is equality.
 pub fn same_is_equality()
     ensures { (a b : Option RecordValue) → (same a b ≡ true) ↔ (a ≡ b) }
 {}

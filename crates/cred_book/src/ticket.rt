@@ -1,5 +1,5 @@
-//! An operation between its beginning and its commit: the request with a copy of its account's
-//! record, and then what it does at the copy.
+//! An operation between its begin and its commit: the request with a copy of its account's record,
+//! and then what it does at the copy.
 
 ghost use Rattle.std.specs.Prelude.{◌≡◌, IfErr, IfOk, true, false};
 ghost use Rattle.cred_book.specs.Changes.{change_of};
@@ -7,17 +7,17 @@ ghost use Rattle.cred_book.specs.Commits.{judgement_at};
 ghost use Rattle.cred_book.specs.Works.{is_verify, whole};
 
 use crate::change::Change;
-use crate::outcome::Hashing;
+use crate::outcome::{Hashing, HashingAlone, Operations, Outcome};
 use crate::reply::Reply;
 use crate::request::Request;
 use crate::same::is_same;
-use cred_phc::Record;
+use cred_phc::{Record, TagError};
 use cred_pool::Gate;
 use std::alloc::Global;
 use std::marker::Model;
 use std::thread::Threads;
 
-/// A request with the record of its account as it stood when it was begun.
+/// A request with a copy of its account's record, taken at the begin.
 #[derive(Debug, Drop)]
 pub struct Ticket {
     request: Request,
@@ -33,7 +33,9 @@ impl Model for Ticket {
 }
 
 impl Ticket {
-    pub(crate) fn new(request: Request, copy: Option<Record>) -> Ticket
+    /// A ticket for a store other than a [`Book`](crate::Book). A copy that was never the
+    /// account's record does no harm, since the commit compares it.
+    pub fn new(request: Request, copy: Option<Record>) -> Ticket
         ensures { result ≡ (request, copy) }
     {
         Ticket { request, copy }
@@ -46,16 +48,16 @@ impl Ticket {
         self.request
     }
 
-    /// The record that stood, if one did.
+    /// The copy: the account's record at the begin, if it had one.
     pub fn copy(&self) -> Option<Record>
         ensures { result ≡ self.now.1 }
     {
         self.copy
     }
 
-    /// Hashes, with nothing held, by at most `workers` threads.
+    /// Hashes, with no lock held, in at most `workers` threads.
     ///
-    /// Errors: the ticket comes back where there is no memory.
+    /// Errors: the ticket comes back if memory runs out.
     pub fn work<R: Threads + Sync, G: Gate + Sync>(
         self,
         rt: &R,
@@ -72,7 +74,29 @@ impl Ticket {
             workers,
             gate,
         };
-        match hashing.outcome(&self) {
+        let outcome = hashing.outcome(&self);
+        self.worked(outcome)
+    }
+
+    /// The same with all the hashing on the caller's thread, so that it needs no runtime.
+    ///
+    /// Errors: the ticket comes back if memory runs out.
+    pub fn work_alone<G: Gate>(self, alloc: Global, gate: &G) -> Result<Worked, Ticket>
+        ensures worked { IfOk result (λ worked. worked ≡ self) }
+        ensures back { IfErr result (λ ticket. ticket ≡ self) }
+    {
+        let maker = HashingAlone { alloc, gate };
+        let outcome = Operations { maker }.outcome(&self);
+        self.worked(outcome)
+    }
+
+    /// The ticket with what its operation does at the copy, if that was worked out.
+    fn worked(self, outcome: Result<Outcome, TagError>) -> Result<Worked, Ticket>
+        requires { IfOk outcome (λ outcome. outcome ≡ whole self.0 self.1) }
+        ensures worked { IfOk result (λ worked. worked ≡ self) }
+        ensures back { IfErr result (λ ticket. ticket ≡ self) }
+    {
+        match outcome {
             Ok((reply, after)) => Ok(Worked {
                 ticket: self,
                 reply,
@@ -110,7 +134,7 @@ impl Worked {
         self.ticket.request()
     }
 
-    /// The record that stood, if one did.
+    /// The copy: the account's record at the begin, if it had one.
     pub fn copy(&self) -> Option<Record>
         ensures { result ≡ self.now.1 }
     {
@@ -118,20 +142,21 @@ impl Worked {
     }
 
     /// The reply at the copy.
-    pub(crate) fn reply(&self) -> Reply
+    pub fn reply(&self) -> Reply
         ensures { result ≡ (whole self.now.0 self.now.1).0 }
     {
         self.reply
     }
 
-    /// The record after the operation at the copy.
-    pub(crate) fn after(&self) -> Option<Record>
+    /// The record after the operation at the copy, if there is one.
+    pub fn after(&self) -> Option<Record>
         ensures { result ≡ (whole self.now.0 self.now.1).1 }
     {
         self.after
     }
 
-    /// What a commit answers where `now` stands, the record after it, and whether that is a change.
+    /// What a commit answers if the account's record is `now`, the record after it, and whether
+    /// that is a change.
     pub(crate) fn judgement_at(&self, now: Option<Record>) -> (Reply, Option<Record>, bool)
         ensures { result ≡ judgement_at self.now (Some now) }
     {
@@ -142,8 +167,8 @@ impl Worked {
         (reply, self.after(), reply.makes_change())
     }
 
-    /// What a commit of this work changes, where it makes a change at all: `None` where it makes
-    /// none even at the copied record. A commit that finds another record makes none.
+    /// The change that a commit of this work makes if it makes one, or `None` if it makes none
+    /// even at the copied record. A commit that finds another record makes no change.
     #[tactic(auto, unfolding(crate::specs::Changes::change_of))]
     pub fn change(&self) -> Option<Change>
         ensures { result ≡ change_of self.now }
@@ -158,7 +183,7 @@ impl Worked {
 
     /// The same work, as that of a verify.
     ///
-    /// Errors: the work comes back where it is another operation's.
+    /// Errors: the work comes back if it is another operation's.
     pub fn into_verify(self) -> Result<VerifyWorked, Worked>
         ensures verify { IfOk result (λ verify. (verify ≡ self) × (is_verify self.0 ≡ true)) }
         ensures other { IfErr result (λ back. (back ≡ self) × (is_verify self.0 ≡ false)) }

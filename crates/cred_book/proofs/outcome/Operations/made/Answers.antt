@@ -1,8 +1,6 @@
 -- Written out, so that a body that doesn't meet this is refused here, without a long search.
 use Rattle.std.proofs.Common.{rules}
-use Rattle.cred_book.specs.Works.{right}
-use Rattle.cred_book.proofs.outcome.Hashing.is_right.Goals as goal
+use Rattle.cred_book.proofs.outcome.Operations.made.Goals as goal
 
 pub returns : goal.returns
-unfolding right
 returns g c = search rules

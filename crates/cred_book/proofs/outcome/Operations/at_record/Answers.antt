@@ -1,6 +1,6 @@
 -- Written out, so that a body that doesn't meet these is refused here, without a long search.
 use Rattle.std.proofs.Common.{rules}
-use Rattle.cred_book.proofs.outcome.Hashing.at_record.Goals as goal
+use Rattle.cred_book.proofs.outcome.Operations.at_record.Goals as goal
 
 pub returns-in-Change : goal.returns-in-Change
 returns-in-Change g c = rw c.in-Change.is c.change.ensures
