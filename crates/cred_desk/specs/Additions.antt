@@ -9,7 +9,7 @@ use Rattle.cred_book.specs.declared.error.BookError.TheVariants as error
 use Rattle.cred_book.specs.declared.reply.Reply.{Reply}
 use Rattle.cred_desk.specs.Commits.{entry_of, list_after, reply_of, weight}
 use Rattle.cred_desk.specs.Histories.{IsListed, after}
-use Rattle.cred_desk.specs.Standing.{Standing}
+use Rattle.cred_desk.specs.Standing.{Standing, IsUncounted}
 use Rattle.cred_desk.specs.declared.entry.Entry.{Entry}
 use Rattle.cred_desk.specs.declared.writer.KeepError.{KeepError}
 use Rattle.cred_desk.specs.declared.writer.KeepError.TheVariants.{Book, Writer}
@@ -18,6 +18,11 @@ use Rattle.cred_desk.specs.declared.writer.KeepError.TheVariants.{Book, Writer}
 abbrev pub refusal_of : {E : Type 0} → KeepError E → BookError
 refusal_of (Book e) = e
 refusal_of (Writer e) = error.Memory
+
+-- a desk that is out of memory doesn't ask its writer; every other refusal is the writer's
+abbrev pub IsRefusedBy : {E W : Type 0} → W → W → KeepError E → Type 0
+IsRefusedBy old new (Book e) = (e ≡ error.Memory) × (new ≡ old)
+IsRefusedBy old new (Writer e) = Unit {0}
 
 -- the session knows this list, and no less than before
 abbrev pub IsAt : Bool → Accounts → Standing → Standing → Type 0
@@ -31,14 +36,16 @@ IsSettled loads opening old new work answer =
     × (answer.1 ≡ list_after list (entry_of (after opening list) work))
     × (new.known ≡ answer.1)
     × (new.count ≡ old.count + weight (entry_of (after opening list) work))
+    × (new.additions ≡ old.additions)
 
 -- a change was due at the list that the session knows now
 abbrev pub IsUnsettled : Bool → Accounts → Standing → Standing → Task → Type 0
 IsUnsettled loads opening old new work =
     IsAt loads opening old new × (entry_of (after opening new.known) work ≢ None)
-    × (new.count ≡ old.count)
+    × IsUncounted old new
 
--- an entry was added, at a list that begins with the known one and where it may be
+-- an entry was added, at a list that begins with the known one and where it may be, and no other
+-- one: the session counts one
 abbrev pub IsAdded : Bool → Accounts → Standing → Standing → (Accounts → Entry → Type 0) → Entry
     → List Entry → Type 0
 IsAdded loads opening old new may entry told =
@@ -47,3 +54,4 @@ IsAdded loads opening old new may entry told =
     × (told ≡ list ++ entry ∷ [])
     × (new.known ≡ told)
     × (new.count ≡ old.count)
+    × (new.additions ≡ old.additions + 1)

@@ -2,7 +2,7 @@
 use Rattle.std.specs.Prelude.{◌≡◌, ℕ, List, codes, Bool, true, false}
 use Rattle.cred_desk.specs.declared.error.DeskError.{DeskError}
 use Rattle.cred_desk.specs.declared.error.DeskError.TheVariants.{Memory, Sessions, Session, Reader}
-use Rattle.cred_desk.specs.declared.error.DeskError.TheVariants.{NoAccount}
+use Rattle.cred_desk.specs.declared.error.DeskError.TheVariants.{NoAccount, Older}
 
 abbrev pub refusal_number : DeskError → ℕ
 refusal_number Memory = 1
@@ -10,6 +10,7 @@ refusal_number Sessions = 2
 refusal_number Session = 3
 refusal_number Reader = 4
 refusal_number NoAccount = 5
+refusal_number Older = 6
 
 abbrev pub refusal_word : DeskError → List ℕ
 refusal_word Memory = codes "memory"
@@ -17,6 +18,7 @@ refusal_word Sessions = codes "sessions"
 refusal_word Session = codes "session"
 refusal_word Reader = codes "reader"
 refusal_word NoAccount = codes "noaccount"
+refusal_word Older = codes "older"
 
 -- why a desk or a committer isn't made, by whether the number of sessions is one that can be had
 abbrev pub IsRefusedToMake : Bool → DeskError → Type 0
@@ -25,3 +27,4 @@ IsRefusedToMake fits Sessions = fits ≡ false
 IsRefusedToMake fits Session = ⊥
 IsRefusedToMake fits Reader = fits ≡ true
 IsRefusedToMake fits NoAccount = ⊥
+IsRefusedToMake fits Older = ⊥

@@ -1,5 +1,5 @@
 -- What a clause sees of a session, and what its calls do.
-use Rattle.std.specs.Prelude.{◌≡◌, ◌≢◌, ◌+◌, ℕ, List, length, Some, None, Result, Ok, Err}
+use Rattle.std.specs.Prelude.{◌≡◌, ◌≢◌, ◌+◌, ◌<◌, ℕ, List, [], length, Some, None, Result, Ok, Err}
 use mathlib.Core.List.{IsPrefix}
 use Rattle.std.specs.FinMap as map
 use Rattle.cred_book.specs.Accounts.{Accounts}
@@ -17,6 +17,16 @@ pub record Standing : Type 0 where
   pub known : List Entry
   -- how many changes its settles made
   pub count : ℕ
+  -- how many names it admitted and records it loaded
+  pub additions : ℕ
+
+-- a session that knows nothing, and has done nothing
+abbrev pub IsNew : Standing → Type 0
+IsNew s = (s.known ≡ []) × (s.count ≡ 0) × (s.additions ≡ 0)
+
+-- it made no change and no addition
+abbrev pub IsUncounted : Standing → Standing → Type 0
+IsUncounted old new = (new.count ≡ old.count) × (new.additions ≡ old.additions)
 
 -- a ticket is the request with the record of its name in this book
 abbrev pub BeginsAt : Accounts → Standing → Standing → Request → Result Task (Request × DeskError)
@@ -26,6 +36,8 @@ BeginsAt book old new request (Ok ticket) = (ticket.0 ≡ request)
 BeginsAt book old new request (Err (back, error.NoAccount)) = (back ≡ request)
     × (map.get book (name_of request) ≡ None)
 BeginsAt book old new request (Err (back, error.Reader)) = (back ≡ request) × (new ≡ old)
+BeginsAt book old new request (Err (back, error.Older)) = (back ≡ request) × (new ≡ old)
+    × (0 < length old.known)
 BeginsAt book old new request (Err (back, error.Memory)) = ⊥
 BeginsAt book old new request (Err (back, error.Sessions)) = ⊥
 BeginsAt book old new request (Err (back, error.Session)) = ⊥
@@ -35,6 +47,8 @@ abbrev pub ClosesAt : Accounts → Standing → Standing → Task → Result Rep
     → Type 0
 ClosesAt book old new work (Ok answer) = answer ≡ reply_of book work
 ClosesAt book old new work (Err (back, error.Reader)) = (back ≡ work) × (new ≡ old)
+ClosesAt book old new work (Err (back, error.Older)) = (back ≡ work) × (new ≡ old)
+    × (0 < length old.known)
 ClosesAt book old new work (Err (back, error.Memory)) = ⊥
 ClosesAt book old new work (Err (back, error.Sessions)) = ⊥
 ClosesAt book old new work (Err (back, error.Session)) = ⊥
@@ -51,14 +65,16 @@ Settles opening old new work (Ok (answer, told)) =
     × (told ≡ list_after list (entry_of (after opening list) work))
     × (new.known ≡ told)
     × (new.count ≡ old.count + weight (entry_of (after opening list) work))
+    × (new.additions ≡ old.additions)
 Settles opening old new work (Err (back, error.Memory)) =
     (back ≡ work) × IsPrefix old.known new.known × IsLegal opening new.known
     × (entry_of (after opening new.known) work ≢ None)
-    × (new.count ≡ old.count)
+    × IsUncounted old new
 Settles opening old new work (Err (back, error.Sessions)) = ⊥
 Settles opening old new work (Err (back, error.Session)) = ⊥
 Settles opening old new work (Err (back, error.Reader)) = ⊥
 Settles opening old new work (Err (back, error.NoAccount)) = ⊥
+Settles opening old new work (Err (back, error.Older)) = ⊥
 
 -- why a desk isn't closed, by how many sessions it has and those handed in: some are missing
 abbrev pub IsMissed : ℕ → List Standing → DeskError → Type 0
@@ -67,3 +83,4 @@ IsMissed all given error.Memory = ⊥
 IsMissed all given error.Sessions = ⊥
 IsMissed all given error.Reader = ⊥
 IsMissed all given error.NoAccount = ⊥
+IsMissed all given error.Older = ⊥

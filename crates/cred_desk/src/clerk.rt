@@ -1,5 +1,5 @@
 //! What lies behind a desk's lock: the publisher of its book, the writer of its entries, and the
-//! count of what its sessions settled.
+//! count of all that its sessions made.
 
 ghost use Rattle.std.specs.Prelude.{◌≡◌, ◌≢◌, ◌+◌, ◌++◌, ◌∷◌, ◌≤◌, [], All, Err, IfErr, IfOk};
 ghost use Rattle.std.specs.Prelude.{MatchResult, None, Some, false, length, map, sum, true};
@@ -11,7 +11,7 @@ ghost use Rattle.cred_desk.specs.Additions.{IsAdded, IsAt, refusal_of};
 ghost use Rattle.cred_desk.specs.Commits.{entry_of, list_after, reply_of, weight};
 ghost use Rattle.cred_desk.specs.Histories.{IsAdmitted, IsAllowed, IsListed, IsLoaded, after};
 ghost use Rattle.cred_desk.specs.Histories.{entry};
-ghost use Rattle.cred_desk.specs.Standing.{IsMissed};
+ghost use Rattle.cred_desk.specs.Standing.{IsMissed, IsUncounted};
 
 use crate::closed::{Closed, Kept, Remains};
 use crate::entry::Entry;
@@ -19,6 +19,7 @@ use crate::error::DeskError;
 use crate::naming::Naming;
 use crate::publisher::Publisher;
 use crate::session::Session;
+use crate::tally::{Tallies, write_additions, write_counts};
 use crate::told::Told;
 use crate::writer::{EntryWriter, KeepError};
 use cred_book::{BookError, Name, Reply, Worked};
@@ -27,7 +28,7 @@ use std::marker::Model;
 use std::sync::Wait;
 use std::sync::ledger::{Book as Total, Share};
 
-/// Settles one work after another, and counts the changes. Contracts see it as its list.
+/// Settles one work after another, and counts the entries. Contracts see it as its list.
 pub(crate) struct Clerk<J: Naming, W: EntryWriter> {
     publisher: Publisher<J>,
     /// Keeps each entry before anybody sees it.
@@ -36,14 +37,12 @@ pub(crate) struct Clerk<J: Naming, W: EntryWriter> {
     /// What the sessions' shares are merged into.
     spare: Share<J>,
     sessions: u8,
-    /// Empty, with room for each session's count.
-    counts: Vec<u64>,
-    /// How many admissions and loads there were.
-    additions: u64,
+    /// Empty, with room for each session.
+    tallies: Tallies,
 }
 
 impl<J: Naming, W: EntryWriter> Model for Clerk<J, W> {
-    ghost use Rattle.std.specs.Prelude.{◌≡◌, ◌+◌, ◌≤◌, List, [], false, length, vec_capacity};
+    ghost use Rattle.std.specs.Prelude.{◌≡◌, ◌≤◌, List, [], length, vec_capacity};
     ghost use Rattle.cred_desk.specs.declared.entry.Entry.{Entry};
 
     ghost Value = { List Entry };
@@ -51,11 +50,11 @@ impl<J: Naming, W: EntryWriter> Model for Clerk<J, W> {
     ghost view = { λ c. c.publisher };
 
     ghost invariant = { λ c. record {
-      all_counted : c.total.total + c.additions ≡ length c.publisher;
-      additions_allowed : J.loads ≡ false → c.additions ≡ 0;
+      all_counted : c.total.total ≡ length c.publisher;
       spare_is_empty : (c.spare.parts ≡ 0) × (c.spare.amount ≡ 0);
-      no_counts : c.counts.items ≡ [];
-      room_for_counts : c.sessions ≤ vec_capacity c.counts;
+      no_tallies : (c.tallies.counts.items ≡ []) × (c.tallies.additions.items ≡ []);
+      room_for_tallies : (c.sessions ≤ vec_capacity c.tallies.counts)
+          × (c.sessions ≤ vec_capacity c.tallies.additions);
       all_sessions : J.parts ≡ c.sessions;
       kept : W.keeps c.writer c.publisher;
     } };
@@ -69,12 +68,14 @@ impl<J: Naming, W: EntryWriter> Clerk<J, W> {
         total: Total<J>,
         spare: Share<J>,
         sessions: u8,
-        counts: Vec<u64>,
+        tallies: Tallies,
     ) -> Clerk<J, W>
         requires list { publisher ≡ [] }
         requires kept { W.keeps writer [] }
         requires total { (total.total ≡ 0) × (spare.parts ≡ 0) × (spare.amount ≡ 0) }
-        requires counts { (counts.items ≡ []) × (sessions ≤ vec_capacity counts) }
+        requires empty { (tallies.counts.items ≡ []) × (tallies.additions.items ≡ []) }
+        requires room { (sessions ≤ vec_capacity tallies.counts)
+            × (sessions ≤ vec_capacity tallies.additions) }
         requires name { J.parts ≡ sessions }
         ensures { result ≡ [] }
     {
@@ -84,8 +85,7 @@ impl<J: Naming, W: EntryWriter> Clerk<J, W> {
             total,
             spare,
             sessions,
-            counts,
-            additions: 0,
+            tallies,
         }
     }
 
@@ -110,6 +110,7 @@ impl<J: Naming, W: EntryWriter> Clerk<J, W> {
         ensures known { IsPrefix session.old.known session.new.known }
         ensures count { IfOk result (λ _. session.new.count
             ≡ session.old.count + weight (entry_of (after J.opening self.old) work)) }
+        ensures additions { session.new.additions ≡ session.old.additions }
         ensures refused { IfErr result (λ e. (e.0 ≡ work) × (self.new ≡ self.old)
             × (session.new.count ≡ session.old.count)) }
         ensures due { IfErr result (λ _. entry_of (after J.opening self.old) work ≢ None) }
@@ -128,7 +129,8 @@ impl<J: Naming, W: EntryWriter> Clerk<J, W> {
         }
     }
 
-    /// Adds a name with no record for the session, which knows the list after it from then on.
+    /// Adds a name with no record for the session, which knows the list after it from then on and
+    /// counts an addition.
     ///
     /// Errors: `Exists` where the name is there; `Full` where there is no room for it; as of `add`.
     /// The list stays then, and the session knows it.
@@ -141,10 +143,12 @@ impl<J: Naming, W: EntryWriter> Clerk<J, W> {
         requires { J.loads ≡ true }
         ensures done { IfOk result (IsAdded J.loads J.opening session.old session.new
             IsAdmitted (entry name None)) }
+        ensures list { MatchResult result (λ _. self.new ≡ self.old ++ entry name None ∷ [])
+            (λ _. self.new ≡ self.old) }
         ensures refused { IfErr result (λ e. IsAt J.loads J.opening session.old session.new
             × Admits (after J.opening session.new.known) (after J.opening session.new.known) name
             (Err (refusal_of e))
-            × (session.new.count ≡ session.old.count)) }
+            × IsUncounted session.old session.new) }
         ensures known { IsPrefix session.old.known session.new.known }
     {
         if self.publisher.book().show(&name).is_ok() {
@@ -156,7 +160,8 @@ impl<J: Naming, W: EntryWriter> Clerk<J, W> {
         self.add(rt, session, Entry { name, now: None })
     }
 
-    /// Puts a record at a name for the session, which knows the list after it from then on.
+    /// Puts a record at a name for the session, which knows the list after it from then on and
+    /// counts an addition.
     ///
     /// Errors: `NoAccount` where the name isn't there; as of `add`. The list stays then, and the
     /// session knows it.
@@ -170,10 +175,12 @@ impl<J: Naming, W: EntryWriter> Clerk<J, W> {
         requires { J.loads ≡ true }
         ensures done { IfOk result (IsAdded J.loads J.opening session.old session.new
             IsLoaded (entry name (Some stored))) }
+        ensures list { MatchResult result
+            (λ _. self.new ≡ self.old ++ entry name (Some stored) ∷ []) (λ _. self.new ≡ self.old) }
         ensures refused { IfErr result (λ e. IsAt J.loads J.opening session.old session.new
             × Loads (after J.opening session.new.known) (after J.opening session.new.known) name
             stored (Err (refusal_of e))
-            × (session.new.count ≡ session.old.count)) }
+            × IsUncounted session.old session.new) }
         ensures known { IsPrefix session.old.known session.new.known }
     {
         if self.publisher.book().show(&name).is_err() {
@@ -183,9 +190,9 @@ impl<J: Naming, W: EntryWriter> Clerk<J, W> {
         self.add(rt, session, Entry { name, now })
     }
 
-    /// Adds an entry for the session, which knows the list after it from then on.
+    /// Adds an entry for the session, which knows the list after it from then on and counts it.
     ///
-    /// Errors: `Memory` where there is none; the writer's own. The list stays then, and the session
+    /// Errors: `Memory` if there is none; the writer's own. The list stays then, and the session
     /// knows it.
     fn add<R: Wait>(
         &mut self,
@@ -203,12 +210,16 @@ impl<J: Naming, W: EntryWriter> Clerk<J, W> {
         ensures learns { session.new.known ≡ self.new }
         ensures known { IsPrefix session.old.known session.new.known }
         ensures count { session.new.count ≡ session.old.count }
+        ensures additions { MatchResult result
+            (λ _. session.new.additions ≡ session.old.additions + 1)
+            (λ _. session.new.additions ≡ session.old.additions) }
     {
         let known = session.known();
         self.publisher.covers(known);
         let before = self.publisher.front().len();
         let added = self.publisher.publish(rt, entry, &mut self.writer);
-        self.additions += self.publisher.front().len() - before;
+        let additions = self.publisher.front().len() - before;
+        session.count_additions(&mut self.total, additions);
         let told = self.publisher.told();
         session.learn(&told);
         match added {
@@ -224,7 +235,7 @@ impl<J: Naming, W: EntryWriter> Clerk<J, W> {
         ensures error { refusal_of result ≡ error }
         ensures learns { session.new.known ≡ self.new }
         ensures known { IsPrefix session.old.known session.new.known }
-        ensures count { session.new.count ≡ session.old.count }
+        ensures count { IsUncounted session.old session.new }
     {
         let known = session.known();
         self.publisher.covers(known);
@@ -256,16 +267,18 @@ impl<J: Naming, W: EntryWriter> Clerk<J, W> {
         cover_all(&mut self.publisher, sessions);
     }
 
-    /// Gives the book, the journal, each session's count, and the writer.
+    /// Gives the book, the journal, how many changes and additions each session made, and the
+    /// writer.
     pub(crate) fn close<R: Wait>(self, rt: &R, sessions: Vec<Session<J>>) -> Kept<W>
         requires { vec_len sessions ≡ J.parts }
         ensures listed { IsListed J.loads J.opening result.closed.journal.items }
         ensures journal { result.closed.journal.items ≡ self }
         ensures book { result.closed.book ≡ after J.opening result.closed.journal.items }
         ensures counts { result.closed.counts.items ≡ map (λ s. s.count) sessions.items }
-        ensures total { sum result.closed.counts.items + result.additions
+        ensures additions { result.additions.items ≡ map (λ s. s.additions) sessions.items }
+        ensures total { sum result.closed.counts.items + sum result.additions.items
             ≡ length result.closed.journal.items }
-        ensures additions { J.loads ≡ false → result.additions ≡ 0 }
+        ensures settled { J.loads ≡ false → sum result.additions.items ≡ 0 }
         ensures kept { W.keeps result.writer result.closed.journal.items }
     {
         let Clerk {
@@ -274,10 +287,14 @@ impl<J: Naming, W: EntryWriter> Clerk<J, W> {
             mut total,
             spare: mut all,
             sessions: _,
-            mut counts,
-            additions,
+            tallies,
         } = self;
+        let Tallies {
+            mut counts,
+            mut additions,
+        } = tallies;
         write_counts(&mut counts, &sessions);
+        write_additions(&mut additions, &sessions);
         merge_shares(&mut all, sessions);
         total.audit(&mut all);
         let Remains { book, journal } = publisher.finish(rt);
@@ -306,8 +323,7 @@ impl<J: Naming, W: EntryWriter> Clerk<J, W> {
             total: _,
             spare: _,
             sessions: _,
-            counts: _,
-            additions: _,
+            tallies: _,
         } = self;
         (publisher.finish(rt), writer)
     }
@@ -323,22 +339,12 @@ fn cover_all<J: Naming>(publisher: &mut Publisher<J>, sessions: &[Session<J>])
     }
 }
 
-/// Writes each session's count.
-fn write_counts<J: Naming>(counts: &mut Vec<u64>, sessions: &[Session<J>])
-    requires empty { counts.old.items ≡ [] }
-    requires room { length sessions.now ≤ vec_capacity counts.old }
-    ensures { counts.new.items ≡ map (λ s. s.count) sessions.now }
-{
-    for session in sessions {
-        counts.push_reserved(session.count());
-    }
-}
-
 /// Merges the shares of all sessions.
 fn merge_shares<J: Naming>(all: &mut Share<J>, sessions: Vec<Session<J>>)
     requires { (all.old.parts ≡ 0) × (all.old.amount ≡ 0) }
     ensures parts { all.new.parts ≡ vec_len sessions }
-    ensures amount { all.new.amount ≡ sum (map (λ s. s.count) sessions.items) }
+    ensures amount { all.new.amount ≡ sum (map (λ s. s.count) sessions.items)
+        + sum (map (λ s. s.additions) sessions.items) }
 {
     let mut left = sessions;
     while let Some(session) = left.pop() {

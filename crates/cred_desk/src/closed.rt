@@ -15,7 +15,7 @@ pub struct Closed {
     pub book: Book,
     /// All changes, in order.
     pub journal: Vec<Entry>,
-    /// How many of them each session made, in the order in which the sessions were handed in.
+    /// How many changes each session settled, in the order in which the sessions were handed in.
     pub counts: Vec<u64>,
 }
 
@@ -69,8 +69,8 @@ impl fmt::Debug for Remains {
 #[derive(Drop)]
 pub struct Kept<W> {
     pub closed: Closed,
-    /// How many of the changes were admissions and loads, which no session counts.
-    pub additions: u64,
+    /// How many names each session admitted and records it loaded, in the order of the counts.
+    pub additions: Vec<u64>,
     /// It keeps the journal.
     pub writer: W,
 }

@@ -9,6 +9,7 @@ ghost use Rattle.cred_desk.specs.Commits.{entry_of, list_after, reply_of};
 ghost use Rattle.cred_desk.specs.Histories.{IsLawful, IsLegal, after, entry};
 ghost use Rattle.cred_desk.specs.Naming.{IsNamed, StartsAt};
 ghost use Rattle.cred_desk.specs.Refusals.{IsRefusedToMake};
+ghost use Rattle.cred_desk.specs.Standing.{IsNew};
 ghost use Rattle.cred_desk.specs.declared.error.DeskError.TheVariants as error;
 
 use crate::entry::Entry;
@@ -72,8 +73,7 @@ impl<J: Naming> Committer<J> {
         requires loads { J.loads ≡ true }
         ensures list { IfOk result (λ made. made.0 ≡ []) }
         ensures sessions { IfOk result
-            (λ made. (vec_len made.1 ≡ sessions)
-            × All (λ s. (s.known ≡ []) × (s.count ≡ 0)) made.1.items) }
+            (λ made. (vec_len made.1 ≡ sessions) × All IsNew made.1.items) }
         ensures few { IfOk result (λ _. nat_le sessions 32 ≡ true) }
         ensures refused { IfErr result (IsRefusedToMake (nat_le sessions 32)) }
     {

@@ -6,7 +6,7 @@ ghost use mathlib.Core.List.{IsPrefix};
 ghost use Rattle.cred_desk.specs.Histories.{IsLegal, after};
 ghost use Rattle.cred_desk.specs.Naming.{IsNamed, StartsAt};
 ghost use Rattle.cred_desk.specs.Refusals.{IsRefusedToMake};
-ghost use Rattle.cred_desk.specs.Standing.{IsMissed, Settles};
+ghost use Rattle.cred_desk.specs.Standing.{IsMissed, IsNew, Settles};
 
 use crate::clerk::Clerk;
 use crate::closed::{Closed, Kept, Remains};
@@ -15,6 +15,7 @@ use crate::error::DeskError;
 use crate::making::{MOST_SESSIONS, Made, make};
 use crate::naming::{Naming, Opened};
 use crate::session::Session;
+use crate::tally::Tallies;
 use crate::told::Told;
 use crate::writer::Unkept;
 use cred_book::{Book, Reply, Worked};
@@ -62,22 +63,21 @@ impl<J: Naming> Desk<J> {
         requires opening { StartsAt J.Naming book.now sessions }
         requires loads { J.loads ≡ false }
         ensures sessions { IfOk result
-            (λ made. (vec_len made.1 ≡ sessions)
-            × All (λ s. (s.known ≡ []) × (s.count ≡ 0)) made.1.items) }
+            (λ made. (vec_len made.1 ≡ sessions) × All IsNew made.1.items) }
         ensures few { IfOk result (λ _. (nat_le 1 sessions && nat_le sessions 32) ≡ true) }
         ensures refused { IfErr result (IsRefusedToMake (nat_le 1 sessions && nat_le sessions 32)) }
     {
         if sessions == 0 || sessions > MOST_SESSIONS {
             return Err(DeskError::Sessions);
         }
-        let counts = Vec::with_capacity(alloc, usize::from(sessions))?;
+        let tallies = Tallies::with_room(alloc, sessions)?;
         let Made {
             publisher,
             sessions: seats,
             total,
             spare,
         } = make(rt, alloc, opened, book, sessions)?;
-        let clerk = Mutex::new(Clerk::new(publisher, Unkept, total, spare, sessions, counts));
+        let clerk = Mutex::new(Clerk::new(publisher, Unkept, total, spare, sessions, tallies));
         Ok((Desk { clerk }, seats))
     }
 
@@ -147,9 +147,12 @@ impl<J: Naming> Desk<J> {
         }
     }
 
-    /// Gives the book and the journal without counts, where a session is lost. These are sessions
-    /// that are still there: the journal begins with what each of them knows. It waits for those
-    /// that read the book.
+    /// Gives the book and the journal without counts, if a session is lost. These are sessions that
+    /// are still there: the journal begins with what each of them knows. It waits for those that
+    /// read the book.
+    ///
+    /// The journal is the whole one with no session handed in too; but then that is tested alone,
+    /// as nothing in the contract knows what was settled.
     #[tactic(auto, using(crate::proofs::Lists::legal_if))]
     pub fn give_up<R: Wait>(self, rt: &R, sessions: &[Session<J>]) -> Remains
         ensures legal { IsLegal J.opening result.journal.items }

@@ -25,6 +25,9 @@ pub enum DeskError {
     /// Unknown name.
     #[error("the name isn't there")]
     NoAccount,
+    /// A book older than what the session knows. It isn't met.
+    #[error("the book that was read is older than what is known")]
+    Older,
 }
 
 impl From<AllocError> for DeskError {
@@ -36,7 +39,7 @@ impl From<AllocError> for DeskError {
 }
 
 impl DeskError {
-    /// The number of the refusal, from 1 to 5.
+    /// The number of the refusal, from 1 to 6.
     pub fn number(self) -> u8
         ensures { result ≡ refusal_number self }
     {
@@ -46,6 +49,7 @@ impl DeskError {
             DeskError::Session => 3,
             DeskError::Reader => 4,
             DeskError::NoAccount => 5,
+            DeskError::Older => 6,
         }
     }
 
@@ -59,6 +63,7 @@ impl DeskError {
             DeskError::Session => "session",
             DeskError::Reader => "reader",
             DeskError::NoAccount => "noaccount",
+            DeskError::Older => "older",
         }
     }
 }

@@ -9,7 +9,7 @@ ghost use Rattle.cred_desk.specs.Additions.{IsAdded, IsAt, IsSettled, IsUnsettle
 ghost use Rattle.cred_desk.specs.Histories.{IsAdmitted, IsListed, IsLoaded, after, entry};
 ghost use Rattle.cred_desk.specs.Naming.{IsNamed, StartsAt};
 ghost use Rattle.cred_desk.specs.Refusals.{IsRefusedToMake};
-ghost use Rattle.cred_desk.specs.Standing.{IsMissed};
+ghost use Rattle.cred_desk.specs.Standing.{IsMissed, IsNew, IsUncounted};
 
 use crate::clerk::Clerk;
 use crate::closed::{Kept, Remains};
@@ -18,6 +18,7 @@ use crate::error::DeskError;
 use crate::making::{MOST_SESSIONS, Made, make};
 use crate::naming::{Naming, Opened};
 use crate::session::Session;
+use crate::tally::Tallies;
 use crate::told::Told;
 use crate::writer::{EntryWriter, KeepError, Unsettled};
 use cred_book::{Book, Name, Reply, Worked};
@@ -57,8 +58,8 @@ impl<J: Naming, W: EntryWriter> KeptDesk<J, W> {
         requires name { IsNamed J.Naming opened }
         requires opening { StartsAt J.Naming book.now sessions }
         requires kept { W.keeps writer [] }
-        ensures sessions { IfOk result (λ made. (vec_len made.1 ≡ sessions)
-            × All (λ s. (s.known ≡ []) × (s.count ≡ 0)) made.1.items) }
+        ensures sessions { IfOk result
+            (λ made. (vec_len made.1 ≡ sessions) × All IsNew made.1.items) }
         ensures few { IfOk result (λ _. (nat_le 1 sessions && nat_le sessions 32) ≡ true) }
         ensures refused { IfErr result (λ e. (e.0 ≡ writer)
             × IsRefusedToMake (nat_le 1 sessions && nat_le sessions 32) e.1) }
@@ -66,7 +67,7 @@ impl<J: Naming, W: EntryWriter> KeptDesk<J, W> {
         if sessions == 0 || sessions > MOST_SESSIONS {
             return Err((writer, DeskError::Sessions));
         }
-        let Ok(counts) = Vec::with_capacity(alloc, usize::from(sessions)) else {
+        let Ok(tallies) = Tallies::with_room(alloc, sessions) else {
             return Err((writer, DeskError::Memory));
         };
         match make(rt, alloc, opened, book, sessions) {
@@ -78,7 +79,7 @@ impl<J: Naming, W: EntryWriter> KeptDesk<J, W> {
                     spare,
                 },
             ) => {
-                let clerk = Clerk::new(publisher, writer, total, spare, sessions, counts);
+                let clerk = Clerk::new(publisher, writer, total, spare, sessions, tallies);
                 let clerk = Mutex::new(clerk);
                 Ok((KeptDesk { clerk }, seats))
             }
@@ -116,7 +117,7 @@ impl<J: Naming, W: EntryWriter> KeptDesk<J, W> {
     }
 
     /// Waits for the lock, and adds a name with no record. The session knows the list after it from
-    /// then on.
+    /// then on, and counts an addition.
     ///
     /// Errors: `Exists` where the name is there; `Full` where the book has 4096 names; `Memory`
     /// where there is none, or the writer's own, where the name would have been added. Nothing
@@ -133,7 +134,7 @@ impl<J: Naming, W: EntryWriter> KeptDesk<J, W> {
         ensures refused { IfErr result (λ e. IsAt J.loads J.opening session.old session.new
             × Admits (after J.opening session.new.known) (after J.opening session.new.known) name
             (Err (refusal_of e))
-            × (session.new.count ≡ session.old.count)) }
+            × IsUncounted session.old session.new) }
         ensures known { IsPrefix session.old.known session.new.known }
     {
         let mut clerk = self.clerk.lock(rt);
@@ -143,7 +144,7 @@ impl<J: Naming, W: EntryWriter> KeptDesk<J, W> {
     }
 
     /// Waits for the lock, and puts a record at a name, in the place of one that stands there. The
-    /// session knows the list after it from then on.
+    /// session knows the list after it from then on, and counts an addition.
     ///
     /// Errors: `NoAccount` where the name isn't there; `Memory` where there is none, or the
     /// writer's own, where the record would have been put. Nothing changes then but that the
@@ -161,7 +162,7 @@ impl<J: Naming, W: EntryWriter> KeptDesk<J, W> {
         ensures refused { IfErr result (λ e. IsAt J.loads J.opening session.old session.new
             × Loads (after J.opening session.new.known) (after J.opening session.new.known) name
             stored (Err (refusal_of e))
-            × (session.new.count ≡ session.old.count)) }
+            × IsUncounted session.old session.new) }
         ensures known { IsPrefix session.old.known session.new.known }
     {
         let mut clerk = self.clerk.lock(rt);
@@ -170,8 +171,9 @@ impl<J: Naming, W: EntryWriter> KeptDesk<J, W> {
         loaded
     }
 
-    /// Gives the book, the journal, the counts and the writer, where all sessions of the desk are
-    /// handed in, in any order. It waits for those that read the book.
+    /// Gives the book, the journal, the writer, and how many changes and additions each session
+    /// made, if all sessions of the desk are handed in, in any order. It waits for those that read
+    /// the book.
     ///
     /// Errors: `Session` where some are missing. The desk and the sessions come back.
     pub fn close<R: Wait>(
@@ -187,10 +189,12 @@ impl<J: Naming, W: EntryWriter> KeptDesk<J, W> {
             All (λ s. IsPrefix s.known kept.closed.journal.items) sessions.items) }
         ensures counts { IfOk result (λ kept.
             kept.closed.counts.items ≡ map (λ s. s.count) sessions.items) }
+        ensures additions { IfOk result (λ kept.
+            kept.additions.items ≡ map (λ s. s.additions) sessions.items) }
         ensures total { IfOk result (λ kept.
-            sum kept.closed.counts.items + kept.additions
+            sum kept.closed.counts.items + sum kept.additions.items
             ≡ length kept.closed.journal.items) }
-        ensures settled { IfOk result (λ kept. J.loads ≡ false → kept.additions ≡ 0) }
+        ensures settled { IfOk result (λ kept. J.loads ≡ false → sum kept.additions.items ≡ 0) }
         ensures kept { IfOk result (λ kept. W.keeps kept.writer kept.closed.journal.items) }
         ensures all { MatchResult result (λ _. vec_len sessions ≡ J.parts)
             (λ e. IsMissed J.parts sessions.items e.2) }
@@ -207,9 +211,11 @@ impl<J: Naming, W: EntryWriter> KeptDesk<J, W> {
         }
     }
 
-    /// Gives the book, the journal and the writer without counts, where a session is lost. These
-    /// are sessions that are still there: the journal begins with what each of them knows. It waits
-    /// for those that read the book.
+    /// Gives the book, the journal and the writer without counts, if a session is lost. These are
+    /// sessions that are still there: the journal begins with what each of them knows. It waits for
+    /// those that read the book.
+    ///
+    /// The writer keeps this journal, with no session handed in too.
     pub fn give_up<R: Wait>(self, rt: &R, sessions: &[Session<J>]) -> (Remains, W)
         ensures listed { IsListed J.loads J.opening result.0.journal.items }
         ensures book { result.0.book ≡ after J.opening result.0.journal.items }

@@ -23,6 +23,7 @@ mod published;
 mod publisher;
 mod rule;
 mod session;
+mod tally;
 mod told;
 mod writer;
 

@@ -3,6 +3,7 @@
 ghost use Rattle.std.specs.Prelude.{◌≡◌, [], All, IfErr, IfOk, true, vec_len};
 ghost use Rattle.cred_desk.specs.Naming.{IsNamed, StartsAt};
 ghost use Rattle.cred_desk.specs.Refusals.{IsRefusedToMake};
+ghost use Rattle.cred_desk.specs.Standing.{IsNew};
 
 use crate::error::DeskError;
 use crate::front::Front;
@@ -41,8 +42,7 @@ pub(crate) fn make<J: Naming, R: Wait>(
     requires opening { StartsAt J.Naming book.now sessions }
     ensures list { IfOk result (λ made. made.publisher ≡ []) }
     ensures sessions { IfOk result
-        (λ made. (vec_len made.sessions ≡ sessions)
-        × All (λ s. (s.known ≡ []) × (s.count ≡ 0)) made.sessions.items) }
+        (λ made. (vec_len made.sessions ≡ sessions) × All IsNew made.sessions.items) }
     ensures count { IfOk result
         (λ made. (made.total.total ≡ 0) × (made.spare.parts ≡ 0) × (made.spare.amount ≡ 0)) }
     ensures refused { IfErr result (λ e. IsRefusedToMake true e) }
@@ -102,7 +102,7 @@ fn seats<J: Naming>(
     requires empty { front.now ≡ [] }
     requires spare { (spare.old.parts ≡ count) × (spare.old.amount ≡ 0) }
     ensures sessions { IfOk result
-        (λ made. (vec_len made ≡ count) × All (λ s. (s.known ≡ []) × (s.count ≡ 0)) made.items) }
+        (λ made. (vec_len made ≡ count) × All IsNew made.items) }
     ensures spare { IfOk result (λ _. (spare.new.parts ≡ 0) × (spare.new.amount ≡ 0)) }
     ensures refused { IfErr result (λ e. IsRefusedToMake true e) }
 {

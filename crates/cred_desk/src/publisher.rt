@@ -3,7 +3,7 @@
 ghost use Rattle.std.specs.Prelude.{◌≡◌, ◌++◌, ◌∷◌, [], None, IfErr, IfOk, IsOk, MatchResult};
 ghost use mathlib.Core.List.{IsPrefix};
 ghost use Rattle.cred_book.specs.declared.error.BookError.TheVariants.{Memory as memory};
-ghost use Rattle.cred_desk.specs.Additions.{refusal_of};
+ghost use Rattle.cred_desk.specs.Additions.{IsRefusedBy, refusal_of};
 ghost use Rattle.cred_desk.specs.Commits.{entry_of, list_after, reply_of};
 ghost use Rattle.cred_desk.specs.Histories.{IsAllowed, IsLegal, IsListed, IsMade, after};
 
@@ -120,6 +120,7 @@ impl<J: Naming> Publisher<J> {
         requires { IsAllowed J.loads (after J.opening self.old) entry }
         ensures done { MatchResult result (λ _. self.new ≡ self.old ++ entry ∷ [])
             (λ e. (self.new ≡ self.old) × (refusal_of e ≡ memory)) }
+        ensures asked { IfErr result (IsRefusedBy writer.old writer.new) }
         ensures kept { W.keeps writer.old self.old → W.keeps writer.new self.new }
         ensures legal { IsMade (after J.opening self.old) entry → IsLegal J.opening self.old
             → IsLegal J.opening self.new }
@@ -154,6 +155,7 @@ impl<J: Naming> Publisher<J> {
             self.new ≡ list_after self.old (entry_of (after J.opening self.old) work)) }
         ensures refused { IfErr result (λ e. (e.0 ≡ work) × (self.new ≡ self.old)) }
         ensures error { IfErr result (λ e. refusal_of e.1 ≡ memory) }
+        ensures asked { IfErr result (λ e. IsRefusedBy writer.old writer.new e.1) }
         ensures plain { entry_of (after J.opening self.old) work ≡ None → IsOk result }
         ensures kept { W.keeps writer.old self.old → W.keeps writer.new self.new }
         ensures legal { IsLegal J.opening self.old → IsLegal J.opening self.new }

@@ -1,13 +1,13 @@
 //! One who reads the published book in a thread of its own, with no lock.
 
-ghost use Rattle.std.specs.Prelude.{◌≡◌, ◌+◌, ◌<◌, ◌^◌, [], IfSome, MatchBool, true};
+ghost use Rattle.std.specs.Prelude.{◌≡◌, ◌+◌, ◌<◌, ◌^◌, [], IfSome, MatchBool, false, true};
 ghost use mathlib.Core.List.{IsPrefix};
 ghost use Rattle.cred_book.specs.Commits.{Begins};
 ghost use Rattle.cred_book.specs.Works.{is_for_current};
 ghost use Rattle.cred_desk.specs.Commits.{reply_of};
 ghost use Rattle.cred_desk.specs.Histories.{IsListed, after};
 ghost use Rattle.cred_desk.specs.Rules.{IsLonger};
-ghost use Rattle.cred_desk.specs.Standing.{BeginsAt, ClosesAt};
+ghost use Rattle.cred_desk.specs.Standing.{BeginsAt, ClosesAt, IsNew, IsUncounted};
 
 use crate::error::DeskError;
 use crate::front::Front;
@@ -23,36 +23,43 @@ use std::sync::ledger::{Book as Total, Share};
 /// Begins requests and closes verifies at the published book, in any thread. It reads no older book
 /// than it has read or was told of.
 ///
-/// Contracts see it as the list of entries that it knows, and the number of changes that its
-/// settles made.
+/// Contracts see it as the list of entries that it knows, the number of changes that its settles
+/// made, and the number of names that it admitted and records that it loaded.
 #[derive(Drop)]
 pub struct Session<J: Naming> {
     reader: BookReader<J>,
     known: Front<J>,
     settled: u64,
+    added: u64,
+    /// Of all entries of the desk, those that it made.
     share: Share<J>,
 }
 
 impl<J: Naming> Model for Session<J> {
-    ghost use Rattle.std.specs.Prelude.{◌≡◌};
+    ghost use Rattle.std.specs.Prelude.{◌≡◌, ◌+◌, false};
     ghost use Rattle.cred_desk.specs.Histories.{IsListed};
     ghost use Rattle.cred_desk.specs.Standing.{Standing};
 
     ghost Value = { Standing };
 
-    ghost view = { λ s. record { known = s.known; count = s.settled } };
+    ghost view = { λ s. record { known = s.known; count = s.settled; additions = s.added } };
 
-    ghost invariant = { λ s. IsListed J.loads J.opening s.known × (s.share.parts ≡ 1)
-        × (s.share.amount ≡ s.settled) };
+    ghost invariant = { λ s. record {
+      known_is_listed : IsListed J.loads J.opening s.known;
+      one_part : s.share.parts ≡ 1;
+      all_shared : s.share.amount ≡ s.settled + s.added;
+      additions_allowed : J.loads ≡ false → s.added ≡ 0;
+    } };
 }
 
 impl<J: Naming> fmt::Debug for Session<J> {
     fn fmt<W: fmt::Write>(&self, f: &mut fmt::Formatter<W>) -> fmt::Result {
         write!(
             f,
-            "Session {{ known: {}, settled: {} }}",
+            "Session {{ known: {}, settled: {}, added: {} }}",
             self.known.len(),
-            self.settled
+            self.settled,
+            self.added
         )
     }
 }
@@ -62,13 +69,13 @@ impl<J: Naming> Session<J> {
     pub(crate) fn new(reader: BookReader<J>, known: Front<J>, share: Share<J>) -> Session<J>
         requires known { known ≡ [] }
         requires share { (share.parts ≡ 1) × (share.amount ≡ 0) }
-        ensures known { result.known ≡ [] }
-        ensures count { result.count ≡ 0 }
+        ensures { IsNew result }
     {
         Session {
             reader,
             known,
             settled: 0,
+            added: 0,
             share,
         }
     }
@@ -85,11 +92,26 @@ impl<J: Naming> Session<J> {
         requires { total.old.total + changes < 2 ^ 64 }
         ensures total { total.new.total ≡ total.old.total + changes }
         ensures count { self.new.count ≡ self.old.count + changes }
+        ensures additions { self.new.additions ≡ self.old.additions }
         ensures known { self.new.known ≡ self.old.known }
     {
         total.add(&mut self.share, changes);
         total.audit(&mut self.share);
         self.settled += changes;
+    }
+
+    /// Counts so many names and records that it added.
+    pub(crate) fn count_additions(&mut self, total: &mut Total<J>, additions: u64)
+        requires room { total.old.total + additions < 2 ^ 64 }
+        requires loads { J.loads ≡ true }
+        ensures total { total.new.total ≡ total.old.total + additions }
+        ensures count { self.new.count ≡ self.old.count }
+        ensures additions { self.new.additions ≡ self.old.additions + additions }
+        ensures known { self.new.known ≡ self.old.known }
+    {
+        total.add(&mut self.share, additions);
+        total.audit(&mut self.share);
+        self.added += additions;
     }
 
     /// How many changes its settles made.
@@ -99,15 +121,24 @@ impl<J: Naming> Session<J> {
         self.settled
     }
 
+    /// How many names it admitted and records it loaded.
+    pub(crate) fn additions(&self) -> u64
+        ensures additions { result ≡ self.now.additions }
+        ensures allowed { J.loads ≡ false → result ≡ 0 }
+    {
+        self.added
+    }
+
     /// The part of the total that it counted.
     pub(crate) fn into_share(self) -> Share<J>
         ensures parts { result.parts ≡ 1 }
-        ensures amount { result.amount ≡ self.count }
+        ensures amount { result.amount ≡ self.count + self.additions }
     {
         let Session {
             reader: _,
             known: _,
             settled: _,
+            added: _,
             share,
         } = self;
         share
@@ -117,10 +148,10 @@ impl<J: Naming> Session<J> {
     /// that book's list from then on. A setting in the request isn't of version 0x10, as
     /// `Request::is_for_current` tells.
     ///
-    /// Errors: `NoAccount` where the name isn't there; `Reader` where there is no book to read, as
-    /// may be once its desk or committer was ended, and nothing changes. The request comes back.
-    /// It would be `Reader` too where the book that was read is older than what is known, which
-    /// isn't met: a book is shown before anybody is told of it.
+    /// Errors: `NoAccount` if the name isn't there; `Reader` if there is no book to read, as may be
+    /// once its desk or committer was ended; `Older` if the book that was read is older than what
+    /// is known, which isn't met: a book is shown before anybody is told of it. Nothing changes
+    /// after `Reader` and `Older`. The request comes back.
     ///
     /// The ticket doesn't name the session. Where its work is closed at another one that knows
     /// less, the answer may be `Changed` with an older record than the ticket's.
@@ -128,7 +159,7 @@ impl<J: Naming> Session<J> {
         requires { is_for_current request ≡ true }
         ensures known { IsPrefix self.old.known self.new.known }
         ensures listed { IsListed J.loads J.opening self.new.known }
-        ensures count { self.new.count ≡ self.old.count }
+        ensures count { IsUncounted self.old self.new }
         ensures done { BeginsAt (after J.opening self.new.known) self.old self.new request result }
     {
         let found = replace_with(
@@ -140,7 +171,7 @@ impl<J: Naming> Session<J> {
             return Err((request, DeskError::Reader));
         };
         if !self.know(front) {
-            return Err((request, DeskError::Reader));
+            return Err((request, DeskError::Older));
         }
         begun.map_err(|(request, _)| (request, DeskError::NoAccount))
     }
@@ -150,13 +181,13 @@ impl<J: Naming> Session<J> {
     ///
     /// Work of another session's ticket is judged like any other, at what this one reads.
     ///
-    /// Errors: `Reader` where there is no book to read, as may be once its desk or committer was
-    /// ended. Nothing changes then, and the work comes back. It would be `Reader` too where the
-    /// book that was read is older than what is known, which isn't met.
+    /// Errors: `Reader` if there is no book to read, as may be once its desk or committer was
+    /// ended; `Older` if the book that was read is older than what is known, which isn't met.
+    /// Nothing changes then, and the work comes back.
     pub fn close_verify(&mut self, work: VerifyWorked) -> Result<Reply, (VerifyWorked, DeskError)>
         ensures known { IsPrefix self.old.known self.new.known }
         ensures listed { IsListed J.loads J.opening self.new.known }
-        ensures count { self.new.count ≡ self.old.count }
+        ensures count { IsUncounted self.old self.new }
         ensures done { ClosesAt (after J.opening self.new.known) self.old self.new work result }
     {
         let found = replace_with(
@@ -168,7 +199,7 @@ impl<J: Naming> Session<J> {
             return Err((work, DeskError::Reader));
         };
         if !self.know(front) {
-            return Err((work, DeskError::Reader));
+            return Err((work, DeskError::Older));
         }
         Ok(reply)
     }
@@ -179,7 +210,7 @@ impl<J: Naming> Session<J> {
         ensures mine { IsPrefix self.old.known self.new.known }
         ensures told { IsPrefix told.now self.new.known }
         ensures whole { IsPrefix self.old.known told.now → self.new.known ≡ told.now }
-        ensures count { self.new.count ≡ self.old.count }
+        ensures count { IsUncounted self.old self.new }
     {
         self.know(told.front().again());
     }
@@ -190,7 +221,7 @@ impl<J: Naming> Session<J> {
         ensures known { MatchBool result (self.new.known ≡ list)
             (IsLonger list self.old.known × (self.new.known ≡ self.old.known)) }
         ensures mine { IsPrefix self.old.known self.new.known }
-        ensures count { self.new.count ≡ self.old.count }
+        ensures count { IsUncounted self.old self.new }
         ensures listed { IsListed J.loads J.opening self.new.known }
     {
         if !self.known.begins(&list) {

@@ -54,9 +54,9 @@ pub enum KeepError<E> {
 impl<E> From<AllocError> for KeepError<E> {
     ghost use Rattle.std.specs.Prelude.{◌≡◌};
     ghost use Rattle.cred_book.specs.declared.error.BookError.TheVariants.{Memory};
-    ghost use Rattle.cred_desk.specs.Additions.{refusal_of};
+    ghost use Rattle.cred_desk.specs.declared.writer.KeepError.TheVariants.{Book as OfBook};
 
-    ghost from_gives = { λ _ e. refusal_of e ≡ Memory };
+    ghost from_gives = { λ _ e. e ≡ OfBook Memory };
 
     fn from(_error: AllocError) -> Self {
         KeepError::Book(BookError::Memory)

@@ -5,7 +5,8 @@ use Rattle.cred_desk.proofs.clerk.merge_shares.Given as goal
 abbrev pub invariant-loop-session : goal.invariant-loop-session
 invariant-loop-session g l =
     (l.all.parts + vec_len l.left ≡ vec_len l.fn.sessions)
-    × (l.all.amount + sum (map (λ s. s.count) l.left.items) ≡ sum (map (λ s. s.count) l.fn.sessions.items))
+    × (l.all.amount + (sum (map (λ s. s.count) l.left.items) + sum (map (λ s. s.additions) l.left.items))
+    ≡ sum (map (λ s. s.count) l.fn.sessions.items) + sum (map (λ s. s.additions) l.fn.sessions.items))
 
 abbrev pub decreases-loop-session : goal.decreases-loop-session
 decreases-loop-session g l = goal.left-loop-session g l

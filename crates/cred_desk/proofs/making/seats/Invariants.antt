@@ -1,4 +1,5 @@
 use Rattle.std.proofs.Common.{◌≡◌, ◌+◌, ◌≤◌, [], All, vec_len, vec_capacity}
+use Rattle.cred_desk.specs.Standing.{IsNew}
 use Rattle.cred_desk.proofs.making.seats.Given as goal
 
 -- a session for each part that was taken
@@ -8,4 +9,4 @@ invariant-loop-index g l =
     × (l.spare.amount ≡ 0)
     × (vec_len l.sessions ≡ l._index)
     × (l.count ≤ vec_capacity l.sessions)
-    × All (λ s. (s.known ≡ []) × (s.count ≡ 0)) l.sessions.items
+    × All IsNew l.sessions.items

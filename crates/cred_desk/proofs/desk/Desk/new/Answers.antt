@@ -8,5 +8,5 @@ returns-clause-few g c = search rules
 pub returns-in_err-publisher-clause-refused : goal.returns-in_err-publisher-clause-refused
 returns-in_err-publisher-clause-refused g c = search rules
 
-pub returns-in_err-counts-clause-refused : goal.returns-in_err-counts-clause-refused
-returns-in_err-counts-clause-refused g c = search rules
+pub returns-in_err-tallies-clause-refused : goal.returns-in_err-tallies-clause-refused
+returns-in_err-tallies-clause-refused g c = search rules

@@ -1,5 +1,5 @@
 use Rattle.std.proofs.Common.{◌≡◌, ◌≤◌, length, map, take, vec_capacity}
-use Rattle.cred_desk.proofs.clerk.write_counts.Given as goal
+use Rattle.cred_desk.proofs.tally.write_counts.Given as goal
 
 -- the counts of the sessions so far, with room for the others
 abbrev pub invariant-loop-session : goal.invariant-loop-session
