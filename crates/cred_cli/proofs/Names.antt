@@ -10,7 +10,7 @@ use Rattle.std.proofs.lemmas.List.{length-append, length-map, take-append-le, ta
 use Rattle.std.proofs.lemmas.Bool.{cases_lt}
 use Rattle.std.proofs.lemmas.Slice.Eq.{bytes_eq-Decides}
 use Rattle.cred_phc.specs.Values.{RecordValue}
-use Rattle.cred_book.specs.Accounts.{Accounts, most_accounts}
+use Rattle.cred_book.specs.Accounts.{Accounts}
 use Rattle.cred_book.specs.Names.{name_cmp}
 use Rattle.cred_book.specs.Works.{name_of, seq, seq_at, whole}
 use Rattle.cred_book.specs.declared.request.Request.{Request}
@@ -84,43 +84,43 @@ closed_one names opening book past (Some opened) same = by_case (is_stale openin
     by_case false = whole_done names book opened.request same
 
 -- one event more
-next : (opening book : Accounts) (events : List Event) (i : ℕ) (past : List (Option Deed)) (event : Option Event) → SameNames (names_at opening events i) book →
-    SameNames (names_after (names_at opening events i) event) (after book (deed_of opening events i past event))
-next opening book events i past None same = same
-next opening book events i past (Some (Show name)) same = same
-next opening book events i past (Some (Begin key request)) same = same
-next opening book events i past (Some (Commit key)) same = closed_one (names_at opening events i) opening book past (open_at opening events i key) same
-next opening book events i past (Some (Bad why)) same = same
-next opening book events i past (Some (Account name)) same = by_case (is_among (names_at opening events i) name) refl (nat_lt (length (names_at opening events i)) most_accounts)
+next : (capacity : ℕ) (opening book : Accounts) (events : List Event) (i : ℕ) (past : List (Option Deed)) (event : Option Event) → SameNames (names_at capacity opening events i) book →
+    SameNames (names_after capacity (names_at capacity opening events i) event) (after book (deed_of capacity opening events i past event))
+next capacity opening book events i past None same = same
+next capacity opening book events i past (Some (Show name)) same = same
+next capacity opening book events i past (Some (Begin key request)) same = same
+next capacity opening book events i past (Some (Commit key)) same = closed_one (names_at capacity opening events i) opening book past (open_at capacity opening events i key) same
+next capacity opening book events i past (Some (Bad why)) same = same
+next capacity opening book events i past (Some (Account name)) same = by_case (is_among (names_at capacity opening events i) name) refl (nat_lt (length (names_at capacity opening events i)) capacity)
   where
-    by_case : (b : Bool) → is_among (names_at opening events i) name ≡ b → (c : Bool) →
-        SameNames (if b then names_at opening events i else if c then names_at opening events i ++ name ∷ [] else names_at opening events i) (after book (if b then None else if c then Some (Admission name) else None))
+    by_case : (b : Bool) → is_among (names_at capacity opening events i) name ≡ b → (c : Bool) →
+        SameNames (if b then names_at capacity opening events i else if c then names_at capacity opening events i ++ name ∷ [] else names_at capacity opening events i) (after book (if b then None else if c then Some (Admission name) else None))
     by_case true there c = same
-    by_case false there true = admitted (names_at opening events i) book name same there
+    by_case false there true = admitted (names_at capacity opening events i) book name same there
     by_case false there false = same
-next opening book events i past (Some (Load name stored)) same = by_case (is_among (names_at opening events i) name) refl
+next capacity opening book events i past (Some (Load name stored)) same = by_case (is_among (names_at capacity opening events i) name) refl
   where
-    by_case : (b : Bool) → is_among (names_at opening events i) name ≡ b → SameNames (names_at opening events i) (after book (if b then Some (Loading name stored) else None))
-    by_case true there = put (names_at opening events i) book name (Some stored) same there
+    by_case : (b : Bool) → is_among (names_at capacity opening events i) name ≡ b → SameNames (names_at capacity opening events i) (after book (if b then Some (Loading name stored) else None))
+    by_case true there = put (names_at capacity opening events i) book name (Some stored) same there
     by_case false there = same
 
 -- ---- the recursion on the place
 
-pub done-zero : (book : Accounts) (events : List Event) → deeds_before book events 0 ≡ []
+pub done-zero : (capacity : ℕ) (book : Accounts) (events : List Event) → deeds_before capacity book events 0 ≡ []
 unfolding deeds_before
-done-zero book events = refl
+done-zero capacity book events = refl
 
-pub done-suc : (book : Accounts) (events : List Event) (i : ℕ) → deeds_before book events (suc i) ≡ deeds_before book events i ++ deed_of book events i (deeds_before book events i) (slice_get events i) ∷ []
+pub done-suc : (capacity : ℕ) (book : Accounts) (events : List Event) (i : ℕ) → deeds_before capacity book events (suc i) ≡ deeds_before capacity book events i ++ deed_of capacity book events i (deeds_before capacity book events i) (slice_get events i) ∷ []
 unfolding deeds_before
-done-suc book events i = refl
+done-suc capacity book events i = refl
 
-names_at-zero : (book : Accounts) (events : List Event) → names_at book events 0 ≡ map.keys book
+names_at-zero : (capacity : ℕ) (book : Accounts) (events : List Event) → names_at capacity book events 0 ≡ map.keys book
 unfolding names_at
-names_at-zero book events = refl
+names_at-zero capacity book events = refl
 
-pub names_at-suc : (book : Accounts) (events : List Event) (i : ℕ) → names_at book events (suc i) ≡ names_after (names_at book events i) (slice_get events i)
+pub names_at-suc : (capacity : ℕ) (book : Accounts) (events : List Event) (i : ℕ) → names_at capacity book events (suc i) ≡ names_after capacity (names_at capacity book events i) (slice_get events i)
 unfolding names_at
-names_at-suc book events i = refl
+names_at-suc capacity book events i = refl
 
 book_after-none : (book : Accounts) → book_after book [] ≡ book
 unfolding book_after
@@ -131,31 +131,31 @@ unfolding book_after
 book_after-more book [] deed = refl
 book_after-more book (d ∷ ds) deed = book_after-more (after book d) ds deed
 
-pub book_at-zero : (book : Accounts) (events : List Event) → book_at book events 0 ≡ book
-book_at-zero book events = ap (book_after book) (done-zero book events) ∙ book_after-none book
+pub book_at-zero : (capacity : ℕ) (book : Accounts) (events : List Event) → book_at capacity book events 0 ≡ book
+book_at-zero capacity book events = ap (book_after book) (done-zero capacity book events) ∙ book_after-none book
 
-pub book_at-suc : (book : Accounts) (events : List Event) (i : ℕ) → book_at book events (suc i) ≡ after (book_at book events i) (deed_of book events i (deeds_before book events i) (slice_get events i))
-book_at-suc book events i = ap (book_after book) (done-suc book events i) ∙ book_after-more book (deeds_before book events i) (deed_of book events i (deeds_before book events i) (slice_get events i))
+pub book_at-suc : (capacity : ℕ) (book : Accounts) (events : List Event) (i : ℕ) → book_at capacity book events (suc i) ≡ after (book_at capacity book events i) (deed_of capacity book events i (deeds_before capacity book events i) (slice_get events i))
+book_at-suc capacity book events i = ap (book_after book) (done-suc capacity book events i) ∙ book_after-more book (deeds_before capacity book events i) (deed_of capacity book events i (deeds_before capacity book events i) (slice_get events i))
 
 -- the names at each place are those of the book there
-pub same_names : (book : Accounts) (events : List Event) (i : ℕ) → SameNames (names_at book events i) (book_at book events i)
-same_names book events zero = rw (names_at-zero book events, book_at-zero book events) (at_first book)
-same_names book events (suc i) = rw (names_at-suc book events i, book_at-suc book events i) (next book (book_at book events i) events i (deeds_before book events i) (slice_get events i) (same_names book events i))
+pub same_names : (capacity : ℕ) (book : Accounts) (events : List Event) (i : ℕ) → SameNames (names_at capacity book events i) (book_at capacity book events i)
+same_names capacity book events zero = rw (names_at-zero capacity book events, book_at-zero capacity book events) (at_first book)
+same_names capacity book events (suc i) = rw (names_at-suc capacity book events i, book_at-suc capacity book events i) (next capacity book (book_at capacity book events i) events i (deeds_before capacity book events i) (slice_get events i) (same_names capacity book events i))
 
-length-done : (book : Accounts) (events : List Event) (i : ℕ) → length (deeds_before book events i) ≡ i
-length-done book events zero = ap length (done-zero book events)
-length-done book events (suc i) = ap length (done-suc book events i) ∙ length-append (deeds_before book events i) _ ∙ omega (arith, length-done book events i)
+length-done : (capacity : ℕ) (book : Accounts) (events : List Event) (i : ℕ) → length (deeds_before capacity book events i) ≡ i
+length-done capacity book events zero = ap length (done-zero capacity book events)
+length-done capacity book events (suc i) = ap length (done-suc capacity book events i) ∙ length-append (deeds_before capacity book events i) _ ∙ omega (arith, length-done capacity book events i)
 
 -- a front of a history is the earlier history
-pub take-done : (book : Accounts) (events : List Event) (j i : ℕ) → j ≤ i → take j (deeds_before book events i) ≡ deeds_before book events j
-take-done book events zero i le = sym (done-zero book events)
-take-done book events (suc j) zero le = absurd (omega (arith, le))
-take-done book events (suc j) (suc i) le = elim (cases_lt i (suc j)) [
+pub take-done : (capacity : ℕ) (book : Accounts) (events : List Event) (j i : ℕ) → j ≤ i → take j (deeds_before capacity book events i) ≡ deeds_before capacity book events j
+take-done capacity book events zero i le = sym (done-zero capacity book events)
+take-done capacity book events (suc j) zero le = absurd (omega (arith, le))
+take-done capacity book events (suc j) (suc i) le = elim (cases_lt i (suc j)) [
   | inl last ↦
       let same : j ≡ i = omega (arith, last, le) in
-      rw same (take_all (suc i) (deeds_before book events (suc i)) (omega (arith, length-done book events (suc i))))
+      rw same (take_all (suc i) (deeds_before capacity book events (suc i)) (omega (arith, length-done capacity book events (suc i))))
   | inr earlier ↦
-      ap (take (suc j)) (done-suc book events i)
-      ∙ take-append-le (suc j) (deeds_before book events i) _ (omega (arith, earlier, length-done book events i))
-      ∙ take-done book events (suc j) i earlier
+      ap (take (suc j)) (done-suc capacity book events i)
+      ∙ take-append-le (suc j) (deeds_before capacity book events i) _ (omega (arith, earlier, length-done capacity book events i))
+      ∙ take-done capacity book events (suc j) i earlier
 ]

@@ -2,39 +2,39 @@
 use Rattle.std.proofs.Common.{◌≡◌, ℕ, List, Option, Some, None, Bool, IfSome, inr, refl, sym}
 use Rattle.std.specs.FinMap as map
 use Rattle.std.proofs.KnownBytes.{Appends-nil}
-use Rattle.cred_book.specs.Accounts.{Accounts}
+use Rattle.cred_book.specs.Accounts.{Accounts, most_accounts}
 use Rattle.cred_cli.specs.declared.fault.ScriptFault.{ScriptFault}
 use Rattle.cred_cli.specs.declared.fault.ScriptFault.TheVariants.{Memory}
 use Rattle.cred_cli.specs.Statuses.{status_number, status_of}
 use Rattle.cred_cli.specs.Commands.{Runs}
-use Rattle.cred_cli.specs.Outcome.{HasCause, ScriptFails, StandsAfter}
+use Rattle.cred_cli.specs.Outcome.{FailsWithin, HasCause, ScriptFails, StandsAfter}
 use Rattle.cred_cli.specs.Script.{events_of}
 use Rattle.cred_cli.proofs.Names.{book_at-zero}
 use Rattle.cred_cli.proofs.Readings.{if_known}
 use Rattle.cred_cli.proofs.Runs.{answers_before-zero}
 
-pub nothing_done : (book : Accounts) (bytes : List ℕ) (before : Option (List ℕ)) → StandsAfter book (events_of bytes) 0 before before book
-nothing_done book bytes before = record {
-  written = rw (answers_before-zero book (events_of bytes)) (Appends-nil before);
-  accounts_are = sym (book_at-zero book (events_of bytes));
+pub nothing_done : (capacity : ℕ) (book : Accounts) (bytes : List ℕ) (before : Option (List ℕ)) → StandsAfter capacity book (events_of bytes) 0 before before book
+nothing_done capacity book bytes before = record {
+  written = rw (answers_before-zero capacity book (events_of bytes)) (Appends-nil before);
+  accounts_are = sym (book_at-zero capacity book (events_of bytes));
 }
 
 -- there was no memory to begin a script with
-pub script_unbegun : (known before : Option (List ℕ)) (book : Accounts) → IfSome known (λ bytes. ScriptFails book bytes known before before book Memory)
-script_unbegun known before book = if_known known (λ bytes. ScriptFails book bytes known before before book Memory) (λ bytes is. (0, inr refl, nothing_done book bytes before))
+pub script_unbegun : (longest capacity : ℕ) (known before : Option (List ℕ)) (book : Accounts) → IfSome known (λ bytes. FailsWithin longest capacity book bytes known before before book Memory)
+script_unbegun longest capacity known before book = if_known known (λ bytes. FailsWithin longest capacity book bytes known before before book Memory) (λ bytes is. (0, inr refl, nothing_done capacity book bytes before))
 
 -- there was no memory to begin with
 pub no_memory : (bytes left before : Option (List ℕ)) (reader writer : Bool) (status : ℕ) → status ≡ status_number (status_of Memory) → Runs bytes left before before reader writer status
 no_memory bytes left before reader writer status is =
-    inr (Memory, is, record { stands = if_known bytes _ (λ bs known. (map.empty, (0, inr refl, nothing_done map.empty bs before))); cause = tt })
+    inr (Memory, is, record { stands = if_known bytes _ (λ bs known. (map.empty, (0, inr refl, nothing_done most_accounts map.empty bs before))); cause = tt })
 
 -- the script met a fault
 pub run_fails : (book : Accounts) (bytes left before now : Option (List ℕ)) (reader writer : Bool) (accounts : Accounts) (fault : ScriptFault) (status : ℕ) →
-    book ≡ map.empty → status ≡ status_number (status_of fault) → IfSome bytes (λ bs. ScriptFails book bs left before now accounts fault) → HasCause reader writer fault →
+    book ≡ map.empty → status ≡ status_number (status_of fault) → IfSome bytes (λ bs. ScriptFails most_accounts book bs left before now accounts fault) → HasCause reader writer fault →
     Runs bytes left before now reader writer status
 run_fails book bytes left before now reader writer accounts fault status empty is fails cause =
     inr (fault, is, record { stands = known bytes fails; cause = cause })
   where
-    known : (bytes : Option (List ℕ)) → IfSome bytes (λ bs. ScriptFails book bs left before now accounts fault) → IfSome bytes (λ bs. (accounts : Accounts) × ScriptFails map.empty bs left before now accounts fault)
+    known : (bytes : Option (List ℕ)) → IfSome bytes (λ bs. ScriptFails most_accounts book bs left before now accounts fault) → IfSome bytes (λ bs. (accounts : Accounts) × ScriptFails most_accounts map.empty bs left before now accounts fault)
     known None fails = tt
     known (Some bs) fails = (accounts, rw empty at fails)

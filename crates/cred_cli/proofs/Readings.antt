@@ -19,21 +19,21 @@ no_task zero k = refl
 no_task (suc n) zero = refl
 no_task (suc n) (suc k) = no_task n k
 
-no_tickets : (book : Accounts) (events : List Event) (slots : List (Option Task)) → slots ≡ replicate 64 None → HoldTickets book events 0 slots
-no_tickets book events slots empty = record {
+no_tickets : (capacity : ℕ) (book : Accounts) (events : List Event) (slots : List (Option Task)) → slots ≡ replicate 64 None → HoldTickets capacity book events 0 slots
+no_tickets capacity book events slots empty = record {
   size = rw empty (length-replicate {A = Option Task} 64 None);
-  each = λ key low high. rw (open_at-zero book events key, empty, no_task 64 (key - 1)) tt;
+  each = λ key low high. rw (open_at-zero capacity book events key, empty, no_task 64 (key - 1)) tt;
 }
 
 -- no byte was taken
-pub opening : (book : Accounts) (all : List ℕ) (before : Option (List ℕ)) (slots : List (Option Task)) (progress : Progress) → slots ≡ replicate 64 None → progress.start ≡ [] → progress.lines ≡ 0 → progress.taken ≡ 0 →
-    IsAt book all [] before before book slots progress
-opening book all before slots progress empty start lines taken = record {
+pub opening : (capacity : ℕ) (book : Accounts) (all : List ℕ) (before : Option (List ℕ)) (slots : List (Option Task)) (progress : Progress) → slots ≡ replicate 64 None → progress.start ≡ [] → progress.lines ≡ 0 → progress.taken ≡ 0 →
+    IsAt capacity book all [] before before book slots progress
+opening capacity book all before slots progress empty start lines taken = record {
   stands = record {
-    written = rw (lines, answers_before-zero book (events_of all)) (Appends-nil before);
-    accounts_are = rw lines (sym (book_at-zero book (events_of all)));
+    written = rw (lines, answers_before-zero capacity book (events_of all)) (Appends-nil before);
+    accounts_are = rw lines (sym (book_at-zero capacity book (events_of all)));
   };
-  tickets = rw lines (no_tickets book (events_of all) slots empty);
+  tickets = rw lines (no_tickets capacity book (events_of all) slots empty);
   lines_are = lines;
   start_is = start;
   taken_is = taken;

@@ -12,66 +12,66 @@ use Rattle.cred_cli.specs.Answers.{IsDone, line_bytes}
 use Rattle.cred_cli.specs.Events.{IsSound}
 use Rattle.cred_cli.specs.Tickets.{HoldTickets}
 use Rattle.cred_cli.specs.History.{answer_at}
-use Rattle.cred_cli.specs.Outcome.{FrontWritten, HasCause, ScriptFails, StandsAfter, StopsIn}
+use Rattle.cred_cli.specs.Outcome.{FailsWithin, FrontWritten, HasCause, StandsAfter, StopsIn}
 use Rattle.cred_cli.specs.Script.{answers_before, events_of}
 use Rattle.cred_cli.specs.Steps.{LineFails, WriteFails, step}
 use Rattle.cred_cli.specs.Texts.{line_of}
 use Rattle.cred_cli.proofs.Simulation.{IsStep, stepped_at}
 
-answers_before-suc : (book : Accounts) (events : List Event) (i : ℕ) → answers_before book events (suc i) ≡ answers_before book events i ++ line_of (answer_at book events i)
+answers_before-suc : (capacity : ℕ) (book : Accounts) (events : List Event) (i : ℕ) → answers_before capacity book events (suc i) ≡ answers_before capacity book events i ++ line_of (answer_at capacity book events i)
 unfolding answers_before
-answers_before-suc book events i = refl
+answers_before-suc capacity book events i = refl
 
-pub answers_before-zero : (book : Accounts) (events : List Event) → answers_before book events 0 ≡ []
+pub answers_before-zero : (capacity : ℕ) (book : Accounts) (events : List Event) → answers_before capacity book events 0 ≡ []
 unfolding answers_before
-answers_before-zero book events = refl
+answers_before-zero capacity book events = refl
 
-write_fault : (book : Accounts) (events : List Event) (i : ℕ) (before now : Option (List ℕ)) (accounts : Accounts) (e : ScriptFault) → e ≡ Write →
-    StopsIn book events i before now accounts → LineFails book events i before now accounts e
-write_fault book events i before now accounts e is stops = rw is stops
+write_fault : (capacity : ℕ) (book : Accounts) (events : List Event) (i : ℕ) (before now : Option (List ℕ)) (accounts : Accounts) (e : ScriptFault) → e ≡ Write →
+    StopsIn capacity book events i before now accounts → LineFails capacity book events i before now accounts e
+write_fault capacity book events i before now accounts e is stops = rw is stops
 
-module _ (book : Accounts) (events : List Event) (i : ℕ) (event : Event) (sound : IsSound event) (here : slice_get events i ≡ Some event) (before mid now : Option (List ℕ)) (accounts : Accounts)
-    (stands : StandsAfter book events i before mid accounts) (slots : List (Option Task)) (held : HoldTickets book events i slots) where
-  next : IsStep book events i (step accounts slots event)
-  next = stepped_at book events i slots held event sound here accounts stands.accounts_are
+module _ (capacity : ℕ) (book : Accounts) (events : List Event) (i : ℕ) (event : Event) (sound : IsSound event) (here : slice_get events i ≡ Some event) (before mid now : Option (List ℕ)) (accounts : Accounts)
+    (stands : StandsAfter capacity book events i before mid accounts) (slots : List (Option Task)) (held : HoldTickets capacity book events i slots) where
+  next : IsStep capacity book events i (step capacity accounts slots event)
+  next = stepped_at capacity book events i slots held event sound here accounts stands.accounts_are
 
-  answer : line_of (step accounts slots event).answer ≡ line_of (answer_at book events i)
+  answer : line_of (step capacity accounts slots event).answer ≡ line_of (answer_at capacity book events i)
   answer = ap line_of next.answer
 
   -- the whole answer was written
-  line_done : (later : Accounts) (left : List (Option Task)) (line : AnswerLine) → IsDone (step accounts slots event) later left line → Appends mid now (line_bytes line) →
-      StandsAfter book events (suc i) before now later × HoldTickets book events (suc i) left
+  line_done : (later : Accounts) (left : List (Option Task)) (line : AnswerLine) → IsDone (step capacity accounts slots event) later left line → Appends mid now (line_bytes line) →
+      StandsAfter capacity book events (suc i) before now later × HoldTickets capacity book events (suc i) left
   line_done later left line done written = (
     record {
-      written = rw (answers_before-suc book events i, ← answer, ← done.0) (Appends-trans _ _ _ _ _ stands.written written);
+      written = rw (answers_before-suc capacity book events i, ← answer, ← done.0) (Appends-trans _ _ _ _ _ stands.written written);
       accounts_are = done.1 ∙ next.book_is;
     },
     rw done.2 next.tickets,
   )
 
   -- a proper front of it was
-  line_stops : (later : Accounts) (left : List (Option Task)) (line : AnswerLine) → IsDone (step accounts slots event) later left line → FrontWritten mid now (line_bytes line) →
-      StopsIn book events i before now later
+  line_stops : (later : Accounts) (left : List (Option Task)) (line : AnswerLine) → IsDone (step capacity accounts slots event) later left line → FrontWritten mid now (line_bytes line) →
+      StopsIn capacity book events i before now later
   line_stops later left line done (n, short, written) = record {
     written = rw (← answer, ← done.0) (n, short, Appends-trans _ _ _ _ _ stands.written written);
     accounts_are = done.1 ∙ next.book_is;
   }
 
   -- and so however writing it ended
-  pub line_ended : (later : Accounts) (left : List (Option Task)) (line : AnswerLine) (failed : Bool) (r : Result (Unit {0}) ScriptFault) → IsDone (step accounts slots event) later left line →
+  pub line_ended : (later : Accounts) (left : List (Option Task)) (line : AnswerLine) (failed : Bool) (r : Result (Unit {0}) ScriptFault) → IsDone (step capacity accounts slots event) later left line →
       OnOk r (Appends mid now (line_bytes line)) → IfErr r (WriteFails mid now (line_bytes line) failed) →
-      MatchResult r (λ _. StandsAfter book events (suc i) before now later × HoldTickets book events (suc i) left) (LineFails book events i before now later)
+      MatchResult r (λ _. StandsAfter capacity book events (suc i) before now later × HoldTickets capacity book events (suc i) left) (LineFails capacity book events i before now later)
   line_ended later left line failed (Ok x) done written fails = line_done later left line done written
   line_ended later left line failed (Err e) done written (is_write, has_failed, front) =
-      write_fault book events i before now later e is_write (line_stops later left line done front)
+      write_fault capacity book events i before now later e is_write (line_stops later left line done front)
 
 -- a line's fault is the script's
-pub fails_at : (book : Accounts) (all : List ℕ) (i : ℕ) (left before now : Option (List ℕ)) (accounts : Accounts) (e : ScriptFault) → i < length (events_of all) →
-    LineFails book (events_of all) i before now accounts e → ScriptFails book all left before now accounts e
-fails_at book all i left before now accounts Read within fails = absurd fails
-fails_at book all i left before now accounts Write within fails = (i, within, fails)
-fails_at book all i left before now accounts Memory within fails = (i, inl within, fails)
-fails_at book all i left before now accounts TooLong within fails = absurd fails
+pub fails_at : (longest capacity : ℕ) (book : Accounts) (all : List ℕ) (i : ℕ) (left before now : Option (List ℕ)) (accounts : Accounts) (e : ScriptFault) → i < length (events_of all) →
+    LineFails capacity book (events_of all) i before now accounts e → FailsWithin longest capacity book all left before now accounts e
+fails_at longest capacity book all i left before now accounts Read within fails = absurd fails
+fails_at longest capacity book all i left before now accounts Write within fails = (i, within, fails)
+fails_at longest capacity book all i left before now accounts Memory within fails = (i, inl within, fails)
+fails_at longest capacity book all i left before now accounts TooLong within fails = absurd fails
 
 -- where the reader is in no fault, the writer may be
 pub cause_of : (reader writer : Bool) (e : ScriptFault) → HasCause false writer e → HasCause reader writer e

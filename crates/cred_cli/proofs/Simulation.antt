@@ -8,7 +8,7 @@ use Rattle.std.proofs.lemmas.Bool.{ne_eqb}
 use Rattle.std.proofs.lemmas.List.{get_or-set_same, get_or-set_other}
 use Rattle.std.proofs.Math.ListN.{length-set}
 use Rattle.cred_phc.specs.Values.{RecordValue}
-use Rattle.cred_book.specs.Accounts.{Accounts, most_accounts}
+use Rattle.cred_book.specs.Accounts.{Accounts}
 use Rattle.cred_book.specs.Commits.{commit_outcome, commit_outcome_at}
 use Rattle.cred_book.specs.Works.{Task, name_of, right, same, same_scheme, seq, seq_at, whole}
 use Rattle.cred_book.specs.declared.error.BookError.TheVariants.{Exists, Full, NoAccount}
@@ -28,10 +28,10 @@ use Rattle.cred_cli.proofs.Names.{same_names, book_at-suc, take-done}
 use Rattle.cred_cli.proofs.Openings.{IsKnown, known_at, open_at-suc}
 
 -- a step at place i of a history
-pub record IsStep (book : Accounts) (events : List Event) (i : ℕ) (step : Step) : Type 0 where
-  pub answer : step.answer ≡ answer_at book events i
-  pub book_is : step.book ≡ book_at book events (suc i)
-  pub tickets : HoldTickets book events (suc i) step.slots
+pub record IsStep (capacity : ℕ) (book : Accounts) (events : List Event) (i : ℕ) (step : Step) : Type 0 where
+  pub answer : step.answer ≡ answer_at capacity book events i
+  pub book_is : step.book ≡ book_at capacity book events (suc i)
+  pub tickets : HoldTickets capacity book events (suc i) step.slots
 
 -- ---- a whole operation never answers that it was changed
 
@@ -64,17 +64,17 @@ whole_replies (request.Remove name pw) (Some stored) = either (right stored pw) 
 other_place : (key k : ℕ) → 1 ≤ key → 1 ≤ k → key ≢ k → k - 1 ≢ key - 1
 other_place key k low low' apart e = apart (omega (arith, e, low, low'))
 
-module _ (book : Accounts) (events : List Event) (i : ℕ) (slots : List (Option Task)) (held : HoldTickets book events i slots) (event : Event) (here : slice_get events i ≡ Some event) where
-  open_next : (key : ℕ) → open_at book events (suc i) key ≡ open_after (names_at book events i) i key (open_at book events i key) (Some event)
-  open_next key = open_at-suc book events i key ∙ ap (open_after (names_at book events i) i key (open_at book events i key)) here
+module _ (capacity : ℕ) (book : Accounts) (events : List Event) (i : ℕ) (slots : List (Option Task)) (held : HoldTickets capacity book events i slots) (event : Event) (here : slice_get events i ≡ Some event) where
+  open_next : (key : ℕ) → open_at capacity book events (suc i) key ≡ open_after (names_at capacity book events i) i key (open_at capacity book events i key) (Some event)
+  open_next key = open_at-suc capacity book events i key ∙ ap (open_after (names_at capacity book events i) i key (open_at capacity book events i key)) here
 
   -- where no number opens or closes
-  tickets_stay : ((key : ℕ) → open_after (names_at book events i) i key (open_at book events i key) (Some event) ≡ open_at book events i key) → HoldTickets book events (suc i) slots
+  tickets_stay : ((key : ℕ) → open_after (names_at capacity book events i) i key (open_at capacity book events i key) (Some event) ≡ open_at capacity book events i key) → HoldTickets capacity book events (suc i) slots
   tickets_stay same = record { size = held.size; each = λ key low high. rw (open_next key ∙ same key) (held.each key low high) }
 
   -- a slot is written, as its number opens or closes
-  tickets_set : (key : ℕ) → 1 ≤ key → key ≤ 64 → (task : Option Task) → IsTicketOf book events (open_at book events (suc i) key) task →
-      ((k : ℕ) → key ≢ k → open_at book events (suc i) k ≡ open_at book events i k) → HoldTickets book events (suc i) (set slots (key - 1) task)
+  tickets_set : (key : ℕ) → 1 ≤ key → key ≤ 64 → (task : Option Task) → IsTicketOf capacity book events (open_at capacity book events (suc i) key) task →
+      ((k : ℕ) → key ≢ k → open_at capacity book events (suc i) k ≡ open_at capacity book events i k) → HoldTickets capacity book events (suc i) (set slots (key - 1) task)
   tickets_set key low high task this others = record {
     size = rw length-set held.size;
     each = λ k k_low k_high. elim (eqb_tells key k) [
@@ -83,17 +83,17 @@ module _ (book : Accounts) (events : List Event) (i : ℕ) (slots : List (Option
     ];
   }
 
-  stays : (answer : Answer) → answer ≡ answer_of book events i (Some event) → deed_of book events i (deeds_before book events i) (Some event) ≡ None → HoldTickets book events (suc i) slots → IsStep book events i (stay answer (book_at book events i) slots)
+  stays : (answer : Answer) → answer ≡ answer_of capacity book events i (Some event) → deed_of capacity book events i (deeds_before capacity book events i) (Some event) ≡ None → HoldTickets capacity book events (suc i) slots → IsStep capacity book events i (stay answer (book_at capacity book events i) slots)
   stays answer said none tickets = record {
-    answer = said ∙ ap (answer_of book events i) (sym here);
-    book_is = sym (book_at-suc book events i ∙ ap (λ e. after (book_at book events i) (deed_of book events i (deeds_before book events i) e)) here ∙ ap (after (book_at book events i)) none);
+    answer = said ∙ ap (answer_of capacity book events i) (sym here);
+    book_is = sym (book_at-suc capacity book events i ∙ ap (λ e. after (book_at capacity book events i) (deed_of capacity book events i (deeds_before capacity book events i) e)) here ∙ ap (after (book_at capacity book events i)) none);
     tickets = tickets;
   }
 
-  moves : (step : Step) → step.answer ≡ answer_of book events i (Some event) → step.book ≡ after (book_at book events i) (deed_of book events i (deeds_before book events i) (Some event)) → HoldTickets book events (suc i) step.slots → IsStep book events i step
+  moves : (step : Step) → step.answer ≡ answer_of capacity book events i (Some event) → step.book ≡ after (book_at capacity book events i) (deed_of capacity book events i (deeds_before capacity book events i) (Some event)) → HoldTickets capacity book events (suc i) step.slots → IsStep capacity book events i step
   moves step said put tickets = record {
-    answer = said ∙ ap (answer_of book events i) (sym here);
-    book_is = put ∙ ap (λ e. after (book_at book events i) (deed_of book events i (deeds_before book events i) e)) (sym here) ∙ sym (book_at-suc book events i);
+    answer = said ∙ ap (answer_of capacity book events i) (sym here);
+    book_is = put ∙ ap (λ e. after (book_at capacity book events i) (deed_of capacity book events i (deeds_before capacity book events i) e)) (sym here) ∙ sym (book_at-suc capacity book events i);
     tickets = tickets;
   }
 
@@ -132,59 +132,59 @@ unfolding begin_step
 begun-at book slots key request task entry is found = ap (λ t. begin_step_at book slots key request t (map.get book (name_of request))) is ∙ ap (begin_step_at book slots key request task) found
 
 -- a begin that isn't accepted opens nothing
-abbrev Refuses : Accounts → List Event → ℕ → ℕ → Request → Type 0
-Refuses book events i key request = (is_none (open_at book events i key) && is_among (names_at book events i) (name_of request)) ≡ false
+abbrev Refuses : ℕ → Accounts → List Event → ℕ → ℕ → Request → Type 0
+Refuses capacity book events i key request = (is_none (open_at capacity book events i key) && is_among (names_at capacity book events i) (name_of request)) ≡ false
 
-opens_nothing : (book : Accounts) (events : List Event) (i key : ℕ) (request : Request) → Refuses book events i key request → (k : ℕ) →
-    open_after (names_at book events i) i k (open_at book events i k) (Some (Begin key request)) ≡ open_at book events i k
-opens_nothing book events i key request refuses k = elim (eqb_tells key k) [
+opens_nothing : (capacity : ℕ) (book : Accounts) (events : List Event) (i key : ℕ) (request : Request) → Refuses capacity book events i key request → (k : ℕ) →
+    open_after (names_at capacity book events i) i k (open_at capacity book events i k) (Some (Begin key request)) ≡ open_at capacity book events i k
+opens_nothing capacity book events i key request refuses k = elim (eqb_tells key k) [
   | inl w ↦ rw (w.0, ← w.1, refuses) refl
   | inr w ↦ rw w.0 refl
 ]
 
-module _ (book : Accounts) (events : List Event) (i : ℕ) (slots : List (Option Task)) (held : HoldTickets book events i slots) (key : ℕ) (low : 1 ≤ key) (high : key ≤ 64) (request : Request)
+module _ (capacity : ℕ) (book : Accounts) (events : List Event) (i : ℕ) (slots : List (Option Task)) (held : HoldTickets capacity book events i slots) (key : ℕ) (low : 1 ≤ key) (high : key ≤ 64) (request : Request)
     (here : slice_get events i ≡ Some (Begin key request)) where
   now : Accounts
-  now = book_at book events i
+  now = book_at capacity book events i
 
-  among : is_among (names_at book events i) (name_of request) ≡ is_some (map.get (book_at book events i) (name_of request))
-  among = sym ((same_names book events i).among (name_of request))
+  among : is_among (names_at capacity book events i) (name_of request) ≡ is_some (map.get (book_at capacity book events i) (name_of request))
+  among = sym ((same_names capacity book events i).among (name_of request))
 
-  begin_refused : (answer : Answer) → answer ≡ answer_of book events i (Some (Begin key request)) → Refuses book events i key request → IsStep book events i (stay answer (book_at book events i) slots)
+  begin_refused : (answer : Answer) → answer ≡ answer_of capacity book events i (Some (Begin key request)) → Refuses capacity book events i key request → IsStep capacity book events i (stay answer (book_at capacity book events i) slots)
   begin_refused answer said refuses =
-      stays book events i slots held (Begin key request) here answer said refl
-      (tickets_stay book events i slots held (Begin key request) here (opens_nothing book events i key request refuses))
+      stays capacity book events i slots held (Begin key request) here answer said refl
+      (tickets_stay capacity book events i slots held (Begin key request) here (opens_nothing capacity book events i key request refuses))
 
-  begin_busy : (opened : Opened) → open_at book events i key ≡ Some opened → IsStep book events i (stay (Refused Busy) (book_at book events i) slots)
+  begin_busy : (opened : Opened) → open_at capacity book events i key ≡ Some opened → IsStep capacity book events i (stay (Refused Busy) (book_at capacity book events i) slots)
   begin_busy opened is = begin_refused (Refused Busy) (rw is refl) (rw is refl)
 
-  begin_absent : open_at book events i key ≡ None → map.get (book_at book events i) (name_of request) ≡ None → IsStep book events i (stay (Refused (Book NoAccount)) (book_at book events i) slots)
+  begin_absent : open_at capacity book events i key ≡ None → map.get (book_at capacity book events i) (name_of request) ≡ None → IsStep capacity book events i (stay (Refused (Book NoAccount)) (book_at capacity book events i) slots)
   begin_absent is found = begin_refused (Refused (Book NoAccount)) (rw (is, among, found) refl) (rw (is, among, found) refl)
 
-  begin_done : (copy : Option RecordValue) → open_at book events i key ≡ None → map.get (book_at book events i) (name_of request) ≡ Some copy →
-      IsStep book events i (begin_step_at (book_at book events i) slots key request None (Some copy))
+  begin_done : (copy : Option RecordValue) → open_at capacity book events i key ≡ None → map.get (book_at capacity book events i) (name_of request) ≡ Some copy →
+      IsStep capacity book events i (begin_step_at (book_at capacity book events i) slots key request None (Some copy))
   begin_done copy is found =
-      let there : is_among (names_at book events i) (name_of request) ≡ true = among ∙ ap is_some found in
-      let opens : open_at book events (suc i) key ≡ Some (record { place = i; request = request }) =
-      open_next book events i slots held (Begin key request) here key ∙ rw (eq-eqb key key refl, is, there) refl in
-      moves book events i slots held (Begin key request) here (begin_step_at (book_at book events i) slots key request None (Some copy)) (rw (is, there) refl) refl
-      (tickets_set book events i slots held (Begin key request) here key low high (Some (request, copy)) (rw opens (refl, found))
-      (λ k apart. open_next book events i slots held (Begin key request) here k ∙ rw (ne_eqb key k apart) refl))
+      let there : is_among (names_at capacity book events i) (name_of request) ≡ true = among ∙ ap is_some found in
+      let opens : open_at capacity book events (suc i) key ≡ Some (record { place = i; request = request }) =
+      open_next capacity book events i slots held (Begin key request) here key ∙ rw (eq-eqb key key refl, is, there) refl in
+      moves capacity book events i slots held (Begin key request) here (begin_step_at (book_at capacity book events i) slots key request None (Some copy)) (rw (is, there) refl) refl
+      (tickets_set capacity book events i slots held (Begin key request) here key low high (Some (request, copy)) (rw opens (refl, found))
+      (λ k apart. open_next capacity book events i slots held (Begin key request) here k ∙ rw (ne_eqb key k apart) refl))
 
-  begins : IsStep book events i (begin_step (book_at book events i) slots key request)
-  begins = by_opened (open_at book events i key) refl (slot slots key) refl (held.each key low high)
+  begins : IsStep capacity book events i (begin_step (book_at capacity book events i) slots key request)
+  begins = by_opened (open_at capacity book events i key) refl (slot slots key) refl (held.each key low high)
     where
-      by_entry : open_at book events i key ≡ None → slot slots key ≡ None → (entry : Option (Option RecordValue)) → map.get (book_at book events i) (name_of request) ≡ entry →
-          IsStep book events i (begin_step (book_at book events i) slots key request)
-      by_entry is none None found = rw (begun-at (book_at book events i) slots key request None None none found) (begin_absent is found)
-      by_entry is none (Some copy) found = rw (begun-at (book_at book events i) slots key request None (Some copy) none found) (begin_done copy is found)
+      by_entry : open_at capacity book events i key ≡ None → slot slots key ≡ None → (entry : Option (Option RecordValue)) → map.get (book_at capacity book events i) (name_of request) ≡ entry →
+          IsStep capacity book events i (begin_step (book_at capacity book events i) slots key request)
+      by_entry is none None found = rw (begun-at (book_at capacity book events i) slots key request None None none found) (begin_absent is found)
+      by_entry is none (Some copy) found = rw (begun-at (book_at capacity book events i) slots key request None (Some copy) none found) (begin_done copy is found)
 
-      by_opened : (opened : Option Opened) → open_at book events i key ≡ opened → (task : Option Task) → slot slots key ≡ task → IsTicketOf book events opened task →
-          IsStep book events i (begin_step (book_at book events i) slots key request)
-      by_opened None is None none h = by_entry is none (map.get (book_at book events i) (name_of request)) refl
+      by_opened : (opened : Option Opened) → open_at capacity book events i key ≡ opened → (task : Option Task) → slot slots key ≡ task → IsTicketOf capacity book events opened task →
+          IsStep capacity book events i (begin_step (book_at capacity book events i) slots key request)
+      by_opened None is None none h = by_entry is none (map.get (book_at capacity book events i) (name_of request)) refl
       by_opened None is (Some task) none h = absurd h
       by_opened (Some opened) is None none h = absurd h
-      by_opened (Some opened) is (Some task) some h = rw (begun-at (book_at book events i) slots key request (Some task) _ some refl) (begin_busy opened is)
+      by_opened (Some opened) is (Some task) some h = rw (begun-at (book_at capacity book events i) slots key request (Some task) _ some refl) (begin_busy opened is)
 
 -- ---- commits
 
@@ -201,117 +201,117 @@ stale-at : (book : Accounts) (past : List (Option Deed)) (opened : Opened) (now 
 unfolding is_stale
 stale-at book past opened now copy found began = ap (λ e. not (same_entry e (map.get (book_after book (take opened.place past)) (name_of opened.request)))) found ∙ ap (λ e. not (same_entry (Some now) e)) began
 
-module _ (book : Accounts) (events : List Event) (i : ℕ) (slots : List (Option Task)) (held : HoldTickets book events i slots) (key : ℕ) (low : 1 ≤ key) (high : key ≤ 64)
+module _ (capacity : ℕ) (book : Accounts) (events : List Event) (i : ℕ) (slots : List (Option Task)) (held : HoldTickets capacity book events i slots) (key : ℕ) (low : 1 ≤ key) (high : key ≤ 64)
     (here : slice_get events i ≡ Some (Commit key)) where
-  closes : open_at book events (suc i) key ≡ None
-  closes = open_next book events i slots held (Commit key) here key ∙ rw (eq-eqb key key refl) refl
+  closes : open_at capacity book events (suc i) key ≡ None
+  closes = open_next capacity book events i slots held (Commit key) here key ∙ rw (eq-eqb key key refl) refl
 
-  others : (k : ℕ) → key ≢ k → open_at book events (suc i) k ≡ open_at book events i k
-  others k apart = open_next book events i slots held (Commit key) here k ∙ rw (ne_eqb key k apart) refl
+  others : (k : ℕ) → key ≢ k → open_at capacity book events (suc i) k ≡ open_at capacity book events i k
+  others k apart = open_next capacity book events i slots held (Commit key) here k ∙ rw (ne_eqb key k apart) refl
 
-  closed_tickets : HoldTickets book events (suc i) (set slots (key - 1) None)
-  closed_tickets = tickets_set book events i slots held (Commit key) here key low high None (rw closes tt) others
+  closed_tickets : HoldTickets capacity book events (suc i) (set slots (key - 1) None)
+  closed_tickets = tickets_set capacity book events i slots held (Commit key) here key low high None (rw closes tt) others
 
-  commit_idle : open_at book events i key ≡ None → IsStep book events i (stay (Refused Idle) (book_at book events i) slots)
+  commit_idle : open_at capacity book events i key ≡ None → IsStep capacity book events i (stay (Refused Idle) (book_at capacity book events i) slots)
   commit_idle is =
-      stays book events i slots held (Commit key) here (Refused Idle) (rw is refl) (rw is refl) (tickets_stay book events i slots held (Commit key) here none_closes)
+      stays capacity book events i slots held (Commit key) here (Refused Idle) (rw is refl) (rw is refl) (tickets_stay capacity book events i slots held (Commit key) here none_closes)
     where
-      none_closes : (k : ℕ) → open_after (names_at book events i) i k (open_at book events i k) (Some (Commit key)) ≡ open_at book events i k
+      none_closes : (k : ℕ) → open_after (names_at capacity book events i) i k (open_at capacity book events i k) (Some (Commit key)) ≡ open_at capacity book events i k
       none_closes k = elim (eqb_tells key k) [
         | inl w ↦ rw (w.0, ← w.1, is) refl
         | inr w ↦ rw w.0 refl
       ]
 
-  module _ (opened : Opened) (task : Task) (is : open_at book events i key ≡ Some opened) (asked : task.0 ≡ opened.request)
-      (copied : map.get (book_at book events opened.place) (name_of opened.request) ≡ Some task.1) (now : Option RecordValue) (found : map.get (book_at book events i) (name_of opened.request) ≡ Some now) where
-    known : IsKnown book events i opened
-    known = known_at book events i key opened is
+  module _ (opened : Opened) (task : Task) (is : open_at capacity book events i key ≡ Some opened) (asked : task.0 ≡ opened.request)
+      (copied : map.get (book_at capacity book events opened.place) (name_of opened.request) ≡ Some task.1) (now : Option RecordValue) (found : map.get (book_at capacity book events i) (name_of opened.request) ≡ Some now) where
+    known : IsKnown capacity book events i opened
+    known = known_at capacity book events i key opened is
 
-    began : map.get (book_after book (take opened.place (deeds_before book events i))) (name_of opened.request) ≡ Some task.1
-    began = ap (λ past. map.get (book_after book past) (name_of opened.request)) (take-done book events opened.place i (omega (arith, known.earlier))) ∙ copied
+    began : map.get (book_after book (take opened.place (deeds_before capacity book events i))) (name_of opened.request) ≡ Some task.1
+    began = ap (λ past. map.get (book_after book past) (name_of opened.request)) (take-done capacity book events opened.place i (omega (arith, known.earlier))) ∙ copied
 
-    stale : is_stale book (deeds_before book events i) opened ≡ not (same now task.1)
-    stale = stale-at book (deeds_before book events i) opened now task.1 found began
+    stale : is_stale book (deeds_before capacity book events i) opened ≡ not (same now task.1)
+    stale = stale-at book (deeds_before capacity book events i) opened now task.1 found began
 
-    commits : commit_outcome (book_at book events i) task ≡ commit_outcome_at (book_at book events i) task (Some now)
-    commits = committed_found (book_at book events i) task (name_of opened.request) (sym (ap name_of asked)) (Some now) found
+    commits : commit_outcome (book_at capacity book events i) task ≡ commit_outcome_at (book_at capacity book events i) task (Some now)
+    commits = committed_found (book_at capacity book events i) task (name_of opened.request) (sym (ap name_of asked)) (Some now) found
 
-    told : answer_of book events i (Some (Commit key)) ≡ commit_answer book (deeds_before book events i) (Some opened)
-    told = ap (commit_answer book (deeds_before book events i)) is
+    told : answer_of capacity book events i (Some (Commit key)) ≡ commit_answer book (deeds_before capacity book events i) (Some opened)
+    told = ap (commit_answer book (deeds_before capacity book events i)) is
 
-    deed : deed_of book events i (deeds_before book events i) (Some (Commit key)) ≡ commit_deed book (deeds_before book events i) (Some opened)
-    deed = ap (commit_deed book (deeds_before book events i)) is
+    deed : deed_of capacity book events i (deeds_before capacity book events i) (Some (Commit key)) ≡ commit_deed book (deeds_before capacity book events i) (Some opened)
+    deed = ap (commit_deed book (deeds_before capacity book events i)) is
 
-    seq_now : seq (book_at book events i) opened.request ≡ seq_at (book_at book events i) opened.request (Some now)
-    seq_now = seq-at (book_at book events i) opened.request (Some now) found
+    seq_now : seq (book_at capacity book events i) opened.request ≡ seq_at (book_at capacity book events i) opened.request (Some now)
+    seq_now = seq-at (book_at capacity book events i) opened.request (Some now) found
 
-    deed_stale : same now task.1 ≡ false → deed_of book events i (deeds_before book events i) (Some (Commit key)) ≡ None
+    deed_stale : same now task.1 ≡ false → deed_of capacity book events i (deeds_before capacity book events i) (Some (Commit key)) ≡ None
     deed_stale e = deed ∙ rw (stale, e) refl
 
-    deed_fresh : same now task.1 ≡ true → deed_of book events i (deeds_before book events i) (Some (Commit key)) ≡ Some (Whole opened.request)
+    deed_fresh : same now task.1 ≡ true → deed_of capacity book events i (deeds_before capacity book events i) (Some (Commit key)) ≡ Some (Whole opened.request)
     deed_fresh e = deed ∙ rw (stale, e) refl
 
-    commit_stale : same now task.1 ≡ false → IsStep book events i (commit_step_at (book_at book events i) slots key (Some task))
+    commit_stale : same now task.1 ≡ false → IsStep capacity book events i (commit_step_at (book_at capacity book events i) slots key (Some task))
     commit_stale e =
-        let done : commit_outcome (book_at book events i) task ≡ (reply.Changed now, book_at book events i) = commits ∙ rw e refl in
-        moves book events i slots held (Commit key) here (commit_step_at (book_at book events i) slots key (Some task))
+        let done : commit_outcome (book_at capacity book events i) task ≡ (reply.Changed now, book_at capacity book events i) = commits ∙ rw e refl in
+        moves capacity book events i slots held (Commit key) here (commit_step_at (book_at capacity book events i) slots key (Some task))
         (ap (λ c. reply_answer c.0) done ∙ sym (told ∙ rw (stale, e) refl))
-        (ap (λ c. c.1) done ∙ sym (ap (after (book_at book events i)) (deed_stale e)))
+        (ap (λ c. c.1) done ∙ sym (ap (after (book_at capacity book events i)) (deed_stale e)))
         closed_tickets
 
-    commit_fresh : same now task.1 ≡ true → IsStep book events i (commit_step_at (book_at book events i) slots key (Some task))
+    commit_fresh : same now task.1 ≡ true → IsStep capacity book events i (commit_step_at (book_at capacity book events i) slots key (Some task))
     commit_fresh e =
-        let done : commit_outcome (book_at book events i) task ≡ seq (book_at book events i) opened.request = commits ∙ rw (e, asked) (sym seq_now) in
-        let replied : reply_answer (seq (book_at book events i) opened.request).0 ≡ Replied (seq (book_at book events i) opened.request).0 = rw seq_now (whole_replies opened.request now) in
-        moves book events i slots held (Commit key) here (commit_step_at (book_at book events i) slots key (Some task))
+        let done : commit_outcome (book_at capacity book events i) task ≡ seq (book_at capacity book events i) opened.request = commits ∙ rw (e, asked) (sym seq_now) in
+        let replied : reply_answer (seq (book_at capacity book events i) opened.request).0 ≡ Replied (seq (book_at capacity book events i) opened.request).0 = rw seq_now (whole_replies opened.request now) in
+        moves capacity book events i slots held (Commit key) here (commit_step_at (book_at capacity book events i) slots key (Some task))
         (ap (λ c. reply_answer c.0) done ∙ replied ∙ sym (told ∙ rw (stale, e) refl))
-        (ap (λ c. c.1) done ∙ sym (ap (after (book_at book events i)) (deed_fresh e)))
+        (ap (λ c. c.1) done ∙ sym (ap (after (book_at capacity book events i)) (deed_fresh e)))
         closed_tickets
 
-    commit_at : IsStep book events i (commit_step_at (book_at book events i) slots key (Some task))
+    commit_at : IsStep capacity book events i (commit_step_at (book_at capacity book events i) slots key (Some task))
     commit_at = by_case (same now task.1) refl
       where
-        by_case : (b : Bool) → same now task.1 ≡ b → IsStep book events i (commit_step_at (book_at book events i) slots key (Some task))
+        by_case : (b : Bool) → same now task.1 ≡ b → IsStep capacity book events i (commit_step_at (book_at capacity book events i) slots key (Some task))
         by_case true e = commit_fresh e
         by_case false e = commit_stale e
 
   -- an open number's name is there
-  entry_there : (opened : Opened) → open_at book events i key ≡ Some opened → is_some (map.get (book_at book events i) (name_of opened.request)) ≡ true
-  entry_there opened is = (same_names book events i).among (name_of opened.request) ∙ (known_at book events i key opened is).there
+  entry_there : (opened : Opened) → open_at capacity book events i key ≡ Some opened → is_some (map.get (book_at capacity book events i) (name_of opened.request)) ≡ true
+  entry_there opened is = (same_names capacity book events i).among (name_of opened.request) ∙ (known_at capacity book events i key opened is).there
 
-  commits_all : IsStep book events i (commit_step (book_at book events i) slots key)
-  commits_all = by_opened (open_at book events i key) refl (slot slots key) refl (held.each key low high)
+  commits_all : IsStep capacity book events i (commit_step (book_at capacity book events i) slots key)
+  commits_all = by_opened (open_at capacity book events i key) refl (slot slots key) refl (held.each key low high)
     where
-      by_entry : (opened : Opened) (task : Task) → open_at book events i key ≡ Some opened → slot slots key ≡ Some task → IsTicketOf book events (Some opened) (Some task) →
-          (entry : Option (Option RecordValue)) → map.get (book_at book events i) (name_of opened.request) ≡ entry → is_some entry ≡ true → IsStep book events i (commit_step (book_at book events i) slots key)
+      by_entry : (opened : Opened) (task : Task) → open_at capacity book events i key ≡ Some opened → slot slots key ≡ Some task → IsTicketOf capacity book events (Some opened) (Some task) →
+          (entry : Option (Option RecordValue)) → map.get (book_at capacity book events i) (name_of opened.request) ≡ entry → is_some entry ≡ true → IsStep capacity book events i (commit_step (book_at capacity book events i) slots key)
       by_entry opened task is some h None found there = cc
-      by_entry opened task is some h (Some now) found there = rw (committing-at (book_at book events i) slots key (Some task) some) (commit_at opened task is h.0 h.1 now found)
+      by_entry opened task is some h (Some now) found there = rw (committing-at (book_at capacity book events i) slots key (Some task) some) (commit_at opened task is h.0 h.1 now found)
 
-      by_opened : (opened : Option Opened) → open_at book events i key ≡ opened → (task : Option Task) → slot slots key ≡ task → IsTicketOf book events opened task →
-          IsStep book events i (commit_step (book_at book events i) slots key)
-      by_opened None is None none h = rw (committing-at (book_at book events i) slots key None none) (commit_idle is)
+      by_opened : (opened : Option Opened) → open_at capacity book events i key ≡ opened → (task : Option Task) → slot slots key ≡ task → IsTicketOf capacity book events opened task →
+          IsStep capacity book events i (commit_step (book_at capacity book events i) slots key)
+      by_opened None is None none h = rw (committing-at (book_at capacity book events i) slots key None none) (commit_idle is)
       by_opened None is (Some task) none h = absurd h
       by_opened (Some opened) is None none h = absurd h
-      by_opened (Some opened) is (Some task) some h = by_entry opened task is some h (map.get (book_at book events i) (name_of opened.request)) refl (entry_there opened is)
+      by_opened (Some opened) is (Some task) some h = by_entry opened task is some h (map.get (book_at capacity book events i) (name_of opened.request)) refl (entry_there opened is)
 
 -- ---- any event
 
-stepped : (book : Accounts) (events : List Event) (i : ℕ) (slots : List (Option Task)) → HoldTickets book events i slots → (event : Event) → IsSound event → slice_get events i ≡ Some event →
-    IsStep book events i (step (book_at book events i) slots event)
-stepped book events i slots held (Account name) sound here =
-    let same = same_names book events i in
-    let told = admission (book_at book events i) slots name _ _ (same.among name) _ _ (ap (λ n. nat_lt n most_accounts) same.count) in
-    moves book events i slots held (Account name) here _ told.0 told.1 (rw told.2 (tickets_stay book events i slots held (Account name) here (λ k. refl)))
-stepped book events i slots held (Load name stored) sound here =
-    let told = loading (book_at book events i) slots name stored _ _ ((same_names book events i).among name) in
-    moves book events i slots held (Load name stored) here _ told.0 told.1 (rw told.2 (tickets_stay book events i slots held (Load name stored) here (λ k. refl)))
-stepped book events i slots held (Show name) sound here =
-    stays book events i slots held (Show name) here _ refl refl (tickets_stay book events i slots held (Show name) here (λ k. refl))
-stepped book events i slots held (Begin key request) sound here = begins book events i slots held key sound.0 sound.1 request here
-stepped book events i slots held (Commit key) sound here = commits_all book events i slots held key sound.0 sound.1 here
-stepped book events i slots held (Bad why) sound here =
-    stays book events i slots held (Bad why) here _ refl refl (tickets_stay book events i slots held (Bad why) here (λ k. refl))
+stepped : (capacity : ℕ) (book : Accounts) (events : List Event) (i : ℕ) (slots : List (Option Task)) → HoldTickets capacity book events i slots → (event : Event) → IsSound event → slice_get events i ≡ Some event →
+    IsStep capacity book events i (step capacity (book_at capacity book events i) slots event)
+stepped capacity book events i slots held (Account name) sound here =
+    let same = same_names capacity book events i in
+    let told = admission (book_at capacity book events i) slots name _ _ (same.among name) _ _ (ap (λ n. nat_lt n capacity) same.count) in
+    moves capacity book events i slots held (Account name) here _ told.0 told.1 (rw told.2 (tickets_stay capacity book events i slots held (Account name) here (λ k. refl)))
+stepped capacity book events i slots held (Load name stored) sound here =
+    let told = loading (book_at capacity book events i) slots name stored _ _ ((same_names capacity book events i).among name) in
+    moves capacity book events i slots held (Load name stored) here _ told.0 told.1 (rw told.2 (tickets_stay capacity book events i slots held (Load name stored) here (λ k. refl)))
+stepped capacity book events i slots held (Show name) sound here =
+    stays capacity book events i slots held (Show name) here _ refl refl (tickets_stay capacity book events i slots held (Show name) here (λ k. refl))
+stepped capacity book events i slots held (Begin key request) sound here = begins capacity book events i slots held key sound.0 sound.1 request here
+stepped capacity book events i slots held (Commit key) sound here = commits_all capacity book events i slots held key sound.0 sound.1 here
+stepped capacity book events i slots held (Bad why) sound here =
+    stays capacity book events i slots held (Bad why) here _ refl refl (tickets_stay capacity book events i slots held (Bad why) here (λ k. refl))
 
-pub stepped_at : (book : Accounts) (events : List Event) (i : ℕ) (slots : List (Option Task)) → HoldTickets book events i slots → (event : Event) → IsSound event → slice_get events i ≡ Some event →
-    (accounts : Accounts) → accounts ≡ book_at book events i → IsStep book events i (step accounts slots event)
-stepped_at book events i slots held event sound here accounts is = rw is (stepped book events i slots held event sound here)
+pub stepped_at : (capacity : ℕ) (book : Accounts) (events : List Event) (i : ℕ) (slots : List (Option Task)) → HoldTickets capacity book events i slots → (event : Event) → IsSound event → slice_get events i ≡ Some event →
+    (accounts : Accounts) → accounts ≡ book_at capacity book events i → IsStep capacity book events i (step capacity accounts slots event)
+stepped_at capacity book events i slots held event sound here accounts is = rw is (stepped capacity book events i slots held event sound here)

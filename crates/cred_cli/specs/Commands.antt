@@ -10,7 +10,7 @@ use Rattle.clap.specs.Words.{Row, Text, first_of}
 use Rattle.cred_phc.specs.Base64.{bytes_of}
 use Rattle.cred_phc.specs.Reading.{◌>>=◌}
 use Rattle.cred_phc.specs.Values.{RecordValue, SettingValue}
-use Rattle.cred_book.specs.Accounts.{Accounts}
+use Rattle.cred_book.specs.Accounts.{Accounts, most_accounts}
 use Rattle.cred_book.specs.Works.{new_record, right}
 use Rattle.cred_cli.specs.declared.fault.ScriptFault.{ScriptFault}
 use Rattle.cred_cli.specs.declared.refusal.Refusal.{Refusal}
@@ -27,14 +27,14 @@ use Rattle.cred_cli.specs.Texts.{line_of}
 
 -- a script on an empty book was answered whole
 pub record RunsWhole (bytes before now : Option (List ℕ)) : Type 0 where
-  pub written : IfSome bytes (λ bs. Appends before now (out map.empty bs))
+  pub written : IfSome bytes (λ bs. Appends before now (out most_accounts map.empty bs))
   pub short : IfSome bytes (λ bs. length bs ≤ longest_script)
 
 -- or it met a fault, and its book is let go
 pub record RunFails (bytes left before now : Option (List ℕ)) (reader_failed writer_failed : Bool)
     (fault : ScriptFault) : Type 0 where
   pub stands : IfSome bytes (λ bs. (accounts : Accounts)
-      × ScriptFails map.empty bs left before now accounts fault)
+      × ScriptFails most_accounts map.empty bs left before now accounts fault)
   pub cause : HasCause reader_failed writer_failed fault
 
 -- `run`: left is what the reader has left

@@ -16,10 +16,10 @@ unfinished_from line (c ∷ cs) =
     if c == 10 then unfinished_from [] cs else unfinished_from (line ++ c ∷ []) cs
 
 -- the whole lines of the front are answered, and the start of the next is kept
-pub record IsAt (book : Accounts) (all front : List ℕ) (before now : Option (List ℕ))
+pub record IsAt (capacity : ℕ) (book : Accounts) (all front : List ℕ) (before now : Option (List ℕ))
     (accounts : Accounts) (slots : List (Option Task)) (progress : Progress) : Type 0 where
-  pub stands : StandsAfter book (events_of all) progress.lines before now accounts
-  pub tickets : HoldTickets book (events_of all) progress.lines slots
+  pub stands : StandsAfter capacity book (events_of all) progress.lines before now accounts
+  pub tickets : HoldTickets capacity book (events_of all) progress.lines slots
   pub lines_are : progress.lines ≡ line_ends front
   pub start_is : progress.start ≡ take most_kept (unfinished_from [] front)
   pub taken_is : progress.taken ≡ length front

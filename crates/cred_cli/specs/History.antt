@@ -1,5 +1,5 @@
 -- The history that a list of events makes: which names there are, which numbers are open, what was
--- done, and the book that it leaves.
+-- done, and the book that it leaves. The capacity is how many names the book has room for.
 use Rattle.std.specs.Prelude.{ℕ, zero, suc, ◌==◌, ◌&&◌, if◌then◌else◌, Bool, true, false, not}
 use Rattle.std.specs.Prelude.{Option, Some, None, is_none, List, [], ◌∷◌, ◌++◌, length, take, fold}
 use Rattle.std.specs.Prelude.{nat_lt, slice_get}
@@ -7,7 +7,7 @@ use Rattle.std.specs.List.{list_any}
 use Rattle.std.specs.Str.{bytes_eq}
 use Rattle.std.specs.FinMap as map
 use Rattle.cred_phc.specs.Values.{RecordValue}
-use Rattle.cred_book.specs.Accounts.{Accounts, most_accounts}
+use Rattle.cred_book.specs.Accounts.{Accounts}
 use Rattle.cred_book.specs.Works.{name_of, same, seq}
 use Rattle.cred_book.specs.declared.error.BookError.TheVariants.{Exists, Full, NoAccount}
 use Rattle.cred_book.specs.declared.reply.Reply.{Reply}
@@ -23,17 +23,18 @@ abbrev pub is_among : List (List ℕ) → List ℕ → Bool
 is_among names name = list_any (bytes_eq name) names
 
 -- a new name is added while there is room
-abbrev pub names_after : List (List ℕ) → Option Event → List (List ℕ)
-names_after names (Some (Account name)) =
+abbrev pub names_after : ℕ → List (List ℕ) → Option Event → List (List ℕ)
+names_after capacity names (Some (Account name)) =
     if is_among names name then names
-    else if nat_lt (length names) most_accounts then names ++ name ∷ []
+    else if nat_lt (length names) capacity then names ++ name ∷ []
     else names
-names_after names _ = names
+names_after capacity names _ = names
 
 -- the opening book's names and, in order, the new names of the account events before place i
-unfoldable pub names_at : Accounts → List Event → ℕ → List (List ℕ)
-names_at book events zero = map.keys book
-names_at book events (suc i) = names_after (names_at book events i) (slice_get events i)
+unfoldable pub names_at : ℕ → Accounts → List Event → ℕ → List (List ℕ)
+names_at capacity book events zero = map.keys book
+names_at capacity book events (suc i) =
+    names_after capacity (names_at capacity book events i) (slice_get events i)
 
 -- ---- the numbers that are open
 
@@ -51,10 +52,11 @@ open_after names i key now (Some (Commit k)) = if k == key then None else now
 open_after names i key now _ = now
 
 -- the last accepted begin of the number before place i, where no commit of it stands between
-unfoldable pub open_at : Accounts → List Event → ℕ → ℕ → Option Opened
-open_at book events zero key = None
-open_at book events (suc i) key =
-    open_after (names_at book events i) i key (open_at book events i key) (slice_get events i)
+unfoldable pub open_at : ℕ → Accounts → List Event → ℕ → ℕ → Option Opened
+open_at capacity book events zero key = None
+open_at capacity book events (suc i) key =
+    open_after (names_at capacity book events i) i key (open_at capacity book events i key)
+    (slice_get events i)
 
 -- ---- what was done
 
@@ -92,25 +94,27 @@ commit_deed book past (Some opened) =
 
 -- an account event whose name is new, while there is room; a load on a name that is there; the
 -- request of a commit that closes a begin and isn't stale
-abbrev pub deed_of : Accounts → List Event → ℕ → List (Option Deed) → Option Event → Option Deed
-deed_of book events i past (Some (Account name)) =
-    if is_among (names_at book events i) name then None
-    else if nat_lt (length (names_at book events i)) most_accounts then Some (Admission name)
+abbrev pub deed_of : ℕ → Accounts → List Event → ℕ → List (Option Deed) → Option Event → Option Deed
+deed_of capacity book events i past (Some (Account name)) =
+    if is_among (names_at capacity book events i) name then None
+    else if nat_lt (length (names_at capacity book events i)) capacity then Some (Admission name)
     else None
-deed_of book events i past (Some (Load name stored)) =
-    if is_among (names_at book events i) name then Some (Loading name stored) else None
-deed_of book events i past (Some (Commit key)) = commit_deed book past (open_at book events i key)
-deed_of book events i past _ = None
+deed_of capacity book events i past (Some (Load name stored)) =
+    if is_among (names_at capacity book events i) name then Some (Loading name stored) else None
+deed_of capacity book events i past (Some (Commit key)) =
+    commit_deed book past (open_at capacity book events i key)
+deed_of capacity book events i past _ = None
 
 -- what was done before place i: at each place one deed or none
-unfoldable pub deeds_before : Accounts → List Event → ℕ → List (Option Deed)
-deeds_before book events zero = []
-deeds_before book events (suc i) =
-    deeds_before book events i
-    ++ deed_of book events i (deeds_before book events i) (slice_get events i) ∷ []
+unfoldable pub deeds_before : ℕ → Accounts → List Event → ℕ → List (Option Deed)
+deeds_before capacity book events zero = []
+deeds_before capacity book events (suc i) =
+    deeds_before capacity book events i
+    ++ deed_of capacity book events i (deeds_before capacity book events i)
+    (slice_get events i) ∷ []
 
-abbrev pub book_at : Accounts → List Event → ℕ → Accounts
-book_at book events i = book_after book (deeds_before book events i)
+abbrev pub book_at : ℕ → Accounts → List Event → ℕ → Accounts
+book_at capacity book events i = book_after book (deeds_before capacity book events i)
 
 -- ---- the answers
 
@@ -133,23 +137,24 @@ commit_answer book past (Some opened) =
     if is_stale book past opened then Changed
     else Replied (seq (book_after book past) opened.request).0
 
-abbrev pub answer_of : Accounts → List Event → ℕ → Option Event → Answer
-answer_of book events i (Some (Account name)) =
-    if is_among (names_at book events i) name then Refused (Book Exists)
-    else if nat_lt (length (names_at book events i)) most_accounts then Done
+abbrev pub answer_of : ℕ → Accounts → List Event → ℕ → Option Event → Answer
+answer_of capacity book events i (Some (Account name)) =
+    if is_among (names_at capacity book events i) name then Refused (Book Exists)
+    else if nat_lt (length (names_at capacity book events i)) capacity then Done
     else Refused (Book Full)
-answer_of book events i (Some (Load name stored)) =
-    if is_among (names_at book events i) name then Done else Refused (Book NoAccount)
-answer_of book events i (Some (Show name)) = show_answer (map.get (book_at book events i) name)
-answer_of book events i (Some (Begin key request)) =
-    if not (is_none (open_at book events i key)) then Refused Busy
-    else if is_among (names_at book events i) (name_of request) then Begun
+answer_of capacity book events i (Some (Load name stored)) =
+    if is_among (names_at capacity book events i) name then Done else Refused (Book NoAccount)
+answer_of capacity book events i (Some (Show name)) =
+    show_answer (map.get (book_at capacity book events i) name)
+answer_of capacity book events i (Some (Begin key request)) =
+    if not (is_none (open_at capacity book events i key)) then Refused Busy
+    else if is_among (names_at capacity book events i) (name_of request) then Begun
     else Refused (Book NoAccount)
-answer_of book events i (Some (Commit key)) =
-    commit_answer book (deeds_before book events i) (open_at book events i key)
-answer_of book events i (Some (Bad why)) = Refused why
-answer_of book events i None = Done
+answer_of capacity book events i (Some (Commit key)) =
+    commit_answer book (deeds_before capacity book events i) (open_at capacity book events i key)
+answer_of capacity book events i (Some (Bad why)) = Refused why
+answer_of capacity book events i None = Done
 
 -- the answer to the event at place i
-abbrev pub answer_at : Accounts → List Event → ℕ → Answer
-answer_at book events i = answer_of book events i (slice_get events i)
+abbrev pub answer_at : ℕ → Accounts → List Event → ℕ → Answer
+answer_at capacity book events i = answer_of capacity book events i (slice_get events i)

@@ -1,6 +1,6 @@
 -- How a script ends, and what stands then.
-use Rattle.std.specs.Prelude.{◌≡◌, ◌⊎◌, ℕ, suc, ◌+◌, ◌<◌, Option, Some, Bool, true, List, ◌++◌}
-use Rattle.std.specs.Prelude.{length, take}
+use Rattle.std.specs.Prelude.{◌≡◌, ◌⊎◌, ℕ, suc, ◌+◌, ◌-◌, ◌^◌, ◌<◌, Option, Some, Bool, true}
+use Rattle.std.specs.Prelude.{List, ◌++◌, length, take}
 use Rattle.std.specs.Io.KnownBytes.{Appends, Consumes}
 use Rattle.cred_book.specs.Accounts.{Accounts}
 use Rattle.cred_cli.specs.declared.event.Event.{Event}
@@ -14,6 +14,11 @@ use Rattle.cred_cli.specs.Texts.{line_of}
 abbrev pub longest_script : ℕ
 longest_script = 1048576
 
+-- the most bytes that a service reads, which take centuries to come: its lines are counted in 64
+-- bits
+abbrev pub longest_service : ℕ
+longest_service = 2 ^ 64 - 2
+
 -- how often the reader is called at most: once for each byte, once for a byte too many or the end,
 -- and once behind that
 abbrev pub most_calls : ℕ
@@ -24,42 +29,49 @@ abbrev pub FrontWritten : Option (List ℕ) → Option (List ℕ) → List ℕ �
 FrontWritten before now bytes = (n : ℕ) × (n < length bytes) × Appends before now (take n bytes)
 
 -- every line is answered, and the book is that after them
-pub record IsAnswered (book : Accounts) (bytes : List ℕ) (before now : Option (List ℕ))
-    (accounts : Accounts) (lines : ℕ) : Type 0 where
-  pub written : Appends before now (out book bytes)
-  pub accounts_are : accounts ≡ book_at book (events_of bytes) (length (events_of bytes))
+pub record IsAnswered (capacity : ℕ) (book : Accounts) (bytes : List ℕ)
+    (before now : Option (List ℕ)) (accounts : Accounts) (lines : ℕ) : Type 0 where
+  pub written : Appends before now (out capacity book bytes)
+  pub accounts_are : accounts ≡ book_at capacity book (events_of bytes) (length (events_of bytes))
   pub lines_are : lines ≡ length (events_of bytes)
 
 -- the first i lines are answered, and the book is that after them
-pub record StandsAfter (book : Accounts) (events : List Event) (i : ℕ)
+pub record StandsAfter (capacity : ℕ) (book : Accounts) (events : List Event) (i : ℕ)
     (before now : Option (List ℕ)) (accounts : Accounts) : Type 0 where
-  pub written : Appends before now (answers_before book events i)
-  pub accounts_are : accounts ≡ book_at book events i
+  pub written : Appends before now (answers_before capacity book events i)
+  pub accounts_are : accounts ≡ book_at capacity book events i
 
 -- the first i lines are answered, a proper front of the next one's answer is written, and that line
 -- is done
-pub record StopsIn (book : Accounts) (events : List Event) (i : ℕ) (before now : Option (List ℕ))
-    (accounts : Accounts) : Type 0 where
-  pub written : (n : ℕ) × (n < length (line_of (answer_at book events i)))
-      × Appends before now (answers_before book events i
-      ++ take n (line_of (answer_at book events i)))
-  pub accounts_are : accounts ≡ book_at book events (suc i)
+pub record StopsIn (capacity : ℕ) (book : Accounts) (events : List Event) (i : ℕ)
+    (before now : Option (List ℕ)) (accounts : Accounts) : Type 0 where
+  pub written : (n : ℕ) × (n < length (line_of (answer_at capacity book events i)))
+      × Appends before now (answers_before capacity book events i
+      ++ take n (line_of (answer_at capacity book events i)))
+  pub accounts_are : accounts ≡ book_at capacity book events (suc i)
 
--- what stands after a fault; left is what the reader has left. Memory was refused to the line
--- behind those that are answered, or before the first line
-abbrev pub ScriptFails : Accounts → List ℕ → Option (List ℕ) → Option (List ℕ) → Option (List ℕ)
-    → Accounts → ScriptFault → Type 0
-ScriptFails book bytes left before now accounts Read =
+-- what stands after a fault where at most so many bytes are read; left is what the reader has left.
+-- Memory was refused to the line after those that are answered, or before the first line
+abbrev pub FailsWithin : ℕ → ℕ → Accounts → List ℕ → Option (List ℕ) → Option (List ℕ)
+    → Option (List ℕ) → Accounts → ScriptFault → Type 0
+FailsWithin longest capacity book bytes left before now accounts Read =
     (front : List ℕ) × Consumes (Some bytes) left front
-    × StandsAfter book (events_of bytes) (line_ends front) before now accounts
-ScriptFails book bytes left before now accounts Write =
-    (i : ℕ) × (i < length (events_of bytes)) × StopsIn book (events_of bytes) i before now accounts
-ScriptFails book bytes left before now accounts Memory =
+    × StandsAfter capacity book (events_of bytes) (line_ends front) before now accounts
+FailsWithin longest capacity book bytes left before now accounts Write =
+    (i : ℕ) × (i < length (events_of bytes))
+    × StopsIn capacity book (events_of bytes) i before now accounts
+FailsWithin longest capacity book bytes left before now accounts Memory =
     (i : ℕ) × ((i < length (events_of bytes)) ⊎ (i ≡ 0))
-    × StandsAfter book (events_of bytes) i before now accounts
-ScriptFails book bytes left before now accounts TooLong =
-    (longest_script < length bytes)
-    × StandsAfter book (events_of bytes) (line_ends (take longest_script bytes)) before now accounts
+    × StandsAfter capacity book (events_of bytes) i before now accounts
+FailsWithin longest capacity book bytes left before now accounts TooLong =
+    (longest < length bytes)
+    × StandsAfter capacity book (events_of bytes) (line_ends (take longest bytes))
+    before now accounts
+
+-- what stands after a fault of a script
+abbrev pub ScriptFails : ℕ → Accounts → List ℕ → Option (List ℕ) → Option (List ℕ) → Option (List ℕ)
+    → Accounts → ScriptFault → Type 0
+ScriptFails = FailsWithin longest_script
 
 -- a fault of the reader or of the writer comes only where a call on it failed
 abbrev pub HasCause : Bool → Bool → ScriptFault → Type 0

@@ -19,14 +19,14 @@ abbrev pub events_of : List ℕ → List Event
 events_of bytes = map event_of (lines_of bytes)
 
 -- the answers to the first events, a line each
-unfoldable pub answers_before : Accounts → List Event → ℕ → List ℕ
-answers_before book events zero = []
-answers_before book events (suc i) =
-    answers_before book events i ++ line_of (answer_at book events i)
+unfoldable pub answers_before : ℕ → Accounts → List Event → ℕ → List ℕ
+answers_before capacity book events zero = []
+answers_before capacity book events (suc i) =
+    answers_before capacity book events i ++ line_of (answer_at capacity book events i)
 
 -- what is written for a script
-abbrev pub out : Accounts → List ℕ → List ℕ
-out book bytes = answers_before book (events_of bytes) (length (events_of bytes))
+abbrev pub out : ℕ → Accounts → List ℕ → List ℕ
+out capacity book bytes = answers_before capacity book (events_of bytes) (length (events_of bytes))
 
 -- how many lines end in these bytes
 abbrev pub line_ends : List ℕ → ℕ

@@ -3,7 +3,7 @@ use Rattle.std.specs.Prelude.{◌≡◌, ℕ, ◌-◌, if◌then◌else◌, true
 use Rattle.std.specs.Prelude.{nat_lt, slice_index_or, slice_set}
 use Rattle.std.specs.FinMap as map
 use Rattle.cred_phc.specs.Values.{RecordValue}
-use Rattle.cred_book.specs.Accounts.{Accounts, most_accounts}
+use Rattle.cred_book.specs.Accounts.{Accounts}
 use Rattle.cred_book.specs.Commits.{commit_outcome}
 use Rattle.cred_book.specs.Works.{Task, name_of}
 use Rattle.cred_book.specs.declared.reply.Reply.{Reply}
@@ -66,26 +66,28 @@ commit_step_at book slots key (Some task) = record {
 unfoldable pub commit_step : Accounts → List (Option Task) → ℕ → Step
 commit_step book slots key = commit_step_at book slots key (slot slots key)
 
-abbrev pub step : Accounts → List (Option Task) → Event → Step
-step book slots (Account name) =
+abbrev pub step : ℕ → Accounts → List (Option Task) → Event → Step
+step capacity book slots (Account name) =
     if map.contains_key book name then stay (Refused (Book Exists)) book slots
-    else if nat_lt (map.len book) most_accounts then stay Done (map.insert book name None) slots
+    else if nat_lt (map.len book) capacity then stay Done (map.insert book name None) slots
     else stay (Refused (Book Full)) book slots
-step book slots (Load name stored) =
+step capacity book slots (Load name stored) =
     if map.contains_key book name then stay Done (map.insert book name (Some stored)) slots
     else stay (Refused (Book NoAccount)) book slots
-step book slots (Show name) = stay (show_answer (map.get book name)) book slots
-step book slots (Begin key request) = begin_step book slots key request
-step book slots (Commit key) = commit_step book slots key
-step book slots (Bad why) = stay (Refused why) book slots
+step capacity book slots (Show name) = stay (show_answer (map.get book name)) book slots
+step capacity book slots (Begin key request) = begin_step book slots key request
+step capacity book slots (Commit key) = commit_step book slots key
+step capacity book slots (Bad why) = stay (Refused why) book slots
 
 -- what stands where a line met a fault
-abbrev pub LineFails : Accounts → List Event → ℕ → Option (List ℕ) → Option (List ℕ) → Accounts
+abbrev pub LineFails : ℕ → Accounts → List Event → ℕ → Option (List ℕ) → Option (List ℕ) → Accounts
     → ScriptFault → Type 0
-LineFails book events i before now accounts Memory = StandsAfter book events i before now accounts
-LineFails book events i before now accounts Write = StopsIn book events i before now accounts
-LineFails book events i before now accounts Read = ⊥
-LineFails book events i before now accounts TooLong = ⊥
+LineFails capacity book events i before now accounts Memory =
+    StandsAfter capacity book events i before now accounts
+LineFails capacity book events i before now accounts Write =
+    StopsIn capacity book events i before now accounts
+LineFails capacity book events i before now accounts Read = ⊥
+LineFails capacity book events i before now accounts TooLong = ⊥
 
 -- how writing them ends where it doesn't end well
 abbrev pub WriteFails : Option (List ℕ) → Option (List ℕ) → List ℕ → Bool → ScriptFault → Type 0

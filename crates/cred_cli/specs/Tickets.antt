@@ -8,17 +8,18 @@ use Rattle.cred_cli.specs.History.{Opened, book_at, open_at}
 use Rattle.cred_cli.specs.Steps.{slot}
 
 -- a ticket is the begin's request, with the record of its name in the book at the begin's place
-abbrev pub IsTicketOf : Accounts → List Event → Option Opened → Option Task → Type 0
-IsTicketOf book events None None = Unit {0}
-IsTicketOf book events None (Some task) = ⊥
-IsTicketOf book events (Some opened) None = ⊥
-IsTicketOf book events (Some opened) (Some task) =
-    (task.0 ≡ opened.request) × (map.get (book_at book events opened.place) (name_of opened.request)
+abbrev pub IsTicketOf : ℕ → Accounts → List Event → Option Opened → Option Task → Type 0
+IsTicketOf capacity book events None None = Unit {0}
+IsTicketOf capacity book events None (Some task) = ⊥
+IsTicketOf capacity book events (Some opened) None = ⊥
+IsTicketOf capacity book events (Some opened) (Some task) =
+    (task.0 ≡ opened.request)
+    × (map.get (book_at capacity book events opened.place) (name_of opened.request)
     ≡ Some task.1)
 
 -- each number that is open at place i has its ticket
-pub record HoldTickets (book : Accounts) (events : List Event) (i : ℕ)
+pub record HoldTickets (capacity : ℕ) (book : Accounts) (events : List Event) (i : ℕ)
     (slots : List (Option Task)) : Type 0 where
   pub size : length slots ≡ 64
   pub each : (key : ℕ) → 1 ≤ key → key ≤ 64
-      → IsTicketOf book events (open_at book events i key) (slot slots key)
+      → IsTicketOf capacity book events (open_at capacity book events i key) (slot slots key)

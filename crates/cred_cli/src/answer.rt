@@ -61,7 +61,8 @@ pub(crate) fn do_event<T: Threads + Wait + Sync, K: Keeper>(
 ) -> Result<AnswerLine, AllocError>
     requires { IsSound event }
     ensures done { IfOk result
-        (IsDone (step (K.book keeper.old) tickets.old event) (K.book keeper.new) tickets.new) }
+        (IsDone (step K.capacity (K.book keeper.old) tickets.old event)
+        (K.book keeper.new) tickets.new) }
     ensures refused { OnErr result (K.book keeper.new ≡ K.book keeper.old) }
 {
     match event {

@@ -78,21 +78,25 @@ fn credbook<'a>(alloc: Global) -> Result<Command<'a>, AllocError>
     ensures app { IfOk result (λ c. app_of c ≡ credbook) }
     ensures local { IfOk result (λ c. (out-Command c).has_globals ≡ false) }
 {
-    let hash = of_one(alloc, "hash", &HASH, setting(alloc))?;
-    let check = of_one(alloc, "check", &CHECK, stored(alloc))?;
-    let command = with_command(base_app(alloc)?, hash)?;
-    with_command(command, check)
+    let command = with_one(alloc, base_app(alloc)?, "hash", &HASH, setting(alloc))?;
+    with_one(alloc, command, "check", &CHECK, stored(alloc))
 }
 
-/// The same with a subcommand of its own.
-fn with_command<'a>(command: Command<'a>, below: Command<'a>) -> Result<Command<'a>, AllocError>
-    requires local { ((out-Command command).has_globals ≡ false)
-        × ((out-Command below).has_globals ≡ false) }
-    ensures app { IfOk result (λ c. app_of c
-        ≡ with_subcommand (app_of command.entry) (app_of below.entry).top) }
+/// The same with a subcommand on one setting or record. It is made here, so that no second command
+/// stands where the caller may end early.
+fn with_one<'a>(
+    alloc: Global,
+    command: Command<'a>,
+    word: &'a str,
+    texts: &'a HelpTexts,
+    what: Arg<'a>,
+) -> Result<Command<'a>, AllocError>
+    requires local { ((out-Command command).has_globals ≡ false) × (what.global ≡ false) }
+    ensures app { IfOk result (λ c. app_of c ≡ with_subcommand (app_of command.entry)
+        (one_app word.entry.now (rule_of what.entry)).top) }
     ensures local { IfOk result (λ c. (out-Command c).has_globals ≡ false) }
 {
-    command.subcommand(below)
+    command.subcommand(of_one(alloc, word, texts, what)?)
 }
 
 fn base_app<'a>(alloc: Global) -> Result<Command<'a>, AllocError>

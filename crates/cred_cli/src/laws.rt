@@ -12,17 +12,18 @@ ghost use Rattle.cred_cli.specs.History.{book_at, deeds_before, is_among, names_
 /// The law that the names that a history counts are those of the book that it leaves, at every
 /// place.
 pub fn names_are_the_books()
-    ensures among { (book : Accounts) (events : List Event) (i : ℕ) (name : List ℕ)
-        → map.contains_key (book_at book events i) name ≡ is_among (names_at book events i) name }
-    ensures count { (book : Accounts) (events : List Event) (i : ℕ)
-        → map.len (book_at book events i) ≡ length (names_at book events i) }
+    ensures among { (capacity : ℕ) (book : Accounts) (events : List Event) (i : ℕ) (name : List ℕ)
+        → map.contains_key (book_at capacity book events i) name
+        ≡ is_among (names_at capacity book events i) name }
+    ensures count { (capacity : ℕ) (book : Accounts) (events : List Event) (i : ℕ)
+        → map.len (book_at capacity book events i) ≡ length (names_at capacity book events i) }
 {}
 
 /// The law that what was done before an earlier place is the front of what was done before a later
 /// one.
 pub fn history_is_a_front()
-    ensures { (book : Accounts) (events : List Event) (j i : ℕ) → j ≤ i
-        → take j (deeds_before book events i) ≡ deeds_before book events j }
+    ensures { (capacity : ℕ) (book : Accounts) (events : List Event) (j i : ℕ) → j ≤ i
+        → take j (deeds_before capacity book events i) ≡ deeds_before capacity book events j }
 {}
 
 /// The law that a line that asks for something is its event's word and fields with one space

@@ -30,13 +30,14 @@ pub(crate) fn answer_line<T: Threads + Wait + Sync, K: Keeper, W: Write>(
     line: &[u8],
 ) -> Result<(), ScriptFault>
     ensures answered { (book : Accounts) (events : List Event) (i : ℕ) (before : Option (List ℕ)) →
-        StandsAfter book events i before (W.contents (inner_of writer.old)) (K.book keeper.old)
-        → HoldTickets book events i tickets.old →
+        StandsAfter K.capacity book events i before (W.contents (inner_of writer.old))
+        (K.book keeper.old) → HoldTickets K.capacity book events i tickets.old →
         slice_get events i ≡ Some (event_of line.now) →
         MatchResult result
-        (λ _. StandsAfter book events (suc i) before (W.contents (inner_of writer.new))
-        (K.book keeper.new) × HoldTickets book events (suc i) tickets.new)
-        (LineFails book events i before (W.contents (inner_of writer.new)) (K.book keeper.new)) }
+        (λ _. StandsAfter K.capacity book events (suc i) before (W.contents (inner_of writer.new))
+        (K.book keeper.new) × HoldTickets K.capacity book events (suc i) tickets.new)
+        (LineFails K.capacity book events i before (W.contents (inner_of writer.new))
+        (K.book keeper.new)) }
     ensures cause { IfErr result (HasCause false (failed_of writer.new)) }
 {
     let answer = do_event(resources, keeper, tickets, Event::of_line(line))?;

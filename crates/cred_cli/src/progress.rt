@@ -2,13 +2,11 @@
 
 ghost use Rattle.std.specs.Prelude.{◌≡◌, [], ◌∷◌, ◌++◌, ◌≤◌, take};
 ghost use Rattle.cred_cli.specs.Events.{most_kept};
-ghost use Rattle.cred_cli.specs.Outcome.{longest_script};
+ghost use Rattle.cred_cli.specs.Outcome.{longest_service};
 
 use crate::event::LONGEST_LINE;
+use crate::limit::Limit;
 use std::marker::Model;
-
-/// The longest script in bytes.
-pub(crate) const LONGEST_SCRIPT: u64 = 1048576;
 
 /// How many bytes of a line are kept: one more than a line may have, as a longer one is refused
 /// whatever it goes on with.
@@ -73,21 +71,26 @@ pub(crate) struct Progress {
     pub(crate) lines: u64,
     /// How many bytes were taken.
     pub(crate) taken: u64,
+    /// How many may be taken.
+    pub(crate) limit: Limit,
 
     ghost fewer_lines: { lines ≤ taken },
-    ghost not_too_long: { taken ≤ longest_script },
+    ghost not_too_long: { taken ≤ limit },
+    ghost countable: { limit ≤ longest_service },
 }
 
 impl Progress {
-    pub(crate) fn new() -> Progress
+    pub(crate) fn new(limit: Limit) -> Progress
         ensures start { result.start ≡ [] }
         ensures lines { result.lines ≡ 0 }
         ensures taken { result.taken ≡ 0 }
+        ensures limit { result.limit ≡ limit }
     {
         Progress {
             start: LineStart::new(),
             lines: 0,
             taken: 0,
+            limit,
         }
     }
 }

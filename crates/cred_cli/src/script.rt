@@ -6,10 +6,9 @@ ghost use Rattle.cred_cli.specs.Outcome.{most_calls};
 ghost use Rattle.cred_cli.specs.Watched.{IsNew, calls_of, failed_of, inner_of};
 
 use crate::fault::ScriptFault;
-use crate::progress::Progress;
+use crate::limit::Limit;
 use crate::resources::Resources;
-use crate::session::Session;
-use crate::tickets::Tickets;
+use crate::session::answer_all;
 use crate::watched::Watched;
 use cred_book::Keeper;
 use std::alloc::Global;
@@ -42,20 +41,17 @@ pub fn run_script<T: Threads + Wait + Sync, K: Keeper, R: Read, W: Write>(
     requires new_reader { IsNew reader.old }
     requires new_writer { IsNew writer.old }
     ensures done { IfOk result (λ end. IfSome (R.remaining (inner_of reader.old)) (λ bytes.
-        IsAnswered (K.book keeper.old) bytes (W.contents (inner_of writer.old))
+        IsAnswered K.capacity (K.book keeper.old) bytes (W.contents (inner_of writer.old))
         (W.contents (inner_of writer.new)) (K.book keeper.new) end.lines)) }
     ensures short { OnOk result
         (IfSome (R.remaining (inner_of reader.old)) (λ bytes. length bytes ≤ longest_script)) }
     ensures fault { IfErr result (λ fault. IfSome (R.remaining (inner_of reader.old)) (λ bytes.
-        ScriptFails (K.book keeper.old) bytes (R.remaining (inner_of reader.new))
+        ScriptFails K.capacity (K.book keeper.old) bytes (R.remaining (inner_of reader.new))
         (W.contents (inner_of writer.old)) (W.contents (inner_of writer.new))
         (K.book keeper.new) fault)) }
     ensures cause { IfErr result (HasCause (failed_of reader.new) (failed_of writer.new)) }
     ensures calls { calls_of reader.new ≤ most_calls }
 {
     let resources = Resources { rt, alloc, workers };
-    let tickets = Tickets::new(alloc)?;
-    let progress = Progress::new();
-    let mut session = Session { tickets, progress };
-    session.read_all(&resources, keeper, reader, writer)
+    answer_all(&resources, Limit::script(), keeper, reader, writer)
 }

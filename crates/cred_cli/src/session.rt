@@ -2,16 +2,16 @@
 //! answered.
 
 ghost use Rattle.std.specs.Prelude.{◌≡◌, ◌+◌, ◌≤◌, ℕ, false, List, [], ◌∷◌, ◌++◌, length, Option};
-ghost use Rattle.std.specs.Prelude.{Some, IfErr, OnOk, MatchResult};
+ghost use Rattle.std.specs.Prelude.{Some, IfErr, IfOk, IfSome, OnOk, MatchResult};
 ghost use Rattle.cred_book.specs.Accounts.{Accounts};
 ghost use Rattle.cred_cli.specs.Feeding.{IsAt};
-ghost use Rattle.cred_cli.specs.Outcome.{HasCause, IsAnswered, ScriptFails, longest_script};
-ghost use Rattle.cred_cli.specs.Outcome.{most_calls};
-ghost use Rattle.cred_cli.specs.Watched.{calls_of, failed_of, inner_of};
+ghost use Rattle.cred_cli.specs.Outcome.{FailsWithin, HasCause, IsAnswered};
+ghost use Rattle.cred_cli.specs.Watched.{IsNew, calls_of, failed_of, inner_of};
 
 use crate::fault::ScriptFault;
+use crate::limit::Limit;
 use crate::line::answer_line;
-use crate::progress::{LONGEST_SCRIPT, Progress};
+use crate::progress::Progress;
 use crate::resources::Resources;
 use crate::script::End;
 use crate::tickets::Tickets;
@@ -24,9 +24,35 @@ use std::thread::Threads;
 /// How many bytes are asked for at once.
 const CHUNK: usize = 4096;
 
-/// How often the reader is called at most: once for each byte, once more for a byte too many or the
-/// end, and once behind that.
-const MOST_CALLS: u64 = LONGEST_SCRIPT + 2;
+/// Answers the lines that the reader gives, to its end or to the limit.
+pub(crate) fn answer_all<T: Threads + Wait + Sync, K: Keeper, R: Read, W: Write>(
+    resources: &Resources<'_, T>,
+    limit: Limit,
+    keeper: &mut K,
+    reader: &mut Watched<R>,
+    writer: &mut Watched<W>,
+) -> Result<End, ScriptFault>
+    requires new_reader { IsNew reader.old }
+    requires new_writer { IsNew writer.old }
+    ensures done { IfOk result (λ end. IfSome (R.remaining (inner_of reader.old)) (λ bytes.
+        IsAnswered K.capacity (K.book keeper.old) bytes (W.contents (inner_of writer.old))
+        (W.contents (inner_of writer.new)) (K.book keeper.new) end.lines)) }
+    ensures short { OnOk result
+        (IfSome (R.remaining (inner_of reader.old)) (λ bytes. length bytes ≤ limit)) }
+    ensures fault { IfErr result (λ fault. IfSome (R.remaining (inner_of reader.old)) (λ bytes.
+        FailsWithin limit K.capacity (K.book keeper.old) bytes (R.remaining (inner_of reader.new))
+        (W.contents (inner_of writer.old)) (W.contents (inner_of writer.new))
+        (K.book keeper.new) fault)) }
+    ensures cause { IfErr result (HasCause (failed_of reader.new) (failed_of writer.new)) }
+    ensures calls { calls_of reader.new ≤ limit + 1 }
+    ensures few { IfSome (R.remaining (inner_of reader.old))
+        (λ bytes. calls_of reader.new ≤ length bytes + 1) }
+{
+    let tickets = Tickets::new(resources.alloc)?;
+    let progress = Progress::new(limit);
+    let mut session = Session { tickets, progress };
+    session.read_all(resources, keeper, reader, writer)
+}
 
 /// The open tickets of a script, and how far it has been read.
 #[derive(Drop)]
@@ -46,17 +72,19 @@ impl Session {
     ) -> Result<(), ScriptFault>
         ensures fed { (book : Accounts) (all front rest : List ℕ) (before : Option (List ℕ))
             → all ≡ front ++ byte ∷ rest →
-            IsAt book all front before (W.contents (inner_of writer.old))
+            IsAt K.capacity book all front before (W.contents (inner_of writer.old))
             (K.book keeper.old) self.old.tickets self.old.progress →
             MatchResult result
-            (λ _. IsAt book all (front ++ byte ∷ []) before (W.contents (inner_of writer.new))
-            (K.book keeper.new) self.new.tickets self.new.progress)
-            (λ e. (left : Option (List ℕ)) → ScriptFails book all left before
-            (W.contents (inner_of writer.new)) (K.book keeper.new) e) }
+            (λ _. IsAt K.capacity book all (front ++ byte ∷ []) before
+            (W.contents (inner_of writer.new)) (K.book keeper.new) self.new.tickets
+            self.new.progress)
+            (λ e. (left : Option (List ℕ)) → FailsWithin self.old.progress.limit K.capacity book
+            all left before (W.contents (inner_of writer.new)) (K.book keeper.new) e) }
         ensures taken { OnOk result (self.new.progress.taken ≡ self.old.progress.taken + 1) }
+        ensures limit { self.new.progress.limit ≡ self.old.progress.limit }
         ensures cause { IfErr result (HasCause false (failed_of writer.new)) }
     {
-        if self.progress.taken == LONGEST_SCRIPT {
+        if self.progress.limit.is_reached(self.progress.taken) {
             return Err(ScriptFault::TooLong);
         }
         if byte != b'\n' {
@@ -87,15 +115,17 @@ impl Session {
     ) -> Result<(), ScriptFault>
         ensures fed { (book : Accounts) (all front rest : List ℕ) (before : Option (List ℕ))
             → all ≡ front ++ bytes.now ++ rest →
-            IsAt book all front before (W.contents (inner_of writer.old))
+            IsAt K.capacity book all front before (W.contents (inner_of writer.old))
             (K.book keeper.old) self.old.tickets self.old.progress →
             MatchResult result
-            (λ _. IsAt book all (front ++ bytes.now) before (W.contents (inner_of writer.new))
-            (K.book keeper.new) self.new.tickets self.new.progress)
-            (λ e. (left : Option (List ℕ)) → ScriptFails book all left before
-            (W.contents (inner_of writer.new)) (K.book keeper.new) e) }
+            (λ _. IsAt K.capacity book all (front ++ bytes.now) before
+            (W.contents (inner_of writer.new)) (K.book keeper.new) self.new.tickets
+            self.new.progress)
+            (λ e. (left : Option (List ℕ)) → FailsWithin self.old.progress.limit K.capacity book
+            all left before (W.contents (inner_of writer.new)) (K.book keeper.new) e) }
         ensures taken { OnOk result (self.new.progress.taken
             ≡ self.old.progress.taken + length bytes.now) }
+        ensures limit { self.new.progress.limit ≡ self.old.progress.limit }
         ensures cause { IfErr result (HasCause false (failed_of writer.new)) }
     {
         for byte in bytes {
@@ -112,13 +142,13 @@ impl Session {
         writer: &mut Watched<W>,
     ) -> Result<u64, ScriptFault>
         ensures answered { (book : Accounts) (all : List ℕ) (before : Option (List ℕ)) →
-            IsAt book all all before (W.contents (inner_of writer.old))
+            IsAt K.capacity book all all before (W.contents (inner_of writer.old))
             (K.book keeper.old) self.old.tickets self.old.progress →
             MatchResult result
-            (λ lines. IsAnswered book all before (W.contents (inner_of writer.new))
+            (λ lines. IsAnswered K.capacity book all before (W.contents (inner_of writer.new))
             (K.book keeper.new) lines)
-            (λ e. (left : Option (List ℕ)) → ScriptFails book all left before
-            (W.contents (inner_of writer.new)) (K.book keeper.new) e) }
+            (λ e. (left : Option (List ℕ)) → FailsWithin self.old.progress.limit K.capacity book
+            all left before (W.contents (inner_of writer.new)) (K.book keeper.new) e) }
         ensures cause { IfErr result (HasCause false (failed_of writer.new)) }
     {
         if self.progress.start.bytes().is_empty() {
@@ -146,18 +176,24 @@ impl Session {
         requires new_progress { self.old.progress.taken ≡ 0 }
         ensures ended { (book : Accounts) (all : List ℕ) (before : Option (List ℕ))
             → R.remaining (inner_of reader.old) ≡ Some all →
-            IsAt book all [] before (W.contents (inner_of writer.old))
+            IsAt K.capacity book all [] before (W.contents (inner_of writer.old))
             (K.book keeper.old) self.old.tickets self.old.progress →
             MatchResult result
-            (λ end. IsAnswered book all before (W.contents (inner_of writer.new))
-            (K.book keeper.new) end.lines × (length all ≤ longest_script))
-            (ScriptFails book all (R.remaining (inner_of reader.new)) before
-            (W.contents (inner_of writer.new)) (K.book keeper.new)) }
+            (λ end. IsAnswered K.capacity book all before (W.contents (inner_of writer.new))
+            (K.book keeper.new) end.lines × (length all ≤ self.old.progress.limit))
+            (FailsWithin self.old.progress.limit K.capacity book all
+            (R.remaining (inner_of reader.new)) before (W.contents (inner_of writer.new))
+            (K.book keeper.new)) }
         ensures cause { IfErr result (HasCause (failed_of reader.new) (failed_of writer.new)) }
-        ensures calls { calls_of reader.new ≤ most_calls }
+        ensures calls { calls_of reader.new ≤ self.old.progress.limit + 1 }
+        ensures few { (book : Accounts) (all : List ℕ) (before : Option (List ℕ))
+            → R.remaining (inner_of reader.old) ≡ Some all →
+            IsAt K.capacity book all [] before (W.contents (inner_of writer.old))
+            (K.book keeper.old) self.old.tickets self.old.progress →
+            calls_of reader.new ≤ length all + 1 }
     {
         let mut buffer = [0; CHUNK];
-        for _call in 0..MOST_CALLS {
+        for _call in 0..u64::MAX {
             match reader.read(&mut buffer) {
                 Ok(0) => {
                     let lines = self.finish(resources, keeper, writer)?;

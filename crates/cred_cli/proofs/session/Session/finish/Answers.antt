@@ -30,4 +30,4 @@ returns-in_err-answer_line-clause-answered g c = λ book all before at.
     let some : 0 < length c.bytes.result.now = grind (arith, nat_tests) in
     let last = has_last all (some_kept _ _ (c.bytes.ensures ∙ at.start_is) some) in
     let event : slice_get (events_of all) c.args.self.now.progress.lines ≡ Some (event_of c.bytes-2.result.now) = rw (c.bytes-2.ensures, at.lines_are, at.start_is) last.event in
-    let told = err_from_is_err_and c.from_residual.result c.from_residual.ensures.1 in rw (told.1, told.2) (λ left. fails_at book all c.args.self.now.progress.lines left before _ _ _ (slice_get_within _ _ _ event) (c.in_err-answer_line.ensures.answered book (events_of all) c.args.self.now.progress.lines before at.stands at.tickets event))
+    let told = err_from_is_err_and c.from_residual.result c.from_residual.ensures.1 in rw (told.1, told.2) (λ left. fails_at _ _ book all c.args.self.now.progress.lines left before _ _ _ (slice_get_within _ _ _ event) (c.in_err-answer_line.ensures.answered book (events_of all) c.args.self.now.progress.lines before at.stands at.tickets event))

@@ -1,9 +1,8 @@
-use Rattle.std.proofs.Common.{◌≡◌, arith, sym, ap, ◌∙◌, length, ◌∷◌, [], add-one, Some, slice_get}
+use Rattle.std.proofs.Common.{◌≡◌, ◌≤◌, arith, sym, ap, ◌∙◌, length, ◌∷◌, [], add-one, Some, slice_get}
 use Rattle.std.proofs.lemmas.List.{length-append}
 use Rattle.std.proofs.lemmas.Option.{slice_get_within}
 use Rattle.std.proofs.lemmas.Result.{err_from_is_err_and}
 use Rattle.cred_cli.specs.Events.{event_of, most_kept}
-use Rattle.cred_cli.specs.Outcome.{longest_script}
 use Rattle.cred_cli.specs.Script.{events_of}
 use Rattle.cred_cli.proofs.Feeds.{ended_event, take-kept, take_front}
 use Rattle.cred_cli.proofs.Lines.{line_ends-end, line_ends-more, unfinished_from-end, unfinished_from-more}
@@ -11,11 +10,13 @@ use Rattle.cred_cli.proofs.Runs.{fails_at}
 use Rattle.cred_cli.proofs.session.Session.take_byte.Goals as goal
 
 -- a byte too many
-pub returns-then-self-eq-LONGEST_SCRIPT-clause-fed : goal.returns-then-self-eq-LONGEST_SCRIPT-clause-fed
-returns-then-self-eq-LONGEST_SCRIPT-clause-fed g c = λ book all front rest before cut at left.
-    let size : length front ≡ longest_script = omega (arith, at.taken_is, c.if-self-eq-LONGEST_SCRIPT.true) in (
+pub returns-then-is_reached-clause-fed : goal.returns-then-is_reached-clause-fed
+returns-then-is_reached-clause-fed g c = λ book all front rest before cut at left.
+    let limit = c.args.self.now.progress.limit in
+    let reached : limit ≤ length front = grind (arith, at.taken_is) in
+    let size : length front ≡ limit = omega (arith, at.taken_is, reached, c.args.self.now.progress.not_too_long) in (
       omega (arith, size, ap length cut, length-append front (c.args.byte ∷ rest)),
-      rw (take_front all front (c.args.byte ∷ rest) longest_script cut size, ← at.lines_are) at.stands,
+      rw (take_front all front (c.args.byte ∷ rest) limit cut size, ← at.lines_are) at.stands,
     )
 
 -- a byte of a line
@@ -47,4 +48,4 @@ pub returns-in_err-answer_line-clause-fed : goal.returns-in_err-answer_line-clau
 returns-in_err-answer_line-clause-fed g c = λ book all front rest before cut at.
     let here = rw c.if-byte-ne10.false at cut in
     let event : slice_get (events_of all) c.args.self.now.progress.lines ≡ Some (event_of c.bytes.result.now) = rw (c.bytes.ensures, at.lines_are, at.start_is) (ended_event all front rest here) in
-    let told = err_from_is_err_and c.from_residual.result c.from_residual.ensures.1 in rw (told.1, told.2) (λ left. fails_at book all c.args.self.now.progress.lines left before _ _ _ (slice_get_within _ _ _ event) (c.in_err-answer_line.ensures.answered book (events_of all) c.args.self.now.progress.lines before at.stands at.tickets event))
+    let told = err_from_is_err_and c.from_residual.result c.from_residual.ensures.1 in rw (told.1, told.2) (λ left. fails_at _ _ book all c.args.self.now.progress.lines left before _ _ _ (slice_get_within _ _ _ event) (c.in_err-answer_line.ensures.answered book (events_of all) c.args.self.now.progress.lines before at.stands at.tickets event))
