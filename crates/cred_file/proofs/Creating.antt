@@ -9,6 +9,7 @@ use Rattle.sqlite.specs.State.{State, HasCleanDisk, Survives, CommitsBy, MayComm
 use Rattle.sqlite.specs.declared.run.Mode.{Mode}
 use Rattle.sqlite.specs.Tree.{Trees}
 use Rattle.sqlite.proofs.Callers.{runs_as}
+use Rattle.sqlite_catalog.specs.Listing.{IsSound}
 use Rattle.cred_file.specs.Schema.{account, account_schema, create_text, no_schema}
 use Rattle.cred_file.specs.Table.{StandsFor}
 use Rattle.cred_file.specs.Keeps.{HoldsBook, IsTableOf}
@@ -45,6 +46,7 @@ creates old new count settled has autocommit h =
     record {
       schema = made.0;
       stands = made.1;
+      sound = subst (λ x. IsSound x new.now.trees) made.0 w.sound;
       autocommit = w.shown.mode ∙ autocommit;
       left = λ db may. (fin.empty, refl, holds db fin.empty new.now made.0 w.sound made.1 (settled db w.shown.is_open may ∙ ap (λ (d : Database). d.trees) committed));
     }

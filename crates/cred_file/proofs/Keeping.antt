@@ -10,7 +10,7 @@ use Rattle.sqlite.specs.Order.{Row}
 use Rattle.sqlite.specs.Tree.{Trees}
 use Rattle.sqlite.specs.Schema.{Schema}
 use Rattle.sqlite_schema.specs.declared.command.Command.{Command}
-use Rattle.sqlite.specs.Command.TheVariants.{Insert, Update}
+use Rattle.sqlite.specs.Command.TheVariants.{Insert, Update, Delete}
 use Rattle.sqlite.specs.Source.TheVariants.{Values}
 use Rattle.sqlite.specs.Effect.{Database}
 use Rattle.sqlite.specs.Listing.{understood}
@@ -22,23 +22,24 @@ use Rattle.cred_phc.specs.Values.{IsRecord, RecordValue}
 use Rattle.cred_phc.specs.Text.{record_text}
 use Rattle.cred_phc.specs.Reading.{read_record}
 use Rattle.cred_phc.proofs.RecordLaws.{read_back}
-use Rattle.std.proofs.Common.{nat_lt, ◌<◌}
-use Rattle.std.proofs.lemmas.Bool.{lt-ltb}
-use Rattle.cred_book.specs.Accounts.{Accounts, with_entry, most_accounts}
+use Rattle.std.proofs.Common.{nat_lt, ◌<◌, false, ◌||◌, OnOk, IfErr}
+use Rattle.std.proofs.lemmas.Bool.{lt-ltb, le-ltb}
+use Rattle.cred_book.specs.Accounts.{Accounts, register_capacity}
 use Rattle.sqlite_catalog.specs.Listing.{IsSound}
-use Rattle.cred_file.specs.Schema.{account_schema, insert_text, update_text}
+use Rattle.cred_file.specs.Schema.{account_schema, insert_text, update_text, delete_text, rename_text}
 use Rattle.cred_file.specs.Table.{StandsFor, Tells}
-use Rattle.cred_file.specs.Keeps.{HoldsBook, IsTableOf, LeavesOnly, Keeps, IsOrWith}
+use Rattle.cred_file.specs.Edits.{after_edit, renamed, PutsEntry}
+use Rattle.cred_file.specs.Keeps.{HoldsBook, IsTableOf, IsRenamable, LeavesOnly, Keeps, IsOrWith}
 use Rattle.cred_file.specs.declared.fault.Lost.{Lost}
 use Rattle.sqlite.specs.Held.{Held, state}
 use Rattle.sqlite.specs.Store.{Ghosts}
 use Rattle.sqlite_trees.specs.View.{doubt}
-use Rattle.cred_book.specs.Calls.{Shows}
+use Rattle.cred_book.specs.Calls.{EntersWithin, Shows}
 use Rattle.cred_book.specs.Names.{is_name}
 use Rattle.cred_book.specs.declared.error.BookError.{BookError}
 use Rattle.cred_book.specs.declared.error.BookError.TheVariants as error
-use Rattle.cred_file.proofs.Texts.{insert_is, update_is, insert_plain, update_plain, matched, terms}
-use Rattle.cred_file.proofs.Changes.{does_insert, does_update}
+use Rattle.cred_file.proofs.Texts.{insert_is, update_is, delete_is, rename_is, insert_plain, update_plain, delete_plain, rename_plain, matched, deleting, renaming, terms}
+use Rattle.cred_file.proofs.Changes.{does_insert, does_update, does_delete, does_rename}
 
 -- while the store is open, a crash leaves the last commit
 abbrev pub IsSettled : State → Type 0
@@ -75,6 +76,7 @@ module _ (sql : List ℕ) (params : Row) (schema : Schema) (command : Command) (
         record {
           schema = made.0 ∙ same;
           stands = made.1;
+          sound = subst (λ x. IsSound x new.now.trees) (made.0 ∙ same) w.sound;
           autocommit = w.shown.mode ∙ was.autocommit;
           left = λ db may. (to, refl, holds db to new.now (made.0 ∙ same) w.sound made.1 (settled db w.shown.is_open may ∙ ap (λ (d : Database). d.trees) committed));
         }
@@ -90,21 +92,6 @@ module _ (sql : List ℕ) (params : Row) (schema : Schema) (command : Command) (
               (to, inr refl, holds db to m.2 (made.0 ∙ same) m.4 made.1 m.5)
         ]
 
-module _ (book : Accounts) (name : List ℕ) (named : IsTrue (is_name name)) (absent : fin.contains_key book name ≡ false) (old new : State) where
-  insert_may : (s : State) (text : List ℕ) (db : Trees) → MayCommit s None (Insert 0 (Values terms 3)) text (Text name ∷ []) db → MayWrite s None (Insert 0 (Values terms 3)) text (Text name ∷ []) db
-  insert_may s text db (inl h) = absurd (elim h.0 [ inl e ↦ cc | inr e ↦ let e = e.2 in cc ])
-  insert_may s text db (inr h) = h
-
-  insert_does : (limit : Option ℕ) (mode : Mode) (db after : Database) (text : List ℕ) (tally : Tally) → db.schema ≡ account_schema → StandsFor (db.trees 0) book
-      → Does limit mode (Text name ∷ []) db text None (Insert 0 (Values terms 3)) (Ok (tally, after)) → (after.schema ≡ account_schema) × StandsFor (after.trees 0) (fin.insert book name None)
-  insert_does limit mode db after text tally has stands d = does_insert limit mode name named db after text tally book has stands absent d
-
-  pub inserted : (count : ℕ) → IsSettled new → IsTableOf old book → Executes insert_text (Text name ∷ []) old new (Ok count) → IsTableOf new (fin.insert book name None)
-  inserted = done insert_text (Text name ∷ []) account_schema (Insert 0 (Values terms 3)) insert_is insert_plain book (fin.insert book name None) insert_does (λ o n t c h. h) insert_may refl old new
-
-  pub insert_left : HasCleanDisk new → Survives old new (CommitsBy insert_text (Text name ∷ []) old) → IsTableOf old book → LeavesOnly new (λ b. (b ≡ book) ⊎ (b ≡ fin.insert book name None))
-  insert_left = crash insert_text (Text name ∷ []) account_schema (Insert 0 (Values terms 3)) insert_is insert_plain book (fin.insert book name None) insert_does (λ o n t c h. h) insert_may refl old new
-
 -- a record that is written is told by its text
 pub record_told : (t : List ℕ) (v : RecordValue) → t ≡ record_text v → IsRecord v → Tells (Text t) (Some v)
 record_told t v is ranges = ap read_record is ∙ read_back v ranges
@@ -116,6 +103,27 @@ bound_told (Text t) v tells = refl
 bound_told (Int n) v tells = absurd tells
 bound_told (Real x) v tells = absurd tells
 bound_told (Blob b) v tells = absurd tells
+
+module _ (book : Accounts) (name : List ℕ) (named : IsTrue (is_name name)) (value : Value) (v : Option RecordValue) (tells : Tells value v) (absent : fin.contains_key book name ≡ false) (old new : State) where
+  abbrev entry : Row
+  entry = Text name ∷ value ∷ []
+
+  abbrev inserting : Command
+  inserting = Insert 0 (Values terms 3)
+
+  insert_may : (s : State) (text : List ℕ) (db : Trees) → MayCommit s None inserting text entry db → MayWrite s None inserting text entry db
+  insert_may s text db (inl h) = absurd (elim h.0 [ inl e ↦ cc | inr e ↦ let e = e.2 in cc ])
+  insert_may s text db (inr h) = h
+
+  insert_does : (limit : Option ℕ) (mode : Mode) (db after : Database) (text : List ℕ) (tally : Tally) → db.schema ≡ account_schema → StandsFor (db.trees 0) book
+      → Does limit mode entry db text None inserting (Ok (tally, after)) → (after.schema ≡ account_schema) × StandsFor (after.trees 0) (fin.insert book name v)
+  insert_does limit mode db after text tally has stands d = does_insert limit mode name named value v db after text tally book tells has stands absent d
+
+  pub inserted : (count : ℕ) → IsSettled new → IsTableOf old book → Executes insert_text entry old new (Ok count) → IsTableOf new (fin.insert book name v)
+  inserted = done insert_text entry account_schema inserting insert_is insert_plain book (fin.insert book name v) insert_does (λ o n t c h. h) insert_may refl old new
+
+  pub insert_left : HasCleanDisk new → Survives old new (CommitsBy insert_text entry old) → IsTableOf old book → LeavesOnly new (λ b. (b ≡ book) ⊎ (b ≡ fin.insert book name v))
+  insert_left = crash insert_text entry account_schema inserting insert_is insert_plain book (fin.insert book name v) insert_does (λ o n t c h. h) insert_may refl old new
 
 module _ (book : Accounts) (name : List ℕ) (value : Value) (v : Option RecordValue) (tells : Tells value v) (there : fin.contains_key book name ≡ true) (old new : State) where
   abbrev given : Row
@@ -138,6 +146,45 @@ module _ (book : Accounts) (name : List ℕ) (value : Value) (v : Option RecordV
   pub update_left : HasCleanDisk new → Survives old new (CommitsBy update_text given old) → IsTableOf old book → LeavesOnly new (λ b. (b ≡ book) ⊎ (b ≡ fin.insert book name v))
   update_left = crash update_text given account_schema command update_is update_plain book (fin.insert book name v) update_does (λ o n t c h. h) update_may refl old new
 
+module _ (book : Accounts) (name : List ℕ) (there : fin.contains_key book name ≡ true) (old new : State) where
+  abbrev removing : Command
+  removing = Delete 0 (record { lets = []; body = deleting })
+
+  delete_may : (s : State) (text : List ℕ) (db : Trees) → MayCommit s None removing text (Text name ∷ []) db → MayWrite s None removing text (Text name ∷ []) db
+  delete_may s text db (inl h) = absurd (elim h.0 [ inl e ↦ cc | inr e ↦ let e = e.2 in cc ])
+  delete_may s text db (inr h) = h
+
+  delete_does : (limit : Option ℕ) (mode : Mode) (db after : Database) (text : List ℕ) (tally : Tally) → db.schema ≡ account_schema → StandsFor (db.trees 0) book
+      → Does limit mode (Text name ∷ []) db text None removing (Ok (tally, after)) → (after.schema ≡ account_schema) × StandsFor (after.trees 0) (fin.remove book name)
+  delete_does limit mode db after text tally has stands d = does_delete limit mode name db after text tally book has stands there d
+
+  pub deleted : (count : ℕ) → IsSettled new → IsTableOf old book → Executes delete_text (Text name ∷ []) old new (Ok count) → IsTableOf new (fin.remove book name)
+  deleted = done delete_text (Text name ∷ []) account_schema removing delete_is delete_plain book (fin.remove book name) delete_does (λ o n t c h. h) delete_may refl old new
+
+  pub delete_left : HasCleanDisk new → Survives old new (CommitsBy delete_text (Text name ∷ []) old) → IsTableOf old book → LeavesOnly new (λ b. (b ≡ book) ⊎ (b ≡ fin.remove book name))
+  delete_left = crash delete_text (Text name ∷ []) account_schema removing delete_is delete_plain book (fin.remove book name) delete_does (λ o n t c h. h) delete_may refl old new
+
+module _ (book : Accounts) (name other : List ℕ) (named : IsTrue (is_name other)) (fits : IsRenamable name other book) (old new : State) where
+  abbrev params : Row
+  params = Text name ∷ Text other ∷ []
+
+  abbrev changing : Command
+  changing = Update 0 (record { lets = []; body = renaming })
+
+  rename_may : (s : State) (text : List ℕ) (db : Trees) → MayCommit s None changing text params db → MayWrite s None changing text params db
+  rename_may s text db (inl h) = absurd (elim h.0 [ inl e ↦ cc | inr e ↦ let e = e.2 in cc ])
+  rename_may s text db (inr h) = h
+
+  rename_does : (limit : Option ℕ) (mode : Mode) (db after : Database) (text : List ℕ) (tally : Tally) → db.schema ≡ account_schema → StandsFor (db.trees 0) book
+      → Does limit mode params db text None changing (Ok (tally, after)) → (after.schema ≡ account_schema) × StandsFor (after.trees 0) (renamed book name other)
+  rename_does limit mode db after text tally has stands d = does_rename limit mode name other named db after text tally book has stands fits.0 fits.1 d
+
+  pub row_renamed : (count : ℕ) → IsSettled new → IsTableOf old book → Executes rename_text params old new (Ok count) → IsTableOf new (renamed book name other)
+  row_renamed = done rename_text params account_schema changing rename_is rename_plain book (renamed book name other) rename_does (λ o n t c h. h) rename_may refl old new
+
+  pub rename_left : HasCleanDisk new → Survives old new (CommitsBy rename_text params old) → IsTableOf old book → LeavesOnly new (λ b. (b ≡ book) ⊎ (b ≡ renamed book name other))
+  rename_left = crash rename_text params account_schema changing rename_is rename_plain book (renamed book name other) rename_does (λ o n t c h. h) rename_may refl old new
+
 -- ---- what a book in a database keeps true
 
 module _ {S : Type 0} (g : Ghosts S) (old new : Held S) (book : Accounts) (lost : Option Lost) (keeps : Keeps g old book lost) (none : lost ≡ None)
@@ -145,20 +192,20 @@ module _ {S : Type 0} (g : Ghosts S) (old new : Held S) (book : Accounts) (lost 
   early : HasCleanDisk (state g new) → HasCleanDisk (state g old)
   early now = omega (arith, clean)
 
-  pub keeps_done : (after : Accounts) → fin.len after ≤ most_accounts → (HasCleanDisk (state g new) → IsTableOf (state g old) book → IsTableOf (state g new) after) → Keeps g new after lost
+  pub keeps_done : (after : Accounts) → fin.len after ≤ register_capacity → (HasCleanDisk (state g new) → IsTableOf (state g old) book → IsTableOf (state g new) after) → Keeps g new after lost
   keeps_done after low does = record {
-    few = subst (λ l. (b : Accounts) → IsOrWith after l b → fin.len b ≤ most_accounts) (sym none) (λ b is. subst (λ b. fin.len b ≤ most_accounts) (sym is) low);
+    few = subst (λ l. (b : Accounts) → IsOrWith after l b → fin.len b ≤ register_capacity) (sym none) (λ b is. subst (λ b. fin.len b ≤ register_capacity) (sym is) low);
     table = λ now _. does now (keeps.table (early now) none);
     left = λ now. subst (λ l. LeavesOnly (state g new) (IsOrWith after l)) (sym none) (does now (keeps.table (early now) none)).left;
   }
 
   -- the book fits, as it is kept
-  pub fits : fin.len book ≤ most_accounts
+  pub fits : fin.len book ≤ register_capacity
   fits = keeps.few book (subst (λ l. IsOrWith book l book) (sym none) refl)
 
-  pub keeps_lost : (l : Lost) → fin.len (fin.insert book l.name l.stored) ≤ most_accounts → (HasCleanDisk (state g new) → IsTableOf (state g old) book → LeavesOnly (state g new) (λ b. (b ≡ book) ⊎ (b ≡ fin.insert book l.name l.stored))) → Keeps g new book (Some l)
+  pub keeps_lost : (l : Lost) → fin.len (after_edit book l.edit) ≤ register_capacity → (HasCleanDisk (state g new) → IsTableOf (state g old) book → LeavesOnly (state g new) (λ b. (b ≡ book) ⊎ (b ≡ after_edit book l.edit))) → Keeps g new book (Some l)
   keeps_lost l low does = record {
-    few = λ b is. elim is [ inl same ↦ subst (λ b. fin.len b ≤ most_accounts) (sym same) fits | inr more ↦ subst (λ b. fin.len b ≤ most_accounts) (sym more) low ];
+    few = λ b is. elim is [ inl same ↦ subst (λ b. fin.len b ≤ register_capacity) (sym same) fits | inr more ↦ subst (λ b. fin.len b ≤ register_capacity) (sym more) low ];
     table = λ now e. absurd cc;
     left = λ now. does now (keeps.table (early now) none);
   }
@@ -179,17 +226,33 @@ pub shown_there : (book : Accounts) (name : List ℕ) (r : Result (Option Record
 shown_there book name (Ok v) h e = ap is_some h
 shown_there book name (Err x) h e = absurd cc
 
-pub entry_new : (book : Accounts) (name : List ℕ) (v : Option RecordValue) → fin.contains_key book name ≡ false → fin.len book < most_accounts → with_entry book name v ≡ fin.insert book name v
-entry_new book name v absent room = let low : nat_lt (fin.len book) most_accounts ≡ true = lt-ltb (fin.len book) most_accounts room in rw (absent, low) refl
-
 -- how many accounts there are with a new name, and with an old one
-pub len_new : (book : Accounts) (name : List ℕ) (v : Option RecordValue) → fin.contains_key book name ≡ false → fin.len book < most_accounts → fin.len (fin.insert book name v) ≤ most_accounts
+pub len_new : (book : Accounts) (name : List ℕ) (v : Option RecordValue) → fin.contains_key book name ≡ false → fin.len book < register_capacity → fin.len (fin.insert book name v) ≤ register_capacity
 len_new book name v absent room =
     let grown : fin.len (fin.insert book name v) ≡ fin.len book + 1 = len-insert nat_list_cmp_total book name v ∙ ap (λ b. cond b (fin.len book) (fin.len book + 1)) absent in omega (arith, grown, room)
 
-pub len_old : (book : Accounts) (name : List ℕ) (v : Option RecordValue) → fin.contains_key book name ≡ true → fin.len book ≤ most_accounts → fin.len (fin.insert book name v) ≤ most_accounts
+pub len_old : (book : Accounts) (name : List ℕ) (v : Option RecordValue) → fin.contains_key book name ≡ true → fin.len book ≤ register_capacity → fin.len (fin.insert book name v) ≤ register_capacity
 len_old book name v there low =
     let same : fin.len (fin.insert book name v) ≡ fin.len book = len-insert nat_list_cmp_total book name v ∙ ap (λ b. cond b (fin.len book) (fin.len book + 1)) there in omega (arith, same, low)
 
-pub entry_old : (book : Accounts) (name : List ℕ) (v : Option RecordValue) → fin.contains_key book name ≡ true → with_entry book name v ≡ fin.insert book name v
-entry_old book name v there = rw there refl
+-- a name that isn't entered changes nothing
+pub not_entered : (room : ℕ) (old new : Accounts) (name : List ℕ) (v : Option RecordValue) (e : BookError) → EntersWithin room old new name v (Err e) → new ≡ old
+not_entered room old new name v error.Exists h = h.1
+not_entered room old new name v error.Full h = h.2
+not_entered room old new name v error.Memory h = h.2
+not_entered room old new name v error.Name h = absurd h
+not_entered room old new name v error.NoAccount h = absurd h
+
+-- so is one that is replaced
+pub put_replaced : (room : ℕ) (old new : Accounts) (name : List ℕ) (v : Option RecordValue) (r : Result (Unit {0}) BookError) → fin.contains_key old name ≡ true → OnOk r (new ≡ fin.insert old name v) → IfErr r (λ e. (e ≡ error.Memory) × (new ≡ old)) → PutsEntry room old new name v r
+put_replaced room old new name v (Ok u) there done memory = (ap (λ b. b || nat_lt (fin.len old) room) there, done)
+put_replaced room old new name v (Err e) there done memory = subst (λ e. PutsEntry room old new name v (Err e)) (sym memory.0) (ap (λ b. b || nat_lt (fin.len old) room) there, memory.1)
+
+-- a new name that is entered is put
+pub put_entered : (room : ℕ) (old new : Accounts) (name : List ℕ) (v : Option RecordValue) (r : Result (Unit {0}) BookError) → fin.contains_key old name ≡ false → EntersWithin room old new name v r → PutsEntry room old new name v r
+put_entered room old new name v (Ok u) absent h = (ap (λ b. b || nat_lt (fin.len old) room) absent ∙ lt-ltb (fin.len old) room h.1, h.2)
+put_entered room old new name v (Err error.Exists) absent h = absurd (let there = h.0 in cc)
+put_entered room old new name v (Err error.Full) absent h = (ap (λ b. b || nat_lt (fin.len old) room) absent ∙ le-ltb (fin.len old) room h.1, h.2)
+put_entered room old new name v (Err error.Memory) absent h = (ap (λ b. b || nat_lt (fin.len old) room) absent ∙ lt-ltb (fin.len old) room h.1, h.2)
+put_entered room old new name v (Err error.Name) absent h = h
+put_entered room old new name v (Err error.NoAccount) absent h = h

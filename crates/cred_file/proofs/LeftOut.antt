@@ -4,7 +4,7 @@ use Rattle.std.proofs.lemmas.List.{take-append-drop, length-take}
 use Rattle.std.proofs.lemmas.List.Folds.{list_any-append, list_any_at}
 use Rattle.std.proofs.lemmas.List.Sums.{count_by_more_yes, sum_by-take-le, length-filter}
 use Rattle.std.specs.List.{AllZip, list_any}
-use Rattle.std.specs.Ordering.{is_eq, int_eq}
+use Rattle.std.specs.Ordering.{is_eq}
 use Rattle.std.specs.Cmp.{eq_by_cmp_equiv}
 use Rattle.sqlite.specs.declared.types.Value.TheVariants.{Int, Text}
 use Rattle.sqlite.specs.Order.{Row, column, value_cmp}
@@ -16,9 +16,9 @@ use Rattle.cred_file.specs.declared.fault.OpenFault.{OpenFault}
 use Rattle.cred_file.specs.declared.fault.OpenFault.TheVariants as fault
 use Rattle.cred_file.specs.Table.{Line, Says, has_id, has_name}
 use Rattle.cred_file.specs.Opening.{agree, is_no_name, is_no_record, is_repeated, AreAtFault}
-use Rattle.cred_file.specs.Drafts.{IsDraftOf, IsUnread, IsSpare, IsNotAdded}
+use Rattle.cred_file.specs.Drafts.{IsDraftOf, IsUnread, IsSpare, IsNotAdded, knows}
 use Rattle.cred_file.proofs.TableLemmas.{or_false, id_symm, any_rows}
-use Rattle.cred_file.proofs.Pushed.{any_ids, any_known}
+use Rattle.cred_file.proofs.Pushed.{any_known}
 
 -- a test of two parts, both true
 both : (a b : Bool) → a ≡ true → b ≡ true → (a && b) ≡ true
@@ -86,7 +86,7 @@ module _ (rows : List Row) (k : ℕ) (low : k < length rows) (row : Row) (is : g
       let l = h.0 in
       let says = h.1 in
       let s = draft.stands in
-      let new_id : list_any (has_id l.id) s.lines ≡ false = any_ids l.id s.lines ∙ ap (list_any (λ x. int_eq x l.id)) draft.ids_are ∙ ap (λ n. list_any (λ x. int_eq x n) ids) h.2 ∙ h.3 in
+      let new_id : list_any (has_id l.id) s.lines ≡ false = draft.ids_are l.id ∙ ap (knows ids) h.2 ∙ h.3 in
       let old_name : list_any (has_name l.name) s.lines ≡ true = any_known l.name (take k rows) book s ∙ h.4 in
       here (λ r. has_rowid id r && is_repeated rows r)
       (both _ _ (numbered row id (says.id ∙ ap Int h.2)) (any_early _ rows k (other_row row l says (take k rows) s.lines s.each new_id old_name)))
@@ -95,7 +95,7 @@ module _ (rows : List Row) (k : ℕ) (low : k < length rows) (row : Row) (is : g
   spare (fault.Database e) h =
       let id = h.1 in
       let s = draft.stands in
-      let met : list_any (has_rowid id) (take k rows) ≡ true = any_rows id (take k rows) s.lines s.each ∙ any_ids id s.lines ∙ ap (list_any (λ x. int_eq x id)) draft.ids_are ∙ h.3 in
+      let met : list_any (has_rowid id) (take k rows) ≡ true = any_rows id (take k rows) s.lines s.each ∙ draft.ids_are id ∙ h.3 in
       (h.0, inr (id, twice_met (has_rowid id) rows k row low met (ap (has_rowid id) is ∙ numbered row id h.2)))
 
   pub left_out : (fault : OpenFault) → IsNotAdded row book ids fault → AreAtFault rows fault

@@ -2,9 +2,13 @@ pub mod Texts
 pub mod TableLemmas
 pub mod Changes
 pub mod Keeping
+pub mod Removing
+pub mod Within
+pub mod Joined
 pub mod Judged
 pub mod Creating
 pub mod Shuffled
+pub mod Streamed
 pub mod Pushed
 pub mod LeftOut
 pub mod Selected

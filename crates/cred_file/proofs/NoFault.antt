@@ -16,7 +16,7 @@ use Rattle.sqlite.specs.Effect.{IsDatabase}
 use Rattle.sqlite_trees.specs.Tree.{has_rowid}
 use Rattle.sqlite_value.proofs.OrderLemmas.{value_cmp_total, value_cmp-Text}
 use Rattle.cred_phc.specs.Values.{RecordValue}
-use Rattle.cred_book.specs.Accounts.{Accounts, most_accounts}
+use Rattle.cred_book.specs.Accounts.{Accounts, register_capacity}
 use Rattle.cred_file.specs.declared.fault.OpenFault.{OpenFault}
 use Rattle.cred_file.specs.declared.fault.OpenFault.TheVariants as fault
 use Rattle.cred_book.specs.Names.{name_cmp}
@@ -133,7 +133,7 @@ as_many_lines (l ∷ ls) apart = one_more l ls apart.1 ∙ ap suc (as_many_lines
 as_many : (rows : List Row) (book : Accounts) → StandsFor rows book → length rows ≡ fin.len book
 as_many rows book s = same_length rows s.lines s.each ∙ sym (as_many_lines s.lines s.apart) ∙ ap (λ (b : Accounts). fin.len b) s.book_is
 
-pub no_fault : (rows : List Row) (book : Accounts) → fin.len book ≤ most_accounts → StandsFor rows book → (why : OpenFault) → AreAtFault rows why → IsForWant why
+pub no_fault : (rows : List Row) (book : Accounts) → fin.len book ≤ register_capacity → StandsFor rows book → (why : OpenFault) → AreAtFault rows why → IsForWant why
 no_fault rows book few s fault.NotEmpty h = absurd h
 no_fault rows book few s fault.NoBook h = absurd h
 no_fault rows book few s (fault.NoName id) h =
@@ -146,7 +146,7 @@ no_fault rows book few s fault.Memory h = tt
 no_fault rows book few s (fault.Database e) h = tt
 
 -- a sound database that a crash left of a book is refused for want alone
-pub for_want : (old new : State) (book : Accounts) → fin.len book ≤ most_accounts → HoldsBook old.now.trees book → IsDatabase old.now → (why : OpenFault) → IsUnopened old new why → IsForWant why
+pub for_want : (old new : State) (book : Accounts) → fin.len book ≤ register_capacity → HoldsBook old.now.trees book → IsDatabase old.now → (why : OpenFault) → IsUnopened old new why → IsForWant why
 for_want old new book few holds sound why (inl no_book) = absurd (no_book.1 (one_schema old.now.trees old.now.schema holds.sound sound))
 for_want old new book few holds sound why (inr (inl rows)) = no_fault (old.now.trees 0) book few holds.stands why rows.0
 for_want old new book few holds sound why (inr (inr failed)) = subst IsForWant (sym failed.1) tt

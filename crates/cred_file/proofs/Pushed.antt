@@ -1,9 +1,10 @@
 -- A row more of a draft.
-use Rattle.std.proofs.Common.{◌≡◌, ℕ, ℤ, List, [], ◌∷◌, ◌++◌, map, Bool, false, cond, ◌||◌, Some, None, Option, is_some, refl, sym, ap, ◌∙◌, ◌+◌, arith, length-append}
+use Rattle.std.proofs.Common.{◌≡◌, ℕ, ℤ, List, [], ◌∷◌, ◌++◌, map, Bool, true, false, cond, ◌||◌, Some, None, Option, is_some, refl, sym, ap, ◌∙◌, ◌+◌, arith, length-append}
 use Rattle.std.proofs.lemmas.List.{map-append}
 use Rattle.std.proofs.lemmas.List.Folds.{list_any-append}
 use Rattle.std.specs.List.{AllZip, list_any}
-use Rattle.std.specs.Ordering.{is_eq, int_eq}
+use Rattle.std.specs.Ordering.{is_eq, int_cmp}
+use Rattle.std.specs.BTreeMap.{is_at}
 use Rattle.std.specs.Cmp.Lexicographic.{nat_list_cmp_total}
 use Rattle.std.specs.FinMap as fin
 use Rattle.std.specs.FinMap.{get-from_entries, from_entries_push, len-empty, len-insert, slice_cmp-IsAntisymmetric, nat_cmp-IsAntisymmetric}
@@ -36,11 +37,6 @@ each_push [] (x ∷ ls) row l all says = absurd all
 each_push (r ∷ rows) [] row l all says = absurd all
 each_push (r ∷ rows) (x ∷ ls) row l all says = (all.0, each_push rows ls row l all.1 says)
 
--- the ids of the lines, as the code compares them
-pub any_ids : (id : ℤ) (ls : List Line) → list_any (has_id id) ls ≡ list_any (λ x. int_eq x id) (map (λ l. l.id) ls)
-any_ids id [] = refl
-any_ids id (l ∷ ls) = ap (λ o. is_eq o || list_any (has_id id) ls) (value_cmp-Int l.id id) ∙ ap (λ b. int_eq l.id id || b) (any_ids id ls)
-
 -- the names of the lines, as the book has them
 pub any_known : (name : List ℕ) (rows : List Row) (book : Accounts) (s : StandsFor rows book) → list_any (has_name name) s.lines ≡ fin.contains_key book name
 any_known name rows book s =
@@ -50,15 +46,21 @@ no_some : {X : Type 0} (o : Option X) → is_some o ≡ false → o ≡ None
 no_some None e = refl
 no_some (Some x) e = absurd cc
 
+turned : (a b : Bool) → (a || (b || false)) ≡ cond b true a
+turned true true = refl
+turned true false = refl
+turned false true = refl
+turned false false = refl
+
 pub no_rows : (book : Accounts) (ids : List ℤ) → book ≡ fin.empty → ids ≡ [] → IsDraftOf [] book ids
-no_rows book ids no_names no_ids = record { stands = record { lines = []; each = tt; apart = tt; book_is = sym no_names }; ids_are = sym no_ids; count = ap (λ b. fin.len b) no_names ∙ len-empty name_cmp (Option RecordValue); few = omega (arith, ap (λ b. fin.len b) no_names, len-empty name_cmp (Option RecordValue)) }
+no_rows book ids no_names no_ids = record { stands = record { lines = []; each = tt; apart = tt; book_is = sym no_names }; ids_are = λ id. ap (list_any (is_at (int_cmp id))) (sym no_ids); count = ap (λ b. fin.len b) no_names ∙ len-empty name_cmp (Option RecordValue); few = omega (arith, ap (λ b. fin.len b) no_names, len-empty name_cmp (Option RecordValue)) }
 
 pub draft_push : (rows : List Row) (book : Accounts) (ids : List ℤ) (row : Row) (after : Accounts) (more : List ℤ) → IsDraftOf rows book ids → IsAdded row book ids after more
     → IsDraftOf (rows ++ row ∷ []) after more
 draft_push rows book ids row after more d a =
     let s = d.stands in
     let l = a.line in
-    let new_id : list_any (has_id l.id) s.lines ≡ false = any_ids l.id s.lines ∙ ap (list_any (λ x. int_eq x l.id)) d.ids_are ∙ a.new_id in
+    let new_id : list_any (has_id l.id) s.lines ≡ false = d.ids_are l.id ∙ a.new_id in
     let new_name : list_any (has_name l.name) s.lines ≡ false = any_known l.name rows book s ∙ a.new_name in
     let none : fin.find name_cmp l.name (map entry_of s.lines) ≡ None =
     sym (get-from_entries nat_list_cmp_total (map entry_of s.lines) l.name) ∙ ap (λ b. fin.get b l.name) s.book_is ∙ no_some (fin.get book l.name) a.new_name in
@@ -71,7 +73,7 @@ draft_push rows book ids row after more d a =
             ∙ from_entries_push nat_list_cmp_total (slice_cmp-IsAntisymmetric nat_cmp-IsAntisymmetric) (map entry_of s.lines) l.name l.stored none
             ∙ ap (λ b. fin.insert b l.name l.stored) s.book_is ∙ sym a.book_is;
       };
-      ids_are = map-append (λ (x : Line). x.id) s.lines (l ∷ []) ∙ ap (λ xs. xs ++ l.id ∷ []) d.ids_are ∙ sym a.ids_are;
+      ids_are = λ id. list_any-append (has_id id) s.lines (l ∷ []) ∙ turned (list_any (has_id id) s.lines) (has_id id l) ∙ ap (λ o. cond (is_eq o) true (list_any (has_id id) s.lines)) (value_cmp-Int l.id id) ∙ ap (cond (is_at (int_cmp l.id) id) true) (d.ids_are id) ∙ sym (a.ids_are id);
       count =
           let grown : fin.len (fin.insert book l.name l.stored) ≡ fin.len book + 1 = len-insert nat_list_cmp_total book l.name l.stored ∙ ap (λ b. cond b (fin.len book) (fin.len book + 1)) a.new_name in
           omega (arith, ap (λ b. fin.len b) a.book_is, grown, d.count, length-append rows (row ∷ []));

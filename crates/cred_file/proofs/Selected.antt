@@ -11,6 +11,7 @@ use Rattle.sqlite.specs.State.{State, Shown, IsUnchanged, CommitsShowing, Surviv
 use Rattle.sqlite.proofs.Callers.{IsPlain, reads_as, never_commits}
 use Rattle.sqlite.specs.Listing.{understood}
 use Rattle.cred_book.specs.Accounts.{Accounts}
+use Rattle.sqlite_catalog.specs.Listing.{IsSound}
 use Rattle.cred_file.specs.Schema.{account_schema}
 use Rattle.cred_file.specs.Table.{StandsFor}
 use Rattle.cred_file.specs.Keeps.{IsTableOf}
@@ -78,6 +79,7 @@ pub is_table : (s : State) (book : Accounts) → IsSettled s → IsTrue s.is_ope
 is_table s book settled is_open autocommit rest sound schema stands = record {
   schema = schema;
   stands = stands;
+  sound = subst (λ x. IsSound x s.now.trees) schema sound;
   autocommit = autocommit;
   left = λ db may. (book, refl, holds db book s.now schema sound stands (settled db is_open may ∙ ap (λ (d : Database). d.trees) (sym rest)));
 }

@@ -207,6 +207,7 @@ pub record IsRowOf (test : Row → Bool) (name : List ℕ) (rows : List Row) (ls
   pub says : Says r l
   pub named : l.name ≡ name
   pub alone : filter test rows ≡ r ∷ []
+  pub kept : fin.find name_cmp name (map entry_of ls) ≡ Some l.stored
   pub other : (id : ℤ) → list_any (has_id id) ls ≡ false → has_id id l ≡ false
   pub dropped : AllZip Says (without_rowid l.id rows) (without name ls)
 
@@ -233,6 +234,7 @@ module _ (test : Row → Bool) (name : List ℕ) (finds : (r : Row) (l : Line) �
             says = all.0;
             named = sym same;
             alone = ap (λ b. cond b (r ∷ filter test rows) (filter test rows)) (finds r l all.0 ∙ p) ∙ ap (λ rs. r ∷ rs) (no_hit rows ls all.1 none);
+            kept = ap (λ b. cond b (Some l.stored) (fin.find name_cmp name (map entry_of ls))) p;
             other = λ id free. (or_false (has_id id l) (list_any (has_id id) ls) free).0;
             dropped = subst₂ (AllZip Says)
                 (sym (ap (λ b. cond (not b) (r ∷ without_rowid l.id rows) (without_rowid l.id rows)) (ap (λ v. is_eq (value_cmp v (Int l.id))) all.0.id ∙ (eq_by_cmp_equiv value_cmp_total).refl (Int l.id)) ∙ none_dropped l.id rows ls all.1 apart.0))
@@ -250,6 +252,7 @@ module _ (test : Row → Bool) (name : List ℕ) (finds : (r : Row) (l : Line) �
             says = it.says;
             named = it.named;
             alone = ap (λ b. cond b (r ∷ filter test rows) (filter test rows)) (finds r l all.0 ∙ p) ∙ it.alone;
+            kept = ap (λ b. cond b (Some l.stored) (fin.find name_cmp name (map entry_of ls))) p ∙ it.kept;
             other = λ id free. it.other id (or_false (has_id id l) (list_any (has_id id) ls) free).1;
             dropped = subst₂ (AllZip Says)
                 (sym (ap (λ b. cond (not b) (r ∷ without_rowid x.id rows) (without_rowid x.id rows)) (ap (λ v. is_eq (value_cmp v (Int x.id))) all.0.id ∙ other)))

@@ -1,5 +1,5 @@
 -- Why no book is begun, and what is said of a change that is lost.
-use Rattle.std.specs.Prelude.{◌≡◌, ◌≢◌, ℕ, List, [], ◌∷◌, Option, Err}
+use Rattle.std.specs.Prelude.{◌≡◌, ◌≢◌, ℕ, Bool, if◌then◌else◌, List, [], ◌∷◌, Option, Err}
 use Rattle.sqlite.specs.declared.error.Error.{Error}
 use Rattle.sqlite.specs.declared.types.Value.{Value}
 use Rattle.sqlite.specs.declared.types.Value.TheVariants.{Text}
@@ -8,10 +8,12 @@ use Rattle.sqlite.specs.Order.{Row}
 use Rattle.sqlite.specs.State.{Executes, HasCleanDisk}
 use Rattle.sqlite.specs.Store.{Ghosts}
 use Rattle.cred_phc.specs.Values.{RecordValue}
+use Rattle.cred_file.specs.declared.fault.Edit.{Edit}
 use Rattle.cred_file.specs.declared.fault.Lost.{Lost}
 use Rattle.cred_file.specs.declared.fault.OpenFault.{OpenFault}
 use Rattle.cred_file.specs.declared.fault.OpenFault.TheVariants as fault
-use Rattle.cred_file.specs.Schema.{create_text, insert_text, no_schema, update_text}
+use Rattle.cred_file.specs.Schema.{create_text, delete_text, insert_text, no_schema}
+use Rattle.cred_file.specs.Schema.{rename_text, update_text}
 use Rattle.cred_file.specs.Table.{Tells}
 
 -- where the disk returns what was written, the statement was run and this was its error
@@ -32,19 +34,26 @@ IsUnbegun g old new fault.Memory = ((state g old).now.schema ≡ no_schema) × (
 IsUnbegun g old new (fault.Database e) =
     ((state g old).now.schema ≡ no_schema) × Refuses g old new create_text [] e
 
--- the statement that adds a name was refused
-abbrev pub FailsToAdd : {S : Type 0} → Ghosts S → Held S → Held S → List ℕ → Error → Type 0
-FailsToAdd g old new name = Refuses g old new insert_text (Text name ∷ [])
+-- by whether the name is there
+abbrev pub put_text : Bool → List ℕ
+put_text is_there = if is_there then update_text else insert_text
 
--- the statement that puts a record, or none, was refused
-abbrev pub FailsToPut : {S : Type 0} → Ghosts S → Held S → Held S → List ℕ → Option RecordValue
-    → Error → Type 0
-FailsToPut g old new name stored e =
-    (value : Value) × Tells value stored × Refuses g old new update_text (Text name ∷ value ∷ []) e
+-- the statement that puts a record, or none, at a name was refused
+abbrev pub FailsToPut : {S : Type 0} → Ghosts S → Held S → Held S → Bool → List ℕ
+    → Option RecordValue → Error → Type 0
+FailsToPut g old new is_there name stored e = (value : Value) × Tells value stored
+    × Refuses g old new (put_text is_there) (Text name ∷ value ∷ []) e
+
+-- the one that deletes the row of a name
+abbrev pub FailsToDelete : {S : Type 0} → Ghosts S → Held S → Held S → List ℕ → Error → Type 0
+FailsToDelete g old new name = Refuses g old new delete_text (Text name ∷ [])
+
+-- the one that renames it
+abbrev pub FailsToRename : {S : Type 0} → Ghosts S → Held S → Held S → List ℕ → List ℕ → Error
+    → Type 0
+FailsToRename g old new name other = Refuses g old new rename_text (Text name ∷ Text other ∷ [])
 
 -- what is lost is the change that was to be made, with the error of its statement
-pub record IsLossOf (name : List ℕ) (stored : Option RecordValue) (Fails : Error → Type 0)
-    (l : Lost) : Type 0 where
-  pub name_is : l.name ≡ name
-  pub stored_is : l.stored ≡ stored
+pub record IsLossOf (edit : Edit) (Fails : Error → Type 0) (l : Lost) : Type 0 where
+  pub edit_is : l.edit ≡ edit
   pub error : Fails l.error

@@ -7,8 +7,9 @@ use Rattle.sqlite.specs.Held.{Held, state}
 use Rattle.sqlite.specs.Store.{Ghosts}
 use Rattle.sqlite_catalog.specs.Listing.{IsSound}
 use Rattle.cred_phc.specs.Values.{RecordValue}
-use Rattle.cred_book.specs.Accounts.{Accounts, most_accounts}
+use Rattle.cred_book.specs.Accounts.{Accounts, register_capacity}
 use Rattle.cred_file.specs.declared.fault.Lost.{Lost}
+use Rattle.cred_file.specs.Edits.{after_edit}
 use Rattle.cred_file.specs.Schema.{account_schema}
 use Rattle.cred_file.specs.Table.{StandsFor}
 
@@ -26,19 +27,20 @@ LeavesOnly s P =
 pub record IsTableOf (s : State) (book : Accounts) : Type 0 where
   pub schema : s.now.schema ≡ account_schema
   pub stands : StandsFor (s.now.trees 0) book
+  pub sound : IsSound account_schema s.now.trees
   pub autocommit : s.in_transaction ≡ false
   pub left : LeavesOnly s (λ b. b ≡ book)
 
--- whichever book of this kind the old table stands for, the new one stands for it with this entry
-abbrev pub Puts : State → State → (Accounts → Type 0) → List ℕ → Option RecordValue → Type 0
-Puts old new Fits name stored =
-    (book : Accounts) → Fits book → IsTableOf old book → IsTableOf new (fin.insert book name stored)
+-- whichever book of this kind the old table stands for, the new one stands for what this makes of it
+abbrev pub Makes : State → State → (Accounts → Type 0) → (Accounts → Accounts) → Type 0
+Makes old new Fits after =
+    (book : Accounts) → Fits book → IsTableOf old book → IsTableOf new (after book)
 
--- likewise a crash leaves the book as it was, or with this entry
-abbrev pub MayPut : State → State → (Accounts → Type 0) → List ℕ → Option RecordValue → Type 0
-MayPut old new Fits name stored =
+-- likewise a crash leaves the book as it was, or what this makes of it
+abbrev pub MayMake : State → State → (Accounts → Type 0) → (Accounts → Accounts) → Type 0
+MayMake old new Fits after =
     (book : Accounts) → Fits book → IsTableOf old book
-    → LeavesOnly new (λ b. (b ≡ book) ⊎ (b ≡ fin.insert book name stored))
+    → LeavesOnly new (λ b. (b ≡ book) ⊎ (b ≡ after book))
 
 -- the name is not there, and is there
 abbrev pub Lacks : List ℕ → Accounts → Type 0
@@ -47,6 +49,10 @@ Lacks name book = fin.contains_key book name ≡ false
 abbrev pub Has : List ℕ → Accounts → Type 0
 Has name book = fin.contains_key book name ≡ true
 
+-- the one name is there, and the other isn't beside it
+abbrev pub IsRenamable : List ℕ → List ℕ → Accounts → Type 0
+IsRenamable name other book = Has name book × Lacks other (fin.remove book name)
+
 -- a crash leaves what it could leave before, or an empty book
 abbrev pub MayBegin : State → State → Type 0
 MayBegin old new = (db : Trees) → new.may_leave db → old.may_leave db ⊎ HoldsBook db fin.empty
@@ -54,12 +60,12 @@ MayBegin old new = (db : Trees) → new.may_leave db → old.may_leave db ⊎ Ho
 -- the book, or with the change that was under way as the database failed
 abbrev pub IsOrWith : Accounts → Option Lost → Accounts → Type 0
 IsOrWith book None b = b ≡ book
-IsOrWith book (Some l) b = (b ≡ book) ⊎ (b ≡ fin.insert book l.name l.stored)
+IsOrWith book (Some l) b = (b ≡ book) ⊎ (b ≡ after_edit book l.edit)
 
 -- Where the disk has returned what was written: the table is the book's until a change is lost, and
--- a crash leaves the book, or the book with the lost change. Either has at most 4096 accounts.
+-- a crash leaves the book, or the book with the lost change. Neither has too many accounts.
 pub record Keeps {S : Type 0} (g : Ghosts S) (conn : Held S) (book : Accounts)
     (lost : Option Lost) : Type 0 where
   pub table : HasCleanDisk (state g conn) → lost ≡ None → IsTableOf (state g conn) book
   pub left : HasCleanDisk (state g conn) → LeavesOnly (state g conn) (IsOrWith book lost)
-  pub few : (b : Accounts) → IsOrWith book lost b → fin.len b ≤ most_accounts
+  pub few : (b : Accounts) → IsOrWith book lost b → fin.len b ≤ register_capacity

@@ -2,7 +2,9 @@
 -- is opened, and why a call fails.
 pub mod Schema
 pub mod Table
+pub mod Edits
 pub mod Keeps
+pub mod Together
 pub mod Opening
 pub mod Drafts
 pub mod Failures

@@ -13,7 +13,7 @@ use Rattle.sqlite.specs.State.{State, FailsToQuery}
 use Rattle.sqlite_trees.specs.Tree.{has_rowid}
 use Rattle.sqlite_trees.specs.View.{is_int}
 use Rattle.cred_phc.specs.Reading.{read_record}
-use Rattle.cred_book.specs.Accounts.{Accounts, most_accounts}
+use Rattle.cred_book.specs.Accounts.{Accounts, register_capacity}
 use Rattle.cred_book.specs.Names.{is_name}
 use Rattle.cred_file.specs.declared.fault.OpenFault.{OpenFault}
 use Rattle.cred_file.specs.declared.fault.OpenFault.TheVariants as fault
@@ -66,7 +66,7 @@ AreAtFault rows (fault.NoRecord id) =
     list_any (λ row. has_rowid id row && is_no_record (column row 2)) rows ≡ true
 AreAtFault rows (fault.Twice id) =
     list_any (λ row. has_rowid id row && is_repeated rows row) rows ≡ true
-AreAtFault rows fault.TooMany = most_accounts < length rows
+AreAtFault rows fault.TooMany = register_capacity < length rows
 AreAtFault rows fault.Memory = ⊤
 AreAtFault rows (fault.Database e) = (e ≡ corrupt) × HasBadIds rows
 

@@ -11,12 +11,18 @@ use Rattle.sqlite_schema.specs.declared.schema.Index.{Index}
 abbrev pub create_text : List ℕ
 create_text = codes "CREATE TABLE account (name TEXT NOT NULL PRIMARY KEY, record TEXT) STRICT"
 
--- those that change it, by a name and a record's text
+-- those that change it, by a name and a record's text, a name, and two names
 abbrev pub insert_text : List ℕ
-insert_text = codes "INSERT INTO account (name) VALUES (?1)"
+insert_text = codes "INSERT INTO account (name, record) VALUES (?1, ?2)"
 
 abbrev pub update_text : List ℕ
 update_text = codes "UPDATE account SET record = ?2 WHERE name = ?1"
+
+abbrev pub delete_text : List ℕ
+delete_text = codes "DELETE FROM account WHERE name = ?1"
+
+abbrev pub rename_text : List ℕ
+rename_text = codes "UPDATE account SET name = ?2 WHERE name = ?1"
 
 abbrev pub name_column : Column
 name_column = record {

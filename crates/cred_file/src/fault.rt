@@ -1,10 +1,12 @@
 //! Why a database keeps no book, and what was lost as it failed.
 
 ghost use Rattle.std.specs.Prelude.{◌≡◌};
+ghost use Rattle.cred_file.specs.declared.fault.Edit.TheVariants as Edit;
 
-use cred_book::Name;
+use cred_book::{Name, Register};
 use cred_phc::Record;
 use sqlite::Error;
+use std::fmt;
 
 /// Why a book isn't begun or opened. A row is named by its row id, as
 /// `SELECT rowid, * FROM account` shows it.
@@ -20,7 +22,7 @@ pub enum OpenFault {
     NoRecord(i64),
     /// This row has a name that another row has.
     Twice(i64),
-    /// There are more than 4096 rows.
+    /// There are more than 2^24 rows.
     TooMany,
     /// There is no memory for a book.
     Memory,
@@ -33,20 +35,47 @@ pub enum OpenFault {
 pub struct Lost {
     /// What the database answered.
     pub error: Error,
-    /// The name whose entry was to change.
-    pub name: Name,
-    /// The record that was to stand there, or none.
-    pub stored: Option<Record>,
+    /// The change that was to be made.
+    pub edit: Edit,
+}
+
+/// A change of a book.
+#[derive(Drop)]
+pub enum Edit {
+    /// A record, or none, is put at a name.
+    Put { name: Name, stored: Option<Record> },
+    /// All these accounts are added.
+    EnterAll(Register),
+    /// A name is taken out, with its record.
+    Delete(Name),
+    /// A name becomes another, which has its record.
+    Rename { name: Name, other: Name },
+}
+
+impl fmt::Debug for Edit {
+    fn fmt<W: fmt::Write>(&self, f: &mut fmt::Formatter<W>) -> fmt::Result {
+        match self {
+            Edit::Put { name, .. } => write!(f, "Put {{ name: {name:?} }}"),
+            Edit::EnterAll(more) => write!(f, "EnterAll {{ names: {} }}", more.len()),
+            Edit::Delete(name) => write!(f, "Delete {{ name: {name:?} }}"),
+            Edit::Rename { name, other } => {
+                write!(f, "Rename {{ name: {name:?}, other: {other:?} }}")
+            }
+        }
+    }
 }
 
 impl Lost {
-    pub(crate) fn new(error: Error, name: Name, stored: Option<Record>) -> Lost
-        ensures { result ≡ record { error = error; name = name; stored = stored } }
+    pub(crate) fn new(error: Error, edit: Edit) -> Lost
+        ensures { result ≡ record { error = error; edit = edit } }
     {
-        Lost {
-            error,
-            name,
-            stored,
-        }
+        Lost { error, edit }
+    }
+
+    /// What is lost of an entry.
+    pub(crate) fn put(error: Error, name: Name, stored: Option<Record>) -> Lost
+        ensures { result ≡ record { error = error; edit = Edit.Put name stored } }
+    {
+        Lost::new(error, Edit::Put { name, stored })
     }
 }

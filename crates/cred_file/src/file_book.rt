@@ -1,42 +1,43 @@
-//! A book that is kept in the table of a database, which is changed before the book is.
+//! A book that is kept in the table of a database.
+
+mod edits;
+mod entering;
 
 ghost use Rattle.sqlite.specs.Held.{state};
 ghost use Rattle.cred_file.specs.Schema.{no_schema};
-ghost use Rattle.cred_file.specs.Failures.{FailsToPut, IsLossOf, IsUnbegun};
+ghost use Rattle.cred_file.specs.Failures.{IsUnbegun};
 ghost use Rattle.cred_file.specs.Keeps.{Keeps, MayBegin};
 ghost use Rattle.cred_file.specs.Opening.{IsFound, IsUnopened};
-ghost use Rattle.cred_file.specs.Table.{Tells};
-ghost use Rattle.sqlite_value.specs.Value.{owned};
 ghost use Rattle.std.specs.Prelude.{◌≡◌, true, false, IfErr, IfOk, IfSome, MatchBool, None, OnOk};
 ghost use Rattle.std.specs.Prelude.{Some, option_map};
 ghost use Rattle.std.specs.FinMap as fin;
-ghost use Rattle.cred_book.specs.Calls.{Admits, Loads, Shows};
+ghost use Rattle.cred_book.specs.Accounts.{register_capacity};
+ghost use Rattle.cred_book.specs.Calls.{AdmitsWithin, Loads, Shows};
 ghost use Rattle.cred_book.specs.Commits.{Begins, Commits};
 ghost use Rattle.cred_book.specs.Works.{is_for_current, makes_change};
 ghost use Rattle.sqlite.specs.State.{HasCleanDisk, Survives};
 
 use crate::catalogue::is_of_book;
 use crate::fault::{Lost, OpenFault};
-use crate::statements::{add_name, create_table, read_table, set_stored};
-use cred_book::{Book, BookError, Keeper, Name, Reply, Request, Ticket, Worked};
-use cred_phc::{Record, write_record};
-use sqlite::types::ValueRef;
+use crate::statements::{create_table, read_table};
+use cred_book::{BookError, Keeper, Name, Register, Reply, Request, Ticket, Worked};
+use cred_phc::Record;
 use sqlite::{Alter, Connection};
 use sqlite_schema::schema::Schema;
 use std::alloc::Global;
 use std::marker::Model;
 use std::sync::Wait;
 
-/// A book whose table stands for it. As long as the disk returns what was written, a crash between
-/// calls leaves this book.
+/// A book of at most 2^24 accounts, whose table stands for it. As long as the disk returns what was
+/// written, a crash between calls leaves this book.
 ///
-/// Where the database fails, the change that was under way is lost: it may be kept or not. From
-/// then on no other change is made, and `lost` tells of it.
+/// If the database fails, the change that was under way is lost: it may be kept or not. From then
+/// on no other change is made, and `lost` tells of it.
 #[derive(Drop)]
 pub struct FileBook<S: Alter> {
     alloc: Global,
     conn: Connection<S>,
-    book: Book,
+    book: Register,
     lost: Option<Lost>,
 }
 
@@ -45,7 +46,7 @@ impl<S: Alter> Model for FileBook<S> {
     ghost use Rattle.std.specs.Coded.{coded×, coded_option};
     ghost use Rattle.sqlite.specs.Held.{Held, held_code};
     ghost use Rattle.cred_book.specs.Accounts.{Accounts};
-    ghost use Rattle.cred_book.specs.contracts.Book as kept;
+    ghost use Rattle.cred_book.specs.contracts.register.Register as kept;
     ghost use Rattle.cred_file.specs.declared.fault.Lost.{Lost};
     ghost use Rattle.cred_file.specs.contracts.fault.Lost as loss;
     ghost use Rattle.cred_file.specs.Keeps.{Keeps};
@@ -63,8 +64,7 @@ impl<S: Alter> Model for FileBook<S> {
 impl<S: Alter> FileBook<S> {
     /// Begins an empty book in an empty database.
     ///
-    /// Errors: `NotEmpty` where there is a table already; `Memory` where there is none for 4096
-    /// accounts; `Database`. The connection comes back.
+    /// Errors: `NotEmpty` if there is a table already; `Database`. The connection comes back.
     pub fn create(
         alloc: Global,
         mut conn: Connection<S>,
@@ -79,9 +79,7 @@ impl<S: Alter> FileBook<S> {
         if !is_empty(conn.schema()) {
             return Err((OpenFault::NotEmpty, conn));
         }
-        let Ok(book) = Book::new(alloc) else {
-            return Err((OpenFault::Memory, conn));
-        };
+        let book = Register::new(alloc);
         match create_table(&mut conn) {
             Ok(()) => Ok(FileBook {
                 alloc,
@@ -95,8 +93,8 @@ impl<S: Alter> FileBook<S> {
 
     /// Opens the book that a database holds. Nothing is changed.
     ///
-    /// Errors: `NoBook` where the database hasn't the one table of a book; `NoName`, `NoRecord` and
-    /// `Twice` with the id of a row that is at fault; `TooMany` where there are over 4096 rows;
+    /// Errors: `NoBook` if the database hasn't the one table of a book; `NoName`, `NoRecord` and
+    /// `Twice` with the id of a row that is at fault; `TooMany` if there are more than 2^24 rows;
     /// `Memory`; `Database`. The connection comes back.
     pub fn open(
         alloc: Global,
@@ -130,7 +128,7 @@ impl<S: Alter> FileBook<S> {
     }
 
     /// The book, as the answers so far have told it.
-    pub fn book(&self) -> &Book
+    pub fn book(&self) -> &Register
         ensures { result.now ≡ self.now.0 }
     {
         &self.book
@@ -158,57 +156,6 @@ impl<S: Alter> FileBook<S> {
     {
         self.conn
     }
-
-    fn put_stored(&mut self, name: &Name, stored: Option<Record>) -> Result<(), BookError>
-        requires { fin.contains_key self.old.0 name.now ≡ true }
-        ensures done { OnOk result (self.new.0 ≡ fin.insert self.old.0 name.now stored) }
-        ensures memory { IfErr result (λ e. (e ≡ BookError.Memory) × (self.new.0 ≡ self.old.0)) }
-        ensures written { OnOk result ((self.old.1.0 ≡ None) × (self.new.1.0 ≡ None)) }
-        ensures remembered { IfSome self.old.1.0 (λ l. self.new.1.0 ≡ Some l) }
-        ensures lost { self.old.1.0 ≡ None → IfSome self.new.1.0 (IsLossOf name.now stored
-            (FailsToPut S.Store self.old.1.1 self.new.1.1 name.now stored)) }
-    {
-        if self.lost.is_some() {
-            return Err(BookError::Memory);
-        }
-        match &stored {
-            None => self.put_value(name, stored, ValueRef::Null),
-            Some(it) => {
-                let Ok(text) = write_record(self.alloc, it) else {
-                    return Err(BookError::Memory);
-                };
-                self.put_value(name, stored, ValueRef::Text(&text))
-            }
-        }
-    }
-
-    /// Puts a record at a name in the table, and then in the book.
-    fn put_value(
-        &mut self,
-        name: &Name,
-        stored: Option<Record>,
-        value: ValueRef<'_>,
-    ) -> Result<(), BookError>
-        requires there { fin.contains_key self.old.0 name.now ≡ true }
-        requires none { self.old.1.0 ≡ None }
-        requires value { Tells (owned value) stored }
-        ensures done { OnOk result (self.new.0 ≡ fin.insert self.old.0 name.now stored) }
-        ensures memory { IfErr result (λ e. (e ≡ BookError.Memory) × (self.new.0 ≡ self.old.0)) }
-        ensures written { OnOk result (self.new.1.0 ≡ None) }
-        ensures lost { IfSome self.new.1.0 (IsLossOf name.now stored
-            (FailsToPut S.Store self.old.1.1 self.new.1.1 name.now stored)) }
-    {
-        match set_stored(&mut self.conn, name, value) {
-            Ok(()) => {
-                self.book.put(name, stored);
-                Ok(())
-            }
-            Err(error) => {
-                self.lost = Some(Lost::new(error, *name, stored));
-                Err(BookError::Memory)
-            }
-        }
-    }
 }
 
 /// Whether a database has no table, no index and no view.
@@ -219,40 +166,26 @@ fn is_empty(schema: &Schema) -> bool
 }
 
 impl<S: Alter> Keeper for FileBook<S> {
-    ghost use Rattle.std.specs.Prelude.{◌≡◌, OnOk, IfOk, IfSome, Some, None, is_ok, not, true};
-    ghost use Rattle.cred_book.specs.Calls.{Admits, Loads};
+    ghost use Rattle.std.specs.Prelude.{◌≡◌, OnOk, IfOk, IfSome, Some, None, is_ok, not, true, false};
+    ghost use Rattle.cred_book.specs.Accounts.{register_capacity};
+    ghost use Rattle.cred_book.specs.Calls.{AdmitsWithin, Loads};
     ghost use Rattle.cred_book.specs.Commits.{Commits, judgement};
     ghost use Rattle.cred_book.specs.Works.{makes_change, name_of};
-    ghost use Rattle.cred_file.specs.Failures.{FailsToAdd, FailsToPut, IsLossOf};
+    ghost use Rattle.cred_file.specs.Failures.{FailsToPut, IsLossOf};
+    ghost use Rattle.cred_file.specs.declared.fault.Edit.TheVariants as Edit;
 
     ghost book = { λ b. b.0 };
 
+    ghost capacity = { register_capacity };
+
     fn admit<R: Wait>(&mut self, _rt: &R, name: Name) -> Result<(), BookError>
-        ensures done { Admits self.old.0 self.new.0 name result }
+        ensures done { AdmitsWithin register_capacity self.old.0 self.new.0 name result }
         ensures written { OnOk result ((self.old.1.0 ≡ None) × (self.new.1.0 ≡ None)) }
         ensures remembered { IfSome self.old.1.0 (λ l. self.new.1.0 ≡ Some l) }
-        ensures lost { self.old.1.0 ≡ None → IfSome self.new.1.0 (IsLossOf name None
-            (FailsToAdd S.Store self.old.1.1 self.new.1.1 name)) }
+        ensures lost { self.old.1.0 ≡ None → IfSome self.new.1.0 (IsLossOf (Edit.Put name None)
+            (FailsToPut S.Store self.old.1.1 self.new.1.1 false name None)) }
     {
-        if self.book.show(&name).is_ok() {
-            return Err(BookError::Exists);
-        }
-        if self.book.is_full() {
-            return Err(BookError::Full);
-        }
-        if self.lost.is_some() {
-            return Err(BookError::Memory);
-        }
-        match add_name(&mut self.conn, &name) {
-            Ok(()) => {
-                self.book.put(&name, None);
-                Ok(())
-            }
-            Err(error) => {
-                self.lost = Some(Lost::new(error, name, None));
-                Err(BookError::Memory)
-            }
-        }
+        self.enter(name, None)
     }
 
     #[tactic(auto, using(crate::proofs::Keeping::shown_there))]
@@ -260,13 +193,14 @@ impl<S: Alter> Keeper for FileBook<S> {
         ensures done { Loads self.old.0 self.new.0 name.now stored result }
         ensures written { OnOk result ((self.old.1.0 ≡ None) × (self.new.1.0 ≡ None)) }
         ensures remembered { IfSome self.old.1.0 (λ l. self.new.1.0 ≡ Some l) }
-        ensures lost { self.old.1.0 ≡ None → IfSome self.new.1.0 (IsLossOf name.now (Some stored)
-            (FailsToPut S.Store self.old.1.1 self.new.1.1 name.now (Some stored))) }
+        ensures lost { self.old.1.0 ≡ None → IfSome self.new.1.0
+            (IsLossOf (Edit.Put name.now (Some stored))
+            (FailsToPut S.Store self.old.1.1 self.new.1.1 true name.now (Some stored))) }
     {
         if self.book.show(name).is_err() {
             return Err(BookError::NoAccount);
         }
-        self.put_stored(name, Some(stored))
+        self.replace(name, Some(stored))
     }
 
     fn show(&self, name: &Name) -> Result<Option<Record>, BookError> {
@@ -285,15 +219,15 @@ impl<S: Alter> Keeper for FileBook<S> {
         ensures written { OnOk result (self.new.1.0 ≡ self.old.1.0) }
         ensures remembered { IfSome self.old.1.0 (λ l. self.new.1.0 ≡ Some l) }
         ensures lost { self.old.1.0 ≡ None → IfSome self.new.1.0
-            (IsLossOf (name_of worked.0) (judgement self.old.0 worked).1
-            (FailsToPut S.Store self.old.1.1 self.new.1.1 (name_of worked.0)
+            (IsLossOf (Edit.Put (name_of worked.0) (judgement self.old.0 worked).1)
+            (FailsToPut S.Store self.old.1.1 self.new.1.1 true (name_of worked.0)
             (judgement self.old.0 worked).1)) }
     {
         let (reply, after, changes) = self.book.judge(&worked);
         if !changes {
             return Ok(reply);
         }
-        match self.put_stored(&worked.request().name(), after) {
+        match self.replace(&worked.request().name(), after) {
             Ok(()) => Ok(reply),
             Err(_) => Err((worked, BookError::Memory)),
         }

@@ -1,6 +1,10 @@
-//! What holds of a book that is opened from files. A law is a function that does nothing.
+//! What holds of a book that is opened from files, and of one in which a name was changed. A law is a
+//! function that does nothing.
 
+ghost use Rattle.std.specs.Prelude.{◌≡◌, false, List, true, ℕ};
+ghost use Rattle.std.specs.FinMap as fin;
 ghost use Rattle.cred_book.specs.Accounts.{Accounts};
+ghost use Rattle.cred_file.specs.Edits.{renamed};
 ghost use Rattle.cred_file.specs.Keeps.{HoldsBook};
 ghost use Rattle.cred_file.specs.Opening.{IsFound};
 ghost use Rattle.sqlite.specs.Files.{HoldsDatabase};
@@ -20,4 +24,12 @@ pub fn files_hold_the_book<S: Alter>()
         → FindsIn image (state S.Store old)
         → IsFound (state S.Store old) (state S.Store new) book
         → (db : Trees) → HoldsDatabase image db → HoldsBook db book }
+{}
+
+/// Where a name became another one there is no account any more: a ticket that was begun at it is
+/// answered `NoAccount`.
+pub fn a_renamed_name_is_gone()
+    ensures { (book : Accounts) (name other : List ℕ) → fin.contains_key book name ≡ true
+        → fin.contains_key book other ≡ false
+        → fin.contains_key (renamed book name other) name ≡ false }
 {}

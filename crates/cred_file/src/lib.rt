@@ -8,8 +8,9 @@ mod laws;
 mod reading;
 mod restart;
 mod statements;
+mod together;
 
-pub use fault::{Lost, OpenFault};
+pub use fault::{Edit, Lost, OpenFault};
 pub use file_book::FileBook;
-pub use laws::files_hold_the_book;
+pub use laws::{a_renamed_name_is_gone, files_hold_the_book};
 pub use restart::crash_and_open;

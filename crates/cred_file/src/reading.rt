@@ -1,7 +1,7 @@
 //! The book that the rows of a table stand for.
 
 ghost use Rattle.std.specs.Prelude.{◌≡◌, ◌≤◌, [], true, IfErr, IfOk, IsTrue, MatchOption};
-ghost use Rattle.cred_book.specs.Accounts.{most_accounts};
+ghost use Rattle.cred_book.specs.Accounts.{register_capacity};
 ghost use Rattle.cred_book.specs.Names.{is_name};
 ghost use Rattle.cred_file.specs.Drafts.{IsAdded, IsNotAdded, IsUnread};
 ghost use Rattle.cred_file.specs.Opening.{AreAtFault, corrupt, is_no_name, is_no_record};
@@ -12,11 +12,12 @@ ghost use Rattle.sqlite_value.specs.Value.{owned};
 ghost use Rattle.std.specs.FinMap as fin;
 
 use crate::fault::OpenFault;
-use cred_book::{Book, Name};
+use cred_book::{Name, Register};
 use cred_phc::{Record, parse_record};
 use sqlite::types::ValueRef;
 use sqlite::{Error, ErrorCode, Row};
 use std::alloc::Global;
+use std::collections::BTreeSet;
 
 /// What a row of the table says.
 #[derive(Clone, Copy)]
@@ -28,58 +29,51 @@ struct Entry {
 
 /// The book of the rows so far, and their ids.
 #[derive(Drop)]
-struct Draft {
-    book: Book,
-    ids: Vec<i64>,
-}
-
-/// The book that these rows, of row id, name and record, stand for.
-pub(crate) fn read_book(alloc: Global, rows: &[Row]) -> Result<Book, OpenFault>
-    ensures book { IfOk result (StandsFor rows.now) }
-    ensures few { IfOk result (λ book. fin.len book ≤ most_accounts) }
-    ensures fault { IfErr result (AreAtFault rows.now) }
-{
-    let mut draft = Draft::new(alloc)?;
-    for row in rows {
-        draft.add(row)?;
-    }
-    Ok(draft.book)
+pub(crate) struct Draft {
+    book: Register,
+    ids: BTreeSet<i64>,
 }
 
 impl Draft {
-    fn new(alloc: Global) -> Result<Draft, OpenFault>
-        ensures empty { IfOk result (λ d. (d.book ≡ fin.empty) × (d.ids.items ≡ [])) }
-        ensures memory { IfErr result (λ e. e ≡ OpenFault.Memory) }
+    pub(crate) fn new(alloc: Global) -> Draft
+        ensures { (result.book ≡ fin.empty) × (result.ids.keys ≡ []) }
     {
-        match Book::new(alloc) {
-            Ok(book) => Ok(Draft {
-                book,
-                ids: Vec::new(alloc),
-            }),
-            Err(_) => Err(OpenFault::Memory),
+        Draft {
+            book: Register::new(alloc),
+            ids: BTreeSet::new(alloc),
         }
     }
 
-    fn add(&mut self, row: &Row) -> Result<(), OpenFault>
-        ensures added { IfOk result (λ _. IsAdded row.now self.old.book self.old.ids.items
-            self.new.book self.new.ids.items) }
-        ensures left_out { IfErr result (IsNotAdded row.now self.old.book self.old.ids.items) }
+    /// The book, once all rows are added.
+    pub(crate) fn into_book(self) -> Register
+        ensures book { result ≡ self.book }
+        ensures few { fin.len result ≤ register_capacity }
+    {
+        let _few = self.book.len();
+        self.book
+    }
+
+    pub(crate) fn add(&mut self, row: &Row) -> Result<(), OpenFault>
+        ensures added { IfOk result (λ _. IsAdded row.now self.old.book self.old.ids.keys
+            self.new.book self.new.ids.keys) }
+        ensures left_out { IfErr result (IsNotAdded row.now self.old.book self.old.ids.keys) }
     {
         let entry = read_entry(row)?;
         if self.ids.contains(&entry.id) {
             return Err(OpenFault::Database(corrupt_error()));
         }
-        if self.book.show(&entry.name).is_ok() {
+        if self.book.contains(&entry.name) {
             return Err(OpenFault::Twice(entry.id));
         }
         if self.book.is_full() {
             return Err(OpenFault::TooMany);
         }
-        match self.ids.push(entry.id) {
-            Ok(()) => {
-                self.book.put(&entry.name, entry.stored);
-                Ok(())
-            }
+        match self.ids.insert(entry.id) {
+            Ok(_) => {}
+            Err(_) => return Err(OpenFault::Memory),
+        }
+        match self.book.enter(entry.name, entry.stored) {
+            Ok(()) => Ok(()),
             Err(_) => Err(OpenFault::Memory),
         }
     }

@@ -1,63 +1,118 @@
 //! The statements that change the table of accounts, and the one that reads it.
 
-ghost use Rattle.std.specs.Prelude.{◌≡◌, ◌≤◌, [], false, Option, None, IfErr, IfOk, OnOk};
+ghost use Rattle.std.specs.Prelude.{◌≡◌, ◌≤◌, [], true, false, Option, IfErr, IfOk, OnOk};
 ghost use Rattle.std.specs.FinMap as fin;
 ghost use Rattle.cred_phc.specs.Values.{RecordValue};
-ghost use Rattle.cred_book.specs.Accounts.{most_accounts};
-ghost use Rattle.cred_file.specs.Failures.{FailsToAdd, FailsToPut, Refuses};
+ghost use Rattle.cred_book.specs.Accounts.{register_capacity};
+ghost use Rattle.cred_file.specs.Edits.{renamed};
+ghost use Rattle.cred_file.specs.Failures.{FailsToDelete, FailsToPut, FailsToRename, Refuses};
 ghost use Rattle.cred_file.specs.Schema.{account_schema, create_text, no_schema};
-ghost use Rattle.cred_file.specs.Keeps.{Has, IsTableOf, Lacks, MayBegin, MayPut, Puts};
-ghost use Rattle.cred_file.specs.Table.{Tells};
+ghost use Rattle.cred_file.specs.Keeps.{Has, IsRenamable, IsTableOf, Lacks, Makes, MayBegin};
+ghost use Rattle.cred_file.specs.Keeps.{MayMake};
+ghost use Rattle.cred_file.specs.Table.{StandsFor, Tells};
 ghost use Rattle.cred_file.specs.Opening.{IsFound, IsUnopened};
-ghost use Rattle.sqlite.specs.State.{HasCleanDisk, Survives};
+ghost use Rattle.sqlite.specs.State.{HasCleanDisk, IsUnchanged, Survives};
 ghost use Rattle.sqlite.specs.Held.{state};
 ghost use Rattle.sqlite_value.specs.Value.{owned};
 ghost use Rattle.sqlite_trees.specs.View.{doubt};
 
 use crate::fault::OpenFault;
-use crate::reading::read_book;
-use cred_book::{Book, Name};
+use crate::reading::Draft;
+use cred_book::{Name, Register};
 use sqlite::types::ValueRef;
 use sqlite::{Alter, Connection, Error};
 use std::alloc::Global;
 
-/// Adds the row of a name that isn't there, with no record.
-pub(crate) fn add_name<S: Alter>(conn: &mut Connection<S>, name: &Name) -> Result<(), Error>
-    ensures added { HasCleanDisk (state S.Store conn.new) → OnOk result
-        (Puts (state S.Store conn.old) (state S.Store conn.new) (Lacks name.now) name.now None) }
+/// Adds the row of a name that isn't there, with a record's text or NULL.
+pub(crate) fn insert_row<S: Alter>(
+    conn: &mut Connection<S>,
+    name: &Name,
+    value: ValueRef<'_>,
+) -> Result<(), Error>
+    ensures inserted { HasCleanDisk (state S.Store conn.new) → OnOk result
+        ((v : Option RecordValue) → Tells (owned value.entry) v
+        → Makes (state S.Store conn.old) (state S.Store conn.new) (Lacks name.now)
+        (λ book. fin.insert book name.now v)) }
     ensures left { HasCleanDisk (state S.Store conn.new)
-        → MayPut (state S.Store conn.old) (state S.Store conn.new) (Lacks name.now) name.now None }
-    ensures refused { IfErr result (FailsToAdd S.Store conn.old conn.new name.now) }
+        → (v : Option RecordValue) → Tells (owned value.entry) v
+        → MayMake (state S.Store conn.old) (state S.Store conn.new) (Lacks name.now)
+        (λ book. fin.insert book name.now v) }
+    ensures refused { (v : Option RecordValue) → Tells (owned value.entry) v
+        → IfErr result (FailsToPut S.Store conn.old conn.new false name.now v) }
     ensures clean { doubt (state S.Store conn.old).is_clean
         ≤ doubt (state S.Store conn.new).is_clean }
 {
     conn.execute(
-        "INSERT INTO account (name) VALUES (?1)",
-        &[ValueRef::Text(name.bytes())],
+        "INSERT INTO account (name, record) VALUES (?1, ?2)",
+        &[ValueRef::Text(name.bytes()), value],
     )?;
     Ok(())
 }
 
 /// Puts a record's text, or NULL, at a name that is there.
-pub(crate) fn set_stored<S: Alter>(
+pub(crate) fn update_row<S: Alter>(
     conn: &mut Connection<S>,
     name: &Name,
     value: ValueRef<'_>,
 ) -> Result<(), Error>
-    ensures set { HasCleanDisk (state S.Store conn.new) → OnOk result
+    ensures updated { HasCleanDisk (state S.Store conn.new) → OnOk result
         ((v : Option RecordValue) → Tells (owned value.entry) v
-        → Puts (state S.Store conn.old) (state S.Store conn.new) (Has name.now) name.now v) }
+        → Makes (state S.Store conn.old) (state S.Store conn.new) (Has name.now)
+        (λ book. fin.insert book name.now v)) }
     ensures left { HasCleanDisk (state S.Store conn.new)
         → (v : Option RecordValue) → Tells (owned value.entry) v
-        → MayPut (state S.Store conn.old) (state S.Store conn.new) (Has name.now) name.now v }
+        → MayMake (state S.Store conn.old) (state S.Store conn.new) (Has name.now)
+        (λ book. fin.insert book name.now v) }
     ensures refused { (v : Option RecordValue) → Tells (owned value.entry) v
-        → IfErr result (FailsToPut S.Store conn.old conn.new name.now v) }
+        → IfErr result (FailsToPut S.Store conn.old conn.new true name.now v) }
     ensures clean { doubt (state S.Store conn.old).is_clean
         ≤ doubt (state S.Store conn.new).is_clean }
 {
     conn.execute(
         "UPDATE account SET record = ?2 WHERE name = ?1",
         &[ValueRef::Text(name.bytes()), value],
+    )?;
+    Ok(())
+}
+
+/// Deletes the row of a name that is there.
+pub(crate) fn delete_row<S: Alter>(conn: &mut Connection<S>, name: &Name) -> Result<(), Error>
+    ensures deleted { HasCleanDisk (state S.Store conn.new) → OnOk result
+        (Makes (state S.Store conn.old) (state S.Store conn.new) (Has name.now)
+        (λ book. fin.remove book name.now)) }
+    ensures left { HasCleanDisk (state S.Store conn.new)
+        → MayMake (state S.Store conn.old) (state S.Store conn.new) (Has name.now)
+        (λ book. fin.remove book name.now) }
+    ensures refused { IfErr result (FailsToDelete S.Store conn.old conn.new name.now) }
+    ensures clean { doubt (state S.Store conn.old).is_clean
+        ≤ doubt (state S.Store conn.new).is_clean }
+{
+    conn.execute(
+        "DELETE FROM account WHERE name = ?1",
+        &[ValueRef::Text(name.bytes())],
+    )?;
+    Ok(())
+}
+
+/// Puts another name in the place of one that is there.
+pub(crate) fn rename_row<S: Alter>(
+    conn: &mut Connection<S>,
+    name: &Name,
+    other: &Name,
+) -> Result<(), Error>
+    ensures renamed { HasCleanDisk (state S.Store conn.new) → OnOk result
+        (Makes (state S.Store conn.old) (state S.Store conn.new) (IsRenamable name.now other.now)
+        (λ book. renamed book name.now other.now)) }
+    ensures left { HasCleanDisk (state S.Store conn.new)
+        → MayMake (state S.Store conn.old) (state S.Store conn.new)
+        (IsRenamable name.now other.now) (λ book. renamed book name.now other.now) }
+    ensures refused { IfErr result (FailsToRename S.Store conn.old conn.new name.now other.now) }
+    ensures clean { doubt (state S.Store conn.old).is_clean
+        ≤ doubt (state S.Store conn.new).is_clean }
+{
+    conn.execute(
+        "UPDATE account SET name = ?2 WHERE name = ?1",
+        &[ValueRef::Text(name.bytes()), ValueRef::Text(other.bytes())],
     )?;
     Ok(())
 }
@@ -83,24 +138,48 @@ pub(crate) fn create_table<S: Alter>(conn: &mut Connection<S>) -> Result<(), Err
 pub(crate) fn read_table<S: Alter>(
     alloc: Global,
     conn: &mut Connection<S>,
-) -> Result<Book, OpenFault>
+) -> Result<Register, OpenFault>
     requires schema { (state S.Store conn.old).now.schema ≡ account_schema }
     requires autocommit { conn.old.in_transaction ≡ false }
     ensures found { HasCleanDisk (state S.Store conn.new)
         → IfOk result (IsFound (state S.Store conn.old) (state S.Store conn.new)) }
     ensures table { HasCleanDisk (state S.Store conn.new)
         → IfOk result (IsTableOf (state S.Store conn.new)) }
-    ensures few { IfOk result (λ book. fin.len book ≤ most_accounts) }
+    ensures few { IfOk result (λ book. fin.len book ≤ register_capacity) }
     ensures fault { HasCleanDisk (state S.Store conn.new)
         → IfErr result (IsUnopened (state S.Store conn.old) (state S.Store conn.new)) }
     ensures left { Survives (state S.Store conn.old) (state S.Store conn.new) (λ _. ⊥) }
 {
-    let rows = match conn.query_all("SELECT rowid, name, record FROM account", &[]) {
-        Ok(rows) => rows,
-        Err(error) => return Err(OpenFault::Database(error)),
-    };
-    let book = read_book(alloc, &rows)?;
+    let book = read_rows(alloc, conn)?;
     let _at_rest = conn.is_autocommit();
     let _sound = conn.schema();
     Ok(book)
+}
+
+/// The rows are read one at a time, so that they take no memory beside the book.
+fn read_rows<S: Alter>(alloc: Global, conn: &mut Connection<S>) -> Result<Register, OpenFault>
+    requires { (state S.Store conn.old).now.schema ≡ account_schema }
+    ensures stands { HasCleanDisk (state S.Store conn.new)
+        → IfOk result (StandsFor ((state S.Store conn.old).now.trees 0)) }
+    ensures same { HasCleanDisk (state S.Store conn.new) → OnOk result
+        (IsUnchanged (state S.Store conn.old) (state S.Store conn.new)) }
+    ensures few { IfOk result (λ book. fin.len book ≤ register_capacity) }
+    ensures fault { HasCleanDisk (state S.Store conn.new)
+        → IfErr result (IsUnopened (state S.Store conn.old) (state S.Store conn.new)) }
+    ensures left { Survives (state S.Store conn.old) (state S.Store conn.new) (λ _. ⊥) }
+{
+    let mut draft = Draft::new(alloc);
+    let mut rows = match conn.query("SELECT rowid, name, record FROM account", &[]) {
+        Ok(rows) => rows,
+        Err(error) => return Err(OpenFault::Database(error)),
+    };
+    'rows: for _ in 0..u64::MAX {
+        let row = match rows.next() {
+            Ok(Some(row)) => row,
+            Ok(None) => return Ok(draft.into_book()),
+            Err(error) => return Err(OpenFault::Database(error)),
+        };
+        draft.add(row)?;
+    }
+    Err(OpenFault::Memory)
 }

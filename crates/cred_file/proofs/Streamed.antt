@@ -1,0 +1,107 @@
+-- What rows that are read one at a time say of the table.
+use Rattle.std.proofs.Common.{◌≡◌, ℕ, suc, ◌<◌, List, [], ◌∷◌, ◌++◌, length, take, get_or, codes, IsTrue, Ok, None, Some, inl, inr, ◌≤◌, refl, sym, ap, subst, ◌∙◌, arith, length-append}
+use Rattle.std.specs.List.Sorted.{IsPermutation}
+use Rattle.sqlite.specs.Order.{Row}
+use Rattle.sqlite.specs.Held.{Held, state}
+use Rattle.sqlite.specs.Store.{Ghosts}
+use Rattle.sqlite.specs.Given.{HasGiven}
+use Rattle.sqlite.specs.Listing.{understood, IsSourceOf, reads_listing}
+use Rattle.sqlite.specs.Effect.{Database, RefusesToRead}
+use Rattle.sqlite.specs.State.{State, IsUnchanged, IsStatement, Shown, FailsToQuery, FailsToShow, IsNotRun}
+use Rattle.sqlite.specs.Clock.{timed}
+use Rattle.sqlite_schema.specs.declared.command.Command.{Command}
+use Rattle.sqlite_resolve.specs.declared.compiled.Compiled.{Compiled}
+use Rattle.sqlite.specs.declared.error.Error.{Error}
+use Rattle.sqlite.proofs.Callers.{EndsIn, IsPlain, begins_shown, command_of, given_begin, unchanged_then}
+use Rattle.sqlite.proofs.StreamLemmas.{fails_since}
+use Rattle.cred_book.specs.Accounts.{Accounts}
+use Rattle.cred_file.specs.declared.fault.OpenFault.{OpenFault}
+use Rattle.cred_file.specs.Schema.{account_schema}
+use Rattle.cred_file.specs.Table.{StandsFor}
+use Rattle.cred_file.specs.Drafts.{IsDraftOf, IsNotAdded}
+use Rattle.cred_file.specs.Opening.{AreAtFault, rows_text}
+use Rattle.cred_file.proofs.LeftOut.{left_out}
+use Rattle.cred_file.proofs.Selected.{selected}
+use Rattle.cred_file.proofs.Shuffled.{fault_unshown, shown, stands_unshown}
+use Rattle.cred_file.proofs.Texts.{rows_is, rows_plain}
+use Rattle.std.specs.Prelude.{ℤ, map}
+
+take_front : {A : Type 0} (xs : List A) (y : A) (ys : List A) → take (length xs) ((xs ++ y ∷ []) ++ ys) ≡ xs
+take_front [] y ys = refl
+take_front (x ∷ xs) y ys = ap (λ zs. x ∷ zs) (take_front xs y ys)
+
+get_front : {A : Type 0} (xs : List A) (y : A) (ys : List A) (d : A) → get_or ((xs ++ y ∷ []) ++ ys) (length xs) d ≡ y
+get_front [] y ys d = refl
+get_front (x ∷ xs) y ys d = get_front xs y ys d
+
+low : {A : Type 0} (xs : List A) (y : A) (ys : List A) → length xs < length ((xs ++ y ∷ []) ++ ys)
+low xs y ys = omega (arith, length-append (xs ++ y ∷ []) ys, length-append xs (y ∷ []))
+
+-- a row that is left out is at fault among all rows that come before and after it
+pub left_out_among : (prior tail : List Row) (row : Row) (book : Accounts) (ids : List ℤ) → IsDraftOf prior book ids → (why : OpenFault) → IsNotAdded row book ids why
+    → AreAtFault ((prior ++ row ∷ []) ++ tail) why
+left_out_among prior tail row book ids draft why h =
+    left_out ((prior ++ row ∷ []) ++ tail) (length prior) (low prior row tail) row (get_front prior row tail row) book ids
+    (subst (λ rows. IsDraftOf rows book ids) (sym (take_front prior row tail)) draft) why h
+
+-- the query has no recursion
+ends : (s : State) → s.now.schema ≡ account_schema → (c : Compiled) (db : Database) → IsStatement s rows_text [] c → (params : Row) → EndsIn c.command db params
+ends s has c db it params =
+    let known : command_of (understood account_schema rows_text) ≡ c.command = ap (λ k. command_of (understood k rows_text)) (sym has) ∙ ap command_of it.is in
+    subst (λ (k : Command). EndsIn k db params) (sym rows_is ∙ known) tt
+
+still : (a b : State) → IsUnchanged a b → IsUnchanged b b
+still a b same = (record { was_open = same.0.is_open; is_open = same.0.is_open; now_is = refl; committed_is = refl; mode = refl }, record { changes = refl; last_rowid = refl }, refl)
+
+module _ {S : Type 0} (g : Ghosts S) (old : State) (h : Held S) (has : old.now.schema ≡ account_schema) (same : IsUnchanged old (state g h)) where
+  abbrev now : State
+  now = state g h
+
+  has_now : now.now.schema ≡ account_schema
+  has_now = ap (λ (d : Database). d.schema) same.0.now_is ∙ has
+
+  -- the rows so far are the first of the table's, in some order
+  pub first_of : (given : List Row) → HasGiven g rows_text [] h given → (tail : List Row) × IsPermutation (given ++ tail) (map shown (old.now.trees 0))
+  first_of given it =
+      let r = begins_shown rows_text [] now now given (given_begin g rows_text [] h given it) (still old now same) (λ c db is from. ends now has_now c db is _) in
+      (r.0, subst (λ (d : Database). IsPermutation (given ++ r.0) (map shown (d.trees 0))) same.0.now_is (selected now now has_now (given ++ r.0) r.1))
+
+  -- so one that is left out is at fault in the table
+  pub fault_first : (prior : List Row) (row : Row) → HasGiven g rows_text [] h (prior ++ row ∷ []) → (book : Accounts) (ids : List ℤ) → IsDraftOf prior book ids
+      → (why : OpenFault) → IsNotAdded row book ids why → AreAtFault (old.now.trees 0) why
+  fault_first prior row it book ids draft why h =
+      let f = first_of (prior ++ row ∷ []) it in
+      fault_unshown (old.now.trees 0) ((prior ++ row ∷ []) ++ f.0) f.1 why (left_out_among prior f.0 row book ids draft why h)
+
+  -- and once all are given, the book is the table's
+  pub stands_last : (new : State) (given : List Row) → Shown rows_text [] now new given → (book : Accounts) → StandsFor given book → StandsFor (old.now.trees 0) book
+  stands_last new given shows book stands =
+      let p = selected now new has_now given shows in
+      subst (λ (d : Database). StandsFor (d.trees 0) book) same.0.now_is (stands_unshown (now.now.trees 0) given book p stands)
+
+-- the query that failed after some rows had failed from the first on
+module _ (old mid new : State) (has : old.now.schema ≡ account_schema) (same : IsUnchanged old mid) (counts : old.faults ≤ mid.faults) (limit : mid.step_limit ≡ old.step_limit) where
+  abbrev since : (c : Compiled) → IsStatement mid rows_text [] c → IsStatement old rows_text [] c
+  since c h = record { is = subst (λ (d : Database). understood d.schema rows_text ≡ Ok c) same.0.now_is h.is; whole = h.whole; given = h.given; now = h.now }
+
+  source_since : (db : Database) → IsSourceOf (reads_listing mid.now.schema rows_text) mid.now db → IsSourceOf (reads_listing old.now.schema rows_text) old.now db
+  source_since db = subst (λ (d : Database). IsSourceOf (reads_listing d.schema rows_text) d db) same.0.now_is
+
+  plain : (c : Compiled) → understood old.now.schema rows_text ≡ Ok c → c.returning ≡ None
+  plain c is = (subst IsPlain (ap (λ k. understood k rows_text) (sym has) ∙ is) rows_plain).0
+
+  pub fails_from_first : (e : Error) → FailsToQuery rows_text [] mid new e → FailsToQuery rows_text [] old new e
+  unfolding FailsToQuery IsNotRun
+  fails_from_first e (inl (inl h)) = inl (inl (rw (← same.0.now_is) h.0, unchanged_then old mid new same h.1))
+  fails_from_first e (inl (inr h)) = inl (inr (fails_since old mid new same counts e h))
+  fails_from_first e (inr h) =
+      let it = since h.0 h.1 in
+      let none = plain h.0 it.is in
+      let full = timed [] h.0.formats h.1.now in
+      let f = subst (FailsToShow mid new rows_text h.0 full e) none h.2 in
+      inr (
+        h.0,
+        it,
+        subst (FailsToShow old new rows_text h.0 full e) (sym none)
+            (f.0, source_since f.0 f.1, subst (λ l. RefusesToRead l h.0.command f.0 full e) limit f.2, unchanged_then old mid new same f.3),
+      )

@@ -1,0 +1,91 @@
+-- What a change makes of a book, and what the calls answer that make one.
+use Rattle.std.specs.Prelude.{◌≡◌, ℕ, ◌+◌, ◌≤◌, ◌<◌, ◌||◌, Bool, List, ◌++◌, nat_lt, Option, None}
+use Rattle.std.specs.Prelude.{unwrap_or, Result, Ok, Err, true, false}
+use Rattle.std.specs.FinMap as fin
+use Rattle.cred_phc.specs.Values.{RecordValue}
+use Rattle.cred_book.specs.Accounts.{Accounts}
+use Rattle.cred_book.specs.declared.error.BookError.{BookError}
+use Rattle.cred_book.specs.declared.error.BookError.TheVariants as error
+use Rattle.cred_file.specs.declared.fault.Edit.{Edit}
+use Rattle.cred_file.specs.declared.fault.Edit.TheVariants as edit
+
+-- the record goes with the name
+abbrev pub renamed : Accounts → List ℕ → List ℕ → Accounts
+renamed book name other =
+    fin.insert (fin.remove book name) other (unwrap_or (fin.get book name) None)
+
+-- the accounts of both
+abbrev pub joined : Accounts → Accounts → Accounts
+joined book more = fin.from_entries (fin.entries more ++ fin.entries book)
+
+abbrev pub after_edit : Accounts → Edit → Accounts
+after_edit book (edit.Put name stored) = fin.insert book name stored
+after_edit book (edit.EnterAll more) = joined book more
+after_edit book (edit.Delete name) = fin.remove book name
+after_edit book (edit.Rename name other) = renamed book name other
+
+-- the name is there, or there is room for one more
+abbrev pub has_room_for : ℕ → Accounts → List ℕ → Bool
+has_room_for room book name = fin.contains_key book name || nat_lt (fin.len book) room
+
+-- the entry stands from now on; memory is wanting only if it would have been put
+abbrev pub PutsEntry : ℕ → Accounts → Accounts → List ℕ → Option RecordValue
+    → Result (Unit {0}) BookError → Type 0
+PutsEntry room old new name stored (Ok _) =
+    (has_room_for room old name ≡ true) × (new ≡ fin.insert old name stored)
+PutsEntry room old new name stored (Err error.Full) =
+    (has_room_for room old name ≡ false) × (new ≡ old)
+PutsEntry room old new name stored (Err error.Memory) =
+    (has_room_for room old name ≡ true) × (new ≡ old)
+PutsEntry room old new name stored (Err error.Name) = ⊥
+PutsEntry room old new name stored (Err error.Exists) = ⊥
+PutsEntry room old new name stored (Err error.NoAccount) = ⊥
+
+-- the name is taken out; memory is wanting only if it is there
+abbrev pub Deletes : Accounts → Accounts → List ℕ → Result (Unit {0}) BookError → Type 0
+Deletes old new name (Ok _) = (fin.contains_key old name ≡ true) × (new ≡ fin.remove old name)
+Deletes old new name (Err error.NoAccount) = (fin.contains_key old name ≡ false) × (new ≡ old)
+Deletes old new name (Err error.Memory) = (fin.contains_key old name ≡ true) × (new ≡ old)
+Deletes old new name (Err error.Name) = ⊥
+Deletes old new name (Err error.Exists) = ⊥
+Deletes old new name (Err error.Full) = ⊥
+
+-- the one name is there, and the other is not
+abbrev pub MayRename : Accounts → List ℕ → List ℕ → Type 0
+MayRename book name other =
+    (fin.contains_key book name ≡ true) × (fin.contains_key book other ≡ false)
+
+-- The record stands at the other name; both are in memory for a moment, so there has to be room.
+abbrev pub Renames : ℕ → Accounts → Accounts → List ℕ → List ℕ
+    → Result (Unit {0}) BookError → Type 0
+Renames room old new name other (Ok _) =
+    MayRename old name other × (new ≡ renamed old name other)
+Renames room old new name other (Err error.NoAccount) =
+    (fin.contains_key old name ≡ false) × (new ≡ old)
+Renames room old new name other (Err error.Exists) =
+    (fin.contains_key old name ≡ true) × (fin.contains_key old other ≡ true) × (new ≡ old)
+Renames room old new name other (Err error.Full) =
+    MayRename old name other × (room ≤ fin.len old) × (new ≡ old)
+Renames room old new name other (Err error.Memory) = MayRename old name other × (new ≡ old)
+Renames room old new name other (Err error.Name) = ⊥
+
+-- no name is in both, and one is
+abbrev pub AreApart : Accounts → Accounts → Type 0
+AreApart book more =
+    (name : List ℕ) → fin.contains_key more name ≡ true → fin.contains_key book name ≡ false
+
+abbrev pub Meet : Accounts → Accounts → Type 0
+Meet book more =
+    (name : List ℕ) × (fin.contains_key more name ≡ true) × (fin.contains_key book name ≡ true)
+
+-- all the accounts are added, whose names are new, or none
+abbrev pub EntersAll : ℕ → Accounts → Accounts → Accounts → Result (Unit {0}) BookError → Type 0
+EntersAll room old new more (Ok _) =
+    AreApart old more × (fin.len old + fin.len more ≤ room) × (new ≡ joined old more)
+EntersAll room old new more (Err error.Exists) = Meet old more × (new ≡ old)
+EntersAll room old new more (Err error.Full) =
+    AreApart old more × (room < fin.len old + fin.len more) × (new ≡ old)
+EntersAll room old new more (Err error.Memory) =
+    AreApart old more × (fin.len old + fin.len more ≤ room) × (new ≡ old)
+EntersAll room old new more (Err error.Name) = ⊥
+EntersAll room old new more (Err error.NoAccount) = ⊥

@@ -1,0 +1,32 @@
+-- Accounts that are added together, in one transaction.
+use Rattle.std.specs.Prelude.{◌≡◌, ℕ, ◌++◌, List, true, Option}
+use Rattle.std.specs.FinMap as fin
+use Rattle.sqlite.specs.State.{State}
+use Rattle.sqlite_catalog.specs.Listing.{IsSound}
+use Rattle.cred_phc.specs.Values.{RecordValue}
+use Rattle.cred_book.specs.Accounts.{Accounts}
+use Rattle.cred_file.specs.Schema.{account_schema}
+use Rattle.cred_file.specs.Table.{StandsFor}
+use Rattle.cred_file.specs.Keeps.{LeavesOnly}
+
+-- within a transaction the table stands for this book, and a crash leaves the first one
+pub record IsUnderWay (s : State) (first book : Accounts) : Type 0 where
+  pub schema : s.now.schema ≡ account_schema
+  pub stands : StandsFor (s.now.trees 0) book
+  pub sound : IsSound account_schema s.now.trees
+  pub inside : s.in_transaction ≡ true
+  pub left : LeavesOnly s (λ b. b ≡ first)
+
+-- whichever book of this kind the table stood for within the transaction, it stands for what this
+-- makes of it
+abbrev pub MakesWithin : State → State → (Accounts → Type 0) → (Accounts → Accounts) → Type 0
+MakesWithin old new Fits after =
+    (first book : Accounts) → Fits book → IsUnderWay old first book
+    → IsUnderWay new first (after book)
+
+-- the first of the accounts are added to the book, in the order of their names
+pub record IsPartOf (old more now : Accounts) : Type 0 where
+  pub front : List (List ℕ × Option RecordValue)
+  pub rest : List (List ℕ × Option RecordValue)
+  pub cut : front ++ rest ≡ fin.entries more
+  pub now_is : now ≡ fin.from_entries (front ++ fin.entries old)

@@ -1,0 +1,231 @@
+//! The changes of a kept book. What needs memory is had before the row is written, so nothing can
+//! fail after that; if the database refuses, the book is as it was.
+
+ghost use Rattle.std.specs.Prelude.{◌≡◌, true, false, IfErr, IfSome, None, OnOk, Some};
+ghost use Rattle.std.specs.FinMap as fin;
+ghost use Rattle.cred_book.specs.Accounts.{register_capacity};
+ghost use Rattle.cred_book.specs.Calls.{EntersWithin};
+ghost use Rattle.cred_file.specs.Edits.{Deletes, PutsEntry, Renames};
+ghost use Rattle.cred_file.specs.Failures.{FailsToDelete, FailsToPut, FailsToRename, IsLossOf};
+ghost use Rattle.cred_file.specs.Table.{Tells};
+ghost use Rattle.cred_file.specs.declared.fault.Edit.TheVariants as Edit;
+ghost use Rattle.sqlite_value.specs.Value.{owned};
+
+use super::FileBook;
+use crate::fault::{Edit, Lost};
+use crate::statements::{delete_row, insert_row, rename_row, update_row};
+use cred_book::{BookError, Name};
+use cred_phc::{Record, write_record};
+use sqlite::Alter;
+use sqlite::types::ValueRef;
+
+impl<S: Alter> FileBook<S> {
+    /// Puts a record, or none, at a name, which is added if it isn't there.
+    ///
+    /// Errors: `Full` if the name isn't there and there are 2^24 others; `Memory` if there is none,
+    /// if the database fails, and if a change is lost.
+    #[tactic(auto, using(crate::proofs::Keeping::put_entered, crate::proofs::Keeping::put_replaced))]
+    pub fn put(&mut self, name: &Name, stored: Option<Record>) -> Result<(), BookError>
+        ensures done { PutsEntry register_capacity self.old.0 self.new.0 name.now stored result }
+        ensures written { OnOk result ((self.old.1.0 ≡ None) × (self.new.1.0 ≡ None)) }
+        ensures remembered { IfSome self.old.1.0 (λ l. self.new.1.0 ≡ Some l) }
+        ensures lost { self.old.1.0 ≡ None → IfSome self.new.1.0
+            (IsLossOf (Edit.Put name.now stored)
+            (FailsToPut S.Store self.old.1.1 self.new.1.1 (fin.contains_key self.old.0 name.now)
+            name.now stored)) }
+    {
+        if self.book.contains(name) {
+            self.replace(name, stored)
+        } else {
+            self.enter(*name, stored)
+        }
+    }
+
+    /// Takes a name out, with its record.
+    ///
+    /// Errors: `NoAccount` if the name isn't there; `Memory` if the database fails, and if a change
+    /// is lost.
+    pub fn delete(&mut self, name: &Name) -> Result<(), BookError>
+        ensures done { Deletes self.old.0 self.new.0 name.now result }
+        ensures written { OnOk result ((self.old.1.0 ≡ None) × (self.new.1.0 ≡ None)) }
+        ensures remembered { IfSome self.old.1.0 (λ l. self.new.1.0 ≡ Some l) }
+        ensures lost { self.old.1.0 ≡ None → IfSome self.new.1.0 (IsLossOf (Edit.Delete name.now)
+            (FailsToDelete S.Store self.old.1.1 self.new.1.1 name.now)) }
+    {
+        if self.book.show(name).is_err() {
+            return Err(BookError::NoAccount);
+        }
+        if self.lost.is_some() {
+            return Err(BookError::Memory);
+        }
+        match delete_row(&mut self.conn, name) {
+            Ok(()) => {
+                self.book.remove(name);
+                Ok(())
+            }
+            Err(error) => {
+                let edit = Edit::Delete(*name);
+                self.lost = Some(Lost::new(error, edit));
+                Err(BookError::Memory)
+            }
+        }
+    }
+
+    /// Puts another name in the place of one, whose record it has from then on.
+    ///
+    /// Errors: `NoAccount` if the name isn't there; `Exists` if the other one is; `Full` if there
+    /// are 2^24 names, since both are in memory for a moment; `Memory` if there is none, if the
+    /// database fails, and if a change is lost.
+    #[tactic(auto, using(crate::proofs::Keeping::not_entered, crate::proofs::Keeping::shown_there, crate::proofs::Keeping::shown_absent))]
+    pub fn rename(&mut self, name: &Name, other: &Name) -> Result<(), BookError>
+        ensures done { Renames register_capacity self.old.0 self.new.0 name.now other.now result }
+        ensures written { OnOk result ((self.old.1.0 ≡ None) × (self.new.1.0 ≡ None)) }
+        ensures remembered { IfSome self.old.1.0 (λ l. self.new.1.0 ≡ Some l) }
+        ensures lost { self.old.1.0 ≡ None → IfSome self.new.1.0
+            (IsLossOf (Edit.Rename name.now other.now)
+            (FailsToRename S.Store self.old.1.1 self.new.1.1 name.now other.now)) }
+    {
+        let Ok(stored) = self.book.show(name) else {
+            return Err(BookError::NoAccount);
+        };
+        if self.book.show(other).is_ok() {
+            return Err(BookError::Exists);
+        }
+        if self.book.is_full() {
+            return Err(BookError::Full);
+        }
+        if self.lost.is_some() {
+            return Err(BookError::Memory);
+        }
+        match self.book.enter(*other, stored) {
+            Ok(()) => {}
+            Err(_) => return Err(BookError::Memory),
+        }
+        match rename_row(&mut self.conn, name, other) {
+            Ok(()) => {
+                self.book.remove(name);
+                Ok(())
+            }
+            Err(error) => {
+                self.book.remove(other);
+                let edit = Edit::Rename {
+                    name: *name,
+                    other: *other,
+                };
+                self.lost = Some(Lost::new(error, edit));
+                Err(BookError::Memory)
+            }
+        }
+    }
+
+    /// Adds a name, with a record or none.
+    pub(super) fn enter(&mut self, name: Name, stored: Option<Record>) -> Result<(), BookError>
+        ensures done { EntersWithin register_capacity self.old.0 self.new.0 name stored result }
+        ensures written { OnOk result ((self.old.1.0 ≡ None) × (self.new.1.0 ≡ None)) }
+        ensures remembered { IfSome self.old.1.0 (λ l. self.new.1.0 ≡ Some l) }
+        ensures lost { self.old.1.0 ≡ None → IfSome self.new.1.0 (IsLossOf (Edit.Put name stored)
+            (FailsToPut S.Store self.old.1.1 self.new.1.1 false name stored)) }
+    {
+        if self.book.contains(&name) {
+            return Err(BookError::Exists);
+        }
+        if self.book.is_full() {
+            return Err(BookError::Full);
+        }
+        if self.lost.is_some() {
+            return Err(BookError::Memory);
+        }
+        match &stored {
+            None => self.enter_value(&name, &stored, ValueRef::Null),
+            Some(it) => {
+                let Ok(text) = write_record(self.alloc, it) else {
+                    return Err(BookError::Memory);
+                };
+                self.enter_value(&name, &stored, ValueRef::Text(&text))
+            }
+        }
+    }
+
+    /// Adds a name in the book, and then its row. `value` tells the record, or none.
+    fn enter_value(
+        &mut self,
+        name: &Name,
+        stored: &Option<Record>,
+        value: ValueRef<'_>,
+    ) -> Result<(), BookError>
+        requires none { self.old.1.0 ≡ None }
+        requires value { Tells (owned value) stored.now }
+        ensures done { EntersWithin register_capacity self.old.0 self.new.0 name.now stored.now
+            result }
+        ensures written { OnOk result (self.new.1.0 ≡ None) }
+        ensures lost { IfSome self.new.1.0 (IsLossOf (Edit.Put name.now stored.now)
+            (FailsToPut S.Store self.old.1.1 self.new.1.1 false name.now stored.now)) }
+    {
+        match self.book.enter(*name, *stored) {
+            Ok(()) => {}
+            Err(refusal) => return Err(refusal),
+        }
+        match insert_row(&mut self.conn, name, value) {
+            Ok(()) => Ok(()),
+            Err(error) => {
+                self.book.remove(name);
+                self.lost = Some(Lost::put(error, *name, *stored));
+                Err(BookError::Memory)
+            }
+        }
+    }
+
+    /// Puts a record, or none, at a name that is there.
+    pub(super) fn replace(&mut self, name: &Name, stored: Option<Record>) -> Result<(), BookError>
+        requires { fin.contains_key self.old.0 name.now ≡ true }
+        ensures done { OnOk result (self.new.0 ≡ fin.insert self.old.0 name.now stored) }
+        ensures memory { IfErr result (λ e. (e ≡ BookError.Memory) × (self.new.0 ≡ self.old.0)) }
+        ensures written { OnOk result ((self.old.1.0 ≡ None) × (self.new.1.0 ≡ None)) }
+        ensures remembered { IfSome self.old.1.0 (λ l. self.new.1.0 ≡ Some l) }
+        ensures lost { self.old.1.0 ≡ None → IfSome self.new.1.0
+            (IsLossOf (Edit.Put name.now stored)
+            (FailsToPut S.Store self.old.1.1 self.new.1.1 true name.now stored)) }
+    {
+        if self.lost.is_some() {
+            return Err(BookError::Memory);
+        }
+        match &stored {
+            None => self.replace_value(name, stored, ValueRef::Null),
+            Some(it) => {
+                let Ok(text) = write_record(self.alloc, it) else {
+                    return Err(BookError::Memory);
+                };
+                self.replace_value(name, stored, ValueRef::Text(&text))
+            }
+        }
+    }
+
+    /// Puts a record, or none, in the row of a name that is there, and then in the book. `value`
+    /// tells it.
+    fn replace_value(
+        &mut self,
+        name: &Name,
+        stored: Option<Record>,
+        value: ValueRef<'_>,
+    ) -> Result<(), BookError>
+        requires there { fin.contains_key self.old.0 name.now ≡ true }
+        requires none { self.old.1.0 ≡ None }
+        requires value { Tells (owned value) stored }
+        ensures done { OnOk result (self.new.0 ≡ fin.insert self.old.0 name.now stored) }
+        ensures memory { IfErr result (λ e. (e ≡ BookError.Memory) × (self.new.0 ≡ self.old.0)) }
+        ensures written { OnOk result (self.new.1.0 ≡ None) }
+        ensures lost { IfSome self.new.1.0 (IsLossOf (Edit.Put name.now stored)
+            (FailsToPut S.Store self.old.1.1 self.new.1.1 true name.now stored)) }
+    {
+        match update_row(&mut self.conn, name, value) {
+            Ok(()) => {
+                self.book.replace(name, stored);
+                Ok(())
+            }
+            Err(error) => {
+                self.lost = Some(Lost::put(error, *name, stored));
+                Err(BookError::Memory)
+            }
+        }
+    }
+}

@@ -1,0 +1,158 @@
+//! Accounts that are added together, in one transaction.
+
+ghost use Rattle.std.specs.Prelude.{◌≡◌, ◌⊎◌, ◌≤◌, ◌+◌, cond, false, List, None, ℕ, OnErr};
+ghost use Rattle.std.specs.Prelude.{OnOk, Option};
+ghost use Rattle.std.specs.FinMap as fin;
+ghost use Rattle.cred_phc.specs.Values.{RecordValue};
+ghost use Rattle.cred_file.specs.Edits.{joined};
+ghost use Rattle.cred_file.specs.Keeps.{IsTableOf, Lacks, LeavesOnly};
+ghost use Rattle.cred_file.specs.Table.{Tells};
+ghost use Rattle.cred_file.specs.Together.{IsPartOf, MakesWithin};
+ghost use Rattle.sqlite.specs.State.{HasCleanDisk, Survives};
+ghost use Rattle.sqlite.specs.Held.{state};
+ghost use Rattle.sqlite_value.specs.Value.{owned};
+ghost use Rattle.sqlite_trees.specs.View.{doubt};
+
+use cred_book::{Name, Register};
+use cred_phc::{Record, write_record};
+use sqlite::types::ValueRef;
+use sqlite::{Alter, Connection, Error, ErrorCode, Transaction};
+use std::alloc::Global;
+
+/// Adds the accounts to the book, and their rows to the table by one transaction. At any error the
+/// book has some of them, and a crash leaves a table that has none of them, or all.
+pub(crate) fn enter_together<S: Alter>(
+    alloc: Global,
+    conn: &mut Connection<S>,
+    book: &mut Register,
+    more: &Register,
+) -> Result<(), Error>
+    requires autocommit { conn.old.in_transaction ≡ false }
+    ensures book { OnOk result (book.new ≡ joined book.old more.now) }
+    ensures part { OnErr result (IsPartOf book.old more.now book.new) }
+    ensures entered { HasCleanDisk (state S.Store conn.new) → OnOk result
+        (IsTableOf (state S.Store conn.old) book.old
+        → IsTableOf (state S.Store conn.new) (joined book.old more.now)) }
+    ensures left { HasCleanDisk (state S.Store conn.new)
+        → IsTableOf (state S.Store conn.old) book.old
+        → LeavesOnly (state S.Store conn.new)
+        (λ b. (b ≡ book.old) ⊎ (b ≡ joined book.old more.now)) }
+    ensures clean { doubt (state S.Store conn.old).is_clean
+        ≤ doubt (state S.Store conn.new).is_clean }
+{
+    let mut tx = conn.transaction();
+    enter_each(alloc, &mut tx, book, more)?;
+    tx.commit()
+}
+
+/// Adds the accounts in turn, in the order of their names.
+fn enter_each<S: Alter>(
+    alloc: Global,
+    tx: &mut Transaction<'_, S>,
+    book: &mut Register,
+    more: &Register,
+) -> Result<(), Error>
+    ensures same_reference { tx.new.conn.ghost_name ≡ tx.old.conn.ghost_name }
+    ensures book { OnOk result (book.new ≡ joined book.old more.now) }
+    ensures part { OnErr result (IsPartOf book.old more.now book.new) }
+    ensures entered { HasCleanDisk (state S.Store tx.new.conn.now) → OnOk result
+        (MakesWithin (state S.Store tx.old.conn.now) (state S.Store tx.new.conn.now)
+        (λ b. b ≡ book.old) (λ b. joined b more.now)) }
+    ensures survives { Survives (state S.Store tx.old.conn.now)
+        (state S.Store tx.new.conn.now) (λ _. ⊥) }
+{
+    for (name, slot) in more.iter() {
+        enter_one(alloc, tx, book, name, &slot.stored())?;
+    }
+    Ok(())
+}
+
+/// Adds a name, with a record or none, in the book, and then its row.
+fn enter_one<S: Alter>(
+    alloc: Global,
+    tx: &mut Transaction<'_, S>,
+    book: &mut Register,
+    name: &Name,
+    stored: &Option<Record>,
+) -> Result<(), Error>
+    ensures same_reference { tx.new.conn.ghost_name ≡ tx.old.conn.ghost_name }
+    ensures book { OnOk result ((fin.contains_key book.old name.now ≡ false)
+        × (book.new ≡ fin.insert book.old name.now stored.now)) }
+    ensures same { OnErr result (book.new ≡ book.old) }
+    ensures entered { HasCleanDisk (state S.Store tx.new.conn.now) → OnOk result
+        (MakesWithin (state S.Store tx.old.conn.now) (state S.Store tx.new.conn.now)
+        (Lacks name.now) (λ b. fin.insert b name.now stored.now)) }
+    ensures survives { Survives (state S.Store tx.old.conn.now)
+        (state S.Store tx.new.conn.now) (λ _. ⊥) }
+{
+    match book.enter(*name, *stored) {
+        Ok(()) => {}
+        Err(_) => return Err(out_of_memory()),
+    }
+    match insert_stored(alloc, tx, name, stored) {
+        Ok(()) => Ok(()),
+        Err(error) => {
+            book.remove(name);
+            Err(error)
+        }
+    }
+}
+
+fn insert_stored<S: Alter>(
+    alloc: Global,
+    tx: &mut Transaction<'_, S>,
+    name: &Name,
+    stored: &Option<Record>,
+) -> Result<(), Error>
+    ensures same_reference { tx.new.conn.ghost_name ≡ tx.old.conn.ghost_name }
+    ensures entered { HasCleanDisk (state S.Store tx.new.conn.now) → OnOk result
+        (MakesWithin (state S.Store tx.old.conn.now) (state S.Store tx.new.conn.now)
+        (Lacks name.now) (λ b. fin.insert b name.now stored.now)) }
+    ensures survives { Survives (state S.Store tx.old.conn.now)
+        (state S.Store tx.new.conn.now) (λ _. ⊥) }
+{
+    match stored {
+        None => insert_within(tx, name, ValueRef::Null),
+        Some(it) => {
+            let Ok(text) = write_record(alloc, it) else {
+                return Err(out_of_memory());
+            };
+            insert_within(tx, name, ValueRef::Text(&text))
+        }
+    }
+}
+
+/// Adds the row of a name that isn't there, with a record's text or NULL.
+fn insert_within<S: Alter>(
+    tx: &mut Transaction<'_, S>,
+    name: &Name,
+    value: ValueRef<'_>,
+) -> Result<(), Error>
+    ensures same_reference { tx.new.conn.ghost_name ≡ tx.old.conn.ghost_name }
+    ensures entered { HasCleanDisk (state S.Store tx.new.conn.now) → OnOk result
+        ((v : Option RecordValue) → Tells (owned value.entry) v
+        → MakesWithin (state S.Store tx.old.conn.now) (state S.Store tx.new.conn.now)
+        (Lacks name.now) (λ b. fin.insert b name.now v)) }
+    ensures survives { Survives (state S.Store tx.old.conn.now)
+        (state S.Store tx.new.conn.now) (λ _. ⊥) }
+{
+    tx.execute(
+        "INSERT INTO account (name, record) VALUES (?1, ?2)",
+        &[ValueRef::Text(name.bytes()), value],
+    )?;
+    Ok(())
+}
+
+fn out_of_memory() -> Error {
+    Error::SqliteFailure(ErrorCode::OutOfMemory)
+}
+
+/// Removes the names that another register has.
+pub(crate) fn remove_all(book: &mut Register, more: &Register)
+    ensures { (name : List ℕ) → fin.get book.new name
+        ≡ cond (fin.contains_key more.now name) None (fin.get book.old name) }
+{
+    for (name, _) in more.iter() {
+        book.remove(name);
+    }
+}
