@@ -1,4 +1,5 @@
 mod Reading
 mod Records
-mod Importing
+pub mod Tallies
 mod Printed
+mod BeforeSalt

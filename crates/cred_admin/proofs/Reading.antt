@@ -27,16 +27,18 @@ takes_none (Some xs) (Some ys) buf n consumed none end = let these : xs ≡ ys =
 
 -- the line so far, what is left of the bytes, and the line and the rest that they make
 pub record GoesOn (bytes line rest : List ℕ) : Type 0 where
+  pub cut : bytes ≡ line ++ rest
   pub line_is : line_before bytes ≡ line ++ line_before rest
   pub left_is : behind_line bytes ≡ behind_line rest
 
 pub begins : (bytes : List ℕ) → GoesOn bytes [] bytes
-begins bytes = record { line_is = refl; left_is = refl }
+begins bytes = record { cut = refl; line_is = refl; left_is = refl }
 
--- at the end of what is read
-pub at_end : (bytes line rest : List ℕ) (now : Option (List ℕ)) → GoesOn bytes line rest → Takes rest now None → ReadsLine bytes now line
+-- at the end of what is read, after a byte or more
+pub at_end : (bytes line rest : List ℕ) (now : Option (List ℕ)) → GoesOn bytes line rest → 0 < length line → Takes rest now None → ReadsLine bytes now line
 unfolding line_before behind_line
-at_end bytes line rest now goes (empty, is) = record {
+at_end bytes line rest now goes some (empty, is) = record {
+  there = omega (arith, some, ap length goes.cut, length-append line rest);
   line_is = sym (append-nil line) ∙ sym (goes.line_is ∙ ap (λ r. line ++ line_before r) empty);
   left_is = is ∙ ap Some (sym (goes.left_is ∙ ap behind_line empty));
 }
@@ -47,6 +49,7 @@ unfolding line_before behind_line
 at_line_end bytes line rest now byte end goes (left, cut, is) =
     let these : rest ≡ 10 ∷ left = cut ∙ ap (λ b. b ∷ left) end in
     record {
+      there = omega (arith, ap length goes.cut, length-append line rest, ap length these);
       line_is = sym (append-nil line) ∙ sym (goes.line_is ∙ ap (λ r. line ++ line_before r) these);
       left_is = is ∙ ap Some (sym (goes.left_is ∙ ap behind_line these));
     }
@@ -55,13 +58,18 @@ at_line_end bytes line rest now byte end goes (left, cut, is) =
 pub goes_on : (bytes line rest left : List ℕ) (byte : ℕ) → ((byte == 10) ≡ false) → GoesOn bytes line rest → rest ≡ byte ∷ left → GoesOn bytes (line ++ byte ∷ []) left
 unfolding line_before behind_line
 goes_on bytes line rest left byte other goes cut = record {
+  cut = goes.cut ∙ ap (λ r. line ++ r) cut ∙ sym (append_assoc line (byte ∷ []) left);
   line_is = goes.line_is ∙ ap (λ r. line ++ line_before r) cut
       ∙ ap (λ t. line ++ (if t then [] else byte ∷ line_before left)) other ∙ sym (append_assoc line (byte ∷ []) (line_before left));
   left_is = goes.left_is ∙ ap behind_line cut ∙ ap (λ t. if t then left else behind_line left) other;
 }
 
-line_ended : (bytes line rest : List ℕ) (now : Option (List ℕ)) (byte : Option ℕ) → GoesOn bytes line rest → Takes rest now byte → (byte ≡ None) ⊎ (byte ≡ Some 10) → ReadsLine bytes now line
-line_ended bytes line rest now byte goes takes (inl none) = at_end bytes line rest now goes (rw none at takes)
+-- the end of what is read ends a line only after a byte of it
+abbrev pub IsEnd : List ℕ → Option ℕ → Type 0
+IsEnd line byte = ((byte ≡ None) × (0 < length line)) ⊎ (byte ≡ Some 10)
+
+line_ended : (bytes line rest : List ℕ) (now : Option (List ℕ)) (byte : Option ℕ) → GoesOn bytes line rest → Takes rest now byte → IsEnd line byte → ReadsLine bytes now line
+line_ended bytes line rest now byte goes takes (inl (none, some)) = at_end bytes line rest now goes some (rw none at takes)
 line_ended bytes line rest now byte goes takes (inr ten) = at_line_end bytes line rest now 10 refl goes (rw ten at takes)
 
 pub not_ten : (b : ℕ) → b ≢ 10 → (b == 10) ≡ false
@@ -73,7 +81,7 @@ abbrev pub LineSoFar : Option (List ℕ) → Option (List ℕ) → List ℕ → 
 LineSoFar known now line = (bytes : List ℕ) → known ≡ Some bytes → (rest : List ℕ) × (now ≡ Some rest) × GoesOn bytes line rest
 
 pub ended : (known mid now : Option (List ℕ)) (line : List ℕ) (byte : Option ℕ) (r : Result (List ℕ) Fault) → LineSoFar known mid line → IfSome mid (λ rest. Takes rest now byte)
-    → (byte ≡ None) ⊎ (byte ≡ Some 10) → IfOk r (λ pw. pw ≡ line) → IfOk r (λ pw. IfSome known (λ bytes. ReadsLine bytes now pw))
+    → IsEnd line byte → IfOk r (λ pw. pw ≡ line) → IfOk r (λ pw. IfSome known (λ bytes. ReadsLine bytes now pw))
 ended known mid now line byte (Err e) so takes end is = tt
 ended None mid now line byte (Ok pw) so takes end is = tt
 ended (Some bytes) mid now line byte (Ok pw) so takes end is =
@@ -88,6 +96,16 @@ more known mid now line line' byte so takes other is = λ bytes k.
   where
     taken : (mid now : Option (List ℕ)) (rest : List ℕ) (byte : ℕ) → mid ≡ Some rest → IfSome mid (λ r. Takes r now (Some byte)) → Takes rest now (Some byte)
     taken mid now rest byte is_rest takes = rw is_rest at takes
+
+-- the end before the first byte
+none_at : (bytes line rest : List ℕ) (now : Option (List ℕ)) → GoesOn bytes line rest → length line ≡ 0 → Takes rest now None → bytes ≡ []
+none_at bytes [] rest now goes none (empty, is) = goes.cut ∙ empty
+none_at bytes (c ∷ line) rest now goes none takes = absurd (omega (arith, none))
+
+pub no_line : (known mid now : Option (List ℕ)) (line : List ℕ) (byte : Option ℕ) → LineSoFar known mid line → IfSome mid (λ rest. Takes rest now byte) → byte ≡ None → length line ≡ 0 → IfSome known (λ bytes. bytes ≡ [])
+no_line None mid now line byte so takes end none = tt
+no_line (Some bytes) mid now line byte so takes end none =
+    let (rest, is_rest, goes) = so bytes refl in none_at bytes line rest now goes none (rw end at (rw is_rest at takes))
 
 -- a line with no end yet is a front of the whole line
 pub is_long : (bytes line rest : List ℕ) → GoesOn bytes line rest → 256 < length line → 256 < length (line_before bytes)

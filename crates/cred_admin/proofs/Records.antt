@@ -1,5 +1,5 @@
 -- Whole operations done at once, and first records.
-use Rattle.std.proofs.Common.{◌≡◌, inr, ℕ, List, Bool, true, false, cond, is_some, Option, Some, None, Result, Ok, Err, IfOk, IfErr, OnErr, refl, sym, ap, ◌∙◌}
+use Rattle.std.proofs.Common.{◌≡◌, ℕ, List, Bool, true, false, cond, is_some, Option, Some, None, Ok, Err, refl, sym, ap, ◌∙◌}
 use Rattle.std.specs.FinMap as map
 use Rattle.std.specs.Cmp.{eq_by_cmp_equiv}
 use Rattle.std.specs.Ordering.{eq_by_cmp}
@@ -16,9 +16,7 @@ use Rattle.cred_book.specs.declared.reply.Reply.{Reply}
 use Rattle.cred_book.specs.declared.reply.Reply.TheVariants as reply
 use Rattle.cred_book.specs.declared.request.Request.{Request}
 use Rattle.cred_book.proofs.Equality.{same-Decides}
-use Rattle.cred_admin.specs.declared.fault.Fault.{Fault}
-use Rattle.cred_admin.specs.declared.fault.Fault.TheVariants as fault
-use Rattle.cred_admin.specs.Commands.{Enrols, enrolment}
+use Rattle.cred_admin.specs.Commands.{Enrols, IsBare, enrolment}
 
 -- ---- a whole operation
 
@@ -71,15 +69,14 @@ not_there book name error.Exists h = absurd h
 not_there book name error.Full h = absurd h
 
 -- the account was added before
-pub put_behind : (old mid new : Accounts) (name : List ℕ) (stored made : RecordValue) (r : Result Reply Fault) → map.get old name ≡ None → mid ≡ map.insert old name None → stored ≡ made
-    → IfOk r (λ a. (a ≡ reply.Enrolled) × (new ≡ map.insert mid name (Some stored))) → OnErr r (new ≡ mid) → IfErr r (λ e. e ≡ fault.Memory)
-    → Enrols old new name made r
-put_behind old mid new name stored made (Ok a) none added is done stays memory =
-    let after : new ≡ map.insert old name (Some made) = done.1 ∙ ap (λ (m : Accounts). map.insert m name (Some stored)) added ∙ insert_over old name None (Some stored) ∙ ap (λ v. map.insert old name (Some v)) is in
+pub put_behind : (old mid new : Accounts) (name : List ℕ) (stored made : RecordValue) → map.get old name ≡ None → mid ≡ map.insert old name None → stored ≡ made
+    → new ≡ map.insert mid name (Some stored) → (reply.Enrolled, new) ≡ enrolment old name made
+put_behind old mid new name stored made none added is put =
+    let after : new ≡ map.insert old name (Some made) = put ∙ ap (λ (m : Accounts). map.insert m name (Some stored)) added ∙ insert_over old name None (Some stored) ∙ ap (λ v. map.insert old name (Some v)) is in
     let reached : enrolment old name made ≡ (reply.Enrolled, map.insert old name (Some made)) = rw none refl in
-    ap (λ a. (a, new)) done.0 ∙ ap (λ (m : Accounts). (reply.Enrolled, m)) after ∙ sym reached
-put_behind old mid new name stored made (Err fault.Memory) none added is done stays memory = inr (ap is_some none, stays ∙ added)
-put_behind old mid new name stored made (Err fault.Read) none added is done stays memory = absurd cc
-put_behind old mid new name stored made (Err fault.Write) none added is done stays memory = absurd cc
-put_behind old mid new name stored made (Err fault.Password) none added is done stays memory = absurd cc
-put_behind old mid new name stored made (Err fault.Full) none added is done stays memory = absurd cc
+    ap (λ (m : Accounts). (reply.Enrolled, m)) after ∙ sym reached
+
+-- and there was no memory for its record
+pub bare : (old mid new : Accounts) (name : List ℕ) (stored made : RecordValue) → map.get old name ≡ None → mid ≡ map.insert old name None → stored ≡ made
+    → new ≡ mid → IsBare old new name made stored
+bare old mid new name stored made none added is stays = record { absent = ap is_some none; added = stays ∙ added; told_is = is }

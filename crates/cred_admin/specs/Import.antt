@@ -1,23 +1,27 @@
 -- What an import makes of its text.
-use Rattle.std.specs.Prelude.{◌≡◌, ◌⊎◌, ℕ, suc, Bool, true, ◌&&◌, ◌==◌, if◌then◌else◌, nat_lt, List}
-use Rattle.std.specs.Prelude.{[], ◌∷◌, ◌++◌, length, codes, Option, Some, None, IfSome, Result, Ok, Err}
+use Rattle.std.specs.Prelude.{◌≡◌, ℕ, ◌+◌, ◌-◌, ◌<◌, Bool, true, ◌&&◌, ◌==◌, if◌then◌else◌, nat_eq}
+use Rattle.std.specs.Prelude.{List, [], ◌∷◌, ◌++◌, length, take, drop, codes, Option, None, Some}
+use Rattle.std.specs.Prelude.{IfSome, Result, Ok, Err, ⊤}
+use Rattle.std.specs.List.{ends_with, starts_with}
 use Rattle.std.specs.FinMap as map
 use Rattle.cred_phc.specs.Errors.{error_number as fault_number, error_word as fault_word}
 use Rattle.cred_phc.specs.Pieces.{pieces}
 use Rattle.cred_phc.specs.Reading.{read_record}
 use Rattle.cred_phc.specs.Values.{RecordValue}
 use Rattle.cred_phc.specs.declared.error.PhcError.{PhcError}
-use Rattle.cred_book.specs.Accounts.{Accounts, most_accounts}
+use Rattle.cred_book.specs.Accounts.{Accounts, register_capacity}
 use Rattle.cred_book.specs.Names.{made_name}
 use Rattle.cred_book.specs.Errors.{error_number as refusal_number, error_word as refusal_word}
 use Rattle.cred_book.specs.declared.error.BookError.{BookError}
 use Rattle.cred_book.specs.declared.error.BookError.TheVariants as error
 use Rattle.cred_admin.specs.declared.entry.LineFault.{LineFault}
 use Rattle.cred_admin.specs.declared.entry.LineFault.TheVariants.{Line, Text, Book}
-use Rattle.cred_admin.specs.declared.loading.ImportFault.{ImportFault}
-use Rattle.cred_admin.specs.declared.loading.ImportFault.TheVariants as fault
-use Rattle.cred_admin.specs.declared.status.Status.{Status}
-use Rattle.cred_admin.specs.declared.status.Status.TheVariants.{Done}
+use Rattle.cred_admin.specs.declared.gathering.BadLine.{BadLine}
+use Rattle.cred_admin.specs.declared.gathering.Existing.{Existing}
+use Rattle.cred_admin.specs.declared.gathering.Existing.TheVariants.{Refused, Kept}
+use Rattle.cred_admin.specs.declared.gathering.Gathered.{Gathered}
+use Rattle.cred_admin.specs.declared.gathering.ImportFault.{ImportFault}
+use Rattle.cred_admin.specs.declared.gathering.ImportFault.TheVariants as fault
 use Rattle.cred_admin.specs.Listing.{Entry}
 
 abbrev pub line_number : LineFault → ℕ
@@ -32,6 +36,25 @@ line_word (Book e) = refusal_word e
 
 -- ---- one line
 
+-- without the carriage return (byte 13) that a Windows file has before its line end
+abbrev pub without_return : List ℕ → List ℕ
+without_return line =
+    if ends_with nat_eq line (13 ∷ []) then take (length line - 1) line else line
+
+-- what stands behind a scheme in braces (bytes 123 and 125), as Dovecot writes one
+abbrev pub behind_braces : List (List ℕ) → List ℕ → List ℕ
+behind_braces (scheme ∷ text ∷ []) whole =
+    if starts_with nat_eq scheme (123 ∷ []) then text else whole
+behind_braces _ whole = whole
+
+-- what stands behind Django's word for the scheme
+abbrev pub behind_word : List ℕ → List ℕ
+behind_word text = if starts_with nat_eq text (codes "argon2") then drop 6 text else text
+
+-- the record in a line's second field
+abbrev pub record_part : List ℕ → List ℕ
+record_part text = behind_word (behind_braces (pieces 125 text) text)
+
 abbrev pub stored_as : Result RecordValue PhcError → Result (Option RecordValue) LineFault
 stored_as (Ok v) = Ok (Some v)
 stored_as (Err e) = Err (Text e)
@@ -39,7 +62,7 @@ stored_as (Err e) = Err (Text e)
 -- nothing is no record
 abbrev pub stored_at : List ℕ → Result (Option RecordValue) LineFault
 stored_at [] = Ok None
-stored_at (c ∷ cs) = stored_as (read_record (c ∷ cs))
+stored_at (c ∷ cs) = stored_as (read_record (record_part (c ∷ cs)))
 
 abbrev pub entry_with : List ℕ → Result (Option RecordValue) LineFault → Result Entry LineFault
 entry_with name (Ok stored) = Ok (name, stored)
@@ -50,27 +73,14 @@ abbrev pub entry_as : Result (List ℕ) BookError → List ℕ → Result Entry 
 entry_as (Ok name) text = entry_with name (stored_at text)
 entry_as (Err e) text = Err (Book e)
 
+-- the first two fields count
 abbrev pub entry_at : List (List ℕ) → Result Entry LineFault
-entry_at (name ∷ text ∷ []) = entry_as (made_name name) text
+entry_at (name ∷ text ∷ others) = entry_as (made_name name) text
 entry_at _ = Err Line
 
 -- a line is cut at every colon
 unfoldable pub entry_of : List ℕ → Result Entry LineFault
-entry_of line = entry_at (pieces 58 line)
-
--- the account is new, and there is room for it
-unfoldable pub with_account : Accounts → Entry → Result Accounts LineFault
-with_account book e =
-    if map.contains_key book e.0 then Err (Book error.Exists)
-    else if nat_lt (map.len book) most_accounts then Ok (map.insert book e.0 e.1)
-    else Err (Book error.Full)
-
-abbrev pub after_entry : Accounts → Result Entry LineFault → Result Accounts LineFault
-after_entry book (Ok e) = with_account book e
-after_entry book (Err e) = Err e
-
-abbrev pub after_line : Accounts → List ℕ → Result Accounts LineFault
-after_line book line = after_entry book (entry_of line)
+entry_of line = entry_at (pieces 58 (without_return line))
 
 -- ---- all of them
 
@@ -87,65 +97,66 @@ whole_lines (line ∷ lines) =
 abbrev pub import_lines : List ℕ → List (List ℕ)
 import_lines text = whole_lines (pieces 10 text)
 
-abbrev pub and_then : ℕ → Result Accounts LineFault → (Accounts → Result Accounts (ℕ × LineFault))
-    → Result Accounts (ℕ × LineFault)
-and_then n (Ok book) next = next book
-and_then n (Err e) next = Err (n, e)
+-- what the lines so far come to: the accounts that are new, how many lines name one that is there
+-- and stays, and the lines that aren't good
+pub record Tally : Type 0 where
+  pub accounts : Accounts
+  pub kept : ℕ
+  pub bad : List BadLine
 
--- the book after the lines, of which the first has this number; or the first bad one's number and
--- fault
-unfoldable pub after_lines : Accounts → ℕ → List (List ℕ) → Result Accounts (ℕ × LineFault)
-after_lines book n [] = Ok book
-after_lines book n (line ∷ lines) =
-    and_then n (after_line book line) (λ b. after_lines b (suc n) lines)
+abbrev pub nothing_yet : Tally
+nothing_yet = record { accounts = map.empty; kept = 0; bad = [] }
 
--- the account of a line is there, its record isn't yet
-abbrev pub WithoutRecord : Accounts → Accounts → List ℕ → Type 0
-WithoutRecord old new line = (name : List ℕ) × (v : RecordValue)
-    × (entry_of line ≡ Ok (name, Some v)) × (with_account old (name, None) ≡ Ok new)
+abbrev pub with_bad : Tally → ℕ → LineFault → Tally
+with_bad t n why = record {
+  accounts = t.accounts;
+  kept = t.kept;
+  bad = t.bad ++ record { number = n; why = why } ∷ [];
+}
 
--- the first lines are done, the next one isn't, and perhaps its account is there with no record
-pub record StopsAt (old new : Accounts) (lines : List (List ℕ)) : Type 0 where
-  pub front : List (List ℕ)
-  pub line : List ℕ
-  pub rest : List (List ℕ)
-  pub cut : lines ≡ front ++ line ∷ rest
-  pub book : Accounts
-  pub done : after_lines old 1 front ≡ Ok book
-  pub now : (new ≡ book) ⊎ WithoutRecord book new line
+abbrev pub with_kept : Tally → Tally
+with_kept t = record { accounts = t.accounts; kept = t.kept + 1; bad = t.bad }
 
--- the book's refusal to add the account of a line
-abbrev pub refusal_fault : ℕ → BookError → ImportFault
-refusal_fault n error.Memory = fault.Memory
-refusal_fault n error.Exists = fault.Line n (Book error.Exists)
-refusal_fault n error.Full = fault.Line n (Book error.Full)
-refusal_fault n error.Name = fault.Line n (Book error.Name)
-refusal_fault n error.NoAccount = fault.Line n (Book error.NoAccount)
+abbrev pub with_account : Tally → Entry → Tally
+with_account t e = record {
+  accounts = map.insert t.accounts e.0 e.1;
+  kept = t.kept;
+  bad = t.bad;
+}
 
-abbrev pub LoadsLine : Accounts → Accounts → ℕ → List ℕ → Result (Unit {0}) ImportFault → Type 0
-LoadsLine old new number line (Ok _) = after_line old line ≡ Ok new
-LoadsLine old new number line (Err (fault.Line n why)) =
-    (n ≡ number) × (after_line old line ≡ Err why) × (new ≡ old)
-LoadsLine old new number line (Err fault.Memory) = (new ≡ old) ⊎ WithoutRecord old new line
-LoadsLine old new number line (Err fault.Read) = ⊥
+-- a line whose account is in the book
+abbrev pub with_existing : Existing → Tally → ℕ → Tally
+with_existing Refused t n = with_bad t n (Book error.Exists)
+with_existing Kept t n = with_kept t
 
-abbrev pub LoadsLines : Accounts → Accounts → List (List ℕ) → Result (Unit {0}) ImportFault → Type 0
-LoadsLines old new lines (Ok _) = after_lines old 1 lines ≡ Ok new
-LoadsLines old new lines (Err (fault.Line n why)) = after_lines old 1 lines ≡ Err (n, why)
-LoadsLines old new lines (Err fault.Memory) = StopsAt old new lines
-LoadsLines old new lines (Err fault.Read) = ⊥
+-- the account of a line is new in the book and among the lines, or not
+abbrev pub with_entry : Existing → Accounts → Tally → ℕ → Entry → Tally
+with_entry how book t n e =
+    if map.contains_key book e.0 then with_existing how t n
+    else if map.contains_key t.accounts e.0 then with_bad t n (Book error.Exists)
+    else with_account t e
 
--- all lines are good and done; or one is bad and nothing is; or there was no memory, before the
--- first line or, where all are good, later; or a call on the reader failed
-abbrev pub Imports : Option (List ℕ) → Bool → Accounts → Accounts → Result Status ImportFault
-    → Type 0
-Imports input failed old new (Ok status) =
-    (text : List ℕ) × IfSome input (λ bytes. text ≡ bytes)
-    × (after_lines old 1 (import_lines text) ≡ Ok new) × (status ≡ Done)
-Imports input failed old new (Err (fault.Line n why)) =
-    (text : List ℕ) × IfSome input (λ bytes. text ≡ bytes)
-    × (after_lines old 1 (import_lines text) ≡ Err (n, why)) × (new ≡ old)
-Imports input failed old new (Err fault.Memory) =
-    (new ≡ old) ⊎ ((text : List ℕ) × (all : Accounts) × IfSome input (λ bytes. text ≡ bytes)
-    × (after_lines old 1 (import_lines text) ≡ Ok all) × StopsAt old new (import_lines text))
-Imports input failed old new (Err fault.Read) = (failed ≡ true) × (new ≡ old)
+abbrev pub with_line : Existing → Accounts → Tally → ℕ → Result Entry LineFault → Tally
+with_line how book t n (Ok e) = with_entry how book t n e
+with_line how book t n (Err why) = with_bad t n why
+
+-- the first of the lines has this number
+unfoldable pub tally_from : Existing → Accounts → Tally → ℕ → List (List ℕ) → Tally
+tally_from how book t n [] = t
+tally_from how book t n (line ∷ lines) =
+    tally_from how book (with_line how book t n (entry_of line)) (n + 1) lines
+
+-- what the lines of a text come to, before a book
+abbrev pub tally : Existing → Accounts → List ℕ → Tally
+tally how book text = tally_from how book nothing_yet 1 (import_lines text)
+
+abbrev pub tally_of : Gathered → Tally
+tally_of g = record { accounts = g.accounts; kept = g.kept; bad = g.bad.items }
+
+-- a call on the reader failed, or there was no memory, or there are too many lines for any book
+abbrev pub GatherFails : Option (List ℕ) → Bool → ImportFault → Type 0
+GatherFails input failed fault.Read = failed ≡ true
+GatherFails input failed fault.Memory = ⊤
+GatherFails input failed fault.Full = (text : List ℕ) × IfSome input (λ bytes. text ≡ bytes)
+    × (register_capacity < length (import_lines text))
+GatherFails input failed (fault.Lines bad) = ⊥

@@ -2,6 +2,7 @@
 -- what they write, and their exit statuses.
 pub mod Answers
 pub mod Commands
+pub mod Edits
 pub mod Import
 pub mod Lines
 pub mod Listing

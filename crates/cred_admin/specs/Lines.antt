@@ -1,6 +1,8 @@
 -- Passwords, a line each.
-use Rattle.std.specs.Prelude.{◌≡◌, ℕ, ◌==◌, if◌then◌else◌, List, [], ◌∷◌, Option, Some, None, ⊤}
-use Rattle.std.specs.Prelude.{Bool, true}
+use Rattle.std.specs.Prelude.{◌≡◌, ℕ, ◌<◌, ◌==◌, if◌then◌else◌, List, [], ◌∷◌, length, Option, Some}
+use Rattle.std.specs.Prelude.{None, ⊤, Bool, true}
+use Rattle.cred_admin.specs.declared.new_password.EmptyPassword.{EmptyPassword}
+use Rattle.cred_admin.specs.declared.new_password.EmptyPassword.TheVariants.{Refused, Taken}
 use Rattle.cred_admin.specs.declared.fault.Fault.{Fault}
 use Rattle.cred_admin.specs.declared.fault.Fault.TheVariants as fault
 
@@ -9,7 +11,7 @@ unfoldable pub line_before : List ℕ → List ℕ
 line_before [] = []
 line_before (c ∷ cs) = if c == 10 then [] else c ∷ line_before cs
 
--- and those behind it
+-- and those after it
 unfoldable pub behind_line : List ℕ → List ℕ
 behind_line [] = []
 behind_line (c ∷ cs) = if c == 10 then cs else behind_line cs
@@ -19,15 +21,37 @@ abbrev pub Takes : List ℕ → Option (List ℕ) → Option ℕ → Type 0
 Takes bytes left (Some byte) = (rest : List ℕ) × (bytes ≡ byte ∷ rest) × (left ≡ Some rest)
 Takes bytes left None = (bytes ≡ []) × (left ≡ Some [])
 
--- the first line was read, and what stands behind it is left
+-- The first line was read, and what follows it is left. No byte at all is no line, and a line end
+-- alone is an empty one.
 pub record ReadsLine (bytes : List ℕ) (left : Option (List ℕ)) (line : List ℕ) : Type 0 where
+  pub there : 0 < length bytes
   pub line_is : line ≡ line_before bytes
   pub left_is : left ≡ Some (behind_line bytes)
+
+-- the first line is empty
+abbrev pub HasEmptyLine : List ℕ → Type 0
+HasEmptyLine bytes = (0 < length bytes) × (line_before bytes ≡ [])
+
+-- a new password may be empty only if that was asked for
+abbrev pub IsAdmitted : EmptyPassword → List ℕ → Type 0
+IsAdmitted Taken pw = ⊤
+IsAdmitted Refused pw = 0 < length pw
 
 -- what may go wrong as a line is read, by a reader on which a call failed or none
 abbrev pub ReadFails : Bool → Fault → Type 0
 ReadFails failed fault.Read = failed ≡ true
 ReadFails failed fault.Memory = ⊤
 ReadFails failed fault.Password = ⊤
-ReadFails failed fault.Write = ⊥
-ReadFails failed fault.Full = ⊥
+ReadFails failed fault.NoPassword = ⊤
+ReadFails failed _ = ⊥
+
+-- and as that of a new password is read
+abbrev pub NewReadFails : Bool → Fault → Type 0
+NewReadFails failed fault.Empty = ⊤
+NewReadFails failed e = ReadFails failed e
+
+-- and as it is read behind the old one
+abbrev pub SecondReadFails : Bool → Fault → Type 0
+SecondReadFails failed fault.NoNewPassword = ⊤
+SecondReadFails failed fault.NoPassword = ⊥
+SecondReadFails failed e = NewReadFails failed e

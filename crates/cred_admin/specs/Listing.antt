@@ -3,11 +3,16 @@ use Rattle.std.specs.Prelude.{◌≡◌, ℕ, List, [], ◌∷◌, ◌++◌, Opt
 use Rattle.std.specs.Prelude.{Bool, true}
 use Rattle.std.specs.Io.KnownBytes.{Appends, Keeps}
 use Rattle.cred_phc.specs.Values.{RecordValue}
-use Rattle.cred_phc.specs.Text.{record_text}
+use Rattle.cred_phc.specs.Text.{record_text, scheme_text}
+use Rattle.cred_book.specs.declared.reply.Reply.TheVariants as reply
+use Rattle.cred_admin.specs.declared.showing.Part.{Part}
+use Rattle.cred_admin.specs.declared.showing.Part.TheVariants.{Costs, Record}
 use Rattle.cred_admin.specs.declared.fault.Fault.{Fault}
 use Rattle.cred_admin.specs.declared.fault.Fault.TheVariants as fault
 use Rattle.cred_admin.specs.declared.status.Status.{Status}
 use Rattle.cred_admin.specs.declared.status.Status.TheVariants.{Done}
+use Rattle.cred_admin.specs.Answers.{reply_line}
+use Rattle.cred_admin.specs.Statuses.{status_of}
 use Rattle.cred_cli.specs.Outcome.{FrontWritten}
 
 -- a name, and the record that stands there, if one does
@@ -31,12 +36,32 @@ unfoldable pub lines_text : (Entry → List ℕ) → List Entry → List ℕ
 lines_text line [] = []
 lines_text line (e ∷ es) = line e ++ lines_text line es
 
--- the text is written whole; or, where a call failed, a proper front of it; or nothing
+-- ---- one account
+
+-- what is shown of a record
+abbrev pub part_text : Part → RecordValue → List ℕ
+part_text Costs v = scheme_text v.setting.scheme
+part_text Record v = record_text v
+
+-- what is written of an account's entry, and the status that goes with it
+abbrev pub shown_at : Part → Option (Option RecordValue) → List ℕ × Status
+shown_at part None = (reply_line reply.NoAccount, status_of reply.NoAccount None)
+shown_at part (Some None) = (reply_line reply.Absent, status_of reply.Absent None)
+shown_at part (Some (Some v)) = (part_text part v ++ 10 ∷ [], Done)
+
+-- ---- what becomes of a text
+
+-- it is written whole, and the status goes with it; or, if a call failed, a proper front of it; or
+-- nothing
+abbrev pub Tells : List ℕ × Status → Option (List ℕ) → Option (List ℕ) → Bool
+    → Result Status Fault → Type 0
+Tells told before now failed (Ok status) = Appends before now told.0 × (status ≡ told.1)
+Tells told before now failed (Err fault.Write) =
+    (failed ≡ true) × FrontWritten before now told.0
+Tells told before now failed (Err fault.Memory) = Keeps before now
+Tells told before now failed (Err _) = ⊥
+
+-- likewise a text with which all is done
 abbrev pub Prints : List ℕ → Option (List ℕ) → Option (List ℕ) → Bool → Result Status Fault
     → Type 0
-Prints text before now failed (Ok status) = Appends before now text × (status ≡ Done)
-Prints text before now failed (Err fault.Write) = (failed ≡ true) × FrontWritten before now text
-Prints text before now failed (Err fault.Memory) = Keeps before now
-Prints text before now failed (Err fault.Read) = ⊥
-Prints text before now failed (Err fault.Password) = ⊥
-Prints text before now failed (Err fault.Full) = ⊥
+Prints text before now failed ended = Tells (text, Done) before now failed ended

@@ -1,19 +1,23 @@
 -- The exit statuses, and when each is answered.
-use Rattle.std.specs.Prelude.{ℕ}
+use Rattle.std.specs.Prelude.{ℕ, ◌-◌, ◌==◌, if◌then◌else◌, List, length, Option, Some, None}
+use Rattle.std.specs.Prelude.{slice_get}
 use Rattle.cred_book.specs.declared.reply.Reply.{Reply}
 use Rattle.cred_book.specs.declared.reply.Reply.TheVariants as reply
 use Rattle.cred_admin.specs.declared.fault.Fault.{Fault}
 use Rattle.cred_admin.specs.declared.fault.Fault.TheVariants as fault
+use Rattle.cred_admin.specs.declared.status.Hint.{Hint}
+use Rattle.cred_admin.specs.declared.status.Hint.TheVariants.{CarriageReturn}
 use Rattle.cred_admin.specs.declared.status.Status.{Status}
-use Rattle.cred_admin.specs.declared.status.Status.TheVariants.{Done, Usage, Io, Memory, No}
+use Rattle.cred_admin.specs.declared.status.Status.TheVariants.{Done, Kept, Usage, Io, Memory, No}
 use Rattle.cred_admin.specs.declared.status.Status.TheVariants.{Database, Data}
 
 abbrev pub number_of : Status → ℕ
 number_of Done = 0
+number_of (Kept lines) = 0
 number_of Usage = 1
 number_of Io = 2
 number_of Memory = 3
-number_of No = 4
+number_of (No hint) = 4
 number_of Database = 5
 number_of Data = 6
 
@@ -21,20 +25,34 @@ abbrev pub status_of_fault : Fault → Status
 status_of_fault fault.Read = Io
 status_of_fault fault.Write = Io
 status_of_fault fault.Memory = Memory
+status_of_fault (fault.NoRecord made) = Memory
 status_of_fault fault.Password = Data
+status_of_fault fault.NoPassword = Data
+status_of_fault fault.NoNewPassword = Data
+status_of_fault fault.Empty = Data
 status_of_fault fault.Full = Data
 
--- what was asked is done, or it is not
-abbrev pub status_of : Reply → Status
-status_of reply.Enrolled = Done
-status_of reply.Yes = Done
-status_of reply.Replaced = Done
-status_of reply.Upgraded = Done
-status_of reply.Kept = Done
-status_of reply.Removed = Done
-status_of reply.Exists = No
-status_of reply.No = No
-status_of reply.Absent = No
-status_of reply.Wrong = No
-status_of (reply.Changed now) = No
-status_of reply.NoAccount = No
+-- ---- why a password may be wrong
+
+abbrev pub hint_at : Option ℕ → Option Hint
+hint_at None = None
+hint_at (Some byte) = if byte == 13 then Some CarriageReturn else None
+
+-- the last byte is a carriage return (13)
+abbrev pub hint_of : List ℕ → Option Hint
+hint_of pw = hint_at (slice_get pw (length pw - 1))
+
+-- what was asked is done, or it is not; a password that isn't right has its hint
+abbrev pub status_of : Reply → Option Hint → Status
+status_of reply.Enrolled hint = Done
+status_of reply.Yes hint = Done
+status_of reply.Replaced hint = Done
+status_of reply.Upgraded hint = Done
+status_of reply.Kept hint = Done
+status_of reply.Removed hint = Done
+status_of reply.No hint = No hint
+status_of reply.Wrong hint = No hint
+status_of reply.Exists hint = No None
+status_of reply.Absent hint = No None
+status_of (reply.Changed now) hint = No None
+status_of reply.NoAccount hint = No None

@@ -3,19 +3,20 @@
 ghost use Rattle.std.specs.Prelude.{◌≡◌, ◌⊎◌, ◌≤◌, IfErr, IfOk, None, OnErr, OnOk, Some, false};
 ghost use Rattle.std.specs.Prelude.{true};
 ghost use Rattle.std.specs.FinMap as map;
-ghost use Rattle.cred_book.specs.Accounts.{most_accounts};
 ghost use Rattle.cred_book.specs.Works.{is_for_current, new_record, seq};
 ghost use Rattle.cred_book.specs.declared.request.Request.TheVariants.{Change, Remove, Upgrade};
 ghost use Rattle.cred_book.specs.declared.request.Request.TheVariants.{Verify};
 ghost use Rattle.cred_cli.specs.Watched.{failed_of, inner_of};
-ghost use Rattle.cred_admin.specs.Commands.{Adds, Asks, AsksTwice, Does, Enrols};
+ghost use Rattle.cred_admin.specs.Commands.{Adds, Asks, AsksTwice, Does, Enrols, Resets};
+ghost use Rattle.cred_admin.specs.Commands.{reset_step};
 
 use crate::answer::{reply_line, status_of};
 use crate::fault::Fault;
-use crate::password::read_password;
+use crate::new_password::NewPassword;
+use crate::password::{read_new_password, read_password, read_second_password};
 use crate::printing::write_whole;
 use crate::setting::NewSetting;
-use crate::status::Status;
+use crate::status::{Hint, Status, hint_of};
 use crate::tools::Tools;
 use cred_book::{BookError, Keeper, Name, Reply, Request};
 use cred_cli::Watched;
@@ -25,21 +26,21 @@ use std::io::{Read, Write};
 use std::sync::Wait;
 use std::thread::Threads;
 
-/// Makes the first record of an account under the setting, and the account where it isn't there.
-/// The password is the reader's first line.
+/// Makes the first record of an account, and the account if it isn't there. The new password is the
+/// reader's first line.
 ///
-/// It writes `enrolled`, or `exists` where a record stands already. Errors: `Read`, `Password`,
-/// `Memory`, and `Full` where there is no room for another account: nothing is written, and nothing
-/// changed, but that the account may be there with no record after `Memory`; `Write`.
+/// It writes `enrolled`, or `exists` if there is a record already. Errors: `Read`, `NoPassword`,
+/// `Password`, `Empty`, `Memory`, and `Full` if there is no room for another account: nothing is
+/// written or changed; `NoRecord`: the account was added, and nothing written; `Write`.
 pub fn add<T: Threads + Wait + Sync, K: Keeper, R: Read, W: Write>(
     tools: &Tools<'_, T>,
     keeper: &mut K,
     name: &Name,
-    setting: &NewSetting,
+    new: &NewPassword,
     reader: &mut Watched<R>,
     writer: &mut Watched<W>,
 ) -> Result<Status, Fault>
-    ensures { Adds name.now setting.now (record {
+    ensures { Adds K.capacity name.now new.now (record {
       input = R.remaining (inner_of reader.old);
       left = R.remaining (inner_of reader.new);
       before = W.contents (inner_of writer.old);
@@ -50,16 +51,46 @@ pub fn add<T: Threads + Wait + Sync, K: Keeper, R: Read, W: Write>(
       writer_failed = failed_of writer.new;
     }) result }
 {
-    let pw = read_password(tools.alloc, reader)?;
-    let reply = enrol(tools, keeper, name, setting, &pw)?;
+    let pw = read_new_password(tools.alloc, new.empty, reader)?;
+    let reply = enrol(tools, keeper, name, &new.setting, &pw)?;
     write_whole(writer, reply_line(&reply))?;
-    Ok(status_of(&reply))
+    Ok(status_of(&reply, hint_of(&pw)))
+}
+
+/// Puts the record of a new password at an account, whatever record was there or none. The new
+/// password is the reader's first line.
+///
+/// It writes `replaced`, `enrolled` if there was no record, or `noaccount`. Errors: `Read`,
+/// `NoPassword`, `Password`, `Empty`, `Memory`: nothing is written or changed; `Write`.
+pub fn reset<T: Threads + Wait + Sync, K: Keeper, R: Read, W: Write>(
+    tools: &Tools<'_, T>,
+    keeper: &mut K,
+    name: &Name,
+    new: &NewPassword,
+    reader: &mut Watched<R>,
+    writer: &mut Watched<W>,
+) -> Result<Status, Fault>
+    ensures { Resets name.now new.now (record {
+      input = R.remaining (inner_of reader.old);
+      left = R.remaining (inner_of reader.new);
+      before = W.contents (inner_of writer.old);
+      now = W.contents (inner_of writer.new);
+      old = K.book keeper.old;
+      new = K.book keeper.new;
+      reader_failed = failed_of reader.new;
+      writer_failed = failed_of writer.new;
+    }) result }
+{
+    let pw = read_new_password(tools.alloc, new.empty, reader)?;
+    let reply = put_anew(tools, keeper, name, &new.setting, &pw)?;
+    write_whole(writer, reply_line(&reply))?;
+    Ok(status_of(&reply, hint_of(&pw)))
 }
 
 /// Asks whether the reader's first line is the account's password.
 ///
-/// It writes `yes`, `no`, `absent` where no record stands, or `noaccount`. Errors: `Read`,
-/// `Password`, `Memory`, `Write`.
+/// It writes `yes`, `no`, `absent` if there is no record, or `noaccount`. Errors: `Read`,
+/// `NoPassword`, `Password`, `Memory`, `Write`.
 pub fn check<T: Threads + Wait + Sync, K: Keeper, R: Read, W: Write>(
     tools: &Tools<'_, T>,
     keeper: &mut K,
@@ -79,24 +110,25 @@ pub fn check<T: Threads + Wait + Sync, K: Keeper, R: Read, W: Write>(
     }) result }
 {
     let pw = read_password(tools.alloc, reader)?;
+    let hint = hint_of(&pw);
     let request = Request::Verify { name: *name, pw };
-    act(tools, keeper, request, writer)
+    act(tools, keeper, request, hint, writer)
 }
 
 /// Puts the record of a new password in the place of that of the old one: the reader's first line
 /// is the old password, and the second the new one.
 ///
-/// It writes `replaced`, `wrong`, `absent` or `noaccount`. Errors: `Read`, `Password`, `Memory`,
-/// `Write`.
+/// It writes `replaced`, `wrong`, `absent` or `noaccount`. Errors: `Read`, `NoPassword`,
+/// `NoNewPassword`, `Password`, `Empty`, `Memory`, `Write`.
 pub fn change<T: Threads + Wait + Sync, K: Keeper, R: Read, W: Write>(
     tools: &Tools<'_, T>,
     keeper: &mut K,
     name: &Name,
-    setting: &NewSetting,
+    new: &NewPassword,
     reader: &mut Watched<R>,
     writer: &mut Watched<W>,
 ) -> Result<Status, Fault>
-    ensures { AsksTwice (λ pw new_pw. Change name.now pw new_pw setting.now) (record {
+    ensures { AsksTwice new.now (λ pw new_pw. Change name.now pw new_pw new.now.setting) (record {
       input = R.remaining (inner_of reader.old);
       left = R.remaining (inner_of reader.new);
       before = W.contents (inner_of writer.old);
@@ -108,21 +140,22 @@ pub fn change<T: Threads + Wait + Sync, K: Keeper, R: Read, W: Write>(
     }) result }
 {
     let pw = read_password(tools.alloc, reader)?;
-    let new_pw = read_password(tools.alloc, reader)?;
+    let hint = hint_of(&pw);
+    let new_pw = read_second_password(tools.alloc, new.empty, reader)?;
     let request = Request::Change {
         name: *name,
         pw,
         new_pw,
-        setting: setting.setting(),
+        setting: new.setting.setting(),
     };
-    act(tools, keeper, request, writer)
+    act(tools, keeper, request, hint, writer)
 }
 
 /// Makes the account's record anew under the setting, if the reader's first line is its password
 /// and the record isn't of this scheme with these numbers.
 ///
-/// It writes `upgraded`, `kept`, `wrong`, `absent` or `noaccount`. Errors: `Read`, `Password`,
-/// `Memory`, `Write`.
+/// It writes `upgraded`, `kept`, `wrong`, `absent` or `noaccount`. Errors: `Read`, `NoPassword`,
+/// `Password`, `Memory`, `Write`.
 pub fn upgrade<T: Threads + Wait + Sync, K: Keeper, R: Read, W: Write>(
     tools: &Tools<'_, T>,
     keeper: &mut K,
@@ -143,18 +176,19 @@ pub fn upgrade<T: Threads + Wait + Sync, K: Keeper, R: Read, W: Write>(
     }) result }
 {
     let pw = read_password(tools.alloc, reader)?;
+    let hint = hint_of(&pw);
     let request = Request::Upgrade {
         name: *name,
         pw,
         setting: setting.setting(),
     };
-    act(tools, keeper, request, writer)
+    act(tools, keeper, request, hint, writer)
 }
 
 /// Takes the account's record away, if the reader's first line is its password; the name stays.
 ///
-/// It writes `removed`, `wrong`, `absent` or `noaccount`. Errors: `Read`, `Password`, `Memory`,
-/// `Write`.
+/// It writes `removed`, `wrong`, `absent` or `noaccount`. Errors: `Read`, `NoPassword`, `Password`,
+/// `Memory`, `Write`.
 pub fn remove<T: Threads + Wait + Sync, K: Keeper, R: Read, W: Write>(
     tools: &Tools<'_, T>,
     keeper: &mut K,
@@ -174,8 +208,9 @@ pub fn remove<T: Threads + Wait + Sync, K: Keeper, R: Read, W: Write>(
     }) result }
 {
     let pw = read_password(tools.alloc, reader)?;
+    let hint = hint_of(&pw);
     let request = Request::Remove { name: *name, pw };
-    act(tools, keeper, request, writer)
+    act(tools, keeper, request, hint, writer)
 }
 
 /// Does the whole operation, and then writes its reply.
@@ -183,16 +218,17 @@ fn act<T: Threads + Wait + Sync, K: Keeper, W: Write>(
     tools: &Tools<'_, T>,
     keeper: &mut K,
     request: Request,
+    hint: Option<Hint>,
     writer: &mut Watched<W>,
 ) -> Result<Status, Fault>
     requires { is_for_current request ≡ true }
-    ensures { Does (seq (K.book keeper.old) request) (K.book keeper.old) (K.book keeper.new)
+    ensures { Does (seq (K.book keeper.old) request) hint (K.book keeper.old) (K.book keeper.new)
         (W.contents (inner_of writer.old)) (W.contents (inner_of writer.new))
         (failed_of writer.new) result }
 {
     let reply = settle(tools, keeper, request)?;
     write_whole(writer, reply_line(&reply))?;
-    Ok(status_of(&reply))
+    Ok(status_of(&reply, hint))
 }
 
 /// Begins, hashes and commits, with nothing between that could change the record.
@@ -219,7 +255,7 @@ fn settle<T: Threads + Wait + Sync, K: Keeper>(
     }
 }
 
-/// Makes the record, and puts it where none stands, at an account that is added where it is new.
+/// Makes the record, and puts it where there is none, at an account that is added if it is new.
 fn enrol<T: Threads + Wait + Sync, K: Keeper>(
     tools: &Tools<'_, T>,
     keeper: &mut K,
@@ -227,21 +263,48 @@ fn enrol<T: Threads + Wait + Sync, K: Keeper>(
     setting: &NewSetting,
     pw: &Password,
 ) -> Result<Reply, Fault>
-    ensures { Enrols (K.book keeper.old) (K.book keeper.new) name.now
+    ensures { Enrols K.capacity (K.book keeper.old) (K.book keeper.new) name.now
         (new_record setting.now pw.now) result }
 {
     match keeper.show(name) {
         Ok(Some(_)) => Ok(Reply::Exists),
         Ok(None) => {
             let stored = record(tools, setting, pw)?;
-            put_first(tools, keeper, name, stored)
+            put(tools, keeper, name, stored)?;
+            Ok(Reply::Enrolled)
         }
         Err(_) => {
             let stored = record(tools, setting, pw)?;
             admit(tools, keeper, name)?;
-            put_first(tools, keeper, name, stored)
+            match put(tools, keeper, name, stored) {
+                Ok(()) => Ok(Reply::Enrolled),
+                Err(_) => Err(Fault::NoRecord(stored)),
+            }
         }
     }
+}
+
+/// Makes the record, and puts it at the account, if it is there.
+fn put_anew<T: Threads + Wait + Sync, K: Keeper>(
+    tools: &Tools<'_, T>,
+    keeper: &mut K,
+    name: &Name,
+    setting: &NewSetting,
+    pw: &Password,
+) -> Result<Reply, Fault>
+    ensures done { IfOk result (λ reply. (reply, K.book keeper.new)
+        ≡ reset_step (K.book keeper.old) name.now (new_record setting.now pw.now)) }
+    ensures stays { OnErr result (K.book keeper.new ≡ K.book keeper.old) }
+    ensures memory { IfErr result (λ e. e ≡ Fault.Memory) }
+{
+    let reply = match keeper.show(name) {
+        Ok(Some(_)) => Reply::Replaced,
+        Ok(None) => Reply::Enrolled,
+        Err(_) => return Ok(Reply::NoAccount),
+    };
+    let stored = record(tools, setting, pw)?;
+    put(tools, keeper, name, stored)?;
+    Ok(reply)
 }
 
 fn record<T: Threads + Wait + Sync>(
@@ -268,7 +331,7 @@ fn admit<T: Threads + Wait + Sync, K: Keeper>(
         (K.book keeper.new ≡ map.insert (K.book keeper.old) name.now None) }
     ensures stays { OnErr result (K.book keeper.new ≡ K.book keeper.old) }
     ensures fault { IfErr result (λ e. (e ≡ Fault.Memory)
-        ⊎ ((e ≡ Fault.Full) × (most_accounts ≤ map.len (K.book keeper.old)))) }
+        ⊎ ((e ≡ Fault.Full) × (K.capacity ≤ map.len (K.book keeper.old)))) }
 {
     match keeper.admit(tools.rt, *name) {
         Ok(()) => Ok(()),
@@ -277,20 +340,21 @@ fn admit<T: Threads + Wait + Sync, K: Keeper>(
     }
 }
 
-fn put_first<T: Threads + Wait + Sync, K: Keeper>(
+/// Puts the record at an account that is there.
+fn put<T: Threads + Wait + Sync, K: Keeper>(
     tools: &Tools<'_, T>,
     keeper: &mut K,
     name: &Name,
     stored: Record,
-) -> Result<Reply, Fault>
+) -> Result<(), Fault>
     requires { map.contains_key (K.book keeper.old) name.now ≡ true }
-    ensures done { IfOk result (λ reply. (reply ≡ Reply.Enrolled)
-        × (K.book keeper.new ≡ map.insert (K.book keeper.old) name.now (Some stored))) }
+    ensures done { OnOk result
+        (K.book keeper.new ≡ map.insert (K.book keeper.old) name.now (Some stored)) }
     ensures stays { OnErr result (K.book keeper.new ≡ K.book keeper.old) }
     ensures memory { IfErr result (λ e. e ≡ Fault.Memory) }
 {
     match keeper.load(tools.rt, name, stored) {
-        Ok(()) => Ok(Reply::Enrolled),
+        Ok(()) => Ok(()),
         Err(_) => Err(Fault::Memory),
     }
 }

@@ -4,7 +4,7 @@ ghost use Rattle.std.specs.Prelude.{◌≡◌};
 ghost use Rattle.cred_admin.specs.Answers.{reply_line};
 ghost use Rattle.cred_admin.specs.Statuses.{status_of};
 
-use crate::status::Status;
+use crate::status::{Hint, Status};
 use cred_book::Reply;
 
 /// The reply's word with the line end. It stands ready, so that a change that was made can't want
@@ -28,9 +28,9 @@ pub(crate) fn reply_line(reply: &Reply) -> &'static [u8]
     }
 }
 
-/// The exit status that goes with it.
-pub(crate) fn status_of(reply: &Reply) -> Status
-    ensures { result ≡ status_of reply.now }
+/// The exit status that goes with it, and with the hint of the password that was asked with.
+pub(crate) fn status_of(reply: &Reply, hint: Option<Hint>) -> Status
+    ensures { result ≡ status_of reply.now hint }
 {
     match reply {
         Reply::Enrolled
@@ -39,11 +39,9 @@ pub(crate) fn status_of(reply: &Reply) -> Status
         | Reply::Upgraded
         | Reply::Kept
         | Reply::Removed => Status::Done,
-        Reply::Exists
-        | Reply::No
-        | Reply::Absent
-        | Reply::Wrong
-        | Reply::Changed { .. }
-        | Reply::NoAccount => Status::No,
+        Reply::No | Reply::Wrong => Status::No(hint),
+        Reply::Exists | Reply::Absent | Reply::Changed { .. } | Reply::NoAccount => {
+            Status::No(None)
+        }
     }
 }

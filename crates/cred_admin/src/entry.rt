@@ -1,8 +1,14 @@
 //! A line of a passwd-file: `NAME:RECORD`, or `NAME:` where no record stands.
+//!
+//! What other programs write beside it is left away: a carriage return at the end, further fields,
+//! and in front of the record Dovecot's scheme in braces or Django's word `argon2`.
 
 ghost use Rattle.std.specs.Prelude.{◌≡◌};
-ghost use Rattle.cred_admin.specs.Import.{entry_as, entry_of, line_number, line_word, stored_at};
+ghost use Rattle.cred_admin.specs.Import.{behind_braces, behind_word, entry_as, entry_of};
+ghost use Rattle.cred_admin.specs.Import.{line_number, line_word, record_part, stored_at};
+ghost use Rattle.cred_admin.specs.Import.{without_return};
 ghost use Rattle.cred_book.specs.Names.{made_name};
+ghost use Rattle.cred_phc.specs.Pieces.{pieces};
 
 use cred_book::{BookError, Name};
 use cred_phc::{PhcError, Pieces, Record, parse_record};
@@ -10,7 +16,7 @@ use cred_phc::{PhcError, Pieces, Record, parse_record};
 /// Why a line isn't good.
 #[derive(Clone, Copy, Debug, PartialEq, Eq)]
 pub enum LineFault {
-    /// It hasn't exactly one colon.
+    /// It has no colon.
     Line,
     /// The text of its record has this fault.
     Text(PhcError),
@@ -42,21 +48,19 @@ impl LineFault {
     }
 }
 
-/// Reads a line, which is cut at every colon. The name is judged before the record.
+/// Reads a line, which is cut at every colon: the first field is the name, and the second one has
+/// the record. The name is judged before the record.
 #[tactic(auto, unfolding(crate::specs::Import::entry_of))]
 pub(crate) fn entry_of(line: &[u8]) -> Result<(Name, Option<Record>), LineFault>
     ensures { result ≡ entry_of line.now }
 {
-    let mut fields = Pieces::new(line, b':');
+    let mut fields = Pieces::new(without_return(line), b':');
     let Some(name) = fields.next() else {
         return Err(LineFault::Line);
     };
     let Some(text) = fields.next() else {
         return Err(LineFault::Line);
     };
-    if fields.peek().is_some() {
-        return Err(LineFault::Line);
-    }
     entry_as(name, text)
 }
 
@@ -74,8 +78,57 @@ fn stored_at(text: &[u8]) -> Result<Option<Record>, LineFault>
     if text.is_empty() {
         return Ok(None);
     }
-    match parse_record(text) {
+    match parse_record(record_part(text)) {
         Ok(stored) => Ok(Some(stored)),
         Err(fault) => Err(LineFault::Text(fault)),
+    }
+}
+
+/// A line without the carriage return before its end.
+fn without_return(line: &[u8]) -> &[u8]
+    ensures { result.now ≡ without_return line.now }
+{
+    if line.ends_with(b"\r") {
+        let (front, _) = line.split_at(line.len() - 1);
+        front
+    } else {
+        line
+    }
+}
+
+/// The text of the record in a second field.
+fn record_part(text: &[u8]) -> &[u8]
+    ensures { result.now ≡ record_part text.now }
+{
+    behind_word(behind_braces(text))
+}
+
+/// What stands behind a scheme in braces, if the text begins with one.
+fn behind_braces(text: &[u8]) -> &[u8]
+    ensures { result.now ≡ behind_braces (pieces 125 text.now) text.now }
+{
+    let mut parts = Pieces::new(text, b'}');
+    let Some(scheme) = parts.next() else {
+        return text;
+    };
+    let Some(behind) = parts.next() else {
+        return text;
+    };
+    if parts.peek().is_none() && scheme.starts_with(b"{") {
+        behind
+    } else {
+        text
+    }
+}
+
+/// What stands behind Django's word, if the text begins with it.
+fn behind_word(text: &[u8]) -> &[u8]
+    ensures { result.now ≡ behind_word text.now }
+{
+    if text.starts_with(b"argon2") {
+        let (_, behind) = text.split_at(6);
+        behind
+    } else {
+        text
     }
 }

@@ -5,6 +5,7 @@ ghost use Rattle.cred_admin.specs.Statuses.{status_of_fault};
 ghost use Rattle.cred_admin.specs.declared.fault.Fault.TheVariants.{Memory as OutOfMemory};
 
 use crate::status::Status;
+use cred_phc::Record;
 use std::alloc::AllocError;
 use thiserror::Error;
 
@@ -17,21 +18,34 @@ pub enum Fault {
     Write,
     #[error("out of memory")]
     Memory,
+    /// The account was added, and then there was no memory to keep this record.
+    #[error("out of memory: the name is there, with no record")]
+    NoRecord(Record),
     #[error("the password has over 256 bytes")]
     Password,
-    #[error("the book has 4096 accounts")]
+    #[error("no password on standard input")]
+    NoPassword,
+    #[error("the new password is missing")]
+    NoNewPassword,
+    #[error("the password is empty")]
+    Empty,
+    #[error("the book has no room for another account")]
     Full,
 }
 
 impl Fault {
     /// The exit status that tells of it.
-    pub fn status(self) -> Status
-        ensures { result ≡ status_of_fault self }
+    pub fn status(&self) -> Status
+        ensures { result ≡ status_of_fault self.now }
     {
         match self {
             Fault::Read | Fault::Write => Status::Io,
-            Fault::Memory => Status::Memory,
-            Fault::Password | Fault::Full => Status::Data,
+            Fault::Memory | Fault::NoRecord(_) => Status::Memory,
+            Fault::Password
+            | Fault::NoPassword
+            | Fault::NoNewPassword
+            | Fault::Empty
+            | Fault::Full => Status::Data,
         }
     }
 }

@@ -1,5 +1,6 @@
-//! What an administrator does with a book of accounts: add, check, change, upgrade and remove by a
-//! password that is read from a reader; list, export and import.
+//! What an administrator does with a book of accounts: add, check, change, upgrade, remove and
+//! reset by a password that is read from a reader; show, list and export; and what an import and an
+//! order without a password read and answer, for a book whose names change.
 //!
 //! Each command reads, changes the book by its keeper, and then writes its answer: so an answer is
 //! never written before its change is made.
@@ -7,21 +8,27 @@
 
 mod account;
 mod answer;
+mod edit_reply;
 mod entry;
 mod fault;
+mod gathering;
 mod listing;
-mod loading;
+mod new_password;
 mod password;
 mod printing;
 mod setting;
+mod showing;
 mod status;
 mod tools;
 
-pub use account::{add, change, check, remove, upgrade};
+pub use account::{add, change, check, remove, reset, upgrade};
+pub use edit_reply::{EditReply, answer_edit};
 pub use entry::LineFault;
 pub use fault::Fault;
+pub use gathering::{BadLine, Existing, Gathered, ImportFault, gather};
 pub use listing::{export, list};
-pub use loading::{ImportFault, import};
+pub use new_password::{EmptyPassword, NewPassword};
 pub use setting::{NewSetting, setting_of};
-pub use status::Status;
+pub use showing::{Part, show};
+pub use status::{Hint, Status};
 pub use tools::Tools;

@@ -9,16 +9,20 @@ ghost use Rattle.cred_admin.specs.Listing.{Prints, lines_text, name_line, passwd
 use crate::fault::Fault;
 use crate::printing::write_whole;
 use crate::status::Status;
-use cred_book::{Book, Name};
+use cred_book::{Name, Register, Slot};
 use cred_cli::Watched;
-use cred_phc::{Record, write_record};
+use cred_phc::write_record;
 use std::alloc::{AllocError, Global};
 use std::io::Write;
 
 /// Writes the names, a line each.
 ///
 /// Errors: `Memory`, and nothing is written; `Write`.
-pub fn list<W: Write>(alloc: Global, book: &Book, writer: &mut Watched<W>) -> Result<Status, Fault>
+pub fn list<W: Write>(
+    alloc: Global,
+    book: &Register,
+    writer: &mut Watched<W>,
+) -> Result<Status, Fault>
     ensures { Prints (lines_text name_line (map.entries book.now))
         (W.contents (inner_of writer.old)) (W.contents (inner_of writer.new))
         (failed_of writer.new) result }
@@ -34,7 +38,7 @@ pub fn list<W: Write>(alloc: Global, book: &Book, writer: &mut Watched<W>) -> Re
 /// Errors: `Memory`, and nothing is written; `Write`.
 pub fn export<W: Write>(
     alloc: Global,
-    book: &Book,
+    book: &Register,
     writer: &mut Watched<W>,
 ) -> Result<Status, Fault>
     ensures { Prints (lines_text passwd_line (map.entries book.now))
@@ -46,7 +50,7 @@ pub fn export<W: Write>(
     Ok(Status::Done)
 }
 
-fn names(alloc: Global, book: &Book) -> Result<Vec<u8>, AllocError>
+fn names(alloc: Global, book: &Register) -> Result<Vec<u8>, AllocError>
     ensures { IfOk result (λ text. text.items ≡ lines_text name_line (map.entries book.now)) }
 {
     let mut text = Vec::new(alloc);
@@ -56,12 +60,12 @@ fn names(alloc: Global, book: &Book) -> Result<Vec<u8>, AllocError>
     Ok(text)
 }
 
-fn entries(alloc: Global, book: &Book) -> Result<Vec<u8>, AllocError>
+fn entries(alloc: Global, book: &Register) -> Result<Vec<u8>, AllocError>
     ensures { IfOk result (λ text. text.items ≡ lines_text passwd_line (map.entries book.now)) }
 {
     let mut text = Vec::new(alloc);
-    for (name, stored) in book.iter() {
-        push_entry(alloc, &mut text, name, stored)?;
+    for (name, slot) in book.iter() {
+        push_entry(alloc, &mut text, name, slot)?;
     }
     Ok(text)
 }
@@ -74,18 +78,13 @@ fn push_name(text: &mut Vec<u8>, name: &Name) -> Result<(), AllocError>
     Ok(())
 }
 
-fn push_entry(
-    alloc: Global,
-    text: &mut Vec<u8>,
-    name: &Name,
-    stored: &Option<Record>,
-) -> Result<(), AllocError>
-    ensures { OnOk result (text.new.items ≡ text.old.items ++ passwd_line (name.now, stored.now)) }
+fn push_entry(alloc: Global, text: &mut Vec<u8>, name: &Name, slot: &Slot) -> Result<(), AllocError>
+    ensures { OnOk result (text.new.items ≡ text.old.items ++ passwd_line (name.now, slot.now)) }
 {
     text.extend_from_slice(name.bytes())?;
     text.push(b':')?;
-    if let Some(stored) = stored {
-        let Ok(written) = write_record(alloc, stored) else {
+    if let Some(stored) = slot.stored() {
+        let Ok(written) = write_record(alloc, &stored) else {
             return Err(AllocError);
         };
         text.extend_from_slice(&written)?;

@@ -3,33 +3,40 @@
 ghost use Rattle.std.specs.Prelude.{◌≡◌, ◌<◌, ◌++◌, ◌∷◌, [], Err, IfErr, IfOk, IfSome, OnOk};
 ghost use Rattle.std.specs.Prelude.{length, true};
 ghost use Rattle.cred_cli.specs.Watched.{failed_of, inner_of};
-ghost use Rattle.cred_admin.specs.Lines.{ReadFails, ReadsLine, Takes};
-ghost use Rattle.cred_admin.specs.Lines.{line_before};
+ghost use Rattle.cred_admin.specs.Lines.{HasEmptyLine, IsAdmitted, NewReadFails, ReadFails};
+ghost use Rattle.cred_admin.specs.Lines.{ReadsLine, SecondReadFails, Takes, line_before};
 ghost use Rattle.cred_phc.specs.declared.password.TheConstants.{MAX_PASSWORD};
 
 use crate::fault::Fault;
+use crate::new_password::EmptyPassword;
 use cred_cli::Watched;
 use cred_phc::{MAX_PASSWORD, Password};
 use std::alloc::Global;
 use std::io::Read;
 
 /// Reads one line: the bytes before the next line end, which is taken off too, or before the end of
-/// what is read. No byte behind the line is taken.
+/// what is read. No byte after the line is taken.
 ///
-/// Errors: `Read`; `Memory`; `Password` where the line has over 256 bytes.
+/// Errors: `Read`; `Memory`; `NoPassword` if there is no byte to read; `Password` if the line has
+/// over 256 bytes.
 pub(crate) fn read_password<R: Read>(
     alloc: Global,
     reader: &mut Watched<R>,
 ) -> Result<Password, Fault>
     ensures line { IfOk result (λ pw. IfSome (R.remaining (inner_of reader.old))
         (λ bytes. ReadsLine bytes (R.remaining (inner_of reader.new)) pw)) }
+    ensures none { result ≡ Err Fault.NoPassword → IfSome (R.remaining (inner_of reader.old))
+        (λ bytes. bytes ≡ []) }
     ensures long { result ≡ Err Fault.Password → IfSome (R.remaining (inner_of reader.old))
         (λ bytes. MAX_PASSWORD < length (line_before bytes)) }
     ensures faults { IfErr result (ReadFails (failed_of reader.new)) }
 {
     let mut line = Vec::new(alloc);
-    for _taken in 0..=MAX_PASSWORD {
+    for taken in 0..=MAX_PASSWORD {
         let Some(byte) = next_byte(reader)? else {
+            if taken == 0 {
+                return Err(Fault::NoPassword);
+            }
             return password(&line);
         };
         if byte == b'\n' {
@@ -38,6 +45,58 @@ pub(crate) fn read_password<R: Read>(
         keep(&mut line, byte)?;
     }
     Err(Fault::Password)
+}
+
+/// Reads a new password, as [`read_password`] does.
+///
+/// Errors: those; `Empty` if the line is empty and that is refused.
+pub(crate) fn read_new_password<R: Read>(
+    alloc: Global,
+    empty: EmptyPassword,
+    reader: &mut Watched<R>,
+) -> Result<Password, Fault>
+    ensures line { IfOk result (λ pw. IfSome (R.remaining (inner_of reader.old))
+        (λ bytes. ReadsLine bytes (R.remaining (inner_of reader.new)) pw)) }
+    ensures admitted { IfOk result (IsAdmitted empty) }
+    ensures none { result ≡ Err Fault.NoPassword → IfSome (R.remaining (inner_of reader.old))
+        (λ bytes. bytes ≡ []) }
+    ensures long { result ≡ Err Fault.Password → IfSome (R.remaining (inner_of reader.old))
+        (λ bytes. MAX_PASSWORD < length (line_before bytes)) }
+    ensures empty { result ≡ Err Fault.Empty → (empty ≡ EmptyPassword.Refused)
+        × IfSome (R.remaining (inner_of reader.old)) HasEmptyLine }
+    ensures faults { IfErr result (NewReadFails (failed_of reader.new)) }
+{
+    let pw = read_password(alloc, reader)?;
+    match empty {
+        EmptyPassword::Refused if pw.bytes().is_empty() => Err(Fault::Empty),
+        EmptyPassword::Refused | EmptyPassword::Taken => Ok(pw),
+    }
+}
+
+/// Reads a new password in the line after the old one, as [`read_new_password`] does.
+///
+/// Errors: those, but `NoNewPassword` for `NoPassword`.
+pub(crate) fn read_second_password<R: Read>(
+    alloc: Global,
+    empty: EmptyPassword,
+    reader: &mut Watched<R>,
+) -> Result<Password, Fault>
+    ensures line { IfOk result (λ pw. IfSome (R.remaining (inner_of reader.old))
+        (λ bytes. ReadsLine bytes (R.remaining (inner_of reader.new)) pw)) }
+    ensures admitted { IfOk result (IsAdmitted empty) }
+    ensures none { result ≡ Err Fault.NoNewPassword → IfSome (R.remaining (inner_of reader.old))
+        (λ bytes. bytes ≡ []) }
+    ensures long { result ≡ Err Fault.Password → IfSome (R.remaining (inner_of reader.old))
+        (λ bytes. MAX_PASSWORD < length (line_before bytes)) }
+    ensures empty { result ≡ Err Fault.Empty → (empty ≡ EmptyPassword.Refused)
+        × IfSome (R.remaining (inner_of reader.old)) HasEmptyLine }
+    ensures faults { IfErr result (SecondReadFails (failed_of reader.new)) }
+{
+    match read_new_password(alloc, empty, reader) {
+        Ok(pw) => Ok(pw),
+        Err(Fault::NoPassword) => Err(Fault::NoNewPassword),
+        Err(fault) => Err(fault),
+    }
 }
 
 /// The next byte, or none at the end.

@@ -1,24 +1,47 @@
 //! The exit statuses.
 
 ghost use Rattle.std.specs.Prelude.{◌≡◌};
-ghost use Rattle.cred_admin.specs.Statuses.{number_of};
+ghost use Rattle.cred_admin.specs.Statuses.{hint_of, number_of};
+
+use cred_phc::Password;
+
+/// Why a password may not be the one that was meant.
+#[derive(Clone, Copy, Debug, PartialEq, Eq)]
+pub enum Hint {
+    /// Its last byte is a carriage return, as each line of a Windows file has it before its end.
+    CarriageReturn,
+}
+
+/// The hint that a password gives, if it gives one.
+pub(crate) fn hint_of(pw: &Password) -> Option<Hint>
+    ensures { result ≡ hint_of pw.now }
+{
+    let last = pw.bytes().last().copied()?;
+    if last == b'\r' {
+        return Some(Hint::CarriageReturn);
+    }
+    None
+}
 
 /// How a command ended, for the shell.
 #[derive(Clone, Copy, Debug, PartialEq, Eq)]
 pub enum Status {
     /// It did what was asked, or the password is right.
     Done,
+    /// It did what was asked, and so many lines named accounts that were there and stay.
+    Kept(u64),
     /// The words of the command line are wrong.
     Usage,
     /// Reading or writing failed.
     Io,
     /// There was no memory.
     Memory,
-    /// The book says no: another password, no such account, no record, or one already.
-    No,
+    /// The book says no: another password, and perhaps why, no such account, no record, or one
+    /// already.
+    No(Option<Hint>),
     /// The database failed, is busy, or holds no book.
     Database,
-    /// What was read isn't good: a password, a line, or one account too many.
+    /// What was read isn't good: a password, none at all, a line, or one account too many.
     Data,
 }
 
@@ -28,11 +51,11 @@ impl Status {
         ensures { result ≡ number_of self }
     {
         match self {
-            Status::Done => 0,
+            Status::Done | Status::Kept(_) => 0,
             Status::Usage => 1,
             Status::Io => 2,
             Status::Memory => 3,
-            Status::No => 4,
+            Status::No(_) => 4,
             Status::Database => 5,
             Status::Data => 6,
         }

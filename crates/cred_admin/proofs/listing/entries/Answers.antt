@@ -1,9 +1,10 @@
+use Rattle.std.proofs.Common.{ap, length}
 use Rattle.cred_admin.specs.Listing.{passwd_line}
 use Rattle.cred_admin.proofs.Printed.{line_more, lines_end}
 use Rattle.cred_admin.proofs.listing.entries.Goals as goal
 
 pub loop-name-preserved : goal.loop-name-preserved
-loop-name-preserved c = line_more passwd_line _ _ _ _ _ c.in-Some.field-0.now c.loop-name.invariant c.in-Some.ensures.steps c.in_ok-push_entry.ensures
+loop-name-preserved c = line_more passwd_line _ _ _ _ _ _ c.loop-name.invariant c.in-Some.ensures.steps c.in_ok-push_entry.ensures
 
 pub returns : goal.returns
-returns c = lines_end passwd_line _ _ _ c.loop-name.invariant c.in-None.ensures.steps.0
+returns c = lines_end passwd_line _ _ _ c.loop-name.invariant (ap length c.in-None.ensures.steps.0)

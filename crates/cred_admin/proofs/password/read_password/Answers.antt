@@ -1,11 +1,15 @@
 use Rattle.std.proofs.Common.{inl, inr, [], ◌∷◌, Some, length, ap, ◌∙◌, arith}
 use Rattle.std.proofs.lemmas.List.{length-append}
-use Rattle.cred_admin.proofs.Reading.{ended, long_line, more, not_ten}
+use Rattle.cred_admin.proofs.Reading.{ended, long_line, more, no_line, not_ten}
 use Rattle.cred_admin.proofs.password.read_password.Goals as goal
 
 pub returns-in_default-clause-line : goal.returns-in_default-clause-line
 returns-in_default-clause-line g c =
-    ended _ _ _ _ _ _ c.loop-taken.invariant.line c.in_ok-byte.ensures.byte (inl c.in_default.is) (rw c.deref.ensures.value at c.password.ensures.value)
+    ended _ _ _ _ _ _ c.loop-taken.invariant.line c.in_ok-byte.ensures.byte (inl (c.in_default.is, omega (arith, c.loop-taken.invariant.count, c.if-taken-eq0.false))) (rw c.deref.ensures.value at c.password.ensures.value)
+
+pub returns-then-taken-eq0-clause-none : goal.returns-then-taken-eq0-clause-none
+returns-then-taken-eq0-clause-none g c e =
+    no_line _ _ _ _ _ c.loop-taken.invariant.line c.in_ok-byte.ensures.byte c.in_default.is (c.loop-taken.invariant.count ∙ c.if-taken-eq0.true)
 
 pub returns-then-byte-eq10-clause-line : goal.returns-then-byte-eq10-clause-line
 returns-then-byte-eq10-clause-line g c =

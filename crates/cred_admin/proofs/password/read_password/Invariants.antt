@@ -7,5 +7,5 @@ use Rattle.cred_admin.proofs.password.read_password.Given as goal
 abbrev pub invariant-loop-taken : goal.invariant-loop-taken
 invariant-loop-taken g l = record {
   line : LineSoFar (g.R.Read.remaining (inner_of l.fn.reader)) (g.R.Read.remaining (inner_of l.reader)) l.line.items;
-  count : length l.line.items ≡ l._taken;
+  count : length l.line.items ≡ l.taken;
 }

@@ -1,0 +1,65 @@
+//! The answer to an order that changes an account without its password.
+
+ghost use Rattle.std.specs.Prelude.{◌≡◌, IfErr, true};
+ghost use Rattle.cred_cli.specs.Watched.{failed_of, inner_of};
+ghost use Rattle.cred_admin.specs.Edits.{edit_line, edit_status, told};
+ghost use Rattle.cred_admin.specs.Listing.{Tells};
+
+use crate::fault::Fault;
+use crate::printing::write_whole;
+use crate::status::Status;
+use cred_cli::Watched;
+use std::io::Write;
+
+/// What became of such an order.
+#[derive(Clone, Copy, Debug, PartialEq, Eq)]
+pub enum EditReply {
+    /// The record is gone, and the name stays.
+    Disabled,
+    /// The name is gone, with its record.
+    Deleted,
+    /// The record is that of the other name.
+    Renamed,
+    /// There is no record.
+    Absent,
+    /// The other name is there already.
+    Exists,
+    /// The name isn't there.
+    NoAccount,
+}
+
+/// Writes the reply, a word in a line.
+///
+/// Errors: `Write`.
+pub fn answer_edit<W: Write>(reply: EditReply, writer: &mut Watched<W>) -> Result<Status, Fault>
+    ensures told { Tells (told reply) (W.contents (inner_of writer.old))
+        (W.contents (inner_of writer.new)) (failed_of writer.new) result }
+    ensures fault { IfErr result (λ e. e ≡ Fault.Write) }
+{
+    write_whole(writer, edit_line(reply))?;
+    Ok(edit_status(reply))
+}
+
+/// The reply's word with the line end.
+fn edit_line(reply: EditReply) -> &'static [u8]
+    ensures { result.now ≡ edit_line reply }
+{
+    match reply {
+        EditReply::Disabled => b"disabled\n",
+        EditReply::Deleted => b"deleted\n",
+        EditReply::Renamed => b"renamed\n",
+        EditReply::Absent => b"absent\n",
+        EditReply::Exists => b"exists\n",
+        EditReply::NoAccount => b"noaccount\n",
+    }
+}
+
+/// The exit status that goes with it.
+fn edit_status(reply: EditReply) -> Status
+    ensures { result ≡ edit_status reply }
+{
+    match reply {
+        EditReply::Disabled | EditReply::Deleted | EditReply::Renamed => Status::Done,
+        EditReply::Absent | EditReply::Exists | EditReply::NoAccount => Status::No(None),
+    }
+}
