@@ -1,5 +1,7 @@
 -- Definitions that contracts cite: what an order makes of a kept book, and how it ends.
+pub mod Importing
 pub mod Orders
+pub use Rattle.cred_admin.specs.Edits
 pub use Rattle.cred_admin.specs.Import
 pub use Rattle.cred_admin.specs.Seen
 pub use Rattle.cred_cli.specs.Outcome

@@ -3,18 +3,21 @@ use Rattle.std.specs.Prelude.{◌≡◌, ℕ, ◌≤◌, Bool, true, false, List
 use Rattle.std.specs.Prelude.{IfSome, Result, Ok, Err}
 use Rattle.std.specs.FinMap as map
 use Rattle.std.specs.Io.KnownBytes.{Keeps}
+use Rattle.cred_book.specs.Accounts.{Accounts, register_capacity}
 use Rattle.cred_book.specs.declared.request.Request.TheVariants as request
-use Rattle.cred_admin.specs.Commands.{Adds, Asks, AsksTwice}
-use Rattle.cred_admin.specs.Import.{Imports}
-use Rattle.cred_admin.specs.Listing.{Prints, lines_text, name_line, passwd_line}
+use Rattle.cred_admin.specs.Commands.{Adds, Asks, AsksTwice, Resets}
+use Rattle.cred_admin.specs.Edits.{Edits, deletion, disabling, renaming}
+use Rattle.cred_admin.specs.Listing.{Prints, Tells, lines_text, name_line, passwd_line, shown_at}
 use Rattle.cred_admin.specs.Seen.{Seen}
 use Rattle.cred_admin.specs.Statuses.{status_of_fault}
+use Rattle.cred_admin.specs.declared.edit_reply.EditReply.{EditReply}
 use Rattle.cred_admin.specs.declared.fault.Fault.{Fault}
-use Rattle.cred_admin.specs.declared.loading.ImportFault.{ImportFault}
-use Rattle.cred_admin.specs.declared.loading.ImportFault.TheVariants as import
+use Rattle.cred_admin.specs.declared.gathering.ImportFault.{ImportFault}
+use Rattle.cred_admin.specs.declared.gathering.ImportFault.TheVariants as import
 use Rattle.cred_admin.specs.declared.status.Status.{Status}
 use Rattle.cred_admin.specs.declared.status.Status.TheVariants.{Done, Io, Memory, Database, Data}
-use Rattle.cred_cli.specs.Outcome.{HasCause, IsAnswered, ScriptFails, longest_script}
+use Rattle.cred_cli.specs.Outcome.{FailsWithin, HasCause, IsAnswered, longest_script}
+use Rattle.cred_cli.specs.Outcome.{longest_service}
 use Rattle.cred_cli.specs.declared.fault.ScriptFault.{ScriptFault}
 use Rattle.cred_cli.specs.declared.fault.ScriptFault.TheVariants as script
 use Rattle.cred_cli.specs.declared.script.End.{End}
@@ -25,11 +28,14 @@ use Rattle.sqlite.specs.declared.error.Error.{Error}
 use Rattle.sqlite.specs.declared.error.Error.TheVariants as sqlite
 use Rattle.sqlite.specs.declared.error.ErrorCode.{ErrorCode}
 use Rattle.sqlite.specs.declared.error.ErrorCode.TheVariants as code
+use Rattle.cred_keep.specs.Importing.{Imports}
 use Rattle.cred_keep.specs.declared.failure.Failure.{Failure}
 use Rattle.cred_keep.specs.declared.failure.Failure.TheVariants as failure
 use Rattle.cred_keep.specs.declared.order.Order.{Order}
-use Rattle.cred_keep.specs.declared.order.Order.TheVariants.{Run, Add, Check, Change, Upgrade}
-use Rattle.cred_keep.specs.declared.order.Order.TheVariants.{Remove, List as Names, Export, Import}
+use Rattle.cred_keep.specs.declared.order.Order.TheVariants.{Run, Serve, Add, Check, Change}
+use Rattle.cred_keep.specs.declared.order.Order.TheVariants.{Upgrade, Reset, Remove, Show}
+use Rattle.cred_keep.specs.declared.order.Order.TheVariants.{Disable, Delete, Rename}
+use Rattle.cred_keep.specs.declared.order.Order.TheVariants.{List as Names, Export, Import}
 
 -- ---- how it ends
 
@@ -53,7 +59,8 @@ unless_lost (Some l) ended = Err failure.Database
 abbrev pub status_of_import : ImportFault → Status
 status_of_import import.Read = Io
 status_of_import import.Memory = Memory
-status_of_import (import.Line n why) = Data
+status_of_import import.Full = Data
+status_of_import (import.Lines bad) = Data
 
 abbrev pub status_of_script : ScriptFault → Status
 status_of_script script.Read = Io
@@ -88,12 +95,13 @@ status_of_open _ = Database
 
 -- ---- what it does
 
--- the script was answered whole, or it met a fault
-abbrev pub Runs : Seen → Result End ScriptFault → Type 0
-Runs s (Ok end) = IfSome s.input (λ bytes. (length bytes ≤ longest_script)
-    × IsAnswered s.old bytes s.before s.now s.new end.lines)
-Runs s (Err e) = HasCause s.reader_failed s.writer_failed e
-    × IfSome s.input (λ bytes. ScriptFails s.old bytes s.left s.before s.now s.new e)
+-- all lines were answered, of at most so many bytes, or they met a fault
+abbrev pub RunsWithin : ℕ → Seen → Result End ScriptFault → Type 0
+RunsWithin longest s (Ok end) = IfSome s.input (λ bytes. (length bytes ≤ longest)
+    × IsAnswered register_capacity s.old bytes s.before s.now s.new end.lines)
+RunsWithin longest s (Err e) = HasCause s.reader_failed s.writer_failed e
+    × IfSome s.input (λ bytes. FailsWithin longest register_capacity s.old bytes s.left s.before
+    s.now s.new e)
 
 -- a command, of which this holds at its end, ends so
 abbrev pub Commands : (Result Status Fault → Type 0) → Result Status Failure → Type 0
@@ -104,19 +112,34 @@ abbrev pub Shows : List ℕ → Seen → Result Status Failure → Type 0
 Shows text s ended =
     Commands (Prints text s.before s.now s.writer_failed) ended × (s.new ≡ s.old)
 
+-- a change without a password
+abbrev pub Edited : EditReply × Accounts → Seen → Result Status Failure → Type 0
+Edited step s ended =
+    Commands (Edits register_capacity step s.old s.new s.before s.now s.writer_failed) ended
+
 abbrev pub Performs : Order → Seen → Result Status Failure → Type 0
-Performs Run s ended = (r : Result End ScriptFault) × Runs s r × (ended ≡ run_end r)
-Performs (Add name setting) s ended = Commands (Adds name setting s) ended
+Performs Run s ended =
+    (r : Result End ScriptFault) × RunsWithin longest_script s r × (ended ≡ run_end r)
+Performs Serve s ended =
+    (r : Result End ScriptFault) × RunsWithin longest_service s r × (ended ≡ run_end r)
+Performs (Add name new) s ended = Commands (Adds register_capacity name new s) ended
 Performs (Check name) s ended = Commands (Asks (λ pw. request.Verify name pw) s) ended
-Performs (Change name setting) s ended =
-    Commands (AsksTwice (λ pw new_pw. request.Change name pw new_pw setting) s) ended
+Performs (Change name new) s ended =
+    Commands (AsksTwice new (λ pw new_pw. request.Change name pw new_pw new.setting) s) ended
+Performs (Reset name new) s ended = Commands (Resets name new s) ended
 Performs (Upgrade name setting) s ended =
     Commands (Asks (λ pw. request.Upgrade name pw setting) s) ended
 Performs (Remove name) s ended = Commands (Asks (λ pw. request.Remove name pw) s) ended
+Performs (Disable name) s ended = Edited (disabling s.old name) s ended
+Performs (Delete name) s ended = Edited (deletion s.old name) s ended
+Performs (Rename name other) s ended = Edited (renaming s.old name other) s ended
+Performs (Show name part) s ended =
+    Commands (Tells (shown_at part (map.get s.old name)) s.before s.now s.writer_failed) ended
+    × (s.new ≡ s.old)
 Performs Names s ended = Shows (lines_text name_line (map.entries s.old)) s ended
 Performs Export s ended = Shows (lines_text passwd_line (map.entries s.old)) s ended
-Performs Import s ended =
-    ((r : Result Status ImportFault) × Imports s.input s.reader_failed s.old s.new r
+Performs (Import existing) s ended =
+    ((r : Result Status ImportFault) × Imports existing s.input s.reader_failed s.old s.new r
     × (ended ≡ import_end r)) × Keeps s.before s.now
 
 -- as it ends for the shell: Ok means that no change is lost
@@ -128,10 +151,16 @@ Ends order s lost ended =
 abbrev pub is_unread : Order → Bool
 is_unread Names = true
 is_unread Export = true
+is_unread (Show name part) = true
+is_unread (Disable name) = true
+is_unread (Delete name) = true
+is_unread (Rename name other) = true
 is_unread Run = false
-is_unread (Add name setting) = false
+is_unread Serve = false
+is_unread (Add name new) = false
 is_unread (Check name) = false
-is_unread (Change name setting) = false
+is_unread (Change name new) = false
+is_unread (Reset name new) = false
 is_unread (Upgrade name setting) = false
 is_unread (Remove name) = false
-is_unread Import = false
+is_unread (Import existing) = false

@@ -7,7 +7,7 @@ use cred_admin::{Fault, ImportFault, Status};
 use cred_cli::{End, ScriptFault};
 
 /// What ended an order.
-#[derive(Clone, Copy, Debug)]
+#[derive(Debug, Drop)]
 pub enum Failure {
     /// A command on one account, a list or an export met this fault.
     Command(Fault),
@@ -21,8 +21,8 @@ pub enum Failure {
 
 impl Failure {
     /// The exit status that tells of it.
-    pub fn status(self) -> Status
-        ensures { result ≡ status_of_failure self }
+    pub fn status(&self) -> Status
+        ensures { result ≡ status_of_failure self.now }
     {
         match self {
             Failure::Command(fault) => fault.status(),
@@ -30,7 +30,7 @@ impl Failure {
             Failure::Script(ScriptFault::Read | ScriptFault::Write) => Status::Io,
             Failure::Import(ImportFault::Memory) => Status::Memory,
             Failure::Script(ScriptFault::Memory) => Status::Memory,
-            Failure::Import(ImportFault::Line { .. }) => Status::Data,
+            Failure::Import(ImportFault::Full | ImportFault::Lines(_)) => Status::Data,
             Failure::Script(ScriptFault::TooLong) => Status::Data,
             Failure::Database => Status::Database,
         }

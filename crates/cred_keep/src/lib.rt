@@ -1,7 +1,9 @@
 //! What people do with a book that is kept in a database: the orders of the program `credkeep`.
 #![tactic(auto)]
 
+mod editing;
 mod failure;
+mod importing;
 mod order;
 mod performing;
 mod report;
@@ -11,4 +13,4 @@ pub use failure::Failure;
 pub use order::Order;
 pub use performing::{perform, serve};
 pub use report::refuse;
-pub use script::run_on_file;
+pub use script::{run_on_file, serve_on_file};

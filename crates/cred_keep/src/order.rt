@@ -1,6 +1,6 @@
 //! What is asked of a kept book.
 
-use cred_admin::NewSetting;
+use cred_admin::{Existing, NewPassword, NewSetting, Part};
 use cred_book::Name;
 
 /// A command of `credkeep` on a book that is kept, with the words that it was given.
@@ -8,20 +8,32 @@ use cred_book::Name;
 pub enum Order {
     /// Runs a script.
     Run,
-    /// Makes the first record of an account, and the account where it isn't there.
-    Add { name: Name, setting: NewSetting },
+    /// Answers the lines of a script for as long as they come.
+    Serve,
+    /// Makes the first record of an account, and the account if it isn't there.
+    Add { name: Name, new: NewPassword },
     /// Asks whether a password is the account's.
     Check { name: Name },
     /// Puts the record of a new password in the place of the old one's.
-    Change { name: Name, setting: NewSetting },
+    Change { name: Name, new: NewPassword },
+    /// Puts the record of a new password at an account, without the old one.
+    Reset { name: Name, new: NewPassword },
     /// Makes the account's record anew under another scheme or other numbers.
     Upgrade { name: Name, setting: NewSetting },
     /// Takes the account's record away.
     Remove { name: Name },
+    /// Takes the account's record away without its password.
+    Disable { name: Name },
+    /// Takes the account out of the book.
+    Delete { name: Name },
+    /// Gives the account another name.
+    Rename { name: Name, other: Name },
+    /// Writes this part of the account's record.
+    Show { name: Name, part: Part },
     /// Writes the names.
     List,
     /// Writes the accounts as a passwd-file.
     Export,
-    /// Takes in a passwd-file.
-    Import,
+    /// Takes in a passwd-file, in which accounts may be named that are there.
+    Import { existing: Existing },
 }

@@ -1,20 +1,21 @@
 //! Doing what is asked of a kept book.
 
 ghost use Rattle.std.specs.Prelude.{◌≡◌, None, OnOk, true};
-ghost use Rattle.cred_admin.specs.Import.{Imports};
+ghost use Rattle.cred_cli.specs.Outcome.{longest_script, longest_service};
 ghost use Rattle.cred_cli.specs.Watched.{IsNew, failed_of, inner_of};
 ghost use Rattle.cred_file.specs.Keeps.{IsOrWith, IsTableOf, LeavesOnly};
-ghost use Rattle.cred_keep.specs.Orders.{Ends, Performs, Runs, is_unread, status_of_end};
+ghost use Rattle.cred_keep.specs.Orders.{Ends, Performs, RunsWithin, is_unread};
+ghost use Rattle.cred_keep.specs.Orders.{status_of_end};
 ghost use Rattle.sqlite.specs.State.{HasCleanDisk};
 ghost use Rattle.sqlite.specs.Held.{state};
 
+use crate::editing::{delete, disable, rename};
 use crate::failure::{Failure, command_end, import_end, run_end};
+use crate::importing::import;
 use crate::order::Order;
-use crate::report::explain;
-use crate::script::run_on_file;
-use cred_admin::{
-    ImportFault, Status, Tools, add, change, check, export, import, list, remove, upgrade,
-};
+use crate::report::{advise, explain};
+use crate::script::{run_on_file, serve_on_file};
+use cred_admin::{Status, Tools, add, change, check, export, list, remove, reset, show, upgrade};
 use cred_cli::{End, ScriptFault, Watched};
 use cred_file::FileBook;
 use sqlite::Alter;
@@ -22,9 +23,9 @@ use std::io::{Read, Write};
 use std::sync::Wait;
 use std::thread::Threads;
 
-/// Does what is asked, as [`perform`] does, says on `faults` what ended it if something did, and
-/// gives the exit status: `Database` wherever a change is lost. Whether `faults` takes its text
-/// changes nothing.
+/// Does what is asked, as [`perform`] does, says on `faults` what ended it if something did or why
+/// a password may be wrong, and gives the exit status: `Database` if a change is lost. Whether
+/// `faults` takes its text changes nothing.
 pub fn serve<T: Threads + Wait + Sync, S: Alter, R: Read, W: Write, F: Write>(
     tools: &Tools<'_, T>,
     book: &mut FileBook<S>,
@@ -52,9 +53,12 @@ pub fn serve<T: Threads + Wait + Sync, S: Alter, R: Read, W: Write, F: Write>(
         → LeavesOnly (state S.Store book.new.1.1) (IsOrWith book.new.0 book.new.1.0) }
 {
     match perform(tools, book, order, reader, writer) {
-        Ok(status) => status,
+        Ok(status) => {
+            advise(faults, status);
+            status
+        }
         Err(failure) => {
-            explain(faults, failure, book.lost());
+            explain(faults, &failure, book.lost());
             failure.status()
         }
     }
@@ -122,20 +126,24 @@ fn obey<T: Threads + Wait + Sync, S: Alter, R: Read, W: Write>(
 {
     match order {
         Order::Run => run_end(run(tools, book, reader, writer)),
-        Order::Add { name, setting } => {
-            command_end(add(tools, book, name, setting, reader, writer))
-        }
+        Order::Serve => run_end(serve_lines(tools, book, reader, writer)),
+        Order::Add { name, new } => command_end(add(tools, book, name, new, reader, writer)),
         Order::Check { name } => command_end(check(tools, book, name, reader, writer)),
-        Order::Change { name, setting } => {
-            command_end(change(tools, book, name, setting, reader, writer))
+        Order::Change { name, new } => {
+            command_end(change(tools, book, name, new, reader, writer))
         }
+        Order::Reset { name, new } => command_end(reset(tools, book, name, new, reader, writer)),
         Order::Upgrade { name, setting } => {
             command_end(upgrade(tools, book, name, setting, reader, writer))
         }
         Order::Remove { name } => command_end(remove(tools, book, name, reader, writer)),
+        Order::Disable { name } => command_end(disable(book, name, writer)),
+        Order::Delete { name } => command_end(delete(book, name, writer)),
+        Order::Rename { name, other } => command_end(rename(book, name, other, writer)),
+        Order::Show { name, part } => command_end(show(tools.alloc, book, name, *part, writer)),
         Order::List => command_end(list(tools.alloc, book.book(), writer)),
         Order::Export => command_end(export(tools.alloc, book.book(), writer)),
-        Order::Import => import_end(take_in(tools, book, reader)),
+        Order::Import { existing } => { import_end(import(tools.alloc, book, *existing, reader)) }
     }
 }
 
@@ -147,7 +155,7 @@ fn run<T: Threads + Wait + Sync, S: Alter, R: Read, W: Write>(
 ) -> Result<End, ScriptFault>
     requires new_reader { IsNew reader.old }
     requires new_writer { IsNew writer.old }
-    ensures { Runs (record {
+    ensures { RunsWithin longest_script (record {
       input = R.remaining (inner_of reader.old);
       left = R.remaining (inner_of reader.new);
       before = W.contents (inner_of writer.old);
@@ -161,17 +169,24 @@ fn run<T: Threads + Wait + Sync, S: Alter, R: Read, W: Write>(
     run_on_file(tools.rt, tools.alloc, tools.workers, book, reader, writer)
 }
 
-/// Imports over the book, tried first on a copy of it.
-fn take_in<T: Threads + Wait + Sync, S: Alter, R: Read>(
+fn serve_lines<T: Threads + Wait + Sync, S: Alter, R: Read, W: Write>(
     tools: &Tools<'_, T>,
     book: &mut FileBook<S>,
     reader: &mut Watched<R>,
-) -> Result<Status, ImportFault>
-    ensures { Imports (R.remaining (inner_of reader.old)) (failed_of reader.new)
-        book.old.0 book.new.0 result }
+    writer: &mut Watched<W>,
+) -> Result<End, ScriptFault>
+    requires new_reader { IsNew reader.old }
+    requires new_writer { IsNew writer.old }
+    ensures { RunsWithin longest_service (record {
+      input = R.remaining (inner_of reader.old);
+      left = R.remaining (inner_of reader.new);
+      before = W.contents (inner_of writer.old);
+      now = W.contents (inner_of writer.new);
+      old = book.old.0;
+      new = book.new.0;
+      reader_failed = failed_of reader.new;
+      writer_failed = failed_of writer.new;
+    }) result }
 {
-    match book.book().copy() {
-        Ok(copy) => import(tools.rt, tools.alloc, book, copy, reader),
-        Err(_) => Err(ImportFault::Memory),
-    }
+    serve_on_file(tools.rt, tools.alloc, tools.workers, book, reader, writer)
 }

@@ -4,43 +4,100 @@ ghost use Rattle.std.specs.Prelude.{◌≡◌};
 ghost use Rattle.cred_keep.specs.Orders.{status_of_open};
 
 use crate::failure::Failure;
-use cred_admin::{ImportFault, Status};
-use cred_file::{Lost, OpenFault};
+use cred_admin::{BadLine, Fault, Hint, ImportFault, LineFault, Status};
+use cred_file::{Edit, Lost, OpenFault};
 use sqlite::{Error, ErrorCode};
 use std::io;
 use std::io::Write;
 
-/// Says why an order failed; the book's lost change is named where the database failed. Whether
-/// `faults` takes its text changes nothing.
-pub(crate) fn explain<F: Write>(faults: &mut F, failure: Failure, lost: Option<&Lost>) {
-    let _ = match (failure, lost) {
-        (Failure::Database, Some(lost)) => tell_lost(faults, lost),
-        (Failure::Database, None) => writeln!(faults, "credkeep: the database failed"),
-        (Failure::Command(fault), _) => writeln!(faults, "credkeep: {fault}"),
-        (Failure::Script(fault), _) => writeln!(faults, "credkeep: {fault}"),
-        (Failure::Import(fault), _) => tell_import(faults, fault),
+/// Says what the status has beside its number: why a password may be wrong, if the book says no to
+/// it, and how many lines of an import named accounts that stay. Whether `faults` takes its text
+/// changes nothing.
+pub(crate) fn advise<F: Write>(faults: &mut F, status: Status) {
+    let _ = match status {
+        Status::No(Some(Hint::CarriageReturn)) => writeln!(
+            faults,
+            "credkeep: hint: the password that was read ends in a carriage return, which counts: \
+             tr -d '\\r' takes it off"
+        ),
+        Status::Kept(lines) => writeln!(
+            faults,
+            "credkeep: left out {lines} lines, whose accounts are there already"
+        ),
+        _ => Ok(()),
     };
 }
 
-fn tell_lost<F: Write>(faults: &mut F, lost: &Lost) -> io::Result<()> {
-    write!(
-        faults,
-        "credkeep: the database failed: {}; the change of ",
-        lost.error
-    )?;
-    faults.write_all(lost.name.bytes())?;
-    writeln!(faults, " may be kept or not")
+/// Says why an order failed; the book's lost change is named if the database failed. Whether
+/// `faults` takes its text changes nothing.
+pub(crate) fn explain<F: Write>(faults: &mut F, failure: &Failure, lost: Option<&Lost>) {
+    let _ = match failure {
+        Failure::Database => tell_database_failed(faults, lost),
+        Failure::Command(fault) => tell_command(faults, fault),
+        Failure::Script(fault) => writeln!(faults, "credkeep: {fault}"),
+        Failure::Import(fault) => tell_import(faults, fault),
+    };
 }
 
-fn tell_import<F: Write>(faults: &mut F, fault: ImportFault) -> io::Result<()> {
+fn tell_database_failed<F: Write>(faults: &mut F, lost: Option<&Lost>) -> io::Result<()> {
+    match lost {
+        Some(lost) => tell_lost(faults, lost),
+        None => writeln!(faults, "credkeep: the database failed"),
+    }
+}
+
+fn tell_lost<F: Write>(faults: &mut F, lost: &Lost) -> io::Result<()> {
+    write!(faults, "credkeep: the database failed: {}; ", lost.error)?;
+    match &lost.edit {
+        Edit::Put { name, .. } | Edit::Delete(name) | Edit::Rename { name, .. } => {
+            write!(faults, "the change of ")?;
+            faults.write_all(name.bytes())?;
+            writeln!(faults, " may be kept or not")
+        }
+        Edit::EnterAll(more) => writeln!(
+            faults,
+            "the {} new accounts may be kept or not, all or none of them",
+            more.len()
+        ),
+    }
+}
+
+fn tell_command<F: Write>(faults: &mut F, fault: &Fault) -> io::Result<()> {
+    match fault {
+        Fault::Empty => writeln!(
+            faults,
+            "credkeep: the password is empty: --empty-password takes it"
+        ),
+        _ => writeln!(faults, "credkeep: {fault}"),
+    }
+}
+
+fn tell_import<F: Write>(faults: &mut F, fault: &ImportFault) -> io::Result<()> {
     match fault {
         ImportFault::Read => writeln!(faults, "credkeep: reading failed"),
         ImportFault::Memory => writeln!(faults, "credkeep: out of memory"),
-        ImportFault::Line { number, why } => {
-            let (fault, word) = (why.number(), why.word());
-            writeln!(faults, "credkeep: line {number}: {fault} {word}")
+        ImportFault::Full => writeln!(
+            faults,
+            "credkeep: the book has no room for so many accounts (2 full)"
+        ),
+        ImportFault::Lines(bad) => {
+            for line in bad {
+                tell_line(faults, line)?;
+            }
+            Ok(())
         }
     }
+}
+
+fn tell_line<F: Write>(faults: &mut F, line: &BadLine) -> io::Result<()> {
+    let (number, word) = (line.why.number(), line.why.word());
+    write!(faults, "credkeep: line {}: ", line.number)?;
+    match line.why {
+        LineFault::Line => write!(faults, "it is neither NAME:RECORD nor NAME:")?,
+        LineFault::Text(fault) => write!(faults, "{fault}")?,
+        LineFault::Book(refusal) => write!(faults, "{refusal}")?,
+    }
+    writeln!(faults, " ({number} {word})")
 }
 
 /// Says why no book was begun or opened, and gives the exit status that tells of it.
@@ -48,8 +105,12 @@ pub fn refuse<F: Write>(faults: &mut F, why: &OpenFault) -> Status
     ensures { result ≡ status_of_open why.now }
 {
     let _ = match why {
-        OpenFault::NoName(row) => writeln!(faults, "credkeep: row {row}: no name stands there"),
-        OpenFault::NoRecord(row) => writeln!(faults, "credkeep: row {row}: no record stands there"),
+        OpenFault::NoName(row) => {
+            writeln!(faults, "credkeep: row {row}: the text there is no name")
+        }
+        OpenFault::NoRecord(row) => {
+            writeln!(faults, "credkeep: row {row}: the text there is no record")
+        }
         OpenFault::Twice(row) => writeln!(faults, "credkeep: row {row}: another has its name"),
         OpenFault::Database(error) => tell_database(faults, *error),
         _ => writeln!(faults, "credkeep: {}", words_of(why)),
@@ -62,15 +123,27 @@ fn tell_database<F: Write>(faults: &mut F, error: Error) -> io::Result<()> {
         Error::SqliteFailure(ErrorCode::DatabaseBusy) => {
             writeln!(faults, "credkeep: busy: another process has the file open")
         }
+        Error::SqliteFailure(ErrorCode::DatabaseCorrupt | ErrorCode::NotADatabase) => {
+            writeln!(
+                faults,
+                "credkeep: the file is damaged, or no book's: {error}"
+            )
+        }
+        Error::SqliteFailure(ErrorCode::CannotOpen) => {
+            writeln!(faults, "credkeep: the file can't be opened and written")
+        }
         _ => writeln!(faults, "credkeep: {error}"),
     }
 }
 
 fn words_of(why: &OpenFault) -> &'static str {
     match why {
-        OpenFault::NotEmpty => "the file has tables already",
-        OpenFault::NoBook => "the file holds no book",
-        OpenFault::TooMany => "the book has over 4096 accounts",
+        OpenFault::NotEmpty => "the database has tables already",
+        OpenFault::NoBook => {
+            "the database holds no book: it has other tables, columns or indexes than \
+             a book's one table"
+        }
+        OpenFault::TooMany => "the book has over 16777216 accounts",
         _ => "out of memory",
     }
 }

@@ -1,14 +1,15 @@
 //! Scripts on a kept book.
 
-ghost use Rattle.std.specs.Prelude.{◌≡◌, ◌≤◌, IfErr, IfOk, IfSome, None, OnOk, length};
-ghost use Rattle.cred_cli.specs.Outcome.{HasCause, IsAnswered, ScriptFails, longest_script};
-ghost use Rattle.cred_cli.specs.Outcome.{most_calls};
+ghost use Rattle.std.specs.Prelude.{◌≡◌, ◌+◌, ◌≤◌, IfErr, IfOk, IfSome, None, OnOk, length};
+ghost use Rattle.cred_book.specs.Accounts.{register_capacity};
+ghost use Rattle.cred_cli.specs.Outcome.{FailsWithin, HasCause, IsAnswered, ScriptFails};
+ghost use Rattle.cred_cli.specs.Outcome.{longest_script, longest_service, most_calls};
 ghost use Rattle.cred_cli.specs.Watched.{IsNew, calls_of, failed_of, inner_of};
 ghost use Rattle.cred_file.specs.Keeps.{IsOrWith, IsTableOf, LeavesOnly};
 ghost use Rattle.sqlite.specs.State.{HasCleanDisk};
 ghost use Rattle.sqlite.specs.Held.{state};
 
-use cred_cli::{End, ScriptFault, Watched, run_script};
+use cred_cli::{End, ScriptFault, Watched, run_script, serve};
 use cred_file::FileBook;
 use sqlite::Alter;
 use std::alloc::Global;
@@ -31,12 +32,12 @@ pub fn run_on_file<T: Threads + Wait + Sync, S: Alter, R: Read, W: Write>(
     requires new_reader { IsNew reader.old }
     requires new_writer { IsNew writer.old }
     ensures done { IfOk result (λ end. IfSome (R.remaining (inner_of reader.old)) (λ bytes.
-        IsAnswered book.old.0 bytes (W.contents (inner_of writer.old))
+        IsAnswered register_capacity book.old.0 bytes (W.contents (inner_of writer.old))
         (W.contents (inner_of writer.new)) book.new.0 end.lines)) }
     ensures short { OnOk result (IfSome (R.remaining (inner_of reader.old))
         (λ bytes. length bytes ≤ longest_script)) }
     ensures fault { IfErr result (λ fault. IfSome (R.remaining (inner_of reader.old)) (λ bytes.
-        ScriptFails book.old.0 bytes (R.remaining (inner_of reader.new))
+        ScriptFails register_capacity book.old.0 bytes (R.remaining (inner_of reader.new))
         (W.contents (inner_of writer.old)) (W.contents (inner_of writer.new)) book.new.0 fault)) }
     ensures cause { IfErr result (HasCause (failed_of reader.new) (failed_of writer.new)) }
     ensures calls { calls_of reader.new ≤ most_calls }
@@ -46,6 +47,42 @@ pub fn run_on_file<T: Threads + Wait + Sync, S: Alter, R: Read, W: Write>(
         → IsTableOf (state S.Store book.new.1.1) book.new.0 }
 {
     let result = run_script(rt, alloc, workers, book, reader, writer);
+    book.keeps();
+    result
+}
+
+/// Answers lines on a kept book for as long as they come, as `serve` does.
+///
+/// Each change is in the database before it is answered. A crash leaves the book after the lines
+/// that were done, perhaps with the change that was under way as the database failed.
+pub fn serve_on_file<T: Threads + Wait + Sync, S: Alter, R: Read, W: Write>(
+    rt: &T,
+    alloc: Global,
+    workers: u8,
+    book: &mut FileBook<S>,
+    reader: &mut Watched<R>,
+    writer: &mut Watched<W>,
+) -> Result<End, ScriptFault>
+    requires new_reader { IsNew reader.old }
+    requires new_writer { IsNew writer.old }
+    ensures done { IfOk result (λ end. IfSome (R.remaining (inner_of reader.old)) (λ bytes.
+        IsAnswered register_capacity book.old.0 bytes (W.contents (inner_of writer.old))
+        (W.contents (inner_of writer.new)) book.new.0 end.lines)) }
+    ensures short { OnOk result (IfSome (R.remaining (inner_of reader.old))
+        (λ bytes. length bytes ≤ longest_service)) }
+    ensures fault { IfErr result (λ fault. IfSome (R.remaining (inner_of reader.old)) (λ bytes.
+        FailsWithin longest_service register_capacity book.old.0 bytes
+        (R.remaining (inner_of reader.new)) (W.contents (inner_of writer.old))
+        (W.contents (inner_of writer.new)) book.new.0 fault)) }
+    ensures cause { IfErr result (HasCause (failed_of reader.new) (failed_of writer.new)) }
+    ensures calls { IfSome (R.remaining (inner_of reader.old))
+        (λ bytes. calls_of reader.new ≤ length bytes + 1) }
+    ensures crash { HasCleanDisk (state S.Store book.new.1.1)
+        → LeavesOnly (state S.Store book.new.1.1) (IsOrWith book.new.0 book.new.1.0) }
+    ensures table { HasCleanDisk (state S.Store book.new.1.1) → book.new.1.0 ≡ None
+        → IsTableOf (state S.Store book.new.1.1) book.new.0 }
+{
+    let result = serve(rt, alloc, workers, book, reader, writer);
     book.keeps();
     result
 }

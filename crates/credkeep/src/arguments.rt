@@ -1,21 +1,26 @@
 //! The command line of `credkeep`, as `clap` reads it.
 
-use clap::{Arg, Command};
+use clap::{Arg, ArgAction, Command};
 use std::alloc::{AllocError, Global};
 
 const ABOUT: &str = "Keeps the password records of accounts in a database file, proved";
 
 const AFTER_HELP: &str = "\
-A password is read from standard input, the bytes of one line; for `change` the old one, and then
-the new one in the next line. Nothing hides it as it is typed.
+A password is the bytes of one line of standard input, without its line end; no line at all is
+refused. At a terminal use credkeep-ask, which takes the same words and doesn't show what is typed.
 
 Examples:
   credkeep users.db init
-  printf 'secret\\n' | credkeep users.db add ann
-  printf 'secret\\n' | credkeep users.db check ann
-  printf 'secret\\nnewer\\n' | credkeep users.db change ann
-  printf 'secret\\n' | credkeep users.db add bob --setting '$argon2id$v=19$m=19456,t=2,p=1'
+  credkeep-ask users.db add ann
+  printf '%s\\n' \"$pw\" | credkeep users.db add ann
+  printf '%s\\n' \"$pw\" | credkeep users.db check ann
+  printf '%s\\n%s\\n' \"$old\" \"$new\" | credkeep users.db change ann
+  printf '%s\\n' \"$new\" | credkeep users.db reset ann
+  printf '%s\\n' \"$pw\" | credkeep users.db add bob --setting '$argon2id$v=19$m=19456,t=2,p=1'
+  credkeep users.db disable bob
+  credkeep users.db rename ann anna
   credkeep users.db import < passwd
+  printf 'account cat\\nshow cat\\n' | credkeep users.db serve
   sqlite3 users.db 'SELECT name FROM account'
 
 Exit statuses:
@@ -25,25 +30,42 @@ Exit statuses:
   3  out of memory
   4  no: another password, no such account, no record, or one already
   5  the database failed, is busy, is missing, or holds no book
-  6  what was read was refused: a password of over 256 bytes, a line, an account too many
+  6  what was read was refused: no password, one that is empty or has over 256 bytes, a line, an
+     account too many
 
-Where the database failed in a change, that change is named, and may be kept or not; every one
-that was answered before is kept. docs/ERRORS.md has all texts.";
+If the database failed in a change, that change is named, and may be kept or not; every one that
+was answered before is kept. The manual page credkeep(1) and docs/ERRORS.md have all texts.";
 
 const NAME_HELP: &str = "The account: 1 to 32 bytes out of a-z, 0-9, '.', '_' and '-'";
 
-const SETTING_HELP: &str = "How the new record is made; where the salt is left away, one is drawn \
+const NEW_NAME_HELP: &str = "The name that it has from then on";
+
+const SETTING_HELP: &str = "How the new record is made; if it ends before its salt, one is drawn \
 [default: $argon2id$v=19$m=65536,t=3,p=4]";
 
 const WORKERS_HELP: &str = "How many threads may hash at once, from 1 to 64";
 
-/// Which words go with a command.
+const EMPTY_HELP: &str = "Takes an empty line as the new password, which is refused otherwise";
+
+const ECHO_HELP: &str = "Asks at a terminal, which shows what is typed; otherwise one is refused";
+
+const RECORD_HELP: &str = "The whole record, with its salt and its hash";
+
+const SKIP_HELP: &str = "Leaves accounts that are there as they are, and says how many";
+
+const WAIT_HELP: &str = "Tries for so many seconds if another process has the file, from 0 to 3600";
+
+/// A word or an option of a command.
 #[derive(Clone, Copy)]
-enum Words {
-    Nothing,
-    Workers,
+enum Word {
     Name,
-    NameAndSetting,
+    NewName,
+    Setting,
+    Workers,
+    EmptyPassword,
+    Echo,
+    Record,
+    SkipExisting,
 }
 
 /// What help says of a command.
@@ -51,69 +73,119 @@ struct HelpText {
     word: &'static str,
     about: &'static str,
     usage: &'static str,
-    words: Words,
+    words: &'static [Word],
 }
 
-static COMMANDS: [HelpText; 10] = [
+static COMMANDS: [HelpText; 16] = [
     HelpText {
         word: "init",
         about: "Begins an empty book, in a new file that its owner alone may read",
         usage: "credkeep <FILE> init",
-        words: Words::Nothing,
+        words: &[],
     },
     HelpText {
         word: "run",
         about: "Answers a script from standard input, each line once its change is on the disk",
         usage: "credkeep <FILE> run [OPTIONS]",
-        words: Words::Workers,
+        words: &[Word::Workers],
+    },
+    HelpText {
+        word: "serve",
+        about: "Answers lines of a script for as long as they come, each once its change is on the \
+            disk",
+        usage: "credkeep <FILE> serve [OPTIONS]",
+        words: &[Word::Workers],
     },
     HelpText {
         word: "add",
-        about: "Makes the first record of an account: enrolled, or exists with status 4",
+        about: "Makes the first record of an account from a new password, one line of standard \
+            input: enrolled, or exists with status 4",
         usage: "credkeep <FILE> add [OPTIONS] <NAME>",
-        words: Words::NameAndSetting,
+        words: &[Word::Name, Word::Setting, Word::EmptyPassword, Word::Echo],
     },
     HelpText {
         word: "check",
-        about: "Says whether a password is right: yes, or no with status 4",
-        usage: "credkeep <FILE> check <NAME>",
-        words: Words::Name,
+        about: "Says whether a password, one line of standard input, is right: yes; or no, absent \
+            or noaccount with status 4",
+        usage: "credkeep <FILE> check [OPTIONS] <NAME>",
+        words: &[Word::Name, Word::Echo],
     },
     HelpText {
         word: "change",
-        about: "Puts a new password in the place of the old one",
+        about: "Replaces a password, the first line of standard input, by a new one, the second: \
+            replaced; or wrong, absent or noaccount with status 4",
         usage: "credkeep <FILE> change [OPTIONS] <NAME>",
-        words: Words::NameAndSetting,
+        words: &[Word::Name, Word::Setting, Word::EmptyPassword, Word::Echo],
+    },
+    HelpText {
+        word: "reset",
+        about: "Gives an account a new password, one line of standard input, without the old one: \
+            replaced, or enrolled if it had none; or noaccount with status 4",
+        usage: "credkeep <FILE> reset [OPTIONS] <NAME>",
+        words: &[Word::Name, Word::Setting, Word::EmptyPassword, Word::Echo],
     },
     HelpText {
         word: "upgrade",
-        about: "Makes a record anew that was made by another scheme or with other numbers",
+        about: "Makes a record anew that was made by another scheme or with other numbers, from \
+            the password, one line of standard input: upgraded or kept; or wrong, absent or \
+            noaccount with status 4",
         usage: "credkeep <FILE> upgrade [OPTIONS] <NAME>",
-        words: Words::NameAndSetting,
+        words: &[Word::Name, Word::Setting, Word::Echo],
     },
     HelpText {
         word: "remove",
-        about: "Takes the record of an account away; its name stays",
-        usage: "credkeep <FILE> remove <NAME>",
-        words: Words::Name,
+        about: "Takes the record of an account away if the password, one line of standard input, \
+            is right, and leaves its name: removed; or wrong, absent or noaccount with status 4",
+        usage: "credkeep <FILE> remove [OPTIONS] <NAME>",
+        words: &[Word::Name, Word::Echo],
+    },
+    HelpText {
+        word: "disable",
+        about: "Takes the record of an account away without its password, and leaves its name: \
+            disabled; or absent or noaccount with status 4",
+        usage: "credkeep <FILE> disable <NAME>",
+        words: &[Word::Name],
+    },
+    HelpText {
+        word: "delete",
+        about: "Takes an account out of the book, name and record, without its password: deleted; \
+            or noaccount with status 4",
+        usage: "credkeep <FILE> delete <NAME>",
+        words: &[Word::Name],
+    },
+    HelpText {
+        word: "rename",
+        about: "Gives an account another name, which no account has yet: renamed; or exists or \
+            noaccount with status 4",
+        usage: "credkeep <FILE> rename <NAME> <NEW>",
+        words: &[Word::Name, Word::NewName],
+    },
+    HelpText {
+        word: "show",
+        about: "Writes the scheme and the costs of an account's record; or absent or noaccount \
+            with status 4",
+        usage: "credkeep <FILE> show [OPTIONS] <NAME>",
+        words: &[Word::Name, Word::Record],
     },
     HelpText {
         word: "list",
         about: "Writes the names, a line each",
         usage: "credkeep <FILE> list",
-        words: Words::Nothing,
+        words: &[],
     },
     HelpText {
         word: "export",
         about: "Writes the accounts, a line NAME:RECORD each",
         usage: "credkeep <FILE> export",
-        words: Words::Nothing,
+        words: &[],
     },
     HelpText {
         word: "import",
-        about: "Adds the accounts of such lines; where one is bad it is named, and none is added",
-        usage: "credkeep <FILE> import",
-        words: Words::Nothing,
+        about: "Adds the accounts of such lines, or of lines of htpasswd, of Dovecot's passwd-file \
+            or with Django's records: all of them, or none if a line is bad, and then each bad \
+            line is named",
+        usage: "credkeep <FILE> import [OPTIONS]",
+        words: &[Word::SkipExisting],
     },
 ];
 
@@ -138,34 +210,48 @@ fn top<'a>(alloc: Global) -> Result<Command<'a>, AllocError> {
         .after_help(AFTER_HELP)
         .subcommand_required(true)
         .disable_help_subcommand(true)
-        .override_usage("credkeep <FILE> <COMMAND>")
+        .override_usage("credkeep [--wait <SECONDS>] <FILE> <COMMAND>")
+        .arg(wait(alloc))?
         .arg(file)
 }
 
 fn command_of<'a>(alloc: Global, text: &HelpText) -> Result<Command<'a>, AllocError> {
-    let command = Command::new(alloc, text.word)
+    let mut command = Command::new(alloc, text.word)
         .about(text.about)
         .override_usage(text.usage);
-    match text.words {
-        Words::Nothing => Ok(command),
-        Words::Workers => command.arg(workers(alloc)),
-        Words::Name => command.arg(name(alloc)),
-        Words::NameAndSetting => command.arg(name(alloc))?.arg(setting(alloc)),
+    for word in text.words {
+        command = command.arg(arg_of(alloc, *word))?;
+    }
+    Ok(command)
+}
+
+fn arg_of<'a>(alloc: Global, word: Word) -> Arg<'a> {
+    match word {
+        Word::Name => Arg::new(alloc, "name")
+            .value_name("NAME")
+            .help(NAME_HELP)
+            .required(true),
+        Word::NewName => Arg::new(alloc, "new")
+            .value_name("NEW")
+            .help(NEW_NAME_HELP)
+            .required(true),
+        Word::Setting => Arg::new(alloc, "setting")
+            .long("setting")
+            .value_name("TEXT")
+            .help(SETTING_HELP),
+        Word::Workers => workers(alloc),
+        Word::EmptyPassword => flag(alloc, "empty-password", EMPTY_HELP),
+        Word::Echo => flag(alloc, "echo", ECHO_HELP),
+        Word::Record => flag(alloc, "record", RECORD_HELP),
+        Word::SkipExisting => flag(alloc, "skip-existing", SKIP_HELP),
     }
 }
 
-fn name<'a>(alloc: Global) -> Arg<'a> {
-    Arg::new(alloc, "name")
-        .value_name("NAME")
-        .help(NAME_HELP)
-        .required(true)
-}
-
-fn setting<'a>(alloc: Global) -> Arg<'a> {
-    Arg::new(alloc, "setting")
-        .long("setting")
-        .value_name("TEXT")
-        .help(SETTING_HELP)
+fn flag<'a>(alloc: Global, word: &'static str, help: &'static str) -> Arg<'a> {
+    Arg::new(alloc, word)
+        .long(word)
+        .help(help)
+        .action(ArgAction::SetTrue)
 }
 
 fn workers<'a>(alloc: Global) -> Arg<'a> {
@@ -175,4 +261,13 @@ fn workers<'a>(alloc: Global) -> Arg<'a> {
         .help(WORKERS_HELP)
         .value_parser(clap::value_parser!(u8).range(1..=64))
         .default_value("1")
+}
+
+fn wait<'a>(alloc: Global) -> Arg<'a> {
+    Arg::new(alloc, "wait")
+        .long("wait")
+        .value_name("SECONDS")
+        .help(WAIT_HELP)
+        .value_parser(clap::value_parser!(u16).range(0..=3600))
+        .default_value("0")
 }

@@ -6,6 +6,9 @@ mod arguments;
 mod files;
 mod order;
 mod program;
+mod progress;
+mod refusal;
+mod terminal;
 
 use std::process::ExitCode;
 

@@ -1,8 +1,9 @@
 //! What the words of the command line ask for.
 
 use crate::arguments::credkeep;
+use crate::terminal::Echo;
 use clap::{ArgMatches, Error};
-use cred_admin::{NewSetting, setting_of};
+use cred_admin::{EmptyPassword, Existing, NewPassword, NewSetting, Part, setting_of};
 use cred_book::{BookError, Name};
 use cred_keep::Order;
 use cred_phc::{PhcError, draw_salt};
@@ -21,6 +22,8 @@ const LANES: u8 = 4;
 #[derive(Drop)]
 pub(crate) struct Asked<'a> {
     pub(crate) file: &'a str,
+    /// For how many seconds a busy file is tried.
+    pub(crate) wait: u16,
     pub(crate) act: Act,
 }
 
@@ -29,16 +32,20 @@ pub(crate) enum Act {
     /// Begins a book.
     Init,
     /// Does what is asked of a book, with at most so many threads.
-    Perform { order: Order, workers: u8 },
+    Perform {
+        order: Order,
+        workers: u8,
+        echo: Echo,
+    },
 }
 
 /// Why the words ask for nothing.
 #[derive(Drop)]
-pub(crate) enum Refusal {
+pub(crate) enum Refusal<'a> {
     /// They don't parse, or ask for help or the version.
     Words(Error),
     /// No account can have this name.
-    Name(BookError),
+    Name { text: &'a str, why: BookError },
     /// The text of the setting has this fault.
     Setting(PhcError),
     /// The system has no random bytes for a salt.
@@ -47,13 +54,13 @@ pub(crate) enum Refusal {
     Memory,
 }
 
-impl From<Error> for Refusal {
+impl From<Error> for Refusal<'_> {
     fn from(error: Error) -> Self {
         Refusal::Words(error)
     }
 }
 
-impl From<AllocError> for Refusal {
+impl From<AllocError> for Refusal<'_> {
     fn from(_error: AllocError) -> Self {
         Refusal::Memory
     }
@@ -63,70 +70,116 @@ impl From<AllocError> for Refusal {
 pub(crate) fn asked_by<'a, R: RandomSource + AllocGlobal>(
     rt: &R,
     words: &'a [String],
-) -> Result<Asked<'a>, Refusal> {
+) -> Result<Asked<'a>, Refusal<'a>> {
     let matches = credkeep(rt.alloc())?.try_get_matches_from(words)?;
     let file = matches.get_str("file").unwrap_or("");
     let act = match matches.subcommand() {
         Some((word, values)) if word != "init" => Act::Perform {
             order: order_of(rt, word, values)?,
             workers: values.get_one("workers").unwrap_or(LANES),
+            echo: echo_in(values),
         },
         _ => Act::Init,
     };
-    Ok(Asked { file, act })
+    let wait = matches.get_one("wait").unwrap_or(0);
+    Ok(Asked { file, wait, act })
 }
 
-fn order_of<R: RandomSource + AllocGlobal>(
+fn echo_in(values: &ArgMatches<'_>) -> Echo {
+    if values.get_flag("echo") {
+        Echo::Taken
+    } else {
+        Echo::Refused
+    }
+}
+
+fn order_of<'a, R: RandomSource + AllocGlobal>(
     rt: &R,
     word: &str,
-    values: &ArgMatches<'_>,
-) -> Result<Order, Refusal> {
+    values: &ArgMatches<'a>,
+) -> Result<Order, Refusal<'a>> {
     match word {
         "run" => Ok(Order::Run),
+        "serve" => Ok(Order::Serve),
         "list" => Ok(Order::List),
         "export" => Ok(Order::Export),
-        "import" => Ok(Order::Import),
+        "import" => Ok(Order::Import {
+            existing: existing_in(values),
+        }),
         _ => order_on(rt, word, values),
     }
 }
 
 /// An order on one account.
-fn order_on<R: RandomSource + AllocGlobal>(
+fn order_on<'a, R: RandomSource + AllocGlobal>(
     rt: &R,
     word: &str,
-    values: &ArgMatches<'_>,
-) -> Result<Order, Refusal> {
-    let name = name_of(values)?;
+    values: &ArgMatches<'a>,
+) -> Result<Order, Refusal<'a>> {
+    let name = name_in(values.get_str("name").unwrap_or(""))?;
     match word {
         "check" => Ok(Order::Check { name }),
         "remove" => Ok(Order::Remove { name }),
+        "disable" => Ok(Order::Disable { name }),
+        "delete" => Ok(Order::Delete { name }),
+        "rename" => Ok(Order::Rename {
+            name,
+            other: name_in(values.get_str("new").unwrap_or(""))?,
+        }),
+        "show" => Ok(Order::Show {
+            name,
+            part: part_in(values),
+        }),
         _ => {
             let setting = new_setting(rt, values)?;
+            let empty = empty_in(values);
+            let new = NewPassword { setting, empty };
             Ok(match word {
-                "add" => Order::Add { name, setting },
-                "change" => Order::Change { name, setting },
+                "add" => Order::Add { name, new },
+                "change" => Order::Change { name, new },
+                "reset" => Order::Reset { name, new },
                 _ => Order::Upgrade { name, setting },
             })
         }
     }
 }
 
-fn name_of(values: &ArgMatches<'_>) -> Result<Name, Refusal> {
-    name_in(values.get_str("name").unwrap_or(""))
-}
-
-fn name_in(text: &str) -> Result<Name, Refusal> {
+fn name_in(text: &str) -> Result<Name, Refusal<'_>> {
     match Name::new(text.as_bytes()) {
         Ok(name) => Ok(name),
-        Err(why) => Err(Refusal::Name(why)),
+        Err(why) => Err(Refusal::Name { text, why }),
+    }
+}
+
+fn part_in(values: &ArgMatches<'_>) -> Part {
+    if values.get_flag("record") {
+        Part::Record
+    } else {
+        Part::Costs
+    }
+}
+
+fn existing_in(values: &ArgMatches<'_>) -> Existing {
+    if values.get_flag("skip-existing") {
+        Existing::Kept
+    } else {
+        Existing::Refused
+    }
+}
+
+fn empty_in(values: &ArgMatches<'_>) -> EmptyPassword {
+    if values.get_flag("empty-password") {
+        EmptyPassword::Taken
+    } else {
+        EmptyPassword::Refused
     }
 }
 
 /// The setting that was given.
-fn new_setting<R: RandomSource + AllocGlobal>(
+fn new_setting<'a, R: RandomSource + AllocGlobal>(
     rt: &R,
-    values: &ArgMatches<'_>,
-) -> Result<NewSetting, Refusal> {
+    values: &ArgMatches<'a>,
+) -> Result<NewSetting, Refusal<'a>> {
     let text = values.get_str("setting").unwrap_or(DEFAULT_SETTING);
     let Ok(mut source) = make_rng::<StdRng, R>(rt) else {
         return Err(Refusal::Salt);
@@ -135,7 +188,11 @@ fn new_setting<R: RandomSource + AllocGlobal>(
 }
 
 /// The setting of this text, with a salt of its own or the next one of the source.
-fn setting_in<G: Rng>(alloc: Global, text: &str, source: &mut G) -> Result<NewSetting, Refusal> {
+fn setting_in<'a, G: Rng>(
+    alloc: Global,
+    text: &str,
+    source: &mut G,
+) -> Result<NewSetting, Refusal<'a>> {
     match setting_of(alloc, text.as_bytes(), &draw_salt(source)) {
         Ok(setting) => Ok(setting),
         Err(PhcError::Memory) => Err(Refusal::Memory),

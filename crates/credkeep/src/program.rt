@@ -2,16 +2,18 @@
 
 ghost use Rattle.std.specs.Prelude.{◌≡◌, false};
 
-use crate::files::{Database, make_file, open_file};
-use crate::order::{Act, Asked, Refusal, asked_by};
-use clap::error::ErrorKind as WordsKind;
+use crate::files::{Access, Database, look_at, make_file, open_file};
+use crate::order::{Act, Asked, asked_by};
+use crate::progress::{Counted, Telling};
+use crate::refusal::{answer_refusal, refuse_file, refuse_typing, say};
+use crate::terminal::{Echo, Typed, asked_for};
 use cred_admin::{Status, Tools};
 use cred_cli::Watched;
 use cred_file::{FileBook, OpenFault};
 use cred_keep::{Order, refuse, serve};
 use sqlite::{Alter, Connection};
 use std::alloc::Global;
-use std::io::{ErrorKind, Read, Write};
+use std::io::{ErrorKind, IsTerminal, Read, Write};
 use std::sync::Wait;
 use std::thread::Threads;
 use std::{env, io};
@@ -37,25 +39,28 @@ fn run_words<T: Threads + Wait + Sync>(host: &HostRuntime, rt: &T) -> io::Result
 
 fn act<T: Threads + Wait + Sync>(host: &HostRuntime, rt: &T, asked: &Asked<'_>) -> Status {
     match &asked.act {
-        Act::Init => init(host, asked.file),
-        Act::Perform { order, workers } => {
+        Act::Init => init(host, asked),
+        Act::Perform {
+            order,
+            workers,
+            echo,
+        } => {
             let tools = Tools {
                 rt,
                 alloc: host.alloc(),
                 workers: *workers,
             };
-            perform_on(host, &tools, asked.file, order)
+            perform_on(host, &tools, asked, order, *echo)
         }
     }
 }
 
 /// Begins a book.
-fn init(host: &HostRuntime, path: &str) -> Status {
-    if let Err(error) = make_file(host, path) {
-        let _ = writeln!(host.stderr(), "credkeep: the file can't be made: {error}");
-        return Status::Database;
+fn init(host: &HostRuntime, asked: &Asked<'_>) -> Status {
+    if let Err(why) = make_file(host, asked.file) {
+        return refuse_file(host, asked.file, &why);
     }
-    let conn = match open_file(host, path) {
+    let conn = match open_file(host, asked.file, asked.wait) {
         Ok(conn) => conn,
         Err(error) => return refuse(&mut host.stderr(), &OpenFault::Database(error)),
     };
@@ -73,6 +78,24 @@ fn begin_in<S: Alter, F: Write + Drop>(
 {
     match FileBook::create(alloc, conn) {
         Ok(book) => (book.close(), Status::Done),
+        Err((OpenFault::NotEmpty, conn)) => refuse_begun(alloc, conn, faults),
+        Err((why, conn)) => (conn, refuse(&mut faults, &why)),
+    }
+}
+
+/// Says whose the tables are that stand in the way of a new book.
+fn refuse_begun<S: Alter, F: Write + Drop>(
+    alloc: Global,
+    conn: Connection<S>,
+    mut faults: F,
+) -> (Connection<S>, Status)
+    requires autocommit { conn.in_transaction ≡ false }
+{
+    match FileBook::open(alloc, conn) {
+        Ok(book) => {
+            let _ = writeln!(faults, "credkeep: the file holds a book already");
+            (book.close(), Status::Database)
+        }
         Err((why, conn)) => (conn, refuse(&mut faults, &why)),
     }
 }
@@ -88,20 +111,51 @@ struct Streams<R, W, F> {
 fn perform_on<T: Threads + Wait + Sync>(
     host: &HostRuntime,
     tools: &Tools<'_, T>,
-    path: &str,
+    asked: &Asked<'_>,
     order: &Order,
+    echo: Echo,
 ) -> Status {
-    let conn = match open_file(host, path) {
+    match look_at(host, asked.file) {
+        Ok(Access::OwnerAlone) => {}
+        Ok(Access::Others) => warn_of_others(host, asked.file),
+        Err(why) => return refuse_file(host, asked.file, &why),
+    }
+    let lines = match asked_for(host, order, echo) {
+        Ok(lines) => lines,
+        Err(why) => return refuse_typing(host, asked.file, &why),
+    };
+    let conn = match open_file(host, asked.file, asked.wait) {
         Ok(conn) => conn,
         Err(error) => return refuse(&mut host.stderr(), &OpenFault::Database(error)),
     };
+    // Behind what was typed nothing is read.
+    let (typed, rest) = match &lines {
+        Typed::Lines(lines) => (&lines[..], 0),
+        Typed::Nothing => (&[][..], u64::MAX),
+    };
+    let input = typed.chain(host.stdin().take(rest));
     let streams = Streams {
-        reader: host.stdin(),
+        reader: Counted::new(host, input, telling_of(host, order)),
         writer: host.stdout(),
         faults: host.stderr(),
     };
     let (conn, status) = perform_in(tools, conn, order, streams);
     close(host, conn, status)
+}
+
+/// Whether the lines of the input are counted: those of an import, if somebody sees it.
+fn telling_of(host: &HostRuntime, order: &Order) -> Telling {
+    match order {
+        Order::Import { .. } if host.stderr().is_terminal() => Telling::AtTheEnd,
+        _ => Telling::Silent,
+    }
+}
+
+fn warn_of_others(host: &HostRuntime, path: &str) {
+    let _ = writeln!(
+        host.stderr(),
+        "credkeep: warning: {path}: another user owns it, or others can read or write it"
+    );
 }
 
 /// Does what is asked of the book in the database, which comes back.
@@ -150,47 +204,5 @@ fn close(host: &HostRuntime, conn: Database, status: Status) -> Status {
             "credkeep: the log stays beside the file: {error}"
         );
     }
-    status
-}
-
-/// Help and the version are written on standard output, and done.
-fn answer_refusal(host: &HostRuntime, refusal: &Refusal) -> Status {
-    match refusal {
-        Refusal::Words(error) => match error.kind() {
-            WordsKind::DisplayHelp | WordsKind::DisplayVersion => match error.print(host) {
-                Ok(()) => Status::Done,
-                Err(_) => Status::Io,
-            },
-            WordsKind::OutOfMemory => say(host, "out of memory", Status::Memory),
-            _ => {
-                let _ = error.print(host);
-                Status::Usage
-            }
-        },
-        Refusal::Name(why) => {
-            let _ = writeln!(
-                host.stderr(),
-                "credkeep: the name: {} {}",
-                why.number(),
-                why.word()
-            );
-            Status::Usage
-        }
-        Refusal::Setting(why) => {
-            let _ = writeln!(
-                host.stderr(),
-                "credkeep: --setting: {} {}",
-                why.number(),
-                why.word()
-            );
-            Status::Usage
-        }
-        Refusal::Memory => say(host, "out of memory", Status::Memory),
-        Refusal::Salt => say(host, "the system has no random bytes", Status::Io),
-    }
-}
-
-fn say(host: &HostRuntime, text: &str, status: Status) -> Status {
-    let _ = writeln!(host.stderr(), "credkeep: {text}");
     status
 }

@@ -1,0 +1,110 @@
+//! What is said if nothing was opened, and the exit status that goes with it.
+
+use crate::files::FileFault;
+use crate::order::Refusal;
+use crate::terminal::TypingFault;
+use clap::Error;
+use clap::error::ErrorKind as WordsKind;
+use cred_admin::Status;
+use cred_book::BookError;
+use std::io::Write;
+
+/// What is longer isn't a name.
+const MAX_NAME: usize = 32;
+
+/// Help and the version are written on standard output, and done.
+pub(crate) fn answer_refusal(host: &HostRuntime, refusal: &Refusal<'_>) -> Status {
+    match refusal {
+        Refusal::Words(error) => answer_words(host, error),
+        Refusal::Name { text, why } => refuse_name(host, text, *why),
+        Refusal::Setting(why) => {
+            let (number, word) = (why.number(), why.word());
+            let _ = writeln!(
+                host.stderr(),
+                "credkeep: --setting: {why} ({number} {word})"
+            );
+            Status::Usage
+        }
+        Refusal::Memory => say(host, "out of memory", Status::Memory),
+        Refusal::Salt => say(host, "the system has no random bytes", Status::Io),
+    }
+}
+
+fn answer_words(host: &HostRuntime, error: &Error) -> Status {
+    match error.kind() {
+        WordsKind::DisplayHelp | WordsKind::DisplayVersion => match error.print(host) {
+            Ok(()) => Status::Done,
+            Err(_) => Status::Io,
+        },
+        WordsKind::OutOfMemory => say(host, "out of memory", Status::Memory),
+        _ => {
+            let _ = error.print(host);
+            Status::Usage
+        }
+    }
+}
+
+fn refuse_name(host: &HostRuntime, text: &str, why: BookError) -> Status {
+    let (cause, number, word) = (name_cause(text), why.number(), why.word());
+    let shown = if is_plain(text) { text } else { "..." };
+    let _ = writeln!(
+        host.stderr(),
+        "credkeep: the name '{shown}': {cause}; names are a-z, 0-9, '.', '_', '-', 1 to 32 of them \
+         ({number} {word})"
+    );
+    Status::Usage
+}
+
+/// Whether a terminal shows the text as it is.
+fn is_plain(text: &str) -> bool {
+    text.as_bytes().iter().all(|byte| (32..127).contains(byte))
+}
+
+/// Why a text is no name.
+fn name_cause(text: &str) -> &'static str {
+    let bytes = text.as_bytes();
+    if bytes.is_empty() {
+        "it is empty"
+    } else if bytes.len() > MAX_NAME {
+        "it is too long"
+    } else if bytes.contains(&b'\r') {
+        "a carriage return"
+    } else if bytes.iter().any(|byte| byte.is_ascii_uppercase()) {
+        "a capital letter"
+    } else if bytes.contains(&b'@') {
+        "an '@'"
+    } else {
+        "a character that no name has"
+    }
+}
+
+/// Says why the file isn't opened.
+pub(crate) fn refuse_file(host: &HostRuntime, path: &str, why: &FileFault) -> Status {
+    let _ = writeln!(host.stderr(), "credkeep: {path}: {why}");
+    why.status()
+}
+
+/// Says why a terminal gave no passwords.
+pub(crate) fn refuse_typing(host: &HostRuntime, path: &str, why: &TypingFault) -> Status {
+    match why {
+        TypingFault::Refused => {
+            let _ = writeln!(
+                host.stderr(),
+                "credkeep: standard input is a terminal, which shows a password as it is typed: \
+                 write credkeep-ask in the place of credkeep, or\n  \
+                 systemd-ask-password | credkeep {path} ..\n\
+                 --echo asks here and shows it"
+            );
+            Status::Usage
+        }
+        TypingFault::Ended => say(host, "no password on standard input", Status::Data),
+        TypingFault::Unequal => say(host, "the two new passwords differ", Status::Data),
+        TypingFault::Memory => say(host, "out of memory", Status::Memory),
+        TypingFault::System(_) => say(host, "reading failed", Status::Io),
+    }
+}
+
+pub(crate) fn say(host: &HostRuntime, text: &str, status: Status) -> Status {
+    let _ = writeln!(host.stderr(), "credkeep: {text}");
+    status
+}
