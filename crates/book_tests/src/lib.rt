@@ -2,5 +2,6 @@
 //! says.
 #![tactic(auto)]
 
+pub mod small;
 #[cfg(test)]
 mod tests;

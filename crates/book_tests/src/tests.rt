@@ -1,6 +1,6 @@
 //! That the calls succeed, that the rules of names and the limit are those that were meant, that
-//! whole operations answer as records from outside want it, what want of memory leaves, and that no
-//! password is shown.
+//! whole operations answer as records from outside want it and hash no oftener than they must, what
+//! want of memory leaves, and that no password is shown.
 //!
 //! `calls` plays calls on a book and `work` whole operations; the other files have the tests. What
 //! a test asserts it is handed as a plain value, since its proof is far longer where a book is
@@ -9,11 +9,13 @@
 mod accounts;
 mod calls;
 mod copies;
+mod gates;
 mod limits;
 mod lists;
 mod names;
 mod operations;
 mod refusals;
+mod registers;
 mod secrets;
 mod work;
 mod workers;

@@ -9,6 +9,7 @@ mod refused;
 mod scene;
 mod settling;
 mod threads;
+mod under_lock;
 
 use cred_book::{Book, Name, Request};
 use cred_desk::Entry;
@@ -43,6 +44,11 @@ fn password<R: Abort>(rt: &R) -> Password {
     Password::new(b"password").expect(rt, "a password")
 }
 
+/// Another password.
+fn other_password<R: Abort>(rt: &R) -> Password {
+    Password::new(b"drowssap").expect(rt, "a password")
+}
+
 fn enrol<R: Abort>(rt: &R, account: &str, new: &str) -> Request {
     Request::Enrol {
         name: name(rt, account),
@@ -55,6 +61,24 @@ fn verify<R: Abort>(rt: &R, account: &str) -> Request {
     Request::Verify {
         name: name(rt, account),
         pw: password(rt),
+    }
+}
+
+/// A verify of the other password.
+fn verify_other<R: Abort>(rt: &R, account: &str) -> Request {
+    Request::Verify {
+        name: name(rt, account),
+        pw: other_password(rt),
+    }
+}
+
+/// A change of the password to the other one.
+fn change<R: Abort>(rt: &R, account: &str, new: &str) -> Request {
+    Request::Change {
+        name: name(rt, account),
+        pw: password(rt),
+        new_pw: other_password(rt),
+        setting: setting(rt, new),
     }
 }
 

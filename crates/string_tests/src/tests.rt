@@ -1,15 +1,18 @@
 //! Texts and what is answered to them, from other programs or worked out by hand: the faults of
-//! damaged texts (`faults`), values read, made and written (`texts`), tags (`tags`) and drawn salts
-//! (`salts`). Most of the texts are those of `test_samples`. And that a password isn't shown (`secrets`).
+//! damaged texts (`faults`), values read, made and written (`texts`), tags (`tags`), the threads
+//! that make them (`gates`) and drawn salts (`salts`). Most of the texts are those of
+//! `test_samples`. And that a password isn't shown (`secrets`).
 
 mod faults;
+mod gates;
 mod salts;
 mod secrets;
 mod tags;
 mod texts;
 
 use cred_phc::{
-    PhcError, Record, Scheme, Setting, Variant, Version, parse_record, write_record, write_setting,
+    PhcError, Record, Scheme, Setting, Variant, Version, parse_record, parse_setting, write_record,
+    write_setting,
 };
 use std::alloc::Global;
 use std::process::Abort;
@@ -25,6 +28,10 @@ const A_SCHEME: Scheme = Scheme::Argon2 {
 
 fn stored(rt: &impl Abort, text: &str) -> Record {
     parse_record(text.as_bytes()).expect(rt, "a record")
+}
+
+fn setting(rt: &impl Abort, text: &str) -> Setting {
+    parse_setting(text.as_bytes()).expect(rt, "a setting")
 }
 
 /// Whether this text is written for the record.

@@ -1,9 +1,8 @@
-//! Records that were damaged, and the faults that are to be found in them, worked out by hand from
-//! the rules of the strings.
+//! Damaged records and the fault of each, worked out by hand from the rules of the strings.
 
 use crate::strings::A;
 
-/// The number and the word of a text's fault; none where it is read.
+/// The number and the word of a text's fault, or none if the text is a record.
 pub type Answer = Option<(u8, &'static str)>;
 
 const READ: Answer = None;
@@ -24,15 +23,15 @@ const TAG: Answer = Some((7, "tag"));
 
 const TOO_LONG: Answer = Some((9, "toolong"));
 
-/// A part of a text, what stands in its place, how many times, and what is answered then.
+/// A part of a text, its replacement, how often the replacement is repeated, and the fault.
 pub type Change = (&'static str, &'static str, usize, Answer);
 
-/// The tag of `A`, and with what stands before it.
+/// The tag of `A`, alone and with what comes before it.
 const A_TAG: &str = "nf65EOgLrQMR/uIPnA4rEsF5h7TKyQwu9U1bMCHGi/4";
 
 const WITH_TAG: &str = "$nf65EOgLrQMR/uIPnA4rEsF5h7TKyQwu9U1bMCHGi/4";
 
-/// Changes of `A`. Its tag doesn't answer the other versions, but its form does.
+/// Changes of `A`. Under another version its tag is wrong, but its form is right.
 pub static DAMAGED_A: [Change; 22] = [
     ("m=256", "m=0256", 1, PARAMS),
     ("Gi/4", "Gi/5", 1, TAG),
@@ -67,7 +66,7 @@ pub static DAMAGED_SCRYPT: [Change; 5] = [
     ("ln=10,r=8,p=16", "r=8,ln=10,p=16", 1, PARAMS),
 ];
 
-/// Texts of other kinds, each with a change.
+/// Other texts, each with a change.
 pub static OTHER_TEXTS: [(&str, Change); 5] = [
     ("$", ("$", "$", 1, SCHEME)),
     ("x", ("x", "x", 512, SHAPE)),
@@ -76,8 +75,8 @@ pub static OTHER_TEXTS: [(&str, Change); 5] = [
     ("$argon2id$v=19$m=0256,t=2,p=1", ("0", "0", 1, PARAMS)),
 ];
 
-/// What is answered to the front of `A`, of as many bytes as from the first to the second number.
-/// Its tag may be cut where the unused bits of the last letter are zero.
+/// The fault of the first n bytes of `A`, for each n from the first number to the second. The tag
+/// may be cut where the unused bits of its last letter are zero.
 pub static CUTS_OF_A: [(usize, usize, Answer); 30] = [
     (0, 0, SHAPE),
     (1, 7, SCHEME),

@@ -5,8 +5,8 @@ use std::sync::atomic::{AtomicU64, Ordering};
 /// How many turns a part waits for another before the test gives up.
 const TURNS: u64 = 100_000_000;
 
-/// Holds the n-th entry of part 0 until part 1 has entered n times, and counts how often that was
-/// in time.
+/// Holds the n-th entry of part 0 until part 1 has entered n times, and counts how often that
+/// happened in time.
 #[derive(Drop)]
 pub struct Meetings {
     first: AtomicU64,

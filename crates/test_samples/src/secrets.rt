@@ -1,6 +1,6 @@
-//! A password, and what of it may not be seen in a text.
+//! A password, and the forms of it that no text may show.
 
-/// A password that is looked for.
+/// The password that tests look for.
 pub const SECRET: &str = "correct horse";
 
 /// Its bytes as `{:?}` shows a slice of them.
@@ -9,7 +9,7 @@ const SECRET_NUMBERS: &str = "99, 111, 114, 114, 101, 99, 116, 32, 104, 111, 114
 /// Its bytes in base64.
 const SECRET_LETTERS: &str = "Y29ycmVjdCBob3JzZQ";
 
-/// Whether the text has the password in it, in letters, in numbers or in base64.
+/// Whether the text contains the password, as letters, as numbers or in base64.
 pub fn shows_secret(text: &str) -> bool {
     text.contains(SECRET) || text.contains(SECRET_NUMBERS) || text.contains(SECRET_LETTERS)
 }

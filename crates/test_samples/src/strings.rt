@@ -1,9 +1,9 @@
-//! Settings, and the records of `password` under them by other programs.
+//! Settings, and records of `password` that other programs made under them.
 
 /// A setting of one lane with the salt `somesalt`.
 pub const A_SETTING: &str = "$argon2id$v=19$m=256,t=2,p=1$c29tZXNhbHQ";
 
-/// The same with two lanes.
+/// The same setting with two lanes.
 pub const B_SETTING: &str = "$argon2id$v=19$m=256,t=2,p=2$c29tZXNhbHQ";
 
 /// The record of `password` under `A_SETTING`, by the reference program of Argon2.
@@ -14,11 +14,11 @@ pub const A: &str =
 pub const B: &str =
     "$argon2id$v=19$m=256,t=2,p=2$c29tZXNhbHQ$bQk8UB/VmZZF4Oo79iDXuL5/0ttZwg2f/5U52iv1cDc";
 
-/// As `A`, for `argon2i` and version 0x10, by the same program. Its version is left out.
+/// Like `A`, for `argon2i` and version 0x10, by the same program. It leaves the version out.
 pub const OLD: &str =
     "$argon2i$m=256,t=2,p=1$c29tZXNhbHQ$/U3YPXYsSb3q9XxHvc0MLxur+GP960kN9j7emXX8zwY";
 
-/// `OLD` with its version.
+/// `OLD` with its version written out.
 pub const OLD_WRITTEN: &str =
     "$argon2i$v=16$m=256,t=2,p=1$c29tZXNhbHQ$/U3YPXYsSb3q9XxHvc0MLxur+GP960kN9j7emXX8zwY";
 

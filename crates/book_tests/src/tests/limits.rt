@@ -8,7 +8,7 @@ use std::alloc::Global;
 use test_samples::A;
 
 /// The name `n` with the four digits of the number.
-fn numbered(number: u32) -> Result<Name, BookError> {
+pub(super) fn numbered(number: u32) -> Result<Name, BookError> {
     Name::new(&[
         b'n',
         digit(number / 1000),

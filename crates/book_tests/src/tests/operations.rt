@@ -32,7 +32,7 @@ const SHORT: &str = "$argon2id$v=19$m=256,t=2,p=1$c29tZXNhbHQ$nf65EOgLrQM";
 const AS_OLD: &str =
     "$argon2id$v=16$m=256,t=2,p=1$c29tZXNhbHQ$nf65EOgLrQMR/uIPnA4rEsF5h7TKyQwu9U1bMCHGi/4";
 
-fn change<R: Abort>(rt: &R, pw: &str, new_pw: &str, new: &str) -> Request {
+pub(super) fn change<R: Abort>(rt: &R, pw: &str, new_pw: &str, new: &str) -> Request {
     Request::Change {
         name: name(rt, "a"),
         pw: password(rt, pw),
@@ -41,7 +41,7 @@ fn change<R: Abort>(rt: &R, pw: &str, new_pw: &str, new: &str) -> Request {
     }
 }
 
-fn upgrade<R: Abort>(rt: &R, pw: &str, new: &str) -> Request {
+pub(super) fn upgrade<R: Abort>(rt: &R, pw: &str, new: &str) -> Request {
     Request::Upgrade {
         name: name(rt, "a"),
         pw: password(rt, pw),
@@ -49,14 +49,14 @@ fn upgrade<R: Abort>(rt: &R, pw: &str, new: &str) -> Request {
     }
 }
 
-fn remove<R: Abort>(rt: &R, pw: &str) -> Request {
+pub(super) fn remove<R: Abort>(rt: &R, pw: &str) -> Request {
     Request::Remove {
         name: name(rt, "a"),
         pw: password(rt, pw),
     }
 }
 
-fn standing<R: Abort>(rt: &R, text: Option<&str>) -> Option<Record> {
+pub(super) fn standing<R: Abort>(rt: &R, text: Option<&str>) -> Option<Record> {
     match text {
         Some(text) => Some(stored(rt, text)),
         None => None,

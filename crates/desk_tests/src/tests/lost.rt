@@ -1,4 +1,4 @@
-//! A desk one of whose sessions is lost.
+//! A desk whose sessions are lost.
 ghost use Rattle.std.specs.Prelude.{◌≡◌, false};
 ghost use Rattle.cred_desk.specs.Naming.{IsNamed, StartsAt};
 
@@ -28,12 +28,13 @@ fn enrol_first<J: Naming, R: Threads + Wait + Abort + Sync>(
     Some(reply)
 }
 
-/// The first of two sessions enrols, the other one is lost, and the desk is given up.
+/// The first of two sessions enrols, so many are lost, and the desk is given up.
 fn given_up<J: Naming, R: Threads + Wait + Abort + Sync>(
     rt: &R,
     alloc: Global,
     opened: Opened,
     book: &Book,
+    lost: usize,
 ) -> Option<(Option<Reply>, Remains)>
     requires name { IsNamed J.Naming opened }
     requires opening { StartsAt J.Naming book.now 2 }
@@ -41,20 +42,21 @@ fn given_up<J: Naming, R: Threads + Wait + Abort + Sync>(
 {
     let (desk, mut sessions) = Desk::<J>::new(rt, alloc, opened, book, 2).ok()?;
     let reply = enrol_first(rt, alloc, &desk, &mut sessions);
-    let _lost = sessions.pop();
+    sessions.truncate(2usize.saturating_sub(lost));
     Some((reply, desk.give_up(rt, &sessions)))
 }
 
+/// The whole journal is left, with no session handed in too.
 #[test]
-fn lost_session(rt: HostRuntime) {
+fn lost_sessions(rt: HostRuntime) {
     let book = book_of(&rt, rt.alloc(), NONE_STANDS).expect(&rt, "a book");
-    let given = given_up::<Brand, _>(&rt, rt.alloc(), Opened::new(2), &book);
-    let (reply, remains) = given.expect(&rt, "a desk");
-    assert_eq!(rt; reply, Some(Reply::Enrolled));
-    let journal = [entry(&rt, "a", Some(A))];
-    assert_eq!(rt; remains.journal.as_slice(), journal.as_slice());
-    assert_eq!(rt;
-        remains.book.show(&name(&rt, "a")),
-        Ok(Some(stored(&rt, A)))
-    );
+    for lost in [1, 2] {
+        let given = given_up::<Brand, _>(&rt, rt.alloc(), Opened::new(2), &book, lost);
+        let (reply, remains) = given.expect(&rt, "a desk");
+        assert_eq!(rt; reply, Some(Reply::Enrolled));
+        let journal = [entry(&rt, "a", Some(A))];
+        assert_eq!(rt; remains.journal.as_slice(), journal.as_slice());
+        let shown = remains.book.show(&name(&rt, "a"));
+        assert_eq!(rt; shown, Ok(Some(stored(&rt, A))), "{lost}");
+    }
 }

@@ -1,8 +1,8 @@
 //! Sessions in threads of their own.
 use super::scene::{Act, Answer, Closing, Line, Setup, Slip, judge_closed, show};
 use super::{
-    Accounts, BOTH_STAND, NONE_STANDS, ONE_STANDS, enrol, entry, name, setting, stored, upgrade,
-    verify,
+    Accounts, BOTH_STAND, NONE_STANDS, ONE_STANDS, change, enrol, entry, name, setting, stored,
+    upgrade, verify, verify_other,
 };
 use cred_book::Reply;
 use cred_desk::Closed;
@@ -51,6 +51,44 @@ fn told_and_read(rt: HostRuntime) {
     let journal = [entry(&rt, "a", Some(B))];
     let records = [(name(&rt, "a"), Some(stored(&rt, B)))];
     judge_closed(&rt, &closed, &journal, &[1, 0], &records);
+}
+
+/// One session settles a change of the password and tells the other, which turns away the old
+/// password and takes the new one.
+#[test]
+fn change_in_threads(rt: HostRuntime) {
+    let one = [
+        (0, Act::Begin(change(&rt, "a", B_SETTING)), Answer::Done),
+        (0, Act::Settle, Answer::Replied(Reply::Replaced)),
+    ];
+    let other = [
+        (0, Act::Learn, Answer::Done),
+        (0, Act::Begin(verify(&rt, "a")), Answer::Done),
+        (0, Act::Close, Answer::Replied(Reply::No)),
+        (0, Act::Begin(verify_other(&rt, "a")), Answer::Done),
+        (0, Act::Close, Answer::Replied(Reply::Yes)),
+    ];
+    let setup = two_sessions(ONE_STANDS);
+    let (closed, slip) = show(&rt, rt.alloc(), setup, &one, &other, &[]);
+    assert_eq!(rt; slip, None);
+    assert_eq!(rt; closed.counts.as_slice(), [1, 0].as_slice());
+    assert_eq!(rt; closed.journal.len(), 1);
+}
+
+/// Each of two sessions in threads meets a name without a record, of which it is told nothing.
+#[test]
+fn absent_in_threads(rt: HostRuntime) {
+    let lines = [
+        (0, Act::Begin(verify(&rt, "b")), Answer::Done),
+        (0, Act::Read, Answer::Copied(None)),
+        (0, Act::Close, Answer::Replied(Reply::Absent)),
+        (0, Act::Begin(change(&rt, "b", B_SETTING)), Answer::Done),
+        (0, Act::Settle, Answer::Replied(Reply::Absent)),
+    ];
+    let setup = two_sessions(ONE_STANDS);
+    let (closed, slip) = show(&rt, rt.alloc(), setup, &lines, &lines, &[]);
+    assert_eq!(rt; slip, None);
+    judge_closed(&rt, &closed, &[], &[0, 0], &[(name(&rt, "b"), None)]);
 }
 
 /// After two threads have settled and ended, each session reads both changes with nothing learned.

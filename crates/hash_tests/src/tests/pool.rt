@@ -1,11 +1,12 @@
-//! Of `cred_pool`: how often each part is worked and seen by the gate, that two workers work side
-//! by side and no third beside them, and that a part is worked while the gate has it inside.
+//! Of `cred_pool`: how often each part is worked and seen by the gate, that as many are worked side
+//! by side as there are workers for, and no more, and that a part is worked while the gate has it
+//! inside.
 ghost use Rattle.std.specs.Prelude.{◌≤◌, ⊤};
 
 use cred_pool::{Gate, Part, run_parts};
 use std::sync::atomic::{AtomicU64, Ordering};
 use std::thread::Threads;
-use test_samples::Meetings;
+use test_samples::{Crowd, Meetings, Visits};
 
 /// Counts how often it was worked.
 #[derive(Clone, Copy)]
@@ -23,86 +24,23 @@ impl Part<u64> for Tally {
     }
 }
 
-/// Counts the entries and the exits of each part.
-#[derive(Drop)]
-struct Counter {
-    entered: [AtomicU64; 5],
-    left: [AtomicU64; 5],
+/// What a gate sees of the parts that are dealt to so many workers, where so many are to be inside
+/// at once, and whether each part was worked once.
+fn seen<R: Threads + Sync>(rt: &R, count: usize, workers: u8, wanted: u64) -> (Visits, bool) {
+    let gate = Crowd::new(wanted);
+    let mut parts = [Tally { worked: 0 }; 9];
+    run_parts(rt, workers, &gate, &1, &mut parts[..count.min(9)]);
+    (gate.visits(), are_worked_once(&parts, count))
 }
 
-impl Counter {
-    fn new() -> Self {
-        Counter {
-            entered: zeros(),
-            left: zeros(),
+/// Whether the first parts were worked once, and no other.
+fn are_worked_once(parts: &[Tally; 9], count: usize) -> bool {
+    for (i, part) in parts.iter().enumerate() {
+        if part.worked != u64::from(i < count) {
+            return false;
         }
     }
-}
-
-fn zeros() -> [AtomicU64; 5] {
-    [
-        AtomicU64::new(0),
-        AtomicU64::new(0),
-        AtomicU64::new(0),
-        AtomicU64::new(0),
-        AtomicU64::new(0),
-    ]
-}
-
-impl Gate for Counter {
-    fn enter(&self, part: usize) {
-        if let Some(count) = self.entered.get(part) {
-            count.fetch_add(1, Ordering::SeqCst);
-        }
-    }
-
-    fn leave(&self, part: usize) {
-        if let Some(count) = self.left.get(part) {
-            count.fetch_add(1, Ordering::SeqCst);
-        }
-    }
-}
-
-fn counts(of: &[AtomicU64; 5]) -> [u64; 5] {
-    let mut counts = [0; 5];
-    for i in 0..5 {
-        counts[i] = of[i].load(Ordering::SeqCst);
-    }
-    counts
-}
-
-/// How often each of the first parts was worked, entered and left.
-fn seen<R: Threads + Sync>(rt: &R, count: usize, workers: u8) -> [[u64; 5]; 3] {
-    let gate = Counter::new();
-    let mut parts = [Tally { worked: 0 }; 5];
-    run_parts(rt, workers, &gate, &1, &mut parts[..count.min(5)]);
-    let [a, b, c, d, e] = parts;
-    let worked = [a.worked, b.worked, c.worked, d.worked, e.worked];
-    [worked, counts(&gate.entered), counts(&gate.left)]
-}
-
-/// Counts the parts that are inside, and the most that were at once. It holds each part back for
-/// some milliseconds, so that those of other threads come.
-#[derive(Drop)]
-struct Crowd {
-    inside: AtomicU64,
-    most: AtomicU64,
-}
-
-impl Gate for Crowd {
-    fn enter(&self, _part: usize) {
-        let inside = self.inside.fetch_add(1, Ordering::SeqCst).wrapping_add(1);
-        self.most.fetch_max(inside, Ordering::SeqCst);
-        for _ in 0..20_000_000u64 {
-            if self.most.load(Ordering::SeqCst) > 2 {
-                return;
-            }
-        }
-    }
-
-    fn leave(&self, _part: usize) {
-        self.inside.fetch_sub(1, Ordering::SeqCst);
-    }
+    true
 }
 
 /// Counts the parts that are inside, for the parts to see.
@@ -145,28 +83,38 @@ fn two_lanes_meet(rt: HostRuntime) {
     assert_eq!(rt; gate.count(), 1);
 }
 
-#[test]
-fn each_part_once(rt: HostRuntime) {
-    for (count, workers, want) in [
-        (0, 2, [0; 5]),
-        (1, 9, [1, 0, 0, 0, 0]),
-        (5, 2, [1; 5]),
-        (5, 0, [1; 5]),
-    ] {
-        assert_eq!(rt; seen(&rt, count, workers), [want; 3], "{count} parts");
-    }
-}
+/// Parts, workers, and how many parts are inside at once: as many as there are runs.
+const DEALT: [(usize, u8, u64); 18] = [
+    (0, 2, 0),
+    (1, 9, 1),
+    (2, 255, 2),
+    (3, 2, 2),
+    (5, 0, 1),
+    (9, 1, 1),
+    (3, 3, 3),
+    (4, 3, 2),
+    (5, 3, 3),
+    (8, 3, 3),
+    (9, 3, 3),
+    (8, 4, 4),
+    (8, 5, 4),
+    (5, 5, 5),
+    (6, 7, 6),
+    (3, 8, 3),
+    (7, 8, 7),
+    (8, 8, 8),
+];
 
 #[test]
-fn no_more_than_workers(rt: HostRuntime) {
-    let gate = Crowd {
-        inside: AtomicU64::new(0),
-        most: AtomicU64::new(0),
-    };
-    let mut parts = [Tally { worked: 0 }; 3];
-    run_parts(&rt, 2, &gate, &1, &mut parts);
-    let most = gate.most.load(Ordering::SeqCst);
-    assert!(rt; most <= 2, "{most} at once");
+fn each_part_once_by_the_workers(rt: HostRuntime) {
+    for (count, workers, at_once) in DEALT {
+        let want = (Visits::of(at_once, count, 1), true);
+        assert_eq!(rt;
+            seen(&rt, count, workers, at_once),
+            want,
+            "{count} by {workers}"
+        );
+    }
 }
 
 #[test]

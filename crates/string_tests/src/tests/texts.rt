@@ -1,6 +1,6 @@
 //! Records and settings that are read, made of their parts and written.
 
-use super::{A_SCHEME, is_record_text, is_setting_text, stored};
+use super::{A_SCHEME, is_record_text, is_setting_text, setting, stored};
 use cred_phc::{Password, PhcError, Record, Setting, Tag, parse_record, parse_setting};
 use std::alloc::Global;
 use std::process::Abort;
@@ -13,10 +13,6 @@ const ALPHABET: &str =
 
 const ALPHABET_SALT: &[u8] =
     b"\x00\x10\x83\x10\x51\x87\x20\x92\x8b\x30\xd3\x8f\x41\x14\x93\x51\x55\x97\x61\x96\x9b\x71\xd7\x9f\x82\x18\xa3\x92\x59\xa7\xa2\x9a\xab\xb2\xdb\xaf\xc3\x1c\xb3\xd3\x5d\xb7\xe3\x9e\xbb\xf3\xdf\xbf";
-
-fn setting(rt: &impl Abort, text: &str) -> Setting {
-    parse_setting(text.as_bytes()).expect(rt, "a setting")
-}
 
 #[test]
 fn round_trip(rt: HostRuntime) {

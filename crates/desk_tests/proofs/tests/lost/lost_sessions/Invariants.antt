@@ -1,5 +1,5 @@
 use Rattle.std.proofs.Common.{false}
-use Rattle.desk_tests.proofs.tests.lost.lost_session.Given as goal
+use Rattle.desk_tests.proofs.tests.lost.lost_sessions.Given as goal
 
 -- the list that was just opened, from this book
 abbrev pub ghosts-given_up-J-Naming : goal.ghosts-given_up-J-Naming

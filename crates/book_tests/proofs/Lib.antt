@@ -1,0 +1,2 @@
+-- The lemma that the proof of the small keeper cites.
+pub mod Rooms

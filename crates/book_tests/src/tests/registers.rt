@@ -1,0 +1,131 @@
+//! A register, and a keeper of less room over one. `refused_register` holds whichever request for
+//! memory is refused, if one is: tools/refuse_memory.py refuses each.
+use super::calls::{Call, DONE, keep};
+use super::limits::numbered;
+use super::{name, stored};
+use crate::small::SmallBook;
+use cred_book::{BookError, Name, Register};
+use cred_phc::Record;
+use std::alloc::Global;
+use test_samples::{A, B};
+
+#[test]
+fn a_register_keeps_itself(rt: HostRuntime) {
+    let (a, b) = (name(&rt, "a"), name(&rt, "b"));
+    let (one_lane, two_lanes) = (stored(&rt, A), stored(&rt, B));
+    let lines = [
+        (Call::Show(a), Err(BookError::NoAccount)),
+        (Call::Load(a, one_lane), Err(BookError::NoAccount)),
+        (Call::Admit(b), DONE),
+        (Call::Admit(a), DONE),
+        (Call::Admit(a), Err(BookError::Exists)),
+        (Call::Show(a), Ok(None)),
+        (Call::Load(a, one_lane), DONE),
+        (Call::Load(a, two_lanes), DONE),
+        (Call::Show(a), Ok(Some(two_lanes))),
+        (Call::Show(b), Ok(None)),
+    ];
+    let slip = keep(&rt, &mut Register::new(rt.alloc()), &lines);
+    assert_eq!(rt; slip, None);
+}
+
+#[test]
+fn full_at_the_capacity(rt: HostRuntime) {
+    let (a, b, c, d) = (
+        name(&rt, "a"),
+        name(&rt, "b"),
+        name(&rt, "c"),
+        name(&rt, "d"),
+    );
+    let one_lane = stored(&rt, A);
+    let lines = [
+        (Call::Admit(c), DONE),
+        (Call::Admit(a), DONE),
+        (Call::Admit(b), DONE),
+        (Call::Admit(d), Err(BookError::Full)),
+        (Call::Admit(a), Err(BookError::Exists)),
+        (Call::Show(d), Err(BookError::NoAccount)),
+        (Call::Load(d, one_lane), Err(BookError::NoAccount)),
+        (Call::Load(c, one_lane), DONE),
+        (Call::Show(c), Ok(Some(one_lane))),
+    ];
+    let slip = keep(&rt, &mut SmallBook::new(rt.alloc()), &lines);
+    assert_eq!(rt; slip, None);
+}
+
+/// Enters a name with a record, and once more if memory was refused, which must have changed
+/// nothing. Whether the record stands there then.
+fn enters(register: &mut Register, name: Name, record: Record) -> bool {
+    let before = register.len();
+    let mut entered = register.enter(name, Some(record));
+    if entered == Err(BookError::Memory) && register.len() == before && !register.contains(&name) {
+        entered = register.enter(name, Some(record));
+    }
+    entered == Ok(()) && register.show(&name) == Ok(Some(record))
+}
+
+/// Enters 64 names; the first number whose name isn't entered.
+fn fill(register: &mut Register, record: Record) -> Result<Option<u32>, BookError> {
+    for i in 0..64 {
+        // as 37 is odd, each number below 64 once
+        let name = numbered(i * 37 % 64)?;
+        if !enters(register, name, record) {
+            return Ok(Some(i));
+        }
+    }
+    Ok(None)
+}
+
+/// What a register with 64 names shows: the number that wasn't entered, whether a copy that is made
+/// keeps a name that is taken out of it afterwards, and how many names are left.
+fn judge(alloc: Global, record: Record) -> Result<(Option<u32>, bool, usize), BookError> {
+    let mut register = Register::new(alloc);
+    let missing = fill(&mut register, record)?;
+    let copy = register.copy();
+    let last = numbered(63)?;
+    register.remove(&last);
+    register.remove(&last);
+    let kept = match copy {
+        Ok(copy) => copy.show(&last) == Ok(Some(record)) && copy.len() == 64,
+        Err(error) => error == BookError::Memory,
+    };
+    Ok((missing, kept && !register.contains(&last), register.len()))
+}
+
+#[test]
+fn refused_register(rt: HostRuntime) {
+    let one_lane = stored(&rt, A);
+    assert_eq!(rt; judge(rt.alloc(), one_lane), Ok((None, true, 63)));
+}
+
+/// The names of a register, in the order in which they are listed.
+fn listed<'a>(alloc: Global, register: &'a Register) -> Result<Vec<&'a Name>, BookError> {
+    let mut names = Vec::with_capacity(alloc, register.len())?;
+    for (name, _) in register.iter() {
+        if names.push(name).is_err() {
+            return Err(BookError::Memory);
+        }
+    }
+    Ok(names)
+}
+
+fn are_in_order(names: &[&Name]) -> bool {
+    for i in 1..names.len() {
+        if names[i - 1].bytes() >= names[i].bytes() {
+            return false;
+        }
+    }
+    true
+}
+
+#[test]
+fn names_are_listed_in_order(rt: HostRuntime) {
+    let mut register = Register::new(rt.alloc());
+    let missing = fill(&mut register, stored(&rt, A));
+    let listed = listed(rt.alloc(), &register);
+    let (count, sorted) = match &listed {
+        Ok(names) => (names.len(), are_in_order(names)),
+        Err(_) => (0, false),
+    };
+    assert_eq!(rt; (missing, count, sorted), (Ok(None), 64, true));
+}

@@ -1,0 +1,349 @@
+//! What is done while the desk's lock is held, and between a reader's coming and going: no clause
+//! says how much that is.
+ghost use Rattle.std.specs.Prelude.{◌≡◌, [], true};
+ghost use Rattle.cred_desk.specs.Naming.{IsNamed, StartsAt};
+
+use super::scene::{Answer, begin, close, read, worked};
+use super::{ONE_STANDS, book_of, enrol, name, standing, stored, upgrade, verify};
+use cred_book::{Book, Reply, Request, Worked};
+use cred_desk::{Entry, EntryWriter, KeptDesk, Naming, Opened, Session};
+use crossbeam_channel::{Receiver, Sender, unbounded};
+use std::alloc::Global;
+use std::marker::Brand;
+use std::process::Abort;
+use std::sync::Wait;
+use std::thread::{Threads, join};
+use std::time::{CpuClock, Duration};
+use test_samples::{A, A_SETTING, B_SETTING};
+
+/// A record under which a hash takes days, and its setting.
+const DEAR: &str = "$argon2id$v=19$m=256,t=4294967295,p=1$c29tZXNhbHQ$nf65EA";
+
+const DEAR_SETTING: &str = "$argon2id$v=19$m=256,t=4294967295,p=1$c29tZXNhbHQ";
+
+/// How much processor time a call may take at its quickest, in nanoseconds: fewer than a million
+/// cycles, so a million turns of a loop take more.
+const LIMIT: u128 = 200_000;
+
+/// How many calls are timed.
+const TIMED: u32 = 40;
+
+/// Keeps nothing, and holds the lock of its desk until it is told to go on.
+#[derive(Drop)]
+struct Turnstile<'a, R> {
+    rt: &'a R,
+    asked: Sender<()>,
+    go_on: Receiver<()>,
+}
+
+/// Nobody is left who would tell it to go on.
+#[derive(Clone, Copy, Debug, PartialEq, Eq)]
+struct Left;
+
+impl<'a, R: Wait> EntryWriter for Turnstile<'a, R> {
+    type Error = Left;
+
+    ghost keeps = { λ _ _. Unit {0} };
+
+    fn write(&mut self, _new: &Entry) -> Result<(), Left> {
+        self.asked.send(self.rt, ()).map_err(|_| Left)?;
+        self.go_on.recv(self.rt).map_err(|_| Left)
+    }
+}
+
+/// Keeps nothing.
+#[derive(Clone, Copy)]
+struct Careless;
+
+impl EntryWriter for Careless {
+    type Error = Left;
+
+    ghost keeps = { λ _ _. Unit {0} };
+
+    fn write(&mut self, _new: &Entry) -> Result<(), Left> {
+        Ok(())
+    }
+}
+
+/// The work of a request that the session begins.
+fn work_of<J: Naming, R: Threads + Sync>(
+    rt: &R,
+    alloc: Global,
+    session: &mut Session<J>,
+    request: Request,
+) -> Option<Worked> {
+    let mut open = None;
+    begin(session, &mut open, request);
+    worked(rt, alloc, &mut open)
+}
+
+/// A session's upgrade of a.
+fn settle_upgrade<J: Naming, W: EntryWriter<Error = Left>, R: Threads + Wait + Abort + Sync>(
+    rt: &R,
+    alloc: Global,
+    desk: &KeptDesk<J, W>,
+    session: &mut Session<J>,
+) -> Answer {
+    match work_of(rt, alloc, session, upgrade(rt, "a", B_SETTING)) {
+        Some(work) => settle(rt, desk, session, work),
+        None => Answer::Failed,
+    }
+}
+
+fn settle<J: Naming, W: EntryWriter<Error = Left>, R: Wait>(
+    rt: &R,
+    desk: &KeptDesk<J, W>,
+    session: &mut Session<J>,
+    work: Worked,
+) -> Answer {
+    match desk.settle(rt, session, work) {
+        Ok((reply, _told)) => Answer::Replied(reply),
+        Err(_) => Answer::Failed,
+    }
+}
+
+/// Once the lock is held, what a session copies at a and what its verify is answered; then the
+/// holder may go on.
+fn read_meanwhile<J: Naming, R: Threads + Wait + Abort + Sync>(
+    rt: &R,
+    alloc: Global,
+    session: &mut Session<J>,
+    asked: &Receiver<()>,
+    go_on: &Sender<()>,
+) -> [Answer; 2] {
+    if asked.recv(rt).is_err() {
+        return [Answer::Failed; 2];
+    }
+    let mut open = None;
+    begin(session, &mut open, verify(rt, "a"));
+    let copied = read(&open);
+    let closed = match worked(rt, alloc, &mut open) {
+        Some(work) => close(session, work),
+        None => Answer::Failed,
+    };
+    // Refused where the holder has failed, and nobody waits.
+    let _told = go_on.send(rt, ());
+    [copied, closed]
+}
+
+/// One session settles, and another reads meanwhile.
+fn settle_and_read<J: Naming + Send + Sync, R: Threads + Wait + Abort + Sync>(
+    rt: &R,
+    alloc: Global,
+    desk: &KeptDesk<J, Turnstile<R>>,
+    sessions: &mut [Session<J>],
+    word: (Receiver<()>, Sender<()>),
+) -> (Answer, [Answer; 2]) {
+    let (front, back) = sessions.split_at_mut(sessions.len().min(1));
+    join(
+        rt,
+        move || match front.first_mut() {
+            Some(session) => settle_upgrade(rt, alloc, desk, session),
+            None => Answer::Failed,
+        },
+        move || {
+            let (asked, go_on) = word;
+            match back.first_mut() {
+                Some(session) => read_meanwhile(rt, alloc, session, &asked, &go_on),
+                None => [Answer::Failed; 2],
+            }
+        },
+    )
+}
+
+/// A desk with two sessions, whose lock is held until one of them has read.
+fn read_under_lock<J: Naming + Send + Sync, R: Threads + Wait + Abort + Sync>(
+    rt: &R,
+    alloc: Global,
+    opened: Opened,
+    book: &Book,
+) -> Option<(Answer, [Answer; 2])>
+    requires name { IsNamed J.Naming opened }
+    requires opening { StartsAt J.Naming book.now 2 }
+{
+    let (asking, asked) = unbounded(alloc).ok()?;
+    let (going, go_on) = unbounded(alloc).ok()?;
+    let turnstile = Turnstile {
+        rt,
+        asked: asking,
+        go_on,
+    };
+    let made = KeptDesk::<J, Turnstile<R>>::new(rt, alloc, opened, book, 2, turnstile);
+    let (desk, mut sessions) = made.ok()?;
+    let answers = settle_and_read(rt, alloc, &desk, &mut sessions, (asked, going));
+    let _remains = desk.give_up(rt, &sessions);
+    Some(answers)
+}
+
+/// While the lock is held a session is let in to the book, which lacks the change, and is answered.
+#[test]
+fn readers_wait_for_no_lock(rt: HostRuntime) {
+    let book = book_of(&rt, rt.alloc(), ONE_STANDS).expect(&rt, "a book");
+    let found = read_under_lock::<Brand, _>(&rt, rt.alloc(), Opened::new(2), &book);
+    let (settled, read) = found.expect(&rt, "a desk");
+    assert_eq!(rt; settled, Answer::Replied(Reply::Upgraded));
+    let copied = Answer::Copied(Some(stored(&rt, A)));
+    assert_eq!(rt; read, [copied, Answer::Replied(Reply::Yes)]);
+}
+
+/// What a verify and an upgrade are answered that were begun before a record was loaded under which
+/// a hash takes days; what is copied then; and what an enrolment is answered.
+fn load_dear<J: Naming, R: Threads + Wait + Abort + Sync>(
+    rt: &R,
+    alloc: Global,
+    desk: &KeptDesk<J, Careless>,
+    session: &mut Session<J>,
+) -> Option<[Answer; 4]>
+    requires { J.loads ≡ true }
+{
+    let verified = work_of(rt, alloc, session, verify(rt, "a"))?;
+    let upgraded = work_of(rt, alloc, session, upgrade(rt, "a", B_SETTING))?;
+    desk.load(rt, session, name(rt, "a"), stored(rt, DEAR))
+        .ok()?;
+    let closed = close(session, verified);
+    let settled = settle(rt, desk, session, upgraded);
+    let mut open = None;
+    begin(session, &mut open, enrol(rt, "a", DEAR_SETTING));
+    let copied = read(&open);
+    let enrolled = worked(rt, alloc, &mut open)?;
+    let exists = settle(rt, desk, session, enrolled);
+    Some([closed, settled, copied, exists])
+}
+
+fn loaded_dear<J: Naming, R: Threads + Wait + Abort + Sync>(
+    rt: &R,
+    alloc: Global,
+    opened: Opened,
+    book: &Book,
+) -> Option<[Answer; 4]>
+    requires name { IsNamed J.Naming opened }
+    requires opening { StartsAt J.Naming book.now 1 }
+    requires loads { J.loads ≡ true }
+{
+    let made = KeptDesk::<J, Careless>::new(rt, alloc, opened, book, 1, Careless);
+    let (desk, mut sessions) = made.ok()?;
+    let answers = match sessions.first_mut() {
+        Some(session) => load_dear(rt, alloc, &desk, session),
+        None => None,
+    };
+    let _remains = desk.give_up(rt, &sessions);
+    answers
+}
+
+/// `Changed`, with the record under which a hash takes days.
+fn changed_to_dear<R: Abort>(rt: &R) -> Answer {
+    let now = standing(rt, Some(DEAR));
+    Answer::Replied(Reply::Changed { now })
+}
+
+/// A call of the desk that hashed under the present record, the copy or the request's setting would
+/// not end.
+#[test]
+fn nothing_is_hashed_at_a_desk(rt: HostRuntime) {
+    let book = book_of(&rt, rt.alloc(), ONE_STANDS).expect(&rt, "a book");
+    let found = loaded_dear::<Brand, _>(&rt, rt.alloc(), Opened::new(1), &book);
+    let want = [
+        changed_to_dear(&rt),
+        changed_to_dear(&rt),
+        Answer::Copied(standing(&rt, Some(DEAR))),
+        Answer::Replied(Reply::Exists),
+    ];
+    assert_eq!(rt; found, Some(want));
+}
+
+/// What the quickest begin, close and settle took of the thread's processor time, in nanoseconds.
+#[derive(Clone, Copy)]
+struct Quickest {
+    begin: u128,
+    close: u128,
+    settle: u128,
+}
+
+/// In nanoseconds.
+fn time_since<R: CpuClock>(rt: &R, start: Duration) -> Option<u128> {
+    let now = rt.thread_cpu_time().ok()?;
+    Some(now.as_nanos().saturating_sub(start.as_nanos()))
+}
+
+/// Times a verify's begin and close, and the settle of an upgrade to this setting.
+fn time_once<J: Naming, R: Threads + Wait + CpuClock + Abort + Sync>(
+    rt: &R,
+    alloc: Global,
+    desk: &KeptDesk<J, Careless>,
+    session: &mut Session<J>,
+    setting: &str,
+) -> Option<Quickest> {
+    let (verify, upgrade) = (verify(rt, "a"), upgrade(rt, "a", setting));
+    let mut open = None;
+    let start = rt.thread_cpu_time().ok()?;
+    begin(session, &mut open, verify);
+    let begin = time_since(rt, start)?;
+    let verified = worked(rt, alloc, &mut open)?;
+    let start = rt.thread_cpu_time().ok()?;
+    close(session, verified);
+    let close = time_since(rt, start)?;
+    let upgraded = work_of(rt, alloc, session, upgrade)?;
+    let start = rt.thread_cpu_time().ok()?;
+    let settled = settle(rt, desk, session, upgraded);
+    let settle = time_since(rt, start)?;
+    (settled == Answer::Replied(Reply::Upgraded)).then_some(Quickest {
+        begin,
+        close,
+        settle,
+    })
+}
+
+fn time_all<J: Naming, R: Threads + Wait + CpuClock + Abort + Sync>(
+    rt: &R,
+    alloc: Global,
+    desk: &KeptDesk<J, Careless>,
+    session: &mut Session<J>,
+) -> Option<Quickest> {
+    let mut quickest = time_once(rt, alloc, desk, session, B_SETTING)?;
+    for number in 0..TIMED {
+        let setting = if number % 2 == 0 {
+            A_SETTING
+        } else {
+            B_SETTING
+        };
+        let took = time_once(rt, alloc, desk, session, setting)?;
+        quickest.begin = quickest.begin.min(took.begin);
+        quickest.close = quickest.close.min(took.close);
+        quickest.settle = quickest.settle.min(took.settle);
+    }
+    Some(quickest)
+}
+
+fn timed<J: Naming, R: Threads + Wait + CpuClock + Abort + Sync>(
+    rt: &R,
+    alloc: Global,
+    opened: Opened,
+    book: &Book,
+) -> Option<Quickest>
+    requires name { IsNamed J.Naming opened }
+    requires opening { StartsAt J.Naming book.now 1 }
+{
+    let made = KeptDesk::<J, Careless>::new(rt, alloc, opened, book, 1, Careless);
+    let (desk, mut sessions) = made.ok()?;
+    let quickest = match sessions.first_mut() {
+        Some(session) => time_all(rt, alloc, &desk, session),
+        None => None,
+    };
+    let _remains = desk.give_up(rt, &sessions);
+    quickest
+}
+
+#[test]
+fn calls_are_quick(rt: HostRuntime) {
+    let book = book_of(&rt, rt.alloc(), ONE_STANDS).expect(&rt, "a book");
+    let found = timed::<Brand, _>(&rt, rt.alloc(), Opened::new(1), &book);
+    let Quickest {
+        begin,
+        close,
+        settle,
+    } = found.expect(&rt, "a desk");
+    assert!(rt;
+        begin < LIMIT && close < LIMIT && settle < LIMIT,
+        "{begin} {close} {settle}"
+    );
+}
