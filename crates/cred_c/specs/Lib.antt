@@ -1,4 +1,6 @@
 -- Definitions that the contracts of the exports cite.
 pub mod Answers
 pub mod Inputs
+pub mod Lanes
 pub mod Parts
+pub mod Steps

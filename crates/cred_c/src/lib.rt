@@ -6,10 +6,16 @@
 //! 0 is answered alone.
 #![tactic(auto)]
 
+mod lanes;
 mod numbers;
+mod operation;
+mod part_fault;
 mod parts;
 mod raw;
+mod record_lanes;
 mod records;
+mod step;
+mod tag_numbers;
 #[cfg(test)]
 mod tests;
 mod texts;

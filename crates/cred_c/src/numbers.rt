@@ -24,6 +24,12 @@ pub(crate) const NO_KIND: u8 = 12;
 /// The number names no version of Argon2.
 pub(crate) const NO_VERSION: u8 = 13;
 
+/// The blocks, the segment or the tag aren't those of the numbers.
+pub(crate) const NO_PLACE: u8 = 27;
+
+/// The number names no operation.
+pub(crate) const NO_OPERATION: u8 = 23;
+
 /// The number of an error of Argon2: 14 to 18, and 8 for want of memory.
 pub(crate) fn argon_number(error: ArgonError) -> u8
     ensures { result ≡ argon_number error }

@@ -4,6 +4,9 @@
 //! of RFC 9106, and the key of 100 bytes is from Python's hashlib; its first 64 are those of RFC
 //! 7914.
 
+mod lanes;
+mod steps;
+
 use crate::parts::{Parts, cred_record_fault, cred_record_parts, cred_setting_fault};
 use crate::raw::{cred_argon2, cred_scrypt};
 use crate::records::{cred_check, cred_hash};

@@ -1,0 +1,131 @@
+-- Argon2 worked in parts over memory of the caller's: what numbers stand for, what is wrong with
+-- what a part is given, and what the parts make.
+use Rattle.std.specs.Prelude.{◌≡◌, ℕ, ◌+◌, ◌-◌, ◌*◌, ◌^◌, ◌<◌, ◌≤◌, ◌⊎◌, List, [], length}
+use Rattle.std.specs.Prelude.{Option, Some, None}
+use Rattle.cred_argon.specs.Argon.{argon, first_hash}
+use Rattle.cred_argon.specs.Faults.{IsFirstRawFault}
+use Rattle.cred_argon.specs.Lanes.{HoldsBlocks, HoldsFirstBlocks, WorksSegment}
+use Rattle.cred_argon.specs.Numbers.{kind_number, version_number}
+use Rattle.cred_argon.specs.Parameters.{Parameters, parameters, segment_len, IsRaw}
+use Rattle.cred_argon.specs.declared.block.Block.{Block}
+use Rattle.cred_argon.specs.declared.kind.Kind.TheVariants.{Id}
+use Rattle.cred_argon.specs.declared.kind.Version.TheVariants.{V13}
+use Rattle.cred_argon.specs.declared.lanes.SegmentIndex.{SegmentIndex}
+use Rattle.cred_c.specs.Answers.{IsVerdict, IsWritten, argon_number}
+use Rattle.cred_c.specs.Inputs.{IsKind, IsVersion}
+use Rattle.cred_c.specs.declared.part_fault.PartFault.{PartFault}
+use Rattle.cred_c.specs.declared.part_fault.PartFault.TheVariants.{NoKind, NoVersion, Argon, Place}
+use Rattle.cred_c.specs.declared.part_fault.PartFault.TheVariants.{Scrypt}
+use Rattle.cred_c.specs.declared.tag_numbers.TagNumbers.{TagNumbers}
+use Rattle.cred_phc.specs.Tags.{argon_parameters, tag}
+use Rattle.cred_phc.specs.Text.{record_text}
+use Rattle.cred_phc.specs.Values.{RecordValue, SettingValue, record_of}
+
+-- ---- faults
+
+abbrev pub part_fault_number : PartFault → ℕ
+part_fault_number NoKind = 12
+part_fault_number NoVersion = 13
+part_fault_number (Argon e) = argon_number e
+part_fault_number Place = 27
+part_fault_number Scrypt = 2
+
+-- ---- numbers
+
+-- the parameters that numbers stand for, in their ranges
+pub record StandFor (n : TagNumbers) (a : Parameters) : Type 0 where
+  pub kind_is : n.kind ≡ kind_number a.kind
+  pub version_is : n.version ≡ version_number a.version
+  pub memory_is : n.memory ≡ a.memory
+  pub passes_are : n.passes ≡ a.passes
+  pub lanes_are : n.lanes ≡ a.lanes
+  pub tag_len_is : n.tag_len ≡ a.tag_len
+  pub ranges : IsRaw a
+
+-- the numbers as parameters of one kind and version: the ranges are the same for all of them
+abbrev pub ranged : TagNumbers → Parameters
+ranged n = parameters V13 Id n.memory n.passes n.lanes n.tag_len
+
+-- the first that is wrong with numbers
+abbrev pub IsNumbersFault : TagNumbers → PartFault → Type 0
+IsNumbersFault n NoKind = 2 < n.kind
+IsNumbersFault n NoVersion = IsKind n.kind × (IsVersion n.version → ⊥)
+IsNumbersFault n (Argon e) = IsKind n.kind × IsVersion n.version × IsFirstRawFault (ranged n) e
+IsNumbersFault n Place = ⊥
+IsNumbersFault n Scrypt = ⊥
+
+-- ---- the parts
+
+-- as many blocks as a slice has
+abbrev pub IsSlice : Parameters → List Block → Type 0
+IsSlice a blocks = length blocks ≡ a.lanes * segment_len a
+
+abbrev pub IsAnyTooLong : List ℕ → List ℕ → List ℕ → List ℕ → Type 0
+IsAnyTooLong pw salt secret assoc =
+    (2 ^ 32 ≤ length pw) ⊎ (2 ^ 32 ≤ length salt) ⊎ (2 ^ 32 ≤ length secret)
+    ⊎ (2 ^ 32 ≤ length assoc)
+
+-- the first blocks of each lane are written into the first slice
+pub record IsBegun (a : Parameters) (pw salt secret assoc : List ℕ) (answer : ℕ)
+    (old new : List Block) : Type 0 where
+  pub place : (IsSlice a old → ⊥) → answer ≡ 27
+  pub long : IsSlice a old → IsAnyTooLong pw salt secret assoc → answer ≡ 18
+  pub begun : IsSlice a old → (IsAnyTooLong pw salt secret assoc → ⊥) → (answer ≡ 0)
+      × HoldsFirstBlocks a (first_hash a pw salt secret assoc) a.lanes new
+  pub kept : (answer ≡ 0 → ⊥) → new ≡ old
+
+-- there is such a segment, and the blocks are those of three slices and of a segment
+pub record IsSegment (a : Parameters) (i : SegmentIndex)
+    (oldest middle newest own : List Block) : Type 0 where
+  pub inside : (i.slice < 4) × (i.lane < a.lanes)
+  pub earlier : IsSlice a oldest × IsSlice a middle × IsSlice a newest
+  pub blocks : length own ≡ segment_len a
+
+-- the blocks hold every cell of the memory's last slice, for these inputs
+abbrev pub IsFilled : Parameters → List ℕ → List ℕ → List ℕ → List ℕ → List Block → Type 0
+IsFilled a pw salt secret assoc last =
+    HoldsBlocks a (first_hash a pw salt secret assoc) (4 * a.passes - 1) last
+
+-- ---- records
+
+-- Argon2's parameters of a record
+abbrev pub record_parameters : RecordValue → Option Parameters
+record_parameters v = argon_parameters v.setting.scheme (length v.tag)
+
+-- numbers are written, unless it is a text of scrypt
+abbrev pub AreNumbers : Option Parameters → ℕ → TagNumbers → Type 0
+AreNumbers None answer n = answer ≡ 2
+AreNumbers (Some a) answer n = (answer ≡ 0) × StandFor n a
+
+-- the first blocks of each lane are written, unless it is a text of scrypt
+abbrev pub IsBegunUnder : Option Parameters → List ℕ → List ℕ → ℕ → List Block → List Block
+    → Type 0
+IsBegunUnder None pw salt answer old new = (answer ≡ 2) × (new ≡ old)
+IsBegunUnder (Some a) pw salt answer old new = IsBegun a pw salt [] [] answer old new
+
+-- what is answered of a record and the last slice of a password's memory
+pub record IsEnd (v : RecordValue) (a : Parameters) (last : List Block) (answer : ℕ)
+    : Type 0 where
+  pub place : (IsSlice a last → ⊥) → answer ≡ 27
+  pub one_of : IsSlice a last → (answer ≡ 0) ⊎ (answer ≡ 8) ⊎ (answer ≡ 10)
+  pub verdict : IsSlice a last → (pw : List ℕ) → length pw < 2 ^ 32
+      → IsFilled a pw v.setting.salt [] [] last → IsVerdict v pw answer
+
+abbrev pub IsEndUnder : RecordValue → Option Parameters → List Block → ℕ → Type 0
+IsEndUnder v None last answer = answer ≡ 2
+IsEndUnder v (Some a) last answer = IsEnd v a last answer
+
+-- what is answered where a record is to be made from the last slice of a password's memory, with its
+-- text over the front of a buffer
+pub record IsRecordEnd (s : SettingValue) (tag_len : ℕ) (a : Parameters) (last : List Block)
+    (answer : ℕ) (old new : List ℕ) (len : ℕ) : Type 0 where
+  pub place : (IsSlice a last → ⊥) → answer ≡ 27
+  pub one_of : IsSlice a last → (answer ≡ 0) ⊎ (answer ≡ 8) ⊎ (answer ≡ 11)
+  pub written : IsSlice a last → (pw : List ℕ) → IsFilled a pw s.salt [] [] last
+      → IsWritten (record_text (record_of s (tag s tag_len pw))) answer old new len
+
+abbrev pub IsRecordEndUnder : SettingValue → ℕ → Option Parameters → List Block → ℕ → List ℕ
+    → List ℕ → ℕ → Type 0
+IsRecordEndUnder s tag_len None last answer old new len = answer ≡ 2
+IsRecordEndUnder s tag_len (Some a) last answer old new len =
+    IsRecordEnd s tag_len a last answer old new len

@@ -1,0 +1,109 @@
+-- A step: one whole operation, worked at a copy of an account's record, for a store that puts the
+-- record after in the place of the copy where that still stands.
+use Rattle.std.specs.Prelude.{◌≡◌, ◌⊎◌, ℕ, ◌==◌, if◌then◌else◌, List, [], length}
+use Rattle.std.specs.Prelude.{Option, Some, None}
+use Rattle.std.specs.Option.{option_map}
+use Rattle.cred_phc.specs.Errors.{error_number}
+use Rattle.cred_phc.specs.Faults.{record_fault, setting_fault}
+use Rattle.cred_phc.specs.Text.{IsRecordText, IsSettingText, record_text}
+use Rattle.cred_phc.specs.Values.{IsRecord, IsSetting, RecordValue, password_fits}
+use Rattle.cred_book.specs.Works.{makes_change}
+use Rattle.cred_book.specs.declared.reply.Reply.{Reply}
+use Rattle.cred_book.specs.declared.reply.Reply.TheVariants as reply
+use Rattle.cred_book.specs.declared.request.Request.{Request}
+use Rattle.cred_book.specs.declared.request.Request.TheVariants as request
+use Rattle.cred_c.specs.Answers.{IsWritten}
+use Rattle.cred_c.specs.declared.operation.Operation.{Operation}
+use Rattle.cred_c.specs.declared.operation.Operation.TheVariants.{Enrol, Verify, Change, Upgrade}
+use Rattle.cred_c.specs.declared.operation.Operation.TheVariants.{Remove}
+use Rattle.cred_c.specs.declared.operation.StepFault.{StepFault}
+use Rattle.cred_c.specs.declared.operation.StepFault.TheVariants.{Copy, Long, Setting}
+
+-- ---- what is asked
+
+abbrev pub operation_number : Operation → ℕ
+operation_number Enrol = 1
+operation_number Verify = 2
+operation_number Change = 3
+operation_number Upgrade = 4
+operation_number Remove = 5
+
+abbrev pub IsOperation : ℕ → Type 0
+IsOperation number =
+    (number ≡ 1) ⊎ (number ≡ 2) ⊎ (number ≡ 3) ⊎ (number ≡ 4) ⊎ (number ≡ 5)
+
+-- the request that an operation, passwords and a setting's text ask for; its name may be any
+abbrev pub AsksFor : Operation → List ℕ → List ℕ → List ℕ → Request → Type 0
+AsksFor operation pw new text (request.Enrol name p setting) =
+    (operation ≡ Enrol) × (p ≡ pw) × IsSetting setting × IsSettingText text setting
+AsksFor operation pw new text (request.Verify name p) = (operation ≡ Verify) × (p ≡ pw)
+AsksFor operation pw new text (request.Change name p q setting) =
+    (operation ≡ Change) × (p ≡ pw) × (q ≡ new) × IsSetting setting × IsSettingText text setting
+AsksFor operation pw new text (request.Upgrade name p setting) =
+    (operation ≡ Upgrade) × (p ≡ pw) × IsSetting setting × IsSettingText text setting
+AsksFor operation pw new text (request.Remove name p) = (operation ≡ Remove) × (p ≡ pw)
+
+-- the record that a copy's text stands for: none where the text is empty
+abbrev pub IsCopy : List ℕ → Option RecordValue → Type 0
+IsCopy text None = text ≡ []
+IsCopy text (Some stored) = IsRecord stored × IsRecordText text stored
+
+-- ---- what is wrong with it
+
+abbrev pub fault_number : StepFault → ℕ
+fault_number Copy = 24
+fault_number Long = 25
+fault_number (Setting e) = error_number e
+
+abbrev pub first : Option StepFault → Option StepFault → Option StepFault
+first (Some e) later = Some e
+first None later = later
+
+abbrev pub copy_fault : List ℕ → Option StepFault
+copy_fault text = if length text == 0 then None else option_map (λ _. Copy) (record_fault text)
+
+abbrev pub password_fault : List ℕ → Option StepFault
+password_fault pw = if password_fits pw then None else Some Long
+
+abbrev pub new_setting_fault : List ℕ → Option StepFault
+new_setting_fault text = option_map Setting (setting_fault text)
+
+-- only what the operation reads is judged
+abbrev pub request_fault : Operation → List ℕ → List ℕ → List ℕ → Option StepFault
+request_fault Enrol pw new text = first (password_fault pw) (new_setting_fault text)
+request_fault Verify pw new text = password_fault pw
+request_fault Change pw new text =
+    first (password_fault pw) (first (password_fault new) (new_setting_fault text))
+request_fault Upgrade pw new text = first (password_fault pw) (new_setting_fault text)
+request_fault Remove pw new text = password_fault pw
+
+abbrev pub step_fault : Operation → List ℕ → List ℕ → List ℕ → List ℕ → Option StepFault
+step_fault operation copy pw new text = first (copy_fault copy) (request_fault operation pw new text)
+
+-- ---- what is answered
+
+-- in the order of the replies; a step at a copy never answers the last two
+abbrev pub reply_number : Reply → ℕ
+reply_number reply.Enrolled = 1
+reply_number reply.Exists = 2
+reply_number reply.Yes = 3
+reply_number reply.No = 4
+reply_number reply.Absent = 5
+reply_number reply.Replaced = 6
+reply_number reply.Wrong = 7
+reply_number reply.Upgraded = 8
+reply_number reply.Kept = 9
+reply_number reply.Removed = 10
+reply_number (reply.Changed now) = 11
+reply_number reply.NoAccount = 12
+
+-- the text that is to stand in the place of the copy: empty where nothing changes, and where no
+-- record is to stand
+abbrev pub text_after : Reply × Option RecordValue → List ℕ
+text_after (r, None) = []
+text_after (r, Some stored) = if makes_change r then record_text stored else []
+
+pub record IsStep (outcome : Reply × Option RecordValue) (answer reply : ℕ) (old new : List ℕ)
+    (len : ℕ) : Type 0 where
+  pub text : IsWritten (text_after outcome) answer old new len
+  pub reply_of : answer ≡ 0 → reply ≡ reply_number outcome.0

@@ -1,0 +1,194 @@
+//! An Argon2 tag in parts, for a caller who works the lanes in threads of its own. The memory is
+//! four slices of blocks, each with the segments of its lanes one after another. Segment g of a
+//! lane, counted over all passes, is that of pass g / 4 and slice g % 4; it is worked once, after
+//! all segments of slice g - 1.
+ghost use Rattle.std.specs.Prelude.{◌≡◌, ℕ, ◌+◌, ◌*◌, ◌<◌, ◌≤◌, ◌↔◌, ◌⊎◌, List, length, IsTrue};
+ghost use Rattle.cred_argon.specs.Argon.{argon};
+ghost use Rattle.cred_argon.specs.Lanes.{WorksSegment};
+ghost use Rattle.cred_argon.specs.Parameters.{Parameters, segment_len};
+ghost use Rattle.cred_c.specs.Lanes.{IsBegun, IsFilled, IsNumbersFault, IsSegment, IsSlice};
+ghost use Rattle.cred_c.specs.Lanes.{StandFor, part_fault_number};
+ghost use Rattle.cred_c.specs.declared.part_fault.PartFault.{PartFault};
+
+use crate::numbers::{DONE, NO_PLACE, argon_number};
+use crate::tag_numbers::{TagNumbers, params_of};
+use cred_argon::{
+    Block, EarlierSlices, Params, SegmentIndex, begin_lanes, tag_of_lanes, work_lane,
+};
+use std::alloc::Global;
+
+/// Writes into `segment` how many blocks a segment has. A slice has as many for each lane, and the
+/// memory has four slices.
+///
+/// Answers 0; or 12 if there is no such kind, else 13 if there is no such version, else by the
+/// first that is wrong of `lanes` (14), `memory` (15), `passes` (16) and `tag_len` (17).
+#[unsafe(no_mangle)]
+pub extern "C" fn cred_argon2_segment_len(numbers: &TagNumbers, segment: &mut u32) -> u8
+    ensures len { (a : Parameters) → StandFor numbers.now a
+        → (result ≡ 0) × (segment.new ≡ segment_len a) }
+    ensures fault { (f : PartFault) → IsNumbersFault numbers.now f
+        → result ≡ part_fault_number f }
+    ensures kept { (result ≡ 0 → ⊥) → segment.new ≡ segment.old }
+{
+    match params_of(numbers) {
+        Ok(params) => {
+            *segment = params.segment_len();
+            DONE
+        }
+        Err(fault) => fault.number(),
+    }
+}
+
+/// Writes the first two blocks of each lane into the first slice, whose other blocks may be
+/// anything.
+///
+/// Answers 0; or 12 to 17 as above; else 27 if `first` isn't a slice, else 18 if an input has 2^32
+/// bytes or more.
+#[unsafe(no_mangle)]
+pub extern "C" fn cred_argon2_begin(
+    numbers: &TagNumbers,
+    pw: &[u8],
+    salt: &[u8],
+    secret: &[u8],
+    assoc: &[u8],
+    first: &mut [Block],
+) -> u8
+    ensures begun { (a : Parameters) → StandFor numbers.now a
+        → IsBegun a pw.now salt.now secret.now assoc.now result first.old first.new }
+    ensures fault { (f : PartFault) → IsNumbersFault numbers.now f
+        → result ≡ part_fault_number f }
+    ensures kept { (result ≡ 0 → ⊥) → first.new ≡ first.old }
+{
+    match params_of(numbers) {
+        Ok(params) => begin(&params, pw, salt, secret, assoc, first),
+        Err(fault) => fault.number(),
+    }
+}
+
+/// The same by parameters.
+pub(crate) fn begin(
+    params: &Params,
+    pw: &[u8],
+    salt: &[u8],
+    secret: &[u8],
+    assoc: &[u8],
+    first: &mut [Block],
+) -> u8
+    ensures { IsBegun params.now pw.now salt.now secret.now assoc.now result first.old first.new }
+{
+    if !is_slice(params, first) {
+        return NO_PLACE;
+    }
+    match begin_lanes(params, pw, salt, secret, assoc, first) {
+        Ok(()) => DONE,
+        Err(error) => argon_number(error),
+    }
+}
+
+/// Works a segment. `own` are its blocks: on the first pass they may be anything, but for the first
+/// two of a lane; later they are those of the pass before. `newest`, `middle` and `oldest` are the
+/// slices before it, one, two and three back; what hasn't been worked yet may be anything.
+///
+/// Answers 0; or 12 to 17 as above; else 27 if there is no such slice or lane, or the blocks aren't
+/// those of three slices and a segment.
+#[unsafe(no_mangle)]
+pub extern "C" fn cred_argon2_segment(
+    numbers: &TagNumbers,
+    index: &SegmentIndex,
+    oldest: &[Block],
+    middle: &[Block],
+    newest: &[Block],
+    own: &mut [Block],
+) -> u8
+    ensures worked { (a : Parameters) → StandFor numbers.now a
+        → IsSegment a index.now oldest.now middle.now newest.now own.old
+        → (result ≡ 0) × ((h : List ℕ)
+        → WorksSegment a h (4 * index.now.pass + index.now.slice) index.now.lane
+        oldest.now middle.now newest.now own.old own.new) }
+    ensures place { (a : Parameters) → StandFor numbers.now a
+        → (IsSegment a index.now oldest.now middle.now newest.now own.old → ⊥) → result ≡ 27 }
+    ensures fault { (f : PartFault) → IsNumbersFault numbers.now f
+        → result ≡ part_fault_number f }
+    ensures kept { (result ≡ 0 → ⊥) → own.new ≡ own.old }
+{
+    match params_of(numbers) {
+        Ok(params) => {
+            let earlier = EarlierSlices {
+                oldest,
+                middle,
+                newest,
+            };
+            if !is_segment(&params, index, &earlier, own) {
+                return NO_PLACE;
+            }
+            work_lane(&params, *index, &earlier, own);
+            DONE
+        }
+        Err(fault) => fault.number(),
+    }
+}
+
+/// Writes the tag over `out`, if `last` is the last slice and has been worked on the last pass.
+///
+/// Answers 0; or 12 to 17 as above; else 27 if `last` isn't a slice or `out` hasn't the tag's
+/// length, else 8 if there is too little memory.
+#[unsafe(no_mangle)]
+pub extern "C" fn cred_argon2_end(
+    alloc: Global,
+    numbers: &TagNumbers,
+    last: &[Block],
+    out: &mut [u8],
+) -> u8
+    ensures made { (a : Parameters) → StandFor numbers.now a
+        → IsSlice a last.now → length out.old ≡ a.tag_len → result ≡ 0
+        → (pw salt secret assoc : List ℕ) → IsFilled a pw salt secret assoc last.now
+        → out.new ≡ argon a pw salt secret assoc }
+    ensures one_of { (a : Parameters) → StandFor numbers.now a
+        → IsSlice a last.now → length out.old ≡ a.tag_len → (result ≡ 0) ⊎ (result ≡ 8) }
+    ensures place { (a : Parameters) → StandFor numbers.now a
+        → (IsSlice a last.now × (length out.old ≡ a.tag_len) → ⊥) → result ≡ 27 }
+    ensures fault { (f : PartFault) → IsNumbersFault numbers.now f
+        → result ≡ part_fault_number f }
+    ensures kept { (result ≡ 0 → ⊥) → out.new ≡ out.old }
+{
+    match params_of(numbers) {
+        Ok(params) => {
+            if !is_slice(&params, last) || out.len() != params.tag_len() as usize {
+                return NO_PLACE;
+            }
+            match tag_of_lanes(alloc, &params, last) {
+                Ok(tag) => {
+                    out.copy_from_slice(&tag);
+                    DONE
+                }
+                Err(error) => argon_number(error),
+            }
+        }
+        Err(fault) => fault.number(),
+    }
+}
+
+/// Whether these are as many blocks as a slice has.
+pub(crate) fn is_slice(params: &Params, blocks: &[Block]) -> bool
+    ensures { IsTrue result ↔ IsSlice params.now blocks.now }
+{
+    blocks.len() == params.lanes() as usize * params.segment_len() as usize
+}
+
+/// Whether there is such a segment, and the blocks are those of three slices and of a segment.
+fn is_segment(
+    params: &Params,
+    index: &SegmentIndex,
+    earlier: &EarlierSlices<'_>,
+    own: &[Block],
+) -> bool
+    ensures { IsTrue result ↔ IsSegment params.now index.now earlier.now.oldest.now
+        earlier.now.middle.now earlier.now.newest.now own.now }
+{
+    index.slice < 4
+        && index.lane < params.lanes()
+        && is_slice(params, earlier.oldest)
+        && is_slice(params, earlier.middle)
+        && is_slice(params, earlier.newest)
+        && own.len() == params.segment_len() as usize
+}

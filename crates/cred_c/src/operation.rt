@@ -1,0 +1,141 @@
+//! What a step is asked: an operation by its number, with passwords and texts.
+ghost use Rattle.std.specs.Prelude.{◌≡◌, ◌↔◌, IfErr, IfOk, IfSome, None, OnOk, Some, false, true};
+ghost use Rattle.cred_c.specs.Steps.{AsksFor, IsCopy, IsOperation, copy_fault, fault_number};
+ghost use Rattle.cred_c.specs.Steps.{new_setting_fault, operation_number, request_fault};
+ghost use Rattle.cred_phc.specs.Text.{IsSettingText};
+ghost use Rattle.cred_phc.specs.Values.{IsSetting, password_fits};
+
+use cred_book::{Name, Request};
+use cred_phc::{Password, PhcError, Record, Setting, parse_record, parse_setting};
+
+/// An operation on the record of one account.
+#[derive(Clone, Copy, PartialEq, Eq)]
+pub enum Operation {
+    Enrol,
+    Verify,
+    Change,
+    Upgrade,
+    Remove,
+}
+
+/// Why a step isn't taken.
+#[derive(Clone, Copy, PartialEq, Eq)]
+pub enum StepFault {
+    /// The copy's text stands for no record.
+    Copy,
+    /// A password has over 256 bytes.
+    Long,
+    /// The setting's text has this fault.
+    Setting(PhcError),
+}
+
+impl StepFault {
+    /// The number of the fault: 24, 25, or that of the setting's.
+    pub(crate) fn number(self) -> u8
+        ensures { result ≡ fault_number self }
+    {
+        match self {
+            StepFault::Copy => 24,
+            StepFault::Long => 25,
+            StepFault::Setting(fault) => fault.number(),
+        }
+    }
+}
+
+/// The operation that a number stands for: 1 to 5.
+pub(crate) fn operation_of(number: u32) -> Option<Operation>
+    ensures found { (o : Operation) → number ≡ operation_number o → result ≡ Some o }
+    ensures only { IfSome result (λ o. number ≡ operation_number o) }
+    ensures none { (result ≡ None) ↔ (IsOperation number → ⊥) }
+{
+    match number {
+        1 => Some(Operation::Enrol),
+        2 => Some(Operation::Verify),
+        3 => Some(Operation::Change),
+        4 => Some(Operation::Upgrade),
+        5 => Some(Operation::Remove),
+        _ => None,
+    }
+}
+
+/// The record of a copy's text, if it isn't empty.
+pub(crate) fn copy_of(text: &[u8]) -> Result<Option<Record>, StepFault>
+    ensures copy { IfOk result (λ copy. IsCopy text.now copy) }
+    ensures fault { IfErr result (λ fault. copy_fault text.now ≡ Some fault) }
+    ensures none { OnOk result (copy_fault text.now ≡ None) }
+{
+    if text.is_empty() {
+        return Ok(None);
+    }
+    match parse_record(text) {
+        Ok(stored) => Ok(Some(stored)),
+        Err(_) => Err(StepFault::Copy),
+    }
+}
+
+/// What is asked, of an account whose name plays no part.
+pub(crate) fn request_of(
+    operation: Operation,
+    pw: &[u8],
+    new_pw: &[u8],
+    setting: &[u8],
+) -> Result<Request, StepFault>
+    ensures asked { IfOk result (λ request. AsksFor operation pw.now new_pw.now setting.now request) }
+    ensures fault { IfErr result (λ fault.
+        request_fault operation pw.now new_pw.now setting.now ≡ Some fault) }
+    ensures none { OnOk result (request_fault operation pw.now new_pw.now setting.now ≡ None) }
+{
+    let name = any_name();
+    let pw = password_of(pw)?;
+    match operation {
+        Operation::Verify => Ok(Request::Verify { name, pw }),
+        Operation::Remove => Ok(Request::Remove { name, pw }),
+        Operation::Enrol => {
+            let setting = setting_of(setting)?;
+            Ok(Request::Enrol { name, pw, setting })
+        }
+        Operation::Upgrade => {
+            let setting = setting_of(setting)?;
+            Ok(Request::Upgrade { name, pw, setting })
+        }
+        Operation::Change => {
+            let new_pw = password_of(new_pw)?;
+            let setting = setting_of(setting)?;
+            Ok(Request::Change {
+                name,
+                pw,
+                new_pw,
+                setting,
+            })
+        }
+    }
+}
+
+fn any_name() -> Name {
+    match Name::new(b"x") {
+        Ok(name) => name,
+        Err(_) => unreachable!(),
+    }
+}
+
+fn password_of(bytes: &[u8]) -> Result<Password, StepFault>
+    ensures same { IfOk result (λ pw. (pw ≡ bytes.now) × (password_fits bytes.now ≡ true)) }
+    ensures fault { IfErr result (λ fault.
+        (fault ≡ StepFault.Long) × (password_fits bytes.now ≡ false)) }
+{
+    match Password::new(bytes) {
+        Some(pw) => Ok(pw),
+        None => Err(StepFault::Long),
+    }
+}
+
+fn setting_of(text: &[u8]) -> Result<Setting, StepFault>
+    ensures read { IfOk result (λ setting. IsSetting setting × IsSettingText text.now setting) }
+    ensures fault { IfErr result (λ fault. new_setting_fault text.now ≡ Some fault) }
+    ensures none { OnOk result (new_setting_fault text.now ≡ None) }
+{
+    match parse_setting(text) {
+        Ok(setting) => Ok(setting),
+        Err(fault) => Err(StepFault::Setting(fault)),
+    }
+}

@@ -1,0 +1,267 @@
+//! Records of Argon2 whose tags are worked in parts: checked against a password, and made under a
+//! setting. Begin and end are of the record; between them segments are worked as for any tag.
+ghost use Rattle.std.specs.Prelude.{◌≡◌, ℕ, ◌<◌, ◌≤◌, ◌⊎◌, ◌↔◌, List, [], IfErr, IfOk, None, Some};
+ghost use Rattle.std.specs.Prelude.{drop, length};
+ghost use Rattle.cred_argon.specs.Parameters.{Parameters};
+ghost use Rattle.cred_c.specs.Answers.{IsWritten};
+ghost use Rattle.cred_c.specs.Lanes.{AreNumbers, IsBegunUnder, IsEndUnder, IsFilled, IsSlice};
+ghost use Rattle.cred_c.specs.Lanes.{IsRecordEndUnder, part_fault_number, record_parameters};
+ghost use Rattle.cred_phc.specs.Errors.{error_number};
+ghost use Rattle.cred_phc.specs.Faults.{record_fault, setting_fault};
+ghost use Rattle.cred_phc.specs.Tags.{argon_parameters, tag};
+ghost use Rattle.cred_phc.specs.Text.{IsRecordText, IsSettingText, record_text};
+ghost use Rattle.cred_phc.specs.Values.{IsRecord, IsSetting, RecordValue, SettingValue, record_of};
+ghost use Rattle.cred_phc.specs.declared.error.PhcError.{PhcError};
+
+use crate::lanes::{begin, is_slice};
+use crate::numbers::{DONE, WRONG};
+use crate::part_fault::PartFault;
+use crate::tag_numbers::{TagNumbers, numbers_of};
+use crate::texts::put_record;
+use cred_argon::{ArgonError, Block, tag_of_lanes};
+use cred_phc::{PhcError, Record, Setting, Tag, argon2_params, parse_record, parse_setting};
+use std::alloc::Global;
+
+/// Writes the numbers of a record's tag into `numbers`.
+///
+/// Answers 0; or the number of the text's fault, 1 to 9; or 2 if it is a record of scrypt.
+#[unsafe(no_mangle)]
+pub extern "C" fn cred_check_numbers(text: &[u8], numbers: &mut TagNumbers) -> u8
+    ensures fault { (e : PhcError) → record_fault text.now ≡ Some e → result ≡ error_number e }
+    ensures read { record_fault text.now ≡ None → (v : RecordValue) × IsRecord v
+        × IsRecordText text.now v × AreNumbers (record_parameters v) result numbers.new }
+    ensures kept { (result ≡ 0 → ⊥) → numbers.new ≡ numbers.old }
+{
+    match parse_record(text) {
+        Ok(stored) => put_numbers(&stored.setting(), tag_len_of(&stored), numbers),
+        Err(fault) => fault.number(),
+    }
+}
+
+/// Writes the first two blocks of each lane into the first slice, for a check of a password against
+/// a record.
+///
+/// Answers 0; or the number of the text's fault, 1 to 9; or 2 if it is a record of scrypt; else 27
+/// if `first` isn't a slice, else 18 if the password has 2^32 bytes or more.
+#[unsafe(no_mangle)]
+pub extern "C" fn cred_check_begin(text: &[u8], pw: &[u8], first: &mut [Block]) -> u8
+    ensures fault { (e : PhcError) → record_fault text.now ≡ Some e → result ≡ error_number e }
+    ensures begun { record_fault text.now ≡ None → (v : RecordValue) × IsRecord v
+        × IsRecordText text.now v
+        × IsBegunUnder (record_parameters v) pw.now v.setting.salt result first.old first.new }
+    ensures kept { (result ≡ 0 → ⊥) → first.new ≡ first.old }
+{
+    match parse_record(text) {
+        Ok(stored) => begin_under(&stored.setting(), tag_len_of(&stored), pw, first),
+        Err(fault) => fault.number(),
+    }
+}
+
+/// Tells from the last slice, worked on the last pass, whether the password that the memory was begun
+/// with is that of the record.
+///
+/// Answers 0 if it is and 10 if it isn't; or the number of the text's fault, 1 to 9; or 2 if it is a
+/// record of scrypt; else 27 if `last` isn't a slice, else 8 if there is too little memory.
+#[unsafe(no_mangle)]
+pub extern "C" fn cred_check_end(alloc: Global, text: &[u8], last: &[Block]) -> u8
+    ensures fault { (e : PhcError) → record_fault text.now ≡ Some e → result ≡ error_number e }
+    ensures verdict { record_fault text.now ≡ None → (v : RecordValue) × IsRecord v
+        × IsRecordText text.now v × IsEndUnder v (record_parameters v) last.now result }
+{
+    match parse_record(text) {
+        Ok(stored) => check_end(alloc, &stored, last),
+        Err(fault) => fault.number(),
+    }
+}
+
+/// The same of a record.
+fn check_end(alloc: Global, stored: &Record, last: &[Block]) -> u8
+    ensures verdict { IsEndUnder stored.now (record_parameters stored.now) last.now result }
+    ensures ranges { IsRecord stored.now }
+{
+    match tag_from(alloc, &stored.setting(), tag_len_of(stored), last) {
+        Ok(made) => verdict(made, stored.tag()),
+        Err(fault) => fault.number(),
+    }
+}
+
+fn verdict(made: Tag, kept: Tag) -> u8
+    ensures right { (result ≡ 0) ↔ (made ≡ kept) }
+    ensures one_of { (result ≡ 0) ⊎ (result ≡ 10) }
+{
+    if made == kept { DONE } else { WRONG }
+}
+
+/// Writes the numbers of the tag that a setting's text asks for into `numbers`, with a tag of
+/// `tag_len` bytes, 4 to 64.
+///
+/// Answers 0; or the number of the text's fault, 1 to 9; else 7 if `tag_len` is outside its range,
+/// else 2 if it is a setting of scrypt.
+#[unsafe(no_mangle)]
+pub extern "C" fn cred_hash_numbers(text: &[u8], tag_len: u32, numbers: &mut TagNumbers) -> u8
+    ensures fault { (e : PhcError) → setting_fault text.now ≡ Some e → result ≡ error_number e }
+    ensures tag { setting_fault text.now ≡ None → (tag_len < 4) ⊎ (64 < tag_len) → result ≡ 7 }
+    ensures read { setting_fault text.now ≡ None → 4 ≤ tag_len → tag_len ≤ 64
+        → (s : SettingValue) × IsSetting s × IsSettingText text.now s
+        × AreNumbers (argon_parameters s.scheme tag_len) result numbers.new }
+    ensures kept { (result ≡ 0 → ⊥) → numbers.new ≡ numbers.old }
+{
+    match parse_setting(text) {
+        Ok(_) if tag_len < 4 || tag_len > 64 => PhcError::Tag.number(),
+        Ok(setting) => put_numbers(&setting, tag_len as u8, numbers),
+        Err(fault) => fault.number(),
+    }
+}
+
+/// Writes the first two blocks of each lane into the first slice, for a record of the password.
+///
+/// Answers 0; or the number of the text's fault, 1 to 9; else 7 if `tag_len` is outside its range,
+/// else 2 if it is a setting of scrypt, else 27 if `first` isn't a slice, else 18 if the password
+/// has 2^32 bytes or more.
+#[unsafe(no_mangle)]
+pub extern "C" fn cred_hash_begin(text: &[u8], tag_len: u32, pw: &[u8], first: &mut [Block]) -> u8
+    ensures fault { (e : PhcError) → setting_fault text.now ≡ Some e → result ≡ error_number e }
+    ensures tag { setting_fault text.now ≡ None → (tag_len < 4) ⊎ (64 < tag_len) → result ≡ 7 }
+    ensures begun { setting_fault text.now ≡ None → 4 ≤ tag_len → tag_len ≤ 64
+        → (s : SettingValue) × IsSetting s × IsSettingText text.now s
+        × IsBegunUnder (argon_parameters s.scheme tag_len) pw.now s.salt result
+        first.old first.new }
+    ensures kept { (result ≡ 0 → ⊥) → first.new ≡ first.old }
+{
+    match parse_setting(text) {
+        Ok(_) if tag_len < 4 || tag_len > 64 => PhcError::Tag.number(),
+        Ok(setting) => begin_under(&setting, tag_len as u8, pw, first),
+        Err(fault) => fault.number(),
+    }
+}
+
+/// Writes the text of the record over the front of `out` and its length into `len`, if `last` is
+/// the last slice and has been worked on the last pass.
+///
+/// Answers 0; or the number of the text's fault, 1 to 9; else 7 if `tag_len` is outside its range,
+/// else 2 if it is a setting of scrypt, else 27 if `last` isn't a slice, else 8 if there is too
+/// little memory or 11 if `out` has too little room.
+#[unsafe(no_mangle)]
+pub extern "C" fn cred_hash_end(
+    alloc: Global,
+    text: &[u8],
+    tag_len: u32,
+    last: &[Block],
+    out: &mut [u8],
+    len: &mut usize,
+) -> u8
+    ensures fault { (e : PhcError) → setting_fault text.now ≡ Some e → result ≡ error_number e }
+    ensures tag { setting_fault text.now ≡ None → (tag_len < 4) ⊎ (64 < tag_len) → result ≡ 7 }
+    ensures made { setting_fault text.now ≡ None → 4 ≤ tag_len → tag_len ≤ 64
+        → (s : SettingValue) × IsSetting s × IsSettingText text.now s
+        × IsRecordEndUnder s tag_len (argon_parameters s.scheme tag_len) last.now
+        result out.old out.new len.new }
+    ensures kept { (result ≡ 0 → ⊥) → (len.new ≡ 0) × (out.new ≡ out.old) }
+    ensures rest { drop len.new out.new ≡ drop len.new out.old }
+{
+    *len = 0;
+    match parse_setting(text) {
+        Ok(_) if tag_len < 4 || tag_len > 64 => PhcError::Tag.number(),
+        Ok(setting) => hash_end(alloc, &setting, tag_len as u8, last, out, len),
+        Err(fault) => fault.number(),
+    }
+}
+
+/// The same under a setting.
+fn hash_end(
+    alloc: Global,
+    setting: &Setting,
+    tag_len: u8,
+    last: &[Block],
+    out: &mut [u8],
+    len: &mut usize,
+) -> u8
+    requires low { 4 ≤ tag_len }
+    requires high { tag_len ≤ 64 }
+    requires empty { len.old ≡ 0 }
+    ensures made { IsRecordEndUnder setting.now tag_len
+        (argon_parameters setting.now.scheme tag_len) last.now result out.old out.new len.new }
+    ensures kept { (result ≡ 0 → ⊥) → (len.new ≡ 0) × (out.new ≡ out.old) }
+    ensures rest { drop len.new out.new ≡ drop len.new out.old }
+{
+    match tag_from(alloc, setting, tag_len, last) {
+        Ok(made) => put_record(alloc, &Record::with_tag(*setting, made), out, len),
+        Err(fault) => fault.number(),
+    }
+}
+
+/// How many bytes a record's tag has: 4 to 64.
+fn tag_len_of(stored: &Record) -> u8
+    ensures value { result ≡ length stored.now.tag }
+    ensures low { 4 ≤ result }
+    ensures high { result ≤ 64 }
+{
+    stored.tag().bytes().len() as u8
+}
+
+/// Writes the numbers of a setting of Argon2.
+fn put_numbers(setting: &Setting, tag_len: u8, numbers: &mut TagNumbers) -> u8
+    requires low { 4 ≤ tag_len }
+    requires high { tag_len ≤ 64 }
+    ensures read { AreNumbers (argon_parameters setting.now.scheme tag_len) result numbers.new }
+    ensures kept { (result ≡ 0 → ⊥) → numbers.new ≡ numbers.old }
+{
+    match argon2_params(setting, tag_len) {
+        Some(params) => {
+            *numbers = numbers_of(&params);
+            DONE
+        }
+        None => PartFault::Scrypt.number(),
+    }
+}
+
+/// Writes the first two blocks of each lane for a setting of Argon2.
+fn begin_under(setting: &Setting, tag_len: u8, pw: &[u8], first: &mut [Block]) -> u8
+    requires low { 4 ≤ tag_len }
+    requires high { tag_len ≤ 64 }
+    ensures begun { IsBegunUnder (argon_parameters setting.now.scheme tag_len) pw.now
+        setting.now.salt result first.old first.new }
+    ensures kept { (result ≡ 0 → ⊥) → first.new ≡ first.old }
+{
+    match argon2_params(setting, tag_len) {
+        Some(params) => begin(&params, pw, setting.salt(), b"", b"", first),
+        None => PartFault::Scrypt.number(),
+    }
+}
+
+/// The tag of the last slice, worked under a setting of Argon2.
+fn tag_from(alloc: Global, setting: &Setting, tag_len: u8, last: &[Block]) -> Result<Tag, PartFault>
+    requires low { 4 ≤ tag_len }
+    requires high { tag_len ≤ 64 }
+    ensures made { (a : Parameters) → argon_parameters setting.now.scheme tag_len ≡ Some a
+        → (pw : List ℕ) → IsFilled a pw setting.now.salt [] [] last.now
+        → IfOk result (λ t. t ≡ tag setting.now tag_len pw) }
+    ensures scheme { argon_parameters setting.now.scheme tag_len ≡ None
+        → result ≡ Err PartFault.Scrypt }
+    ensures place { (a : Parameters) → argon_parameters setting.now.scheme tag_len ≡ Some a
+        → (IsSlice a last.now → ⊥) → result ≡ Err PartFault.Place }
+    ensures memory { (a : Parameters) → argon_parameters setting.now.scheme tag_len ≡ Some a
+        → IsSlice a last.now → IfErr result (λ f. f ≡ PartFault.Argon ArgonError.Memory) }
+{
+    let Some(params) = argon2_params(setting, tag_len) else {
+        return Err(PartFault::Scrypt);
+    };
+    if !is_slice(&params, last) {
+        return Err(PartFault::Place);
+    }
+    match tag_of_lanes(alloc, &params, last) {
+        Ok(bytes) => Ok(tag_of_bytes(&bytes)),
+        Err(error) => Err(PartFault::Argon(error)),
+    }
+}
+
+fn tag_of_bytes(bytes: &[u8]) -> Tag
+    requires low { 4 ≤ length bytes.now }
+    requires high { length bytes.now ≤ 64 }
+    ensures { result ≡ bytes.now }
+{
+    match Tag::new(bytes) {
+        Some(tag) => tag,
+        None => unreachable!(),
+    }
+}

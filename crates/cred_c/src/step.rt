@@ -1,0 +1,140 @@
+//! One whole operation at a copy of an account's record, for a store that puts the record after in
+//! the place of the copy where that still stands.
+ghost use Rattle.std.specs.Prelude.{◌≡◌, ◌↔◌, IfErr, IfOk, None, OnOk, Option, Some, drop};
+ghost use Rattle.cred_book.specs.Works.{whole};
+ghost use Rattle.cred_book.specs.declared.request.Request.{Request};
+ghost use Rattle.cred_c.specs.Answers.{IsWritten};
+ghost use Rattle.cred_c.specs.Steps.{AsksFor, IsCopy, IsOperation, IsStep, fault_number};
+ghost use Rattle.cred_c.specs.Steps.{operation_number, reply_number, step_fault, text_after};
+ghost use Rattle.cred_c.specs.declared.operation.Operation.{Operation};
+ghost use Rattle.cred_c.specs.declared.operation.StepFault.{StepFault};
+ghost use Rattle.cred_phc.specs.Values.{RecordValue};
+
+use crate::numbers::{DONE, NO_OPERATION};
+use crate::operation::{Operation, StepFault, copy_of, operation_of, request_of};
+use crate::texts::put_record;
+use cred_book::{Reply, Ticket, Worked};
+use cred_phc::{PhcError, Record};
+use cred_pool::NoGate;
+use std::alloc::Global;
+
+/// Does a whole operation at a copy of an account's record: 1 to 5 in `operation` for enrol,
+/// verify, change, upgrade and remove. `copy` is the record's text, empty where none stands;
+/// `new_pw` is read for a change, and `setting`, the text that the new record is made under, for an
+/// enrol, a change and an upgrade. Writes the reply's number, 1 to 10, into `reply`; and where the
+/// reply makes a change, the text of the record after over the front of `out` and its length into
+/// `len`, which is 0 where none is to stand.
+///
+/// Answers 0; or 23 where there is no such operation, else 24 where the copy isn't a record, else
+/// 25 where a password has over 256 bytes, else the number of the setting's fault, 1 to 9; else 8
+/// where memory is short or 11 where `out` has too little room.
+#[unsafe(no_mangle)]
+pub extern "C" fn cred_step(
+    alloc: Global,
+    operation: u32,
+    copy: &[u8],
+    pw: &[u8],
+    new_pw: &[u8],
+    setting: &[u8],
+    reply: &mut u32,
+    out: &mut [u8],
+    len: &mut usize,
+) -> u8
+    ensures operation { (result ≡ 23) ↔ (IsOperation operation → ⊥) }
+    ensures fault { (o : Operation) (e : StepFault) → operation ≡ operation_number o
+        → step_fault o copy.now pw.now new_pw.now setting.now ≡ Some e → result ≡ fault_number e }
+    ensures step { (o : Operation) → operation ≡ operation_number o
+        → step_fault o copy.now pw.now new_pw.now setting.now ≡ None
+        → (request : Request) × (stored : Option RecordValue)
+        × AsksFor o pw.now new_pw.now setting.now request × IsCopy copy.now stored
+        × IsStep (whole request stored) result reply.new out.old out.new len.new }
+    ensures kept { (result ≡ 0 → ⊥)
+        → (len.new ≡ 0) × (out.new ≡ out.old) × (reply.new ≡ reply.old) }
+    ensures rest { drop len.new out.new ≡ drop len.new out.old }
+{
+    *len = 0;
+    let Some(operation) = operation_of(operation) else {
+        return NO_OPERATION;
+    };
+    match begun(operation, copy, pw, new_pw, setting) {
+        Ok(ticket) => match ticket.work_alone(alloc, &NoGate) {
+            Ok(worked) => put_step(alloc, &worked, reply, out, len),
+            Err(_) => PhcError::Memory.number(),
+        },
+        Err(fault) => fault.number(),
+    }
+}
+
+/// What is asked, with the copy.
+fn begun(
+    operation: Operation,
+    copy: &[u8],
+    pw: &[u8],
+    new_pw: &[u8],
+    setting: &[u8],
+) -> Result<Ticket, StepFault>
+    ensures asked { IfOk result (λ task. AsksFor operation pw.now new_pw.now setting.now task.0) }
+    ensures copy { IfOk result (λ task. IsCopy copy.now task.1) }
+    ensures fault { IfErr result (λ fault.
+        step_fault operation copy.now pw.now new_pw.now setting.now ≡ Some fault) }
+    ensures none { OnOk result
+        (step_fault operation copy.now pw.now new_pw.now setting.now ≡ None) }
+{
+    let copy = copy_of(copy)?;
+    let request = request_of(operation, pw, new_pw, setting)?;
+    Ok(Ticket::new(request, copy))
+}
+
+/// Writes what an operation does.
+fn put_step(alloc: Global, worked: &Worked, reply: &mut u32, out: &mut [u8], len: &mut usize) -> u8
+    requires { len.old ≡ 0 }
+    ensures step { IsStep (whole worked.now.0 worked.now.1) result reply.new out.old out.new len.new }
+    ensures kept { (result ≡ 0 → ⊥)
+        → (len.new ≡ 0) × (out.new ≡ out.old) × (reply.new ≡ reply.old) }
+    ensures rest { drop len.new out.new ≡ drop len.new out.old }
+{
+    let answer = put_after(alloc, worked.reply(), &worked.after(), out, len);
+    if answer == DONE {
+        *reply = reply_number(worked.reply());
+    }
+    answer
+}
+
+/// Writes the text that is to stand in the place of the copy.
+fn put_after(
+    alloc: Global,
+    found: Reply,
+    after: &Option<Record>,
+    out: &mut [u8],
+    len: &mut usize,
+) -> u8
+    requires { len.old ≡ 0 }
+    ensures written { IsWritten (text_after (found, after.now)) result out.old out.new len.new }
+    ensures kept { (result ≡ 0 → ⊥) → (len.new ≡ 0) × (out.new ≡ out.old) }
+    ensures rest { drop len.new out.new ≡ drop len.new out.old }
+{
+    match after {
+        Some(stored) if found.makes_change() => put_record(alloc, stored, out, len),
+        _ => DONE,
+    }
+}
+
+/// The number that stands for a reply: 1 to 12, in their order.
+fn reply_number(reply: Reply) -> u32
+    ensures { result ≡ reply_number reply }
+{
+    match reply {
+        Reply::Enrolled => 1,
+        Reply::Exists => 2,
+        Reply::Yes => 3,
+        Reply::No => 4,
+        Reply::Absent => 5,
+        Reply::Replaced => 6,
+        Reply::Wrong => 7,
+        Reply::Upgraded => 8,
+        Reply::Kept => 9,
+        Reply::Removed => 10,
+        Reply::Changed { .. } => 11,
+        Reply::NoAccount => 12,
+    }
+}

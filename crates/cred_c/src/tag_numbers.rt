@@ -1,0 +1,64 @@
+//! The numbers of a tag that is worked in parts.
+ghost use Rattle.std.specs.Prelude.{◌≡◌, ◌↔◌, Ok, Err};
+ghost use Rattle.cred_argon.specs.Parameters.{Parameters, IsRaw};
+ghost use Rattle.cred_c.specs.Lanes.{IsNumbersFault, StandFor};
+ghost use Rattle.cred_c.specs.declared.part_fault.PartFault.{PartFault};
+
+use crate::numbers::{kind_of, version_of};
+use crate::part_fault::PartFault;
+use cred_argon::Params;
+
+/// The numbers of an Argon2 tag (RFC 9106, section 3.1).
+#[repr(C)]
+#[derive(Clone, Copy, Debug, PartialEq, Eq)]
+pub struct TagNumbers {
+    /// 0, 1 or 2 for d, i and id.
+    pub kind: u32,
+    /// 16 or 19.
+    pub version: u32,
+    /// In KiB.
+    pub memory: u32,
+    pub passes: u32,
+    pub lanes: u32,
+    /// In bytes.
+    pub tag_len: u32,
+}
+
+/// The parameters that the numbers stand for, or what is wrong with them.
+pub(crate) fn params_of(numbers: &TagNumbers) -> Result<Params, PartFault>
+    ensures ok { (a : Parameters) → (result ≡ Ok a) ↔ StandFor numbers.now a }
+    ensures err { (f : PartFault) → (result ≡ Err f) ↔ IsNumbersFault numbers.now f }
+{
+    let Some(kind) = kind_of(numbers.kind) else {
+        return Err(PartFault::NoKind);
+    };
+    let Some(version) = version_of(numbers.version) else {
+        return Err(PartFault::NoVersion);
+    };
+    match Params::raw(
+        version,
+        kind,
+        numbers.memory,
+        numbers.passes,
+        numbers.lanes,
+        numbers.tag_len,
+    ) {
+        Ok(params) => Ok(params),
+        Err(error) => Err(PartFault::Argon(error)),
+    }
+}
+
+/// The numbers that stand for parameters.
+pub(crate) fn numbers_of(params: &Params) -> TagNumbers
+    requires { IsRaw params.now }
+    ensures { StandFor result params.now }
+{
+    TagNumbers {
+        kind: params.kind().number(),
+        version: params.version().number(),
+        memory: params.memory(),
+        passes: params.passes(),
+        lanes: params.lanes(),
+        tag_len: params.tag_len(),
+    }
+}
