@@ -5,6 +5,7 @@ use cred_phc::{Password, Setting, parse_setting};
 use cred_pool::NoGate;
 use std::alloc::Global;
 use std::thread::Threads;
+use std::time::Duration;
 
 /// How many accounts the book has.
 const ACCOUNTS: usize = 4096;
@@ -25,12 +26,32 @@ pub(crate) struct Load {
     settings: [Setting; 2],
     pub(crate) verifies: u32,
     pub(crate) upgrades: u32,
-    /// Whether the upgrades are settled, or hashed alone.
-    pub(crate) settles: bool,
+    pub(crate) beside: Beside,
+}
+
+/// What the thread does that upgrades.
+#[derive(Clone, Copy, Debug, PartialEq, Eq)]
+pub(crate) enum Beside {
+    /// It hashes, and settles nothing.
+    Hashes,
+    /// It settles each upgrade.
+    Settles,
+    /// It settles each upgrade, which is kept before anybody sees it.
+    Keeps,
+}
+
+impl Beside {
+    /// How long a change is kept under the lock: as long as a disk may take to sync.
+    pub(crate) fn pause(self) -> Option<Duration> {
+        match self {
+            Beside::Keeps => Some(Duration::from_millis(1)),
+            Beside::Hashes | Beside::Settles => None,
+        }
+    }
 }
 
 impl Load {
-    pub(crate) fn new(alloc: Global, verifies: u32, upgrades: u32, settles: bool) -> Option<Load> {
+    pub(crate) fn new(alloc: Global, verifies: u32, upgrades: u32, beside: Beside) -> Option<Load> {
         let mut names = Vec::with_capacity(alloc, ACCOUNTS).ok()?;
         for i in 0..ACCOUNTS {
             let name = format!(in alloc; "account{i}").ok()?;
@@ -46,7 +67,7 @@ impl Load {
             ],
             verifies,
             upgrades,
-            settles,
+            beside,
         })
     }
 

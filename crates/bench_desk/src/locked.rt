@@ -2,12 +2,12 @@
 
 use crate::figures::{Figures, Ran};
 use crate::load::Load;
-use crate::store::{Store, upgrade, verify};
+use crate::store::{Store, keep, upgrade, verify};
 use cred_book::{Book, Reply, Request, Ticket, Worked};
 use std::alloc::Global;
 use std::sync::{Mutex, Wait};
 use std::thread::{Threads, for_each_mut};
-use std::time::Clock;
+use std::time::{Clock, Duration};
 
 pub(crate) fn run<R: Threads + Wait + Clock + Sync>(
     rt: &R,
@@ -21,7 +21,12 @@ pub(crate) fn run<R: Threads + Wait + Clock + Sync>(
     for _thread in 0..threads {
         figures.push(None).ok()?;
     }
-    let book = Mutex::new(Counted { book, changes: 0 });
+    let pause = load.beside.pause();
+    let book = Mutex::new(Counted {
+        book,
+        changes: 0,
+        pause,
+    });
     for_each_mut(
         rt,
         &mut figures,
@@ -43,12 +48,15 @@ pub(crate) fn run<R: Threads + Wait + Clock + Sync>(
 struct Counted {
     book: Book,
     changes: u64,
+    /// How long each change is kept.
+    pause: Option<Duration>,
 }
 
 impl Counted {
-    fn commit(&mut self, work: Worked) -> Reply {
+    fn commit<R: Clock>(&mut self, rt: &R, work: Worked) -> Reply {
         let reply = self.book.commit(work);
         if reply.makes_change() {
+            keep(rt, self.pause);
             self.changes = self.changes.saturating_add(1);
         }
         reply
@@ -61,7 +69,7 @@ struct Locked<'a> {
     book: &'a Mutex<Counted>,
 }
 
-impl<'a, R: Wait> Store<R> for Locked<'a> {
+impl<'a, R: Wait + Clock> Store<R> for Locked<'a> {
     fn begin(&mut self, rt: &R, request: Request) -> Option<Ticket> {
         if !request.is_for_current() {
             return None;
@@ -74,6 +82,6 @@ impl<'a, R: Wait> Store<R> for Locked<'a> {
     }
 
     fn commit(&mut self, rt: &R, work: Worked) -> Option<Reply> {
-        Some(self.book.lock(rt).commit(work))
+        Some(self.book.lock(rt).commit(rt, work))
     }
 }

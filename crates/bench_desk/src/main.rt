@@ -1,12 +1,12 @@
 //! Threads that verify while one upgrades, over a book of 4096 accounts: by sessions of a desk, or
 //! with a lock round the book. The arguments are `desk` or `lock`, how many threads verify, how
-//! often each does, how many upgrades are made, `hashed` where these aren't settled, and `figures`
-//! where times are to be printed too.
+//! often each does, how many upgrades are made, `hashed` if these aren't settled or `kept` if each
+//! is kept for a millisecond under the lock, and `figures` if times are to be printed too.
 #![tactic(auto)]
 
 use anyhow::{Context, Result};
 use figures::Ran;
-use load::Load;
+use load::{Beside, Load};
 use std::alloc::Global;
 use std::env;
 use std::sync::Wait;
@@ -26,7 +26,7 @@ struct Asked {
     readers: u8,
     verifies: u32,
     upgrades: u32,
-    settles: bool,
+    beside: Beside,
     has_figures: bool,
 }
 
@@ -42,13 +42,13 @@ impl Asked {
             readers: u8::try_from(readers).context("at most 31 threads verify")?,
             verifies,
             upgrades,
-            settles: !has(words, "hashed"),
+            beside: beside(words),
             has_figures: has(words, "figures"),
         })
     }
 
     fn run<R: Threads + Wait + Clock + Sync>(&self, rt: &R, alloc: Global) -> Result<Ran> {
-        let load = Load::new(alloc, self.verifies, self.upgrades, self.settles).context(
+        let load = Load::new(alloc, self.verifies, self.upgrades, self.beside).context(
             "making the load",
         )?;
         let book = load.book(rt, alloc).context("making the book")?;
@@ -58,6 +58,16 @@ impl Asked {
             published::run(rt, alloc, &book, self.readers, &load)
         };
         ran.context("running the load")
+    }
+}
+
+fn beside(words: &[String]) -> Beside {
+    if has(words, "hashed") {
+        Beside::Hashes
+    } else if has(words, "kept") {
+        Beside::Keeps
+    } else {
+        Beside::Settles
     }
 }
 

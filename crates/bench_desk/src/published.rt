@@ -1,18 +1,18 @@
-//! The load on a desk: each thread has a session.
+//! The load on a desk whose changes are kept: each thread has a session.
 
-ghost use Rattle.std.specs.Prelude.{◌≡◌, ◌+◌, false};
 ghost use Rattle.cred_desk.specs.Naming.{IsNamed, StartsAt};
 
 use crate::figures::{Figures, Ran};
 use crate::load::Load;
-use crate::store::{Store, upgrade, verify};
+use crate::store::{Store, keep, upgrade, verify};
 use cred_book::{Book, Reply, Request, Ticket, Worked};
-use cred_desk::{Desk, Naming, Opened, Session};
+use cred_desk::{Entry, EntryWriter, KeptDesk, Naming, Opened, Session};
 use std::alloc::Global;
+use std::convert::Infallible;
 use std::marker::Brand;
 use std::sync::Wait;
 use std::thread::{Threads, for_each_mut};
-use std::time::Clock;
+use std::time::{Clock, Duration};
 
 pub(crate) fn run<R: Threads + Wait + Clock + Sync>(
     rt: &R,
@@ -38,12 +38,13 @@ fn run_named<J: Naming + Send + Sync, R: Threads + Wait + Clock + Sync>(
 ) -> Option<Ran>
     requires name { IsNamed J.Naming opened }
     requires opening { StartsAt J.Naming book.now sessions }
-    requires loads { J.loads ≡ false }
 {
     let mut figures = Vec::with_capacity(alloc, usize::from(sessions)).ok()?;
     let mut seats = Vec::with_capacity(alloc, usize::from(sessions)).ok()?;
     let mut back = Vec::with_capacity(alloc, usize::from(sessions)).ok()?;
-    let (desk, sessions) = Desk::<J>::new(rt, alloc, opened, book, sessions).ok()?;
+    let pause = load.beside.pause();
+    let made = KeptDesk::<J, Slow<R>>::new(rt, alloc, opened, book, sessions, Slow { rt, pause });
+    let (desk, sessions) = made.ok()?;
     for session in sessions {
         let _ = seats.push((session, None));
     }
@@ -53,9 +54,9 @@ fn run_named<J: Naming + Send + Sync, R: Threads + Wait + Clock + Sync>(
         let _ = figures.push(came_to);
     }
     match desk.close(rt, back) {
-        Ok(closed) => Ran::of(&figures, closed.journal.len() as u64),
-        Err((desk, _, _)) => {
-            desk.end(rt);
+        Ok(kept) => Ran::of(&figures, kept.closed.journal.len() as u64),
+        Err((desk, back, _)) => {
+            let _left = desk.give_up(rt, &back);
             None
         }
     }
@@ -66,7 +67,7 @@ fn run_named<J: Naming + Send + Sync, R: Threads + Wait + Clock + Sync>(
 fn work_all<J: Naming + Send + Sync, R: Threads + Wait + Clock + Sync>(
     rt: &R,
     alloc: Global,
-    desk: &Desk<J>,
+    desk: &KeptDesk<J, Slow<R>>,
     seats: &mut [(Session<J>, Option<Figures>)],
     load: &Load,
 ) {
@@ -89,14 +90,32 @@ fn work_all<J: Naming + Send + Sync, R: Threads + Wait + Clock + Sync>(
     );
 }
 
+/// Keeps each entry for so long, and then forgets it.
+#[derive(Drop)]
+struct Slow<'a, R> {
+    rt: &'a R,
+    pause: Option<Duration>,
+}
+
+impl<'a, R: Clock> EntryWriter for Slow<'a, R> {
+    type Error = Infallible;
+
+    ghost keeps = { λ _ _. Unit {0} };
+
+    fn write(&mut self, _new: &Entry) -> Result<(), Infallible> {
+        keep(self.rt, self.pause);
+        Ok(())
+    }
+}
+
 /// A session at its desk.
 #[derive(Drop)]
-struct AtDesk<'a, J: Naming> {
-    desk: &'a Desk<J>,
+struct AtDesk<'a, 'w, J: Naming, R: Clock> {
+    desk: &'a KeptDesk<J, Slow<'w, R>>,
     session: &'a mut Session<J>,
 }
 
-impl<'a, J: Naming, R: Wait> Store<R> for AtDesk<'a, J> {
+impl<'a, 'w, J: Naming, R: Wait + Clock> Store<R> for AtDesk<'a, 'w, J, R> {
     fn begin(&mut self, _rt: &R, request: Request) -> Option<Ticket> {
         if !request.is_for_current() {
             return None;

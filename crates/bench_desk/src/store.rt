@@ -1,12 +1,12 @@
 //! What one thread does at a book, whatever keeps it.
 
 use crate::figures::Figures;
-use crate::load::Load;
+use crate::load::{Beside, Load};
 use cred_book::{Reply, Request, Ticket, Worked};
 use cred_pool::NoGate;
 use std::alloc::Global;
-use std::thread::Threads;
-use std::time::{Clock, Instant};
+use std::thread::{Threads, sleep};
+use std::time::{Clock, Duration, Instant};
 
 /// Where one thread finds the book.
 pub(crate) trait Store<R> {
@@ -65,7 +65,7 @@ pub(crate) fn upgrade<R: Threads + Clock + Sync, S: Store<R>>(
     let start = Instant::now(rt).ok()?;
     let mut done = 0u32;
     for number in 0..load.upgrades {
-        upgrade_once(rt, alloc, store, load.upgrade(number)?, load.settles)?;
+        upgrade_once(rt, alloc, store, load.upgrade(number)?, load.beside)?;
         done = done.saturating_add(1);
     }
     Some(Figures {
@@ -80,12 +80,19 @@ fn upgrade_once<R: Threads + Sync, S: Store<R>>(
     alloc: Global,
     store: &mut S,
     request: Request,
-    settles: bool,
+    beside: Beside,
 ) -> Option<()> {
     let ticket = store.begin(rt, request)?;
     let worked = ticket.work(rt, alloc, 1, &NoGate).ok()?;
-    if !settles {
+    if beside == Beside::Hashes {
         return Some(());
     }
     matches!(store.commit(rt, worked)?, Reply::Upgraded).then_some(())
+}
+
+/// Keeps a change for so long as its keeper takes.
+pub(crate) fn keep<R: Clock>(rt: &R, pause: Option<Duration>) {
+    if let Some(pause) = pause {
+        sleep(rt, pause);
+    }
 }

@@ -3,13 +3,12 @@
 ghost use Rattle.std.specs.Prelude.{◌≡◌};
 
 use crate::error::{ServiceError, WriteError};
-use cred_book::{BookError, Keeper};
+use cred_book::BookError;
 use cred_desk::{Entry, EntryWriter, Naming};
 use cred_file::{FileBook, OpenFault};
 use sqlite::{Alter, Connection};
 use std::alloc::Global;
 use std::marker::{Model, PhantomData};
-use std::sync::Wait;
 
 /// Opens the book that the database holds, or begins one where there is none.
 pub(crate) fn open_book<S: Alter + Drop>(
@@ -40,18 +39,16 @@ fn create_book<S: Alter + Drop>(
     }
 }
 
-/// Writes each change into the database. Nobody takes a record away at this service, so an entry
-/// without a record is a new name.
+/// Writes each change into the database: a new name, a record, or that none stands from now on.
 #[derive(Drop)]
-pub(crate) struct FileWriter<'a, J: Naming, R, S: Alter> {
-    rt: &'a R,
+pub(crate) struct FileWriter<J: Naming, S: Alter> {
     file: FileBook<S>,
     /// The desk whose changes it keeps.
     desk: PhantomData<J>,
 }
 
 /// Contracts see it as the book that it keeps.
-impl<'a, J: Naming, R, S: Alter> Model for FileWriter<'a, J, R, S> {
+impl<J: Naming, S: Alter> Model for FileWriter<J, S> {
     ghost use Rattle.cred_book.specs.Accounts.{Accounts};
     ghost use Rattle.cred_book.specs.contracts.Book as book;
 
@@ -62,19 +59,18 @@ impl<'a, J: Naming, R, S: Alter> Model for FileWriter<'a, J, R, S> {
     ghost view = { λ w. w.file.0 };
 }
 
-impl<'a, J: Naming, R, S: Alter> FileWriter<'a, J, R, S> {
-    pub(crate) fn new(rt: &'a R, file: FileBook<S>) -> FileWriter<'a, J, R, S>
+impl<J: Naming, S: Alter> FileWriter<J, S> {
+    pub(crate) fn new(file: FileBook<S>) -> FileWriter<J, S>
         ensures { result ≡ file.0 }
     {
         FileWriter {
-            rt,
             file,
             desk: PhantomData,
         }
     }
 
     pub(crate) fn into_book(self) -> FileBook<S>
-        ensures { result.0 ≡ self.entry }
+        ensures { result.0 ≡ self }
     {
         self.file
     }
@@ -88,7 +84,7 @@ impl<'a, J: Naming, R, S: Alter> FileWriter<'a, J, R, S> {
     }
 }
 
-impl<'a, J: Naming, R: Wait, S: Alter> EntryWriter for FileWriter<'a, J, R, S> {
+impl<J: Naming, S: Alter> EntryWriter for FileWriter<J, S> {
     ghost use Rattle.std.specs.Prelude.{◌≡◌};
     ghost use Rattle.cred_desk.specs.Histories.{after};
 
@@ -99,11 +95,7 @@ impl<'a, J: Naming, R: Wait, S: Alter> EntryWriter for FileWriter<'a, J, R, S> {
 
     #[tactic(auto, using(cred_desk::proofs::Lists::after_snoc))]
     fn write(&mut self, new: &Entry) -> Result<(), WriteError> {
-        let written = match new.now {
-            None => self.file.admit(self.rt, new.name),
-            Some(stored) => self.file.load(self.rt, &new.name, stored),
-        };
-        match written {
+        match self.file.put(&new.name, new.now) {
             Ok(()) => Ok(()),
             Err(error) => Err(self.cause_of(error)),
         }

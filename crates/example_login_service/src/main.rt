@@ -89,8 +89,13 @@ fn stop_and_open<S: Alter + Reopen + Drop, W: Write>(
 
 fn print_day<W: Write, S: Alter>(out: &mut W, served: &Served<S>) -> Result<()> {
     writeln!(out, "Opened with {} accounts.", served.accounts)?;
-    for note in served.doors.iter().flat_map(|door| door.notes.iter()) {
-        print_note(out, note)?;
+    for door in &served.doors {
+        for note in &door.notes {
+            print_note(out, note)?;
+        }
+        if let Some(error) = door.shut {
+            writeln!(out, "A door is shut: {error}.")?;
+        }
     }
     if let Some(error) = served.ended.error {
         writeln!(out, "The desk is given up: {error}.")?;

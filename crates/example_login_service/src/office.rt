@@ -6,10 +6,10 @@ ghost use Rattle.cred_desk.specs.Histories.{after};
 
 use crate::error::ServiceError;
 use crate::file_writer::FileWriter;
-use crate::visits::{Answer, Note, Person, Visit};
+use crate::visits::{Account, Answer, Change, Note, Person, Visit};
 use cred_book::{BookError, Hashing, Name, Reply, Request, Ticket, yes_is_the_password};
 use cred_desk::{DeskError, KeepError, KeptDesk, Naming, Session};
-use cred_phc::{Password, Record, Scheme, Setting, TagError, draw_salt};
+use cred_phc::{Password, Record, Scheme, Setting, TagError, draw_salt, parse_record};
 use cred_pool::NoGate;
 use rand::Rng;
 use rand::rngs::StdRng;
@@ -32,6 +32,8 @@ pub(crate) struct Door {
     pub(crate) salts: StdRng,
     pub(crate) notes: Vec<Note>,
     pub(crate) is_lost: bool,
+    /// Why it was shut before all were answered, if it was.
+    pub(crate) shut: Option<ServiceError>,
 }
 
 /// How a login ended.
@@ -43,10 +45,10 @@ enum Login {
 
 /// What all doors share.
 #[derive(Drop)]
-pub(crate) struct Office<'d, 'w, J: Naming, R: Wait, S: Alter> {
-    pub(crate) rt: &'w R,
+pub(crate) struct Office<'a, J: Naming, R: Wait, S: Alter> {
+    pub(crate) rt: &'a R,
     pub(crate) alloc: Global,
-    pub(crate) desk: &'d KeptDesk<J, FileWriter<'w, J, R, S>>,
+    pub(crate) desk: &'a KeptDesk<J, FileWriter<J, S>>,
     /// How new records are made.
     pub(crate) scheme: Scheme,
     /// What is hashed for a name without a record.
@@ -54,7 +56,7 @@ pub(crate) struct Office<'d, 'w, J: Naming, R: Wait, S: Alter> {
 }
 
 /// People sign up while others log in.
-impl<'d, 'w, J: Naming, R: Wait, S: Alter> Model for Office<'d, 'w, J, R, S> {
+impl<'a, J: Naming, R: Wait, S: Alter> Model for Office<'a, J, R, S> {
     ghost use Rattle.std.specs.Prelude.{◌≡◌, true};
 
     ghost Value = { Unit {0} };
@@ -77,20 +79,28 @@ pub(crate) fn decoy(scheme: Scheme, salts: &mut StdRng) -> Result<Record, Servic
 /// What somebody types.
 fn read(person: Person) -> Result<(Name, Password), ServiceError> {
     let name = Name::new(person.name.as_bytes())?;
-    match Password::new(person.password.as_bytes()) {
-        Some(pw) => Ok((name, pw)),
+    Ok((name, read_password(person.password)?))
+}
+
+fn read_password(typed: &str) -> Result<Password, ServiceError> {
+    match Password::new(typed.as_bytes()) {
+        Some(pw) => Ok(pw),
         None => Err(ServiceError::LongPassword),
     }
 }
 
-impl<'d, 'w, J: Naming, R: Threads + Wait + Sync, S: Alter> Office<'d, 'w, J, R, S> {
-    /// Answers all who come to the door.
+impl<'a, J: Naming, R: Threads + Wait + Sync, S: Alter> Office<'a, J, R, S> {
+    /// Answers all who come to the door, or shuts it where an answer can't be noted.
     pub(crate) fn serve_door(&self, session: &mut Session<J>, door: &mut Door) {
         for visit in door.visits {
             let name = visit.name();
             let answer = self.answer(session, &mut door.salts, visit);
             door.is_lost = door.is_lost || matches!(answer, Ok(Answer::Lost));
-            let _ = door.notes.push(Note { name, answer });
+            if let Err(error) = door.notes.reserve(1) {
+                door.shut = Some(error.into());
+                return;
+            }
+            door.notes.push_reserved(Note { name, answer });
         }
     }
 
@@ -102,7 +112,10 @@ impl<'d, 'w, J: Naming, R: Threads + Wait + Sync, S: Alter> Office<'d, 'w, J, R,
     ) -> Result<Answer, ServiceError> {
         match *visit {
             Visit::SignUp(person) => self.sign_up(session, salts, person),
+            Visit::Join(account) => self.join(session, account),
             Visit::LogIn(person) => self.welcome(session, salts, person),
+            Visit::ChangePassword(change) => self.change_password(session, salts, change),
+            Visit::Leave(person) => self.leave(session, person),
             Visit::Loss => Ok(Answer::Lost),
         }
     }
@@ -117,15 +130,64 @@ impl<'d, 'w, J: Naming, R: Threads + Wait + Sync, S: Alter> Office<'d, 'w, J, R,
     ) -> Result<Answer, ServiceError> {
         let (name, pw) = read(person)?;
         let setting = new_setting(self.scheme, salts)?;
-        match self.desk.admit(self.rt, session, name) {
-            Ok(_) | Err(KeepError::Book(BookError::Exists)) => {}
-            Err(error) => return Err(error.into()),
-        }
+        self.admit(session, name)?;
         let ticket = self.begin(session, Request::Enrol { name, pw, setting })?;
         match self.settle(session, ticket)? {
             Reply::Enrolled => Ok(Answer::SignedUp),
             Reply::Exists | Reply::Changed { .. } => Ok(Answer::Taken),
             _ => Err(ServiceError::Busy),
+        }
+    }
+
+    /// Has the name there.
+    fn admit(&self, session: &mut Session<J>, name: Name) -> Result<(), ServiceError> {
+        match self.desk.admit(self.rt, session, name) {
+            Ok(_) | Err(KeepError::Book(BookError::Exists)) => Ok(()),
+            Err(error) => Err(error.into()),
+        }
+    }
+
+    /// Takes over an account with the record that an older service made. It replaces one that
+    /// stands here.
+    fn join(&self, session: &mut Session<J>, account: Account) -> Result<Answer, ServiceError> {
+        let name = Name::new(account.name.as_bytes())?;
+        let record = parse_record(account.record.as_bytes())?;
+        self.admit(session, name)?;
+        self.desk.load(self.rt, session, name, record)?;
+        Ok(Answer::Joined)
+    }
+
+    fn change_password(
+        &self,
+        session: &mut Session<J>,
+        salts: &mut StdRng,
+        change: Change,
+    ) -> Result<Answer, ServiceError> {
+        let (name, pw) = read(change.person)?;
+        let new_pw = read_password(change.new_password)?;
+        let setting = new_setting(self.scheme, salts)?;
+        let request = Request::Change {
+            name,
+            pw,
+            new_pw,
+            setting,
+        };
+        let ticket = self.begin(session, request)?;
+        match self.settle(session, ticket)? {
+            Reply::Replaced => Ok(Answer::PasswordChanged),
+            Reply::Changed { .. } => Err(ServiceError::Busy),
+            _ => Ok(Answer::TurnedAway),
+        }
+    }
+
+    /// Takes the record away, whose password was typed.
+    fn leave(&self, session: &mut Session<J>, person: Person) -> Result<Answer, ServiceError> {
+        let (name, pw) = read(person)?;
+        let ticket = self.begin(session, Request::Remove { name, pw })?;
+        match self.settle(session, ticket)? {
+            Reply::Removed => Ok(Answer::Removed),
+            Reply::Changed { .. } => Err(ServiceError::Busy),
+            _ => Ok(Answer::TurnedAway),
         }
     }
 

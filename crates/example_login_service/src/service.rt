@@ -3,11 +3,12 @@
 ghost use Rattle.std.specs.Prelude.{◌≡◌, ◌+◌, true};
 ghost use Rattle.cred_desk.specs.Histories.{after};
 ghost use Rattle.cred_desk.specs.Naming.{IsNamed, StartsAt};
+ghost use Rattle.example_login_service.specs.declared.visits.TheConstants.{DOORS};
 
 use crate::error::ServiceError;
 use crate::file_writer::{FileWriter, open_book};
 use crate::office::{Door, Office, decoy};
-use crate::visits::Day;
+use crate::visits::{DOORS, Day};
 use cred_book::Book;
 use cred_desk::{DeskError, Entry, Kept, KeptDesk, Naming, Opened, Session};
 use cred_file::FileBook;
@@ -20,9 +21,6 @@ use std::marker::Brand;
 use std::random::RandomSource;
 use std::sync::Wait;
 use std::thread::{Threads, for_each_mut};
-
-/// How many doors there are, each with a session in a thread of its own.
-const DOORS: u8 = 2;
 
 /// What is left of a day.
 #[derive(Drop)]
@@ -71,6 +69,7 @@ impl Morning {
                 salts: make_rng(rt)?,
                 notes: Vec::with_capacity(alloc, visits.len())?,
                 is_lost: false,
+                shut: None,
             })?;
         }
         Ok(Morning {
@@ -90,7 +89,7 @@ pub(crate) fn serve<R: Threads + Wait + RandomSource + Sync, S: Alter + Drop + S
 ) -> Result<Served<S>, ServiceError> {
     let morning = Morning::of(rt, alloc, day)?;
     let file = open_book(alloc, conn)?;
-    let book = file.book().copy()?;
+    let book = Book::from_register(alloc, file.book())?;
     serve_named::<Brand, R, S>(rt, alloc, Opened::new(DOORS), &book, file, morning)
 }
 
@@ -104,48 +103,73 @@ fn serve_named<J: Naming + Send + Sync, R: Threads + Wait + Sync, S: Alter + Dro
     morning: Morning,
 ) -> Result<Served<S>, ServiceError>
     requires name { IsNamed J.Naming opened }
-    requires opening { StartsAt J.Naming book.now 2 }
+    requires opening { StartsAt J.Naming book.now DOORS }
     requires loads { J.loads ≡ true }
     requires file { file.0 ≡ J.opening }
 {
-    let mut seats = Vec::with_capacity(alloc, usize::from(DOORS))?;
-    let mut doors = Vec::with_capacity(alloc, usize::from(DOORS))?;
-    let mut back = Vec::with_capacity(alloc, usize::from(DOORS))?;
-    let writer = FileWriter::new(rt, file);
-    let made = KeptDesk::<J, FileWriter<J, R, S>>::new(rt, alloc, opened, book, DOORS, writer);
+    let writer = FileWriter::new(file);
+    let made = KeptDesk::<J, FileWriter<J, S>>::new(rt, alloc, opened, book, DOORS, writer);
     let (desk, sessions) = match made {
         Ok(made) => made,
         Err((_, error)) => return Err(error.into()),
     };
-    take_seats(sessions, morning.doors, &mut seats);
+    match serve_seats(rt, alloc, &desk, sessions, morning) {
+        Ok((back, doors)) => Ok(Served {
+            accounts: book.len(),
+            doors,
+            ended: end(rt, desk, back),
+        }),
+        Err(error) => {
+            // The sessions are gone. What was kept stays kept.
+            let lost: Vec<Session<J>> = Vec::new(alloc);
+            let _left = desk.give_up(rt, &lost);
+            Err(error)
+        }
+    }
+}
+
+/// Lets each door work with a session of its own. A session that its door lost isn't among those
+/// that come back, and is missed as the desk is closed.
+fn serve_seats<J: Naming + Send + Sync, R: Threads + Wait + Sync, S: Alter + Drop + Send>(
+    rt: &R,
+    alloc: Global,
+    desk: &KeptDesk<J, FileWriter<J, S>>,
+    sessions: Vec<Session<J>>,
+    morning: Morning,
+) -> Result<(Vec<Session<J>>, Vec<Door>), ServiceError>
+    requires loads { J.loads ≡ true }
+{
+    let Morning {
+        scheme,
+        decoy,
+        doors,
+    } = morning;
+    let mut seats = take_seats(alloc, sessions, doors)?;
     let office = Office {
         rt,
         alloc,
-        desk: &desk,
-        scheme: morning.scheme,
-        decoy: morning.decoy,
+        desk,
+        scheme,
+        decoy,
     };
     serve_all(rt, &office, &mut seats);
-    hand_in(seats, &mut back, &mut doors);
-    Ok(Served {
-        accounts: book.len(),
-        doors,
-        ended: end(rt, desk, back),
-    })
+    hand_in(alloc, seats)
 }
 
 /// Gives each door a session.
 fn take_seats<J: Naming>(
+    alloc: Global,
     sessions: Vec<Session<J>>,
     doors: Vec<Door>,
-    seats: &mut Vec<(Session<J>, Door)>,
-) {
+) -> Result<Vec<(Session<J>, Door)>, ServiceError> {
+    let mut seats = Vec::with_capacity(alloc, doors.len())?;
     let mut doors = doors.into_iter();
     for session in sessions {
         if let Some(door) = doors.next() {
-            let _ = seats.push((session, door));
+            seats.push((session, door))?;
         }
     }
+    Ok(seats)
 }
 
 /// Lets each door do its work in a thread of its own.
@@ -162,24 +186,26 @@ fn serve_all<J: Naming + Send + Sync, R: Threads + Wait + Sync, S: Alter + Drop 
     );
 }
 
-/// Parts the sessions from their doors. One that isn't handed in is missed as the desk is closed.
+/// Separates the sessions from their doors, but for those that are lost.
 fn hand_in<J: Naming>(
+    alloc: Global,
     seats: Vec<(Session<J>, Door)>,
-    back: &mut Vec<Session<J>>,
-    doors: &mut Vec<Door>,
-) {
+) -> Result<(Vec<Session<J>>, Vec<Door>), ServiceError> {
+    let mut sessions = Vec::with_capacity(alloc, seats.len())?;
+    let mut doors = Vec::with_capacity(alloc, seats.len())?;
     for (session, door) in seats {
         if !door.is_lost {
-            let _ = back.push(session);
+            sessions.push(session)?;
         }
-        let _ = doors.push(door);
+        doors.push(door)?;
     }
+    Ok((sessions, doors))
 }
 
 /// Closes the desk, or gives it up where a session is lost. What was kept stays kept.
 fn end<J: Naming, R: Wait, S: Alter + Drop>(
     rt: &R,
-    desk: KeptDesk<J, FileWriter<J, R, S>>,
+    desk: KeptDesk<J, FileWriter<J, S>>,
     sessions: Vec<Session<J>>,
 ) -> Ended<S>
     ensures { result.file.0 ≡ after J.opening result.journal.items }
