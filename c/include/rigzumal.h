@@ -4,10 +4,8 @@
  * layer of C, which is not.
  *
  *     char record[RIGZUMAL_TEXT_SIZE];
- *     unsigned char salt[RIGZUMAL_SALT_SIZE];
- *     getrandom(salt, sizeof salt, 0);
  *     int fault = rigzumal_record(record, sizeof record, RIGZUMAL_TAG_SIZE, RIGZUMAL_ARGON2_COSTS,
- *                                 salt, sizeof salt, password, password_size);
+ *                                 NULL, RIGZUMAL_SALT_SIZE, password, password_size);
  *     if (fault != RIGZUMAL_OK)
  *         puts(rigzumal_strerror(fault));
  *     ...
@@ -17,18 +15,27 @@
  * Every call answers RIGZUMAL_OK or the number of a fault, and with a fault it has written nothing.
  * All sizes are in bytes but those of a memory cost. Strings end with a zero byte.
  *
- * Any number of threads may call at the same time, and each call works on its own thread alone.
- * Nothing stays behind a call but up to 32 MiB of cleared memory, which the next call takes again
+ * Any number of threads may call at the same time, and each call works on its own thread alone, but
+ * for the five calls at the end: with those several threads may work the lanes of one tag.
+ * Nothing stays after a call but up to 32 MiB of cleared memory, which the next call takes again
  * and the system may take back.
- * Memory is cleared as it is given back, and the stack after each call. Where the memory is large
- * it has huge pages, and where the processor has wider vectors they are used.
+ * Memory is cleared as it is given back; the stack below the call, 48 KiB of it, and the vector
+ * registers are cleared after each call. Blocks of 64 KiB and more are in no core dump, and read as
+ * zero in a forked child. Where the memory is large it has huge pages.
+ *
+ * Any x86-64 processor runs the library. One that has every feature of x86-64-v2 or x86-64-v3 gets
+ * a build for it, which is chosen as the first call is made.
  *
  * What the caller owes:
- * - A pointer that comes with a size reaches that many bytes; it may be null where the size is 0.
- *   Other pointers are never null.
+ * - A pointer that comes with a size reaches that many bytes; it may be null if the size is 0, and
+ *   a salt where a call says so. Other pointers are never null.
  * - What a call writes overlaps nothing that it reads.
  * - No call is made in a signal handler, nor in the child of a process of several threads that
- *   forked and has not called exec. */
+ *   forked and has not called exec.
+ *
+ * The ABI, for programs that were built before: in librigzumal.so.1 no call, structure or number of
+ * this header changes, and calls and faults are only added; a program treats a fault that it
+ * doesn't know as a refusal. What would break this gets another number after ".so". */
 #ifndef RIGZUMAL_H
 #define RIGZUMAL_H
 
@@ -38,6 +45,9 @@
 #ifdef __cplusplus
 extern "C" {
 #endif
+
+/* The version of this header; rigzumal_version answers that of the library. */
+#define RIGZUMAL_LIBRARY_VERSION "0.2.0"
 
 /* Into so many bytes every record fits, with its zero byte. */
 #define RIGZUMAL_TEXT_SIZE 513u
@@ -93,26 +103,47 @@ enum rigzumal_fault {
     RIGZUMAL_SCRYPT_COST = 19, /* ln isn't 1 to 24 and below 16 r, or the table is over 2 GiB */
     RIGZUMAL_BLOCK_SIZE = 20,  /* r isn't 1 to 255 */
     RIGZUMAL_BLOCKS = 21,      /* p isn't 1 to 255 */
-    RIGZUMAL_KEY_SIZE = 22     /* the key hasn't 1 to 2^32 - 1 bytes */
+    RIGZUMAL_KEY_SIZE = 22,    /* the key hasn't 1 to 2^32 - 1 bytes */
+    /* Of a step. */
+    RIGZUMAL_NO_OPERATION = 23,  /* the number names no operation */
+    RIGZUMAL_COPY = 24,          /* the copy is not a record */
+    RIGZUMAL_LONG_PASSWORD = 25, /* a password has over 256 bytes */
+    /* Of a salt that is drawn. */
+    RIGZUMAL_NO_RANDOM = 26 /* the system gave no random bytes: see getrandom(2) */
 };
+
+/* The version of the library in use, as "0.2.0". */
+const char *rigzumal_version(void);
 
 /* What a fault means in words, and its name in one word, as "mismatch". Never null. */
 const char *rigzumal_strerror(int fault);
 const char *rigzumal_word(int fault);
 
 /* Writes a new record of the password into text, which has room for text_size bytes. The tag gets
- * tag_size bytes. The costs are those at the front of the record, as RIGZUMAL_ARGON2_COSTS; the
- * salt is to be fresh. Where salt_size is 0, the costs have a salt behind them already:
+ * tag_size bytes. The costs are those at the front of the record, as RIGZUMAL_ARGON2_COSTS.
+ * A salt that is null is drawn by the system's getrandom, salt_size bytes of it; one that isn't is
+ * to be fresh. If salt_size is 0, the costs have a salt after them already:
  * "$argon2id$v=19$m=65536,t=3,p=4$c29tZXNhbHQ".
- * Faults: SHAPE to TOO_LONG, of costs and salt as a text; TAG; INPUT_SIZE; MEMORY; NO_ROOM. */
+ * Faults: NO_RANDOM; SHAPE to TOO_LONG, of costs and salt as a text; TAG; INPUT_SIZE; MEMORY;
+ * NO_ROOM. */
 int rigzumal_record(char *text, size_t text_size, size_t tag_size, const char *costs,
                     const void *salt, size_t salt_size, const void *password, size_t password_size);
 
-/* Whether a record is one of the password: OK, else MISMATCH.
+/* Whether a record is one of the password: OK, otherwise MISMATCH.
  * Faults: SHAPE to TOO_LONG, of the record; INPUT_SIZE; MEMORY. */
 int rigzumal_check(const char *record, const void *password, size_t password_size);
 
-/* The fault of a text as a record, or as costs with a salt behind them: OK, or SHAPE to TOO_LONG.
+/* The two calls above with a secret beside the password, as a pepper that the program keeps apart
+ * from its records: K of RFC 9106, section 3.1. The text is that of any record; without the same
+ * secret no password is right. Scrypt has no secret: SCHEME.
+ * Faults: those of rigzumal_record and of rigzumal_check; INPUT_SIZE of the secret too. */
+int rigzumal_record_with_secret(char *text, size_t text_size, size_t tag_size, const char *costs,
+                                const void *salt, size_t salt_size, const void *password,
+                                size_t password_size, const void *secret, size_t secret_size);
+int rigzumal_check_with_secret(const char *record, const void *password, size_t password_size,
+                               const void *secret, size_t secret_size);
+
+/* The fault of a text as a record, or as costs with a salt after them: OK, or SHAPE to TOO_LONG.
  */
 int rigzumal_record_fault(const char *record);
 int rigzumal_setting_fault(const char *setting);
@@ -131,6 +162,57 @@ struct rigzumal_parts {
 /* Reads the numbers of a record, as to see whether it is to be made anew under higher costs.
  * Faults: SHAPE to TOO_LONG. */
 int rigzumal_parts(struct rigzumal_parts *parts, const char *record);
+
+/* The operations on the record of an account. */
+enum rigzumal_operation {
+    RIGZUMAL_ENROL = 1,   /* make the first record */
+    RIGZUMAL_VERIFY = 2,  /* is it the password? */
+    RIGZUMAL_CHANGE = 3,  /* put a record of a new password in the place of the old one's */
+    RIGZUMAL_UPGRADE = 4, /* make the record of the same password anew under other costs */
+    RIGZUMAL_REMOVE = 5   /* take the record away */
+};
+
+/* The replies to them. After ENROLLED, REPLACED, UPGRADED and REMOVED another record is to stand,
+ * or none. The last two are for a store to answer: a step never does. */
+enum rigzumal_reply {
+    RIGZUMAL_REPLY_ENROLLED = 1,   /* to an enrol: there was no record */
+    RIGZUMAL_REPLY_EXISTS = 2,     /* to an enrol: a record stands already */
+    RIGZUMAL_REPLY_YES = 3,        /* to a verify: the password is right */
+    RIGZUMAL_REPLY_NO = 4,         /* to a verify: it is wrong */
+    RIGZUMAL_REPLY_ABSENT = 5,     /* to all but an enrol: there is no record */
+    RIGZUMAL_REPLY_REPLACED = 6,   /* to a change */
+    RIGZUMAL_REPLY_WRONG = 7,      /* to a change, an upgrade, a remove: the password is wrong */
+    RIGZUMAL_REPLY_UPGRADED = 8,   /* to an upgrade */
+    RIGZUMAL_REPLY_KEPT = 9,       /* to an upgrade: the record has these costs already */
+    RIGZUMAL_REPLY_REMOVED = 10,   /* to a remove */
+    RIGZUMAL_REPLY_CHANGED = 11,   /* another record stands than the copy; nothing was done */
+    RIGZUMAL_REPLY_NO_ACCOUNT = 12 /* the store doesn't have the account */
+};
+
+/* Does one whole operation at a copy of an account's record, for a store that holds the records of
+ * accounts, such as a table of a database:
+ *
+ *     SELECT record FROM accounts WHERE id = ?                              -- the copy
+ *     rigzumal_step(text, sizeof text, &reply, operation, copy, ...)
+ *     UPDATE accounts SET record = ? WHERE id = ? AND record = ?           -- text, id, copy
+ *
+ * If the store does the update only if the record is still the copy, and nothing comes between
+ * that look and the writing, the replies to all clients are those of one history, in which each
+ * operation was done whole at its update. An update that changes no row is answered CHANGED, or
+ * begun anew with what stands. A reply that makes no change needs a second look in place of the
+ * update.
+ *
+ * copy is the record's text, or null if none stands. password is the new one of an ENROL, and
+ * otherwise the one that is judged; new_password is read for a CHANGE, and setting, which is costs
+ * with a fresh salt behind them, for an ENROL, a CHANGE and an UPGRADE: others may pass null. A new
+ * tag has 32 bytes. With OK, reply is one of rigzumal_reply. After ENROLLED, REPLACED and UPGRADED
+ * text is the record that is to stand, and it is empty otherwise; if nothing is written, text_size
+ * may be 0. A password of over 256 bytes is never cut but refused; rigzumal_check takes one of any
+ * size. Faults, in this order: NO_OPERATION; COPY; LONG_PASSWORD; SHAPE to TOO_LONG, of the
+ * setting; MEMORY; NO_ROOM. */
+int rigzumal_step(char *text, size_t text_size, uint32_t *reply, uint32_t operation,
+                  const char *copy, const void *password, size_t password_size,
+                  const void *new_password, size_t new_password_size, const char *setting);
 
 /* The numbers of an Argon2 tag (RFC 9106, section 3.1). */
 struct rigzumal_argon2 {
@@ -165,6 +247,35 @@ struct rigzumal_scrypt {
  * Faults: SCRYPT_COST to KEY_SIZE; MEMORY. */
 int rigzumal_scrypt(void *key, size_t key_size, const struct rigzumal_scrypt *numbers,
                     const void *password, size_t password_size, const void *salt, size_t salt_size);
+
+/* The calls below are those of the same names without _threads, with the same answers, but that up
+ * to so many threads work the lanes of Argon2, the caller's among them; 0 is as 1. There are never
+ * more than lanes, nor than processors that the caller may run on; below 4 MiB of memory there is
+ * one, and with scrypt. One that the system refuses is done without. The others have ended when the
+ * call is over; meanwhile they handle no signal, and the caller's can't be cancelled. They clear
+ * their stacks, which read as zero in a child that is forked meanwhile.
+ *
+ * When which: threads make one login faster on a machine that has nothing else to do. Of 64 MiB,
+ * three passes and four lanes, on four processors, a tag took 165 ms on one thread and 89 ms on
+ * four. A service has as many logins at once as it has processors, and does more of them a second
+ * if each works on its own thread alone: four at once took 114 ms a tag, and with four threads each
+ * 128 ms; at 19 MiB 12.5 ms and 17.3 ms. */
+int rigzumal_argon2_threads(void *tag, size_t tag_size, const struct rigzumal_argon2 *numbers,
+                            const void *password, size_t password_size, const void *salt,
+                            size_t salt_size, const void *secret, size_t secret_size,
+                            const void *associated, size_t associated_size, uint32_t threads);
+int rigzumal_record_threads(char *text, size_t text_size, size_t tag_size, const char *costs,
+                            const void *salt, size_t salt_size, const void *password,
+                            size_t password_size, uint32_t threads);
+int rigzumal_check_threads(const char *record, const void *password, size_t password_size,
+                           uint32_t threads);
+int rigzumal_record_with_secret_threads(char *text, size_t text_size, size_t tag_size,
+                                        const char *costs, const void *salt, size_t salt_size,
+                                        const void *password, size_t password_size,
+                                        const void *secret, size_t secret_size, uint32_t threads);
+int rigzumal_check_with_secret_threads(const char *record, const void *password,
+                                       size_t password_size, const void *secret, size_t secret_size,
+                                       uint32_t threads);
 
 #ifdef __cplusplus
 }

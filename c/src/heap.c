@@ -1,4 +1,5 @@
-/* The memory of the proved code, which calls the three functions at the end and no others.
+/* The memory of the proved code, which calls the three functions named rattle_ and no others, and
+ * that of lanes.c.
  *
  * Every block is cleared as it is given back. Small blocks come from the C library. Large ones are
  * cut one behind another from areas of huge pages, so that many lanes get huge pages too. Two
@@ -8,9 +9,10 @@
  * thread's own, and is gone when the call is over. Sizes stand in that table and not before the
  * blocks, where they would touch a page that may never be used. */
 #define _GNU_SOURCE
+#include "heap.h"
+
 #include <stdatomic.h>
 #include <stdbool.h>
-#include <stddef.h>
 #include <stdint.h>
 #include <stdlib.h>
 #include <string.h>
@@ -44,6 +46,7 @@ static unsigned char *map_area(size_t size) {
     munmap(mapping + before + size, AREA - before);
     madvise(mapping + before, size, MADV_HUGEPAGE);
     madvise(mapping + before, size, MADV_DONTDUMP);
+    madvise(mapping + before, size, MADV_WIPEONFORK);
     return mapping + before;
 }
 
@@ -198,12 +201,17 @@ static size_t index_of(const void *start) {
     return i;
 }
 
-void rattle_dealloc(void *start) {
+/* Takes a block out of the table. */
+static struct block struck_out(const void *start) {
     size_t index = index_of(start);
     struct block block = taken.blocks[index];
     taken.count--;
     memmove(&taken.blocks[index], &taken.blocks[index + 1], (taken.count - index) * sizeof block);
-    explicit_bzero(block.start, block.size);
+    return block;
+}
+
+/* Gives back a block that is cleared, and no longer in the table. */
+static void give_back(struct block block) {
     if (block.origin == FROM_LIBRARY)
         free(block.start);
     else if (block.origin == FROM_AREA)
@@ -213,6 +221,12 @@ void rattle_dealloc(void *start) {
     free_empty_table();
 }
 
+void rattle_dealloc(void *start) {
+    struct block block = struck_out(start);
+    explicit_bzero(block.start, block.size);
+    give_back(block);
+}
+
 struct tried rattle_realloc(void *old, size_t kept, size_t size, size_t align) {
     struct tried tried = rattle_alloc(size, align);
     if (tried.ok) {
@@ -220,4 +234,17 @@ struct tried rattle_realloc(void *old, size_t kept, size_t size, size_t align) {
         rattle_dealloc(old);
     }
     return tried;
+}
+
+void *take_zeros(size_t size) {
+    struct tried tried = rattle_alloc(size, LEAST_ALIGN);
+    if (!tried.ok)
+        return NULL;
+    if (taken.blocks[taken.count - 1].origin == FROM_LIBRARY) /* areas are zero */
+        memset(tried.start, 0, size);
+    return tried.start;
+}
+
+void give_zeros(void *start) {
+    give_back(struck_out(start));
 }

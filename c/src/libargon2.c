@@ -1,12 +1,15 @@
 /* The calls of argon2.h, as Debian's libargon2.so.1 has them, over those of rigzumal.h.
  *
  * Inputs are tried in the original's order and refused with its numbers and messages. What it takes
- * and the proved code doesn't is refused by the nearest of them: over 2 GiB of memory, over 255
- * lanes, a version that isn't 0x10 or 0x13; and in encoded strings a salt of over 48 bytes and a
- * tag of over 64. All lanes are worked on the caller's thread; the callbacks for memory are tried
+ * and the proved code doesn't is refused after that, by the nearest of them: in encoded strings a
+ * tag of over 64 bytes and a salt of over 48; over 255 lanes, over 2 GiB of memory, and a version
+ * that isn't 0x10 or 0x13. Lanes are worked by as many threads as the context has, as the original
+ * does, or as are of use; one that can't be started is no fault. The callbacks for memory are tried
  * and not called. */
 #define _GNU_SOURCE
+#include "base64.h"
 #include "rigzumal.h"
+#include "secrets.h"
 
 #include <stdbool.h>
 #include <stdio.h>
@@ -71,7 +74,7 @@ typedef struct {
 } argon2_context;
 
 /* The most that the proved code takes, where the original takes more. */
-enum { MOST_LANES = 255 };
+enum { MOST_LANES = 255, MOST_MEMORY = 2 * 1024 * 1024 };
 
 #define PUBLIC __attribute__((visibility("default")))
 
@@ -211,31 +214,33 @@ PUBLIC int argon2_ctx(argon2_context *context, argon2_type type) {
         return ARGON2_MEMORY_ALLOCATION_ERROR;
     struct rigzumal_argon2 numbers = {(uint32_t)type, context->version, context->m_cost,
                                       context->t_cost, context->lanes};
-    number = number_of(rigzumal_argon2(
-        tag, context->outlen, &numbers, context->pwd, context->pwdlen, context->salt,
-        context->saltlen, context->secret, context->secretlen, context->ad, context->adlen));
+    number = number_of(rigzumal_argon2_threads(tag, context->outlen, &numbers, context->pwd,
+                                               context->pwdlen, context->salt, context->saltlen,
+                                               context->secret, context->secretlen, context->ad,
+                                               context->adlen, context->threads));
     if (number == ARGON2_OK) {
         clear_inputs(context);
         memcpy(context->out, tag, context->outlen);
     }
     explicit_bzero(tag, context->outlen);
     free(tag);
+    clear_traces();
     return number;
 }
 
-/* Whether two tags are equal, in a time that doesn't depend on where they differ. */
-static bool are_equal(const uint8_t *one, const uint8_t *other, size_t size) {
-    uint8_t difference = 0;
-    for (size_t i = 0; i < size; i++)
-        difference |= one[i] ^ other[i];
-    return difference == 0;
+/* What no encoded string holds here, though the original takes it. */
+static int fault_of_string(const argon2_context *context) {
+    if (context->outlen > RIGZUMAL_TAG_SIZE_MAX)
+        return ARGON2_OUTPUT_TOO_LONG;
+    return context->saltlen > RIGZUMAL_SALT_SIZE_MAX ? ARGON2_SALT_TOO_LONG : ARGON2_OK;
 }
 
 PUBLIC int argon2_verify_ctx(argon2_context *context, const char *hash, argon2_type type) {
     int number = argon2_ctx(context, type);
     if (number != ARGON2_OK)
         return number;
-    bool is_right = are_equal((const uint8_t *)hash, context->out, context->outlen);
+    bool is_right = are_equal(hash, context->out, context->outlen);
+    clear_traces();
     return is_right ? ARGON2_OK : ARGON2_VERIFY_MISMATCH;
 }
 
@@ -257,9 +262,9 @@ PUBLIC int argon2_hash(uint32_t t_cost, uint32_t m_cost, uint32_t parallelism, c
     bool is_encoded = encoded != NULL && encodedlen > 0;
     if (pwdlen > UINT32_MAX)
         return ARGON2_PWD_TOO_LONG;
-    if (saltlen > (is_encoded ? RIGZUMAL_SALT_SIZE_MAX : UINT32_MAX))
+    if (saltlen > UINT32_MAX)
         return ARGON2_SALT_TOO_LONG;
-    if (hashlen > (is_encoded ? RIGZUMAL_TAG_SIZE_MAX : UINT32_MAX))
+    if (hashlen > UINT32_MAX)
         return ARGON2_OUTPUT_TOO_LONG;
     uint8_t *tag = malloc(hashlen == 0 ? 1 : hashlen);
     if (tag == NULL)
@@ -275,13 +280,18 @@ PUBLIC int argon2_hash(uint32_t t_cost, uint32_t m_cost, uint32_t parallelism, c
                               .lanes = parallelism,
                               .threads = parallelism,
                               .version = version};
-    int number = argon2_ctx(&context, type);
+    int number = is_encoded ? fault_of(&context) : ARGON2_OK;
+    if (number == ARGON2_OK && is_encoded && argon2_type2string(type, 0) != NULL)
+        number = fault_of_string(&context);
+    if (number == ARGON2_OK)
+        number = argon2_ctx(&context, type);
     if (number == ARGON2_OK && hash != NULL)
         memcpy(hash, tag, hashlen);
     if (number == ARGON2_OK && is_encoded)
         number = encode(encoded, encodedlen, &context, type);
     explicit_bzero(tag, hashlen);
     free(tag);
+    clear_traces();
     return number;
 }
 
@@ -308,28 +318,41 @@ static bool read_number(const char **text, uint32_t *number) {
 }
 
 /* Base64, of which bits that stand for no byte are zero: how many bytes it stands for. */
-static bool read_base64(const char **text, uint32_t *size) {
-    static const char digits[] = "ABCDEFGHIJKLMNOPQRSTUVWXYZabcdefghijklmnopqrstuvwxyz0123456789+/";
-    size_t length = strspn(*text, digits);
+static bool read_base64_size(const char **text, uint32_t *size) {
+    size_t length = 0;
+    int value, last = 0;
+    while ((value = base64_value((uint8_t)(*text)[length])) >= 0) {
+        last = value;
+        length++;
+    }
     *size = (uint32_t)(length * 3 / 4);
     *text += length;
     if (length % 4 < 2)
         return length % 4 == 0;
     int unused_bits = length % 4 == 2 ? 0xf : 0x3;
-    return ((strchr(digits, (*text)[-1]) - digits) & unused_bits) == 0;
+    return (last & unused_bits) == 0;
 }
 
-/* The number by which the original refuses a string that begins with its type's name, and that the
- * proved code refuses by this fault. */
-static int refusal(const char *text, int fault) {
+/* Reads a string after its type's name, but for its salt and tag, of which it reads the sizes. */
+static bool read_fields(const char **text, argon2_context *read) {
+    return (!read_word(text, "$v=") || read_number(text, &read->version)) &&
+           read_word(text, "$m=") && read_number(text, &read->m_cost) && read_word(text, ",t=") &&
+           read_number(text, &read->t_cost) && read_word(text, ",p=") &&
+           read_number(text, &read->lanes) && read_word(text, "$") &&
+           read_base64_size(text, &read->saltlen) && read_word(text, "$") &&
+           read_base64_size(text, &read->outlen);
+}
+
+/* The number by which the original refuses a string, or which is nearest to what is wrong with it
+ * here. The text begins after its type's name, and the proved code refuses the string. */
+static int refusal(const char *text, const void *pwd, size_t pwdlen) {
     uint8_t nothing[1];
-    argon2_context read = {.out = nothing, .salt = nothing, .version = RIGZUMAL_VERSION_10};
-    if ((read_word(&text, "$v=") && !read_number(&text, &read.version)) ||
-        !read_word(&text, "$m=") || !read_number(&text, &read.m_cost) || !read_word(&text, ",t=") ||
-        !read_number(&text, &read.t_cost) || !read_word(&text, ",p=") ||
-        !read_number(&text, &read.lanes) || !read_word(&text, "$") ||
-        !read_base64(&text, &read.saltlen) || !read_word(&text, "$") ||
-        !read_base64(&text, &read.outlen))
+    argon2_context read = {.out = nothing,
+                           .pwd = (uint8_t *)(uintptr_t)pwd,
+                           .pwdlen = (uint32_t)pwdlen,
+                           .salt = nothing,
+                           .version = RIGZUMAL_VERSION_10};
+    if (!read_fields(&text, &read))
         return ARGON2_DECODING_FAIL;
     read.threads = read.lanes;
     int number = fault_of(&read);
@@ -337,11 +360,27 @@ static int refusal(const char *text, int fault) {
         return number;
     if (*text != '\0')
         return ARGON2_DECODING_FAIL;
-    if (fault == RIGZUMAL_RANGE)
-        return read.lanes > MOST_LANES ? ARGON2_LANES_TOO_MANY : ARGON2_MEMORY_TOO_MUCH;
-    if (fault == RIGZUMAL_SALT)
-        return ARGON2_SALT_TOO_LONG;
-    return fault == RIGZUMAL_TAG ? ARGON2_OUTPUT_TOO_LONG : ARGON2_INCORRECT_TYPE;
+    number = fault_of_string(&read);
+    if (number != ARGON2_OK)
+        return number;
+    if (read.lanes > MOST_LANES)
+        return ARGON2_LANES_TOO_MANY;
+    return read.m_cost > MOST_MEMORY ? ARGON2_MEMORY_TOO_MUCH : ARGON2_INCORRECT_TYPE;
+}
+
+static int verify(const char *encoded, const void *pwd, size_t pwdlen, argon2_type type) {
+    const char *name = argon2_type2string(type, 0);
+    if (name == NULL)
+        return ARGON2_INCORRECT_TYPE;
+    const char *text = encoded;
+    if (!read_word(&text, "$") || !read_word(&text, name))
+        return ARGON2_DECODING_FAIL;
+    int fault = rigzumal_record_fault(encoded);
+    if (fault != RIGZUMAL_OK || *text != '$')
+        return refusal(text, pwd, pwdlen);
+    if (pwd == NULL && pwdlen != 0)
+        return ARGON2_PWD_PTR_MISMATCH;
+    return number_of(rigzumal_check_threads(encoded, pwd, pwdlen, MOST_LANES));
 }
 
 PUBLIC int argon2_verify(const char *encoded, const void *pwd, size_t pwdlen, argon2_type type) {
@@ -349,18 +388,9 @@ PUBLIC int argon2_verify(const char *encoded, const void *pwd, size_t pwdlen, ar
         return ARGON2_PWD_TOO_LONG;
     if (encoded == NULL)
         return ARGON2_DECODING_FAIL;
-    const char *name = argon2_type2string(type, 0);
-    if (name == NULL)
-        return ARGON2_INCORRECT_TYPE;
-    const char *text = encoded;
-    if (!read_word(&text, "$") || !read_word(&text, name) || *text != '$')
-        return ARGON2_DECODING_FAIL;
-    int fault = rigzumal_record_fault(encoded);
-    if (fault != RIGZUMAL_OK)
-        return refusal(text, fault);
-    if (pwd == NULL && pwdlen != 0)
-        return ARGON2_PWD_PTR_MISMATCH;
-    return number_of(rigzumal_check(encoded, pwd, pwdlen));
+    int number = verify(encoded, pwd, pwdlen, type);
+    clear_traces();
+    return number;
 }
 
 PUBLIC size_t argon2_encodedlen(uint32_t t_cost, uint32_t m_cost, uint32_t parallelism,

@@ -1,6 +1,10 @@
 /* Each call of rigzumal.h: the standards' values, records of other programs, and bad input. */
+#define _GNU_SOURCE
 #include "check.h"
 #include "rigzumal.h"
+
+#include <errno.h>
+#include <sys/types.h>
 
 /* RFC 9106, section 5: the inputs of all three, and the tags of 5.1, 5.2 and 5.3. */
 static void test_argon2_vectors(void) {
@@ -256,14 +260,165 @@ static void test_bad_parts_of_records(void) {
 static void test_words(void) {
     CHECK(strcmp(rigzumal_word(RIGZUMAL_OK), "ok") == 0);
     CHECK(strcmp(rigzumal_word(RIGZUMAL_KEY_SIZE), "keysize") == 0);
+    CHECK(strcmp(rigzumal_word(RIGZUMAL_NO_RANDOM), "norandom") == 0);
     CHECK(strcmp(rigzumal_strerror(RIGZUMAL_MEMORY), "out of memory") == 0);
     CHECK(strcmp(rigzumal_word(-1), "unknown") == 0);
-    CHECK(strcmp(rigzumal_strerror(23), "no such fault") == 0);
-    for (int fault = RIGZUMAL_OK; fault <= RIGZUMAL_KEY_SIZE; fault++)
+    CHECK(strcmp(rigzumal_strerror(RIGZUMAL_NO_RANDOM + 1), "no such fault") == 0);
+    for (int fault = RIGZUMAL_OK; fault <= RIGZUMAL_NO_RANDOM; fault++)
         CHECK(strcmp(rigzumal_word(fault), "unknown") != 0 && rigzumal_strerror(fault)[0] != '\0');
 }
 
+/* The salt is what getrandom gives, piece by piece; where it gives nothing there is no record. */
+static int drawn_size; /* how much getrandom gives at most, or less than 0 */
+static int draws;
+
+ssize_t __real_getrandom(void *to, size_t size, unsigned flags);
+ssize_t __wrap_getrandom(void *to, size_t size, unsigned flags);
+
+ssize_t __wrap_getrandom(void *to, size_t size, unsigned flags) {
+    CHECK(flags == 0);
+    if (drawn_size < 0) {
+        errno = ENOSYS;
+        return -1;
+    }
+    if (++draws == 2) {
+        errno = EINTR;
+        return -1;
+    }
+    size = size < (size_t)drawn_size ? size : (size_t)drawn_size;
+    memset(to, 'a' + draws, size);
+    return (ssize_t)size;
+}
+
+static void test_drawn_salts(void) {
+    static const char costs[] = "$argon2id$v=19$m=8,t=1,p=1";
+    char text[RIGZUMAL_TEXT_SIZE], wanted[RIGZUMAL_TEXT_SIZE];
+    drawn_size = 5;
+    CHECK_NUMBER(rigzumal_record(text, sizeof text, 32, costs, NULL, 16, "password", 8),
+                 RIGZUMAL_OK);
+    CHECK_NUMBER(
+        rigzumal_record(wanted, sizeof wanted, 32, costs, "bbbbbdddddeeeeef", 16, "password", 8),
+        RIGZUMAL_OK);
+    CHECK(strcmp(text, wanted) == 0);
+    drawn_size = -1;
+    memset(text, 0x5a, sizeof text);
+    CHECK_NUMBER(rigzumal_record(text, sizeof text, 32, costs, NULL, 16, "password", 8),
+                 RIGZUMAL_NO_RANDOM);
+    CHECK_NUMBER(rigzumal_record_with_secret(text, sizeof text, 32, costs, NULL, 16, "password", 8,
+                                             "secret", 6),
+                 RIGZUMAL_NO_RANDOM);
+    drawn_size = 0;
+    CHECK_NUMBER(rigzumal_record(text, sizeof text, 32, costs, NULL, 16, "password", 8),
+                 RIGZUMAL_NO_RANDOM);
+    CHECK(is_all(text, 0x5a, sizeof text));
+}
+
+/* A record whose tag has a secret: RFC 9106's K, so its tag is that of rigzumal_argon2 with it. */
+static void test_secrets(void) {
+    unsigned char salt[48], tag[64];
+    for (size_t i = 0; i < sizeof salt; i++)
+        salt[i] = (unsigned char)(i * 91 + 17);
+    struct rigzumal_argon2 numbers = {RIGZUMAL_ARGON2ID, RIGZUMAL_VERSION_13, 16, 1, 2};
+    for (size_t size = 8; size <= 48; size++)
+        for (size_t tag_size = 4; tag_size <= 64; tag_size += 5) {
+            char text[RIGZUMAL_TEXT_SIZE], wanted[RIGZUMAL_TEXT_SIZE];
+            CHECK_NUMBER(rigzumal_record_with_secret(text, sizeof text, tag_size,
+                                                     "$argon2id$v=19$m=16,t=1,p=2", salt, size,
+                                                     "password", 8, "a secret", 8),
+                         RIGZUMAL_OK);
+            CHECK_NUMBER(rigzumal_argon2(tag, tag_size, &numbers, "password", 8, salt, size,
+                                         "a secret", 8, NULL, 0),
+                         RIGZUMAL_OK);
+            CHECK_NUMBER(
+                rigzumal_argon2_write(wanted, sizeof wanted, &numbers, salt, size, tag, tag_size),
+                RIGZUMAL_OK);
+            CHECK(strcmp(text, wanted) == 0);
+            CHECK_NUMBER(rigzumal_check_with_secret(text, "password", 8, "a secret", 8),
+                         RIGZUMAL_OK);
+            CHECK_NUMBER(rigzumal_check_with_secret(text, "password", 8, "A secret", 8),
+                         RIGZUMAL_MISMATCH);
+            CHECK_NUMBER(rigzumal_check_with_secret(text, "Password", 8, "a secret", 8),
+                         RIGZUMAL_MISMATCH);
+            CHECK_NUMBER(rigzumal_check(text, "password", 8), RIGZUMAL_MISMATCH);
+        }
+    /* without a secret it is the record of old, of both versions */
+    for (int i = 0; i < 3; i++)
+        CHECK_NUMBER(rigzumal_check_with_secret(records[i], "password", 8, NULL, 0), RIGZUMAL_OK);
+    CHECK_NUMBER(rigzumal_check_with_secret(records[3], "password", 8, "x", 1), RIGZUMAL_SCHEME);
+}
+
+static void test_faults_with_secrets(void) {
+    char text[RIGZUMAL_TEXT_SIZE];
+    memset(text, 0x5a, sizeof text);
+    static const struct {
+        const char *costs, *salt;
+        size_t salt_size, tag_size, text_size;
+        int fault;
+    } bad[] = {
+        {"$scrypt$ln=4,r=1,p=1", "somesalt", 8, 32, sizeof text, RIGZUMAL_SCHEME},
+        {"$argon2id$v=16$m=16,t=1,p=2", "somesalt", 8, 32, sizeof text, RIGZUMAL_VERSION},
+        {"$argon2id$v=19$m=15,t=1,p=2", "somesalt", 8, 32, sizeof text, RIGZUMAL_RANGE},
+        {"$argon2id$v=19$m=16,t=1,p=2", "short", 5, 32, sizeof text, RIGZUMAL_SALT},
+        {"$argon2id$v=19$m=16,t=1,p=2", NULL, 0, 32, sizeof text, RIGZUMAL_SHAPE},
+        {"$argon2id$v=19$m=16,t=1,p=2", "somesalt", 8, 3, sizeof text, RIGZUMAL_TAG},
+        {"$argon2id$v=19$m=16,t=1,p=2", "somesalt", 8, 65, sizeof text, RIGZUMAL_TAG},
+        {"$argon2id$v=19$m=16,t=1,p=2", "somesalt", 8, 32, 60, RIGZUMAL_NO_ROOM},
+    };
+    for (size_t i = 0; i < sizeof bad / sizeof bad[0]; i++)
+        CHECK_NUMBER(rigzumal_record_with_secret(text, bad[i].text_size, bad[i].tag_size,
+                                                 bad[i].costs, bad[i].salt, bad[i].salt_size,
+                                                 "password", 8, "secret", 6),
+                     bad[i].fault);
+    CHECK(is_all(text, 0x5a, sizeof text));
+    CHECK_NUMBER(
+        rigzumal_check_with_secret("$argon2id$v=19$m=16,t=1,p=2$c29tZXNhbHQ", "x", 1, "secret", 6),
+        RIGZUMAL_SHAPE);
+}
+
+/* Each byte of a long password and of a long secret counts. */
+static void test_long_inputs(void) {
+    static const size_t sizes[] = {200, 255, 256, 257, 1000, 5000, 70000};
+    static unsigned char input[70001];
+    memset(input, 'x', sizeof input);
+    struct rigzumal_argon2 numbers = {RIGZUMAL_ARGON2ID, RIGZUMAL_VERSION_13, 8, 1, 1};
+    struct rigzumal_scrypt costs = {1, 1, 1};
+    for (size_t i = 0; i < sizeof sizes / sizeof sizes[0]; i++) {
+        size_t size = sizes[i];
+        unsigned char tags[8][16];
+        for (int which = 0; which < 4; which++) {
+            input[size - 1] = which == 1 ? 'y' : 'x';
+            input[size / 2] = which == 2 ? 'y' : 'x';
+            size_t length = which == 3 ? size + 1 : size;
+            CHECK_NUMBER(rigzumal_argon2(tags[which], 16, &numbers, input, length, "somesalt", 8,
+                                         NULL, 0, NULL, 0),
+                         RIGZUMAL_OK);
+            CHECK_NUMBER(rigzumal_scrypt(tags[4 + which], 16, &costs, input, length, "somesalt", 8),
+                         RIGZUMAL_OK);
+        }
+        input[size / 2] = 'x';
+        for (int one = 0; one < 8; one++)
+            for (int other = 0; other < one; other++)
+                CHECK(memcmp(tags[one], tags[other], 16) != 0);
+        char text[RIGZUMAL_TEXT_SIZE];
+        CHECK_NUMBER(rigzumal_record(text, sizeof text, 16, "$argon2id$v=19$m=8,t=1,p=1",
+                                     "somesalt", 8, input, size),
+                     RIGZUMAL_OK);
+        CHECK_NUMBER(rigzumal_check(text, input, size), RIGZUMAL_OK);
+        CHECK_NUMBER(rigzumal_check(text, input, size - 1), RIGZUMAL_MISMATCH);
+        CHECK_NUMBER(rigzumal_check(text, input, size + 1), RIGZUMAL_MISMATCH);
+    }
+}
+
+static void test_version(void) {
+    CHECK(strcmp(rigzumal_version(), RIGZUMAL_LIBRARY_VERSION) == 0);
+}
+
 int main(void) {
+    test_drawn_salts();
+    test_secrets();
+    test_faults_with_secrets();
+    test_long_inputs();
+    test_version();
     test_argon2_vectors();
     test_scrypt_vectors();
     test_checks();

@@ -1,154 +1,178 @@
-/* After a call no memory that it gave back or kept has a byte of it that isn't zero, and the stack
- * has no eight bytes of the password, the secret or the tag. The linker puts the functions below
- * before those of the C library. */
+/* After each call no eight bytes of the password, the secret, the tag or the tag's letters stand in
+ * any memory of the process but what the caller handed in, nor in the vector registers. Each call
+ * is made on a stack of its own, where its thread then turns round with no further call, while this
+ * one looks. */
 #define _GNU_SOURCE
 #include "check.h"
-#include "rigzumal.h"
+#include "jobs.h"
 
+#include <pthread.h>
+#include <stdatomic.h>
 #include <stdint.h>
 #include <sys/mman.h>
 
-enum { MOST_PIECES = 4096, STACK = 48 * 1024, LEFT = 512 };
+enum { STACK = 256 * 1024, WINDOW = 8, MOST_WINDOWS = 1024 };
 
-static struct piece {
-    unsigned char *start;
-    size_t size;
-} pieces[MOST_PIECES];
-static int count, given_back;
+static struct vault *vault;
+static struct windows {
+    int count;
+    const unsigned char *at[MOST_WINDOWS];
+    unsigned char is_first[1 << 16]; /* whether a window begins with these two bytes */
+} windows;
 
-int __real_posix_memalign(void **start, size_t align, size_t size);
-int __wrap_posix_memalign(void **start, size_t align, size_t size);
-void __real_free(void *start);
-void __wrap_free(void *start);
-void *__real_mmap(void *at, size_t size, int protection, int flags, int file, off_t offset);
-void *__wrap_mmap(void *at, size_t size, int protection, int flags, int file, off_t offset);
-int __real_munmap(void *start, size_t size);
-int __wrap_munmap(void *start, size_t size);
-
-static void note(void *start, size_t size) {
-    CHECK(count < MOST_PIECES);
-    pieces[count++] = (struct piece){start, size};
-}
-
-int __wrap_posix_memalign(void **start, size_t align, size_t size) {
-    int answer = __real_posix_memalign(start, align, size);
-    if (answer == 0) {
-        memset(*start, 0x5a, size);
-        note(*start, size);
+static void add_windows(const void *start, size_t size) {
+    const unsigned char *from = start;
+    for (size_t i = 0; i + WINDOW <= size; i++) {
+        CHECK(windows.count < MOST_WINDOWS);
+        windows.at[windows.count++] = from + i;
+        windows.is_first[from[i] << 8 | from[i + 1]] = 1;
     }
-    return answer;
 }
 
-void __wrap_free(void *start) {
-    for (int i = count - 1; i >= 0; i--)
-        if (pieces[i].start == start) {
-            CHECK(is_all(start, 0, pieces[i].size));
-            pieces[i] = pieces[--count];
-            given_back++;
-            break;
-        }
-    __real_free(start);
+static void add_letters(const char *record) {
+    const char *letters = strrchr(record, '$') + 1;
+    add_windows(letters, strlen(letters));
 }
 
-void *__wrap_mmap(void *at, size_t size, int protection, int flags, int file, off_t offset) {
-    void *start = __real_mmap(at, size, protection, flags, file, offset);
-    if (start != MAP_FAILED)
-        note(start, size);
-    return start;
+static int is_window(const unsigned char *at) {
+    if (!windows.is_first[at[0] << 8 | at[1]])
+        return 0;
+    for (int i = 0; i < windows.count; i++)
+        if (memcmp(at, windows.at[i], WINDOW) == 0)
+            return 1;
+    return 0;
 }
 
-int __wrap_munmap(void *start, size_t size) {
-    CHECK(is_all(start, 0, size));
-    unsigned char *end = (unsigned char *)start + size;
-    for (int i = count - 1; i >= 0; i--) {
-        struct piece *piece = &pieces[i];
-        if (piece->start == start) { /* its front, or all of it */
-            piece->start = end;
-            piece->size -= size;
-        } else if (piece->start + piece->size == end) { /* its end */
-            piece->size -= size;
-        }
-        if (piece->size == 0)
-            pieces[i] = pieces[--count];
-    }
-    given_back++;
-    return __real_munmap(start, size);
+static int is_vault(uintptr_t start) {
+    return start >= (uintptr_t)vault && start < (uintptr_t)(vault + 1);
 }
 
-static unsigned char password[48], secret[40], tag[64];
-
-/* How many windows of eight bytes of the data stand on the stack below this function's callers. */
-__attribute__((noinline)) static int copies(const unsigned char *data, size_t size) {
-    volatile unsigned char *end = (volatile unsigned char *)__builtin_frame_address(0) - LEFT;
+/* How many windows stand in the writable memory of the process, but for the first thread's stack,
+ * on which no call is looked at. */
+static int found_in_process(const char *name) {
+    FILE *maps = fopen("/proc/self/maps", "r");
+    CHECK(maps != NULL);
+    char line[512];
+    uintptr_t start, end;
     int found = 0;
-    for (volatile unsigned char *at = end - STACK; at < end; at++)
-        for (size_t i = 0; i + 8 <= size; i += 8) {
-            int same = 1;
-            for (int k = 0; k < 8 && same; k++)
-                same = at[k] == data[i + (size_t)k];
-            found += same;
-        }
+    while (fgets(line, sizeof line, maps) != NULL) {
+        char rights[5];
+        CHECK(sscanf(line, "%lx-%lx %4s", &start, &end, rights) == 3);
+        if (strncmp(rights, "rw", 2) != 0 || is_vault(start) || strstr(line, "[stack]") != NULL)
+            continue;
+        for (uintptr_t at = start; at + WINDOW <= end; at++)
+            if (is_window((const unsigned char *)at) && found++ < 3)
+                fprintf(stderr, "%s: at %lx of %s", name, at - start, line);
+    }
+    fclose(maps);
     return found;
 }
 
-/* The same function with the same frame writes the data there, so that the search can be seen. */
-__attribute__((noinline)) static void spill(void) {
-    volatile unsigned char room[4096];
-    for (size_t i = 0; i < sizeof room; i++)
-        room[i] = password[i % sizeof password];
+static const struct job *job;
+static _Atomic(int) is_done, may_end;
+static int answer;
+static unsigned char registers[16][32];
+
+#define STORE(n) __asm__ volatile("vmovups %%ymm" #n ", %0" : "=m"(registers[n]))
+#define STORE_HALF(n) __asm__ volatile("movups %%xmm" #n ", %0" : "=m"(registers[n]))
+#define FOR_ALL(do)                                                                                \
+    do                                                                                             \
+        (0);                                                                                       \
+    do                                                                                             \
+        (1);                                                                                       \
+    do                                                                                             \
+        (2);                                                                                       \
+    do                                                                                             \
+        (3);                                                                                       \
+    do                                                                                             \
+        (4);                                                                                       \
+    do                                                                                             \
+        (5);                                                                                       \
+    do                                                                                             \
+        (6);                                                                                       \
+    do                                                                                             \
+        (7);                                                                                       \
+    do                                                                                             \
+        (8);                                                                                       \
+    do                                                                                             \
+        (9);                                                                                       \
+    do                                                                                             \
+        (10);                                                                                      \
+    do                                                                                             \
+        (11);                                                                                      \
+    do                                                                                             \
+        (12);                                                                                      \
+    do                                                                                             \
+        (13);                                                                                      \
+    do                                                                                             \
+        (14);                                                                                      \
+    do                                                                                             \
+    (15)
+
+static void *make_call(void *unused) {
+    answer = job->call(vault);
+    if (__builtin_cpu_supports("avx2")) {
+        FOR_ALL(STORE);
+    } else {
+        FOR_ALL(STORE_HALF);
+    }
+    atomic_store(&is_done, 1);
+    while (!atomic_load(&may_end))
+        __builtin_ia32_pause();
+    return unused;
 }
 
-static void check_stack(void) {
-    CHECK(copies(password, sizeof password) == 0);
-    CHECK(copies(secret, sizeof secret) == 0);
-    CHECK(copies(tag, sizeof tag) == 0);
+static int found_after(const struct job *tried) {
+    job = tried;
+    atomic_store(&is_done, 0);
+    atomic_store(&may_end, 0);
+    pthread_attr_t attributes;
+    pthread_t thread;
+    CHECK(pthread_attr_init(&attributes) == 0);
+    CHECK(pthread_attr_setstacksize(&attributes, STACK) == 0);
+    CHECK(pthread_create(&thread, &attributes, make_call, NULL) == 0);
+    while (!atomic_load(&is_done))
+        __builtin_ia32_pause();
+    int found = found_in_process(tried->name);
+    atomic_store(&may_end, 1);
+    CHECK(pthread_join(thread, NULL) == 0);
+    pthread_attr_destroy(&attributes);
+    CHECK_NUMBER(answer, tried->answer);
+    return found;
 }
 
-static void check_memory(void) {
-    for (int i = 0; i < count; i++)
-        CHECK(is_all(pieces[i].start, 0, pieces[i].size));
-}
+/* The scan itself is tried on a call that leaves a copy of the tag. */
+extern unsigned char left_behind[WINDOW];
+unsigned char left_behind[WINDOW];
 
-static void try_argon2(uint32_t kind, uint32_t memory, uint32_t lanes) {
-    struct rigzumal_argon2 numbers = {kind, RIGZUMAL_VERSION_13, memory, 1, lanes};
-    CHECK_NUMBER(rigzumal_argon2(tag, sizeof tag, &numbers, password, sizeof password, "somesalt",
-                                 8, secret, sizeof secret, NULL, 0),
-                 RIGZUMAL_OK);
-    check_stack();
-    check_memory();
-}
-
-static void try_scrypt(uint32_t ln, uint32_t p) {
-    struct rigzumal_scrypt numbers = {ln, 8, p};
-    CHECK_NUMBER(rigzumal_scrypt(tag, sizeof tag, &numbers, password, sizeof password, "salt", 4),
-                 RIGZUMAL_OK);
-    check_stack();
-    check_memory();
+static int leaves_a_copy(struct vault *from) {
+    memcpy(left_behind, from->tag + 3, WINDOW);
+    return RIGZUMAL_OK;
 }
 
 int main(void) {
-    for (size_t i = 0; i < sizeof password; i++)
-        password[i] = (unsigned char)(i * 37 + 11);
-    for (size_t i = 0; i < sizeof secret; i++)
-        secret[i] = (unsigned char)(i * 41 + 7);
-    spill();
-    CHECK(copies(password, sizeof password) > 0);
-    try_argon2(RIGZUMAL_ARGON2ID, 64, 2);
-    try_argon2(RIGZUMAL_ARGON2I, 256, 1);
-    try_argon2(RIGZUMAL_ARGON2D, 19456, 1);
-    try_argon2(RIGZUMAL_ARGON2ID, 65536, 16);
-    try_argon2(RIGZUMAL_ARGON2ID, 69632, 1);
-    try_scrypt(4, 3);
-    try_scrypt(14, 2);
-    try_scrypt(15, 2);
-    char record[RIGZUMAL_TEXT_SIZE];
-    CHECK_NUMBER(rigzumal_record(record, sizeof record, 32, "$argon2id$v=19$m=64,t=1,p=1",
-                                 "somesalt", 8, password, sizeof password),
-                 RIGZUMAL_OK);
-    check_stack();
-    CHECK_NUMBER(rigzumal_check(record, password, sizeof password), RIGZUMAL_OK);
-    check_stack();
-    check_memory();
-    CHECK(given_back > 50);
+    __builtin_cpu_init();
+    vault = mmap(NULL, sizeof *vault, PROT_READ | PROT_WRITE, MAP_PRIVATE | MAP_ANONYMOUS, -1, 0);
+    CHECK(vault != MAP_FAILED);
+    CHECK(mprotect(vault, sizeof *vault, PROT_READ | PROT_WRITE | PROT_EXEC) == 0); /* apart */
+    fill_vault(vault);
+    add_windows(vault->password, sizeof vault->password);
+    add_windows(vault->secret, sizeof vault->secret);
+    add_windows(vault->tag, sizeof vault->tag);
+    add_windows(vault->tag_with_secret, sizeof vault->tag_with_secret);
+    add_windows(vault->key, sizeof vault->key);
+    add_letters(vault->record);
+    add_letters(vault->record_with_secret);
+    add_letters(vault->scrypt_record);
+    int found = 0;
+    for (int i = 0; i < job_count; i++) {
+        int here = found_after(&jobs[i]);
+        if (here > 0)
+            fprintf(stderr, "%s: %d traces\n", jobs[i].name, here);
+        found += here;
+    }
+    CHECK_NUMBER(found, 0);
+    struct job leaving = {"as it has to be", leaves_a_copy, RIGZUMAL_OK};
+    CHECK(found_after(&leaving) > 0);
     return 0;
 }

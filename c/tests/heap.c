@@ -1,7 +1,9 @@
 /* The memory by itself: blocks of all sizes taken, changed in size and given back in any order keep
- * what was written in them and nobody else's, and afterwards no more than the kept areas is mapped.
- */
+ * what was written in them and nobody else's; what the C library and the system get back is zero;
+ * large blocks are in no core dump; and afterwards no more than the kept areas is mapped. */
 #define _GNU_SOURCE
+#include "heap.h"
+
 #include "check.h"
 
 #include <errno.h>
@@ -22,7 +24,7 @@ void rattle_dealloc(void *start);
 enum { KIB = 1024, MIB = 1024 * KIB, BLOCKS = 24, STEPS = 1200, KEPT = 32 * MIB };
 
 static size_t mapped;
-static bool is_refusing;
+static bool is_refusing, is_refusing_maps;
 
 int __real_posix_memalign(void **start, size_t align, size_t size);
 int __wrap_posix_memalign(void **start, size_t align, size_t size);
@@ -30,18 +32,48 @@ void *__real_mmap(void *at, size_t size, int protection, int flags, int file, of
 void *__wrap_mmap(void *at, size_t size, int protection, int flags, int file, off_t offset);
 int __real_munmap(void *start, size_t size);
 int __wrap_munmap(void *start, size_t size);
+void __real_free(void *start);
+void __wrap_free(void *start);
+
+/* The blocks of the C library that are in use. */
+enum { MOST_PIECES = 256 };
+static struct piece {
+    void *start;
+    size_t size;
+} pieces[MOST_PIECES];
+static int count, freed;
 
 int __wrap_posix_memalign(void **start, size_t align, size_t size) {
-    return is_refusing ? ENOMEM : __real_posix_memalign(start, align, size);
+    int answer = is_refusing ? ENOMEM : __real_posix_memalign(start, align, size);
+    if (answer == 0) {
+        CHECK(count < MOST_PIECES);
+        pieces[count++] = (struct piece){*start, size};
+        memset(*start, 0xa5, size);
+    }
+    return answer;
+}
+
+void __wrap_free(void *start) {
+    for (int i = 0; i < count; i++)
+        if (pieces[i].start == start) {
+            CHECK(is_all(start, 0, pieces[i].size));
+            pieces[i] = pieces[--count];
+            freed++;
+            break;
+        }
+    __real_free(start);
 }
 
 void *__wrap_mmap(void *at, size_t size, int protection, int flags, int file, off_t offset) {
+    if (is_refusing_maps)
+        return MAP_FAILED;
     mapped += size;
     return __real_mmap(at, size, protection, flags, file, offset);
 }
 
 int __wrap_munmap(void *start, size_t size) {
     mapped -= size;
+    CHECK(is_all(start, 0, size < 4096 ? size : 4096));
     return __real_munmap(start, size);
 }
 
@@ -99,6 +131,84 @@ static void change(struct block *block) {
     }
 }
 
+/* A block whose size changes: its first bytes go along, and the old block is cleared. */
+static void try_changed_sizes(void) {
+    static const size_t sizes[] = {1, 24, 1000, 64 * KIB, 3 * MIB, 17 * MIB};
+    enum { SIZES = sizeof sizes / sizeof sizes[0] };
+    for (int from = 0; from < SIZES; from++)
+        for (int to = 0; to < SIZES; to++) {
+            struct tried old = rattle_alloc(sizes[from], 8);
+            CHECK(old.ok);
+            memset(old.start, 0x77, sizes[from]);
+            int freed_before = freed;
+            struct tried moved = rattle_realloc(old.start, sizes[from], sizes[to], 8);
+            CHECK(moved.ok);
+            if (sizes[from] < 64 * KIB) /* it was the C library's: __wrap_free has looked at it */
+                CHECK(freed == freed_before + 1);
+            else if (sizes[from] <= 16 * MIB) /* a kept area, or the one that is in use */
+                CHECK(is_all(old.start, 0, sizes[from]) || moved.start == old.start);
+            size_t kept = sizes[from] < sizes[to] ? sizes[from] : sizes[to];
+            CHECK(is_all(moved.start, 0x77, kept));
+            rattle_dealloc(moved.start);
+        }
+}
+
+/* The flags that /proc/self/smaps gives the mapping of an address. */
+static void read_flags(const void *address, char *flags, size_t size) {
+    FILE *maps = fopen("/proc/self/smaps", "r");
+    CHECK(maps != NULL);
+    char line[512];
+    bool is_here = false;
+    uintptr_t start, end;
+    *flags = '\0';
+    while (fgets(line, sizeof line, maps) != NULL) {
+        if (sscanf(line, "%lx-%lx ", &start, &end) == 2)
+            is_here = start <= (uintptr_t)address && (uintptr_t)address < end;
+        else if (is_here && strncmp(line, "VmFlags:", 8) == 0)
+            snprintf(flags, size, "%s", line + 8);
+    }
+    fclose(maps);
+}
+
+/* Large blocks are the process's own, in no core dump, and read as zero in a forked child. */
+static void try_flags(void) {
+    static const size_t sizes[] = {64 * KIB, 5 * MIB, 16 * MIB, 40 * MIB};
+    for (size_t i = 0; i < sizeof sizes / sizeof sizes[0]; i++) {
+        struct tried tried = rattle_alloc(sizes[i], 8);
+        CHECK(tried.ok);
+        char flags[512];
+        read_flags(tried.start, flags, sizeof flags);
+        CHECK(strstr(flags, " dd") != NULL);
+        CHECK(strstr(flags, " wf") != NULL);
+        CHECK(strstr(flags, " sh") == NULL);
+        rattle_dealloc(tried.start);
+    }
+}
+
+/* Memory for those who clear it themselves is zero wherever it is from. Of the three of 16 MiB the
+ * last has no area. */
+static void try_zeros(void) {
+    static const size_t sizes[] = {1024,     48 * KIB, 64 * KIB, 5 * MIB, 16 * MIB,
+                                   16 * MIB, 16 * MIB, 1024,     40 * MIB};
+    enum { SIZES = sizeof sizes / sizeof sizes[0] };
+    unsigned char *taken[SIZES];
+    for (int i = 0; i < SIZES; i++) {
+        is_refusing_maps = i < SIZES - 1;
+        taken[i] = take_zeros(sizes[i]);
+        CHECK(taken[i] != NULL && (uintptr_t)taken[i] % 64 == 0);
+        CHECK(is_all(taken[i], 0, sizes[i]));
+        memset(taken[i], i + 1, sizes[i]);
+    }
+    is_refusing_maps = true;
+    CHECK(take_zeros(17 * MIB) == NULL);
+    is_refusing_maps = false;
+    for (int i = 0; i < SIZES; i++) {
+        CHECK(is_all(taken[i], i + 1, sizes[i]));
+        memset(taken[i], 0, sizes[i]);
+        give_zeros(taken[i]);
+    }
+}
+
 static void *refused(void *unused) {
     (void)unused;
     is_refusing = true;
@@ -122,6 +232,10 @@ int main(void) {
             rattle_dealloc(blocks[i].start);
         }
     CHECK(mapped == KEPT);
+    try_changed_sizes();
+    try_flags();
+    try_zeros();
+    CHECK(mapped == KEPT && count == 0);
     pthread_t thread;
     CHECK(pthread_create(&thread, NULL, refused, NULL) == 0);
     CHECK(pthread_join(thread, NULL) == 0);

@@ -1,8 +1,9 @@
-/* Each request for memory refused in turn, at calls that take small blocks, areas and areas of
- * their own: the answer is MEMORY and nothing is written, until one more request is granted and the
- * answer is right. The linker puts the three functions below before those of the C library. What
- * leaks is found by the compiler's sanitizer and by valgrind. */
+/* Each request for memory refused in turn, at calls of rigzumal.h and of libargon2 that take small
+ * blocks, areas and areas of their own: the answer is MEMORY and nothing is written, until one more
+ * request is granted and the answer is right. The linker puts the functions below before those of
+ * the C library. What leaks is found by the compiler's sanitizer and by valgrind. */
 #define _GNU_SOURCE
+#include "argon2.h"
 #include "check.h"
 #include "rigzumal.h"
 
@@ -22,6 +23,8 @@ static int is_refused(void) {
 
 int __real_posix_memalign(void **start, size_t align, size_t size);
 int __wrap_posix_memalign(void **start, size_t align, size_t size);
+void *__real_malloc(size_t size);
+void *__wrap_malloc(size_t size);
 void *__real_realloc(void *start, size_t size);
 void *__wrap_realloc(void *start, size_t size);
 void *__real_mmap(void *at, size_t size, int protection, int flags, int file, off_t offset);
@@ -29,6 +32,10 @@ void *__wrap_mmap(void *at, size_t size, int protection, int flags, int file, of
 
 int __wrap_posix_memalign(void **start, size_t align, size_t size) {
     return is_refused() ? ENOMEM : __real_posix_memalign(start, align, size);
+}
+
+void *__wrap_malloc(size_t size) {
+    return is_refused() ? NULL : __real_malloc(size);
 }
 
 void *__wrap_realloc(void *start, size_t size) {
@@ -95,45 +102,158 @@ static int checked_scrypt_record(unsigned char *to) {
         7);
 }
 
-/* Refuses each request of the call in turn, and answers how many there were to be refused. A
- * request for an area may be refused without harm, as a smaller block can stand for it. */
-static long try_refusals(int (*call)(unsigned char *), const char *name, int answer) {
-    unsigned char wanted[ROOM] = {0}, written[ROOM];
+static int new_record_with_secret(unsigned char *to) {
+    return rigzumal_record_with_secret((char *)to, ROOM, 32, "$argon2id$v=19$m=256,t=1,p=1",
+                                       "somesalt", 8, "password", 8, "secret", 6);
+}
+
+static int checked_with_secret(unsigned char *to) {
+    (void)to;
+    return rigzumal_check_with_secret(
+        "$argon2id$v=19$m=256,t=2,p=1$c29tZXNhbHQ$nf65EOgLrQMR/uIPnA4rEsF5h7TKyQwu9U1bMCHGi/4",
+        "password", 8, "secret", 6);
+}
+
+static int small_tag_in_threads(unsigned char *to) {
+    struct rigzumal_argon2 numbers = {RIGZUMAL_ARGON2ID, RIGZUMAL_VERSION_13, 64, 1, 2};
+    return rigzumal_argon2_threads(to, 32, &numbers, "password", 8, "somesalt", 8, NULL, 0, NULL, 0,
+                                   2);
+}
+
+static int tag_in_threads(unsigned char *to) {
+    struct rigzumal_argon2 numbers = {RIGZUMAL_ARGON2ID, RIGZUMAL_VERSION_13, 24576, 1, 2};
+    return rigzumal_argon2_threads(to, 32, &numbers, "password", 8, "somesalt", 8, NULL, 0, NULL, 0,
+                                   2);
+}
+
+static int tag_of_own_areas_in_threads(unsigned char *to) {
+    struct rigzumal_argon2 numbers = {RIGZUMAL_ARGON2ID, RIGZUMAL_VERSION_13, 69632, 1, 2};
+    return rigzumal_argon2_threads(to, 32, &numbers, "password", 8, "somesalt", 8, NULL, 0, NULL, 0,
+                                   2);
+}
+
+static int new_record_in_threads(unsigned char *to) {
+    return rigzumal_record_threads((char *)to, ROOM, 32, "$argon2id$v=19$m=8192,t=1,p=2",
+                                   "somesalt", 8, "password", 8, 2);
+}
+
+static int checked_in_threads(unsigned char *to) {
+    (void)to;
+    return rigzumal_check_threads(
+        "$argon2id$v=19$m=8192,t=1,p=2$c29tZXNhbHQ$nf65EOgLrQMR/uIPnA4rEsF5h7TKyQwu9U1bMCHGi/4",
+        "password", 8, 2);
+}
+
+static argon2_context context_of(unsigned char *to) {
+    return (argon2_context){.out = to,
+                            .outlen = 32,
+                            .pwd = (uint8_t *)(uintptr_t) "password",
+                            .pwdlen = 8,
+                            .salt = (uint8_t *)(uintptr_t) "somesalt",
+                            .saltlen = 8,
+                            .t_cost = 2,
+                            .m_cost = 256,
+                            .lanes = 1,
+                            .threads = 1,
+                            .version = RIGZUMAL_VERSION_13};
+}
+
+static int libargon2_ctx(unsigned char *to) {
+    argon2_context context = context_of(to);
+    return argon2_ctx(&context, ARGON2_TYPE_ID);
+}
+
+static int libargon2_verify_ctx(unsigned char *to) {
+    argon2_context context = context_of(to);
+    return argon2id_verify_ctx(&context, "another tag, which has 32 bytes ");
+}
+
+static int libargon2_raw(unsigned char *to) {
+    return argon2id_hash_raw(1, 69632, 1, "password", 8, "somesalt", 8, to, 32);
+}
+
+static int libargon2_encoded(unsigned char *to) {
+    return argon2id_hash_encoded(1, 64, 1, "password", 8, "somesalt", 8, 32, (char *)to, 200);
+}
+
+static int libargon2_verify(unsigned char *to) {
+    (void)to;
+    return argon2id_verify(
+        "$argon2id$v=19$m=256,t=2,p=1$c29tZXNhbHQ$nf65EOgLrQMR/uIPnA4rEsF5h7TKyQwu9U1bMCHGi/4",
+        "another", 7);
+}
+
+struct trial {
+    const char *name;
+    int (*call)(unsigned char *to);
+    int answer, refusal;
+    long least; /* how many requests there are to be refused */
+};
+
+static const struct trial trials[] = {
+    {"a tag in small blocks", small_tag, RIGZUMAL_OK, RIGZUMAL_MEMORY, 7},
+    {"a tag in areas", tag_of_areas, RIGZUMAL_OK, RIGZUMAL_MEMORY, 7},
+    {"a tag in areas of its own", tag_of_own_areas, RIGZUMAL_OK, RIGZUMAL_MEMORY, 7},
+    {"a key in small blocks", small_key, RIGZUMAL_OK, RIGZUMAL_MEMORY, 4},
+    {"a key in areas", key_of_areas, RIGZUMAL_OK, RIGZUMAL_MEMORY, 4},
+    {"a new record", new_record, RIGZUMAL_OK, RIGZUMAL_MEMORY, 4},
+    {"a new record of scrypt", new_scrypt_record, RIGZUMAL_OK, RIGZUMAL_MEMORY, 4},
+    {"a new record with a secret", new_record_with_secret, RIGZUMAL_OK, RIGZUMAL_MEMORY, 4},
+    {"a small tag in threads", small_tag_in_threads, RIGZUMAL_OK, RIGZUMAL_MEMORY, 5},
+    {"a tag in threads", tag_in_threads, RIGZUMAL_OK, RIGZUMAL_MEMORY, 2},
+    {"a tag in areas of its own and threads", tag_of_own_areas_in_threads, RIGZUMAL_OK,
+     RIGZUMAL_MEMORY, 5},
+    {"a new record in threads", new_record_in_threads, RIGZUMAL_OK, RIGZUMAL_MEMORY, 2},
+    {"a check in threads", checked_in_threads, RIGZUMAL_MISMATCH, RIGZUMAL_MEMORY, 2},
+    {"a written record", written_record, RIGZUMAL_OK, RIGZUMAL_MEMORY, 1},
+    {"a check", checked_record, RIGZUMAL_OK, RIGZUMAL_MEMORY, 4},
+    {"a check of scrypt", checked_scrypt_record, RIGZUMAL_MISMATCH, RIGZUMAL_MEMORY, 4},
+    {"a check with a secret", checked_with_secret, RIGZUMAL_MISMATCH, RIGZUMAL_MEMORY, 4},
+    {"argon2_ctx", libargon2_ctx, ARGON2_OK, ARGON2_MEMORY_ALLOCATION_ERROR, 5},
+    {"argon2id_verify_ctx", libargon2_verify_ctx, ARGON2_VERIFY_MISMATCH,
+     ARGON2_MEMORY_ALLOCATION_ERROR, 5},
+    {"argon2id_hash_raw", libargon2_raw, ARGON2_OK, ARGON2_MEMORY_ALLOCATION_ERROR, 6},
+    {"argon2id_hash_encoded", libargon2_encoded, ARGON2_OK, ARGON2_MEMORY_ALLOCATION_ERROR, 6},
+    {"argon2id_verify", libargon2_verify, ARGON2_VERIFY_MISMATCH, ARGON2_MEMORY_ALLOCATION_ERROR,
+     4},
+};
+
+/* The call with all requests granted but the one after so many, and those after it if that is so.
+ * Answers whether one was refused. */
+static int try_refusal(const struct trial *trial, const unsigned char *wanted, long before) {
+    unsigned char written[ROOM] = {0};
+    granted = before;
+    refused = 0;
+    int number = trial->call(written);
+    int was_refused = refused;
     granted = 1000000;
-    CHECK_NUMBER(call(wanted), answer);
+    CHECK(number == trial->answer || (was_refused && number == trial->refusal));
+    if (number == trial->answer)
+        CHECK(memcmp(written, wanted, sizeof written) == 0);
+    else
+        CHECK(is_all(written, 0, sizeof written));
+    return was_refused;
+}
+
+/* Refuses each request of the call in turn. A request for an area may be refused without harm, as
+ * a smaller block can stand for it. */
+static void try_refusals(const struct trial *trial) {
+    unsigned char wanted[ROOM] = {0};
+    granted = 1000000;
+    CHECK_NUMBER(trial->call(wanted), trial->answer);
     long most = 0;
     for (refuses_later = 0; refuses_later < 2; refuses_later++) {
-        for (long before = 0;; before++) {
-            memset(written, 0, sizeof written);
-            granted = before;
-            refused = 0;
-            int number = call(written);
-            int was_refused = refused;
-            granted = 1000000;
-            CHECK(number == answer || (was_refused && number == RIGZUMAL_MEMORY));
-            if (number == answer)
-                CHECK(memcmp(written, wanted, sizeof written) == 0);
-            else
-                CHECK(is_all(written, 0, sizeof written));
-            if (!was_refused)
-                break;
-            most = before + 1 > most ? before + 1 : most;
-        }
+        long before = 0;
+        while (try_refusal(trial, wanted, before))
+            before++;
+        most = before > most ? before : most;
     }
-    printf("%s: %ld requests\n", name, most);
-    return most;
+    printf("%s: %ld requests\n", trial->name, most);
+    CHECK(most >= trial->least);
 }
 
 int main(void) {
-    CHECK(try_refusals(small_tag, "a tag in small blocks", RIGZUMAL_OK) >= 7);
-    CHECK(try_refusals(tag_of_areas, "a tag in areas", RIGZUMAL_OK) >= 7);
-    CHECK(try_refusals(tag_of_own_areas, "a tag in areas of its own", RIGZUMAL_OK) >= 7);
-    CHECK(try_refusals(small_key, "a key in small blocks", RIGZUMAL_OK) >= 4);
-    CHECK(try_refusals(key_of_areas, "a key in areas", RIGZUMAL_OK) >= 4);
-    CHECK(try_refusals(new_record, "a new record", RIGZUMAL_OK) >= 4);
-    CHECK(try_refusals(new_scrypt_record, "a new record of scrypt", RIGZUMAL_OK) >= 4);
-    CHECK(try_refusals(written_record, "a written record", RIGZUMAL_OK) >= 1);
-    CHECK(try_refusals(checked_record, "a check", RIGZUMAL_OK) >= 4);
-    CHECK(try_refusals(checked_scrypt_record, "a check of scrypt", RIGZUMAL_MISMATCH) >= 4);
+    for (size_t i = 0; i < sizeof trials / sizeof trials[0]; i++)
+        try_refusals(&trials[i]);
     return 0;
 }

@@ -1,4 +1,5 @@
-/* Threads that call at the same time, with areas that go from one to another. */
+/* Threads that call at the same time, with areas that go from one to another, each turn with
+ * another number of threads in the call. */
 #include "check.h"
 #include "rigzumal.h"
 
@@ -8,22 +9,22 @@ enum { THREADS = 8, TURNS = 12 };
 
 static unsigned char wanted[3][32];
 
-static void make_tag(unsigned char *tag, int which) {
+static void make_tag(unsigned char *tag, int which, uint32_t threads) {
     static const struct rigzumal_argon2 numbers[3] = {
         {RIGZUMAL_ARGON2ID, RIGZUMAL_VERSION_13, 64, 1, 2},
         {RIGZUMAL_ARGON2ID, RIGZUMAL_VERSION_13, 4096, 1, 3},
         {RIGZUMAL_ARGON2ID, RIGZUMAL_VERSION_13, 24576, 1, 1},
     };
-    CHECK_NUMBER(
-        rigzumal_argon2(tag, 32, &numbers[which], "password", 8, "somesalt", 8, NULL, 0, NULL, 0),
-        RIGZUMAL_OK);
+    CHECK_NUMBER(rigzumal_argon2_threads(tag, 32, &numbers[which], "password", 8, "somesalt", 8,
+                                         NULL, 0, NULL, 0, threads),
+                 RIGZUMAL_OK);
 }
 
 static void *work(void *first) {
     for (int turn = 0; turn < TURNS; turn++) {
         int which = (*(int *)first + turn) % 3;
         unsigned char tag[32];
-        make_tag(tag, which);
+        make_tag(tag, which, (uint32_t)turn % 4);
         CHECK(memcmp(tag, wanted[which], sizeof tag) == 0);
     }
     return NULL;
@@ -31,7 +32,7 @@ static void *work(void *first) {
 
 int main(void) {
     for (int which = 0; which < 3; which++)
-        make_tag(wanted[which], which);
+        make_tag(wanted[which], which, 1);
     pthread_t threads[THREADS];
     int firsts[THREADS];
     for (int i = 0; i < THREADS; i++) {

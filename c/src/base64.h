@@ -1,0 +1,22 @@
+/* Base64 (RFC 4648, section 4) without padding, of bytes and letters that may be secret: by
+ * arithmetic alone, with no table, and no branch on a letter but whether it is one. */
+#ifndef BASE64_H
+#define BASE64_H
+
+#include <stddef.h>
+#include <stdint.h>
+
+/* How many letters stand for so many bytes. */
+size_t base64_size(size_t size);
+
+/* Writes the letters of the bytes. */
+void write_base64(uint8_t *text, const uint8_t *from, size_t size);
+
+/* The six bits that a letter stands for, or -1. */
+int base64_value(uint8_t letter);
+
+/* Writes the bytes that letters stand for; bits that stand for none are left out. The letters are
+ * base64, and size is that of the bytes. */
+void read_base64(uint8_t *to, size_t size, const char *letters);
+
+#endif

@@ -1,0 +1,46 @@
+/* The faults in words. */
+#include "rigzumal.h"
+
+static const struct {
+    const char *word, *meaning;
+} faults[] = {
+    [RIGZUMAL_OK] = {"ok", "there is no fault"},
+    [RIGZUMAL_SHAPE] = {"shape", "a field is missing, or there is one too many"},
+    [RIGZUMAL_SCHEME] = {"scheme", "the name is none of argon2d, argon2i, argon2id and scrypt"},
+    [RIGZUMAL_VERSION] = {"version", "the version is not one that can be read here"},
+    [RIGZUMAL_PARAMS] = {"params", "the numbers are not written in the form of the scheme"},
+    [RIGZUMAL_RANGE] = {"range", "a number is outside its range"},
+    [RIGZUMAL_SALT] = {"salt", "the salt is not base64, or has a length outside its range"},
+    [RIGZUMAL_TAG] = {"tag", "the tag is not base64, or has a length outside its range"},
+    [RIGZUMAL_MEMORY] = {"memory", "out of memory"},
+    [RIGZUMAL_TOO_LONG] = {"toolong", "the text has over 512 bytes"},
+    [RIGZUMAL_MISMATCH] = {"mismatch", "the record is of another password"},
+    [RIGZUMAL_NO_ROOM] = {"noroom", "the text does not fit into its room"},
+    [RIGZUMAL_NO_KIND] = {"nokind", "the number names no kind of Argon2"},
+    [RIGZUMAL_NO_VERSION] = {"noversion", "the number names no version of Argon2"},
+    [RIGZUMAL_LANES] = {"lanes", "the number of lanes is not 1 to 255"},
+    [RIGZUMAL_COST] = {"cost", "the memory is not 8 KiB a lane to 2 GiB"},
+    [RIGZUMAL_PASSES] = {"passes", "there is no pass"},
+    [RIGZUMAL_TAG_SIZE_FAULT] = {"tagsize", "the tag has not 4 to 2^32 - 1 bytes"},
+    [RIGZUMAL_INPUT_SIZE] = {"inputsize", "an input has 2^32 bytes or more"},
+    [RIGZUMAL_SCRYPT_COST] = {"scryptcost",
+                              "the cost is out of range, or too high for the block "
+                              "size or for a table of 2 GiB"},
+    [RIGZUMAL_BLOCK_SIZE] = {"blocksize", "the block size is not 1 to 255"},
+    [RIGZUMAL_BLOCKS] = {"blocks", "the parallelization is not 1 to 255"},
+    [RIGZUMAL_KEY_SIZE] = {"keysize", "the key has not 1 to 2^32 - 1 bytes"},
+    [RIGZUMAL_NO_OPERATION] = {"nooperation", "the number names no operation"},
+    [RIGZUMAL_COPY] = {"copy", "the copy is not a record"},
+    [RIGZUMAL_LONG_PASSWORD] = {"longpassword", "a password has over 256 bytes"},
+    [RIGZUMAL_NO_RANDOM] = {"norandom", "the system gave no random bytes for a salt"},
+};
+
+enum { FAULTS = sizeof faults / sizeof faults[0] };
+
+const char *rigzumal_strerror(int fault) {
+    return fault < 0 || fault >= FAULTS ? "no such fault" : faults[fault].meaning;
+}
+
+const char *rigzumal_word(int fault) {
+    return fault < 0 || fault >= FAULTS ? "unknown" : faults[fault].word;
+}

@@ -1,0 +1,14 @@
+/* Memory for those who clear it themselves. */
+#ifndef HEAP_H
+#define HEAP_H
+
+#include <stddef.h>
+
+/* So many bytes that are zero, or null if there is too little memory: large ones in huge pages, in
+ * no core dump, and zero in a forked child. */
+void *take_zeros(size_t size);
+
+/* Gives them back, on the thread that took them, when all are zero again. */
+void give_zeros(void *start);
+
+#endif

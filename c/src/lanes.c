@@ -1,0 +1,222 @@
+/* The order in which parts.h has the parts called, and the threads that call them.
+ *
+ * Segments have numbers, slice by slice and pass by pass. A thread draws the next number, waits
+ * until all segments of the slices before are worked, works its own, and draws again. So each is
+ * worked once, by whoever is there. The tag is made by the caller's thread, and then all clear the
+ * memory in the same way. */
+#define _GNU_SOURCE
+#include "lanes.h"
+
+#include "heap.h"
+#include "secrets.h"
+
+#include <pthread.h>
+#include <sched.h>
+#include <signal.h>
+#include <stdatomic.h>
+#include <stdbool.h>
+#include <sys/mman.h>
+#include <unistd.h>
+
+enum { SLICES = 4, MOST_HELPERS = 254, PAGE = 4096, LEAST_STACK = 512 * 1024 };
+
+/* In KiB: where four lanes begin to gain by threads on an idle machine. */
+#ifndef LEAST_SHARED_MEMORY
+#define LEAST_SHARED_MEMORY 4096
+#endif
+
+struct run {
+    const struct task *task;
+    struct argon2_block *slices[SLICES];
+    size_t segment_size, slice_size; /* in blocks */
+    uint64_t segments;               /* how many there are to be worked */
+    _Atomic(uint64_t) next_segment, next_cleared;
+    _Atomic(uint64_t) done; /* segments, and at last the tag */
+    _Atomic(uint8_t) fault;
+    pthread_mutex_t lock;
+    pthread_cond_t more_done;
+};
+
+/* Waits until so many are done. */
+static void await(struct run *run, uint64_t done) {
+    if (atomic_load(&run->done) >= done)
+        return;
+    pthread_mutex_lock(&run->lock);
+    while (atomic_load(&run->done) < done)
+        pthread_cond_wait(&run->more_done, &run->lock);
+    pthread_mutex_unlock(&run->lock);
+}
+
+/* Counts one more, and wakes those who may wait for it: for the end of a slice, or for the tag. */
+static void count_done(struct run *run) {
+    uint64_t done = atomic_fetch_add(&run->done, 1) + 1;
+    if (done <= run->segments && done % run->task->numbers.lanes != 0)
+        return;
+    pthread_mutex_lock(&run->lock);
+    pthread_cond_broadcast(&run->more_done);
+    pthread_mutex_unlock(&run->lock);
+}
+
+static void note_fault(struct run *run, uint8_t fault) {
+    if (fault != RIGZUMAL_OK)
+        atomic_store(&run->fault, fault);
+}
+
+static uint8_t work_segment(const struct run *run, uint64_t number) {
+    uint32_t lanes = run->task->numbers.lanes;
+    uint64_t turn = number / lanes;
+    struct segment_index index = {(uint32_t)(turn / SLICES), (uint32_t)(turn % SLICES),
+                                  (uint32_t)(number % lanes)};
+    const struct argon2_block *oldest = run->slices[(index.slice + 1) % SLICES];
+    const struct argon2_block *middle = run->slices[(index.slice + 2) % SLICES];
+    const struct argon2_block *newest = run->slices[(index.slice + 3) % SLICES];
+    struct argon2_block *own = run->slices[index.slice] + index.lane * run->segment_size;
+    return CALL(cred_argon2_segment, &run->task->numbers, &index, oldest, run->slice_size, middle,
+                run->slice_size, newest, run->slice_size, own, run->segment_size);
+}
+
+/* Works segments until all are drawn. After a fault none is worked, and all are counted. */
+static void work_segments(struct run *run) {
+    for (;;) {
+        uint64_t number = atomic_fetch_add(&run->next_segment, 1);
+        if (number >= run->segments)
+            return;
+        await(run, number - number % run->task->numbers.lanes);
+        if (atomic_load(&run->fault) == RIGZUMAL_OK)
+            note_fault(run, work_segment(run, number));
+        count_done(run);
+    }
+}
+
+static void make_tag(struct run *run) {
+    await(run, run->segments);
+    if (atomic_load(&run->fault) == RIGZUMAL_OK)
+        note_fault(run,
+                   run->task->end(run->task->inputs, run->slices[SLICES - 1], run->slice_size));
+    count_done(run);
+}
+
+/* Clears the memory, a segment at a time, when the tag is made. */
+static void clear_segments(struct run *run) {
+    uint32_t lanes = run->task->numbers.lanes;
+    await(run, run->segments + 1);
+    for (;;) {
+        uint64_t number = atomic_fetch_add(&run->next_cleared, 1);
+        if (number >= (uint64_t)SLICES * lanes)
+            return;
+        explicit_bzero(run->slices[number / lanes] + number % lanes * run->segment_size,
+                       run->segment_size * sizeof(struct argon2_block));
+    }
+}
+
+/* What a helper does. Its stack, as deep as calls reach below the first page's end in a gap above
+ * them, reads as zero in a child that is forked meanwhile, and is cleared. */
+static void *help(void *run) {
+    unsigned char gap[PAGE];
+    unsigned char *end = gap + PAGE - (uintptr_t)(gap + PAGE) % PAGE;
+    madvise(end - CLEARED_STACK, CLEARED_STACK, MADV_WIPEONFORK);
+    work_segments(run);
+    clear_segments(run);
+    clear_traces();
+    madvise(end - CLEARED_STACK, CLEARED_STACK, MADV_KEEPONFORK);
+    return NULL;
+}
+
+/* Starts so many helpers or as many as there can be, on which no signal is handled. Their stacks
+ * are as large as other threads', which may have to hold much that is thread-local, and larger
+ * where those are small. */
+static uint32_t start_helpers(struct run *run, pthread_t *helpers, uint32_t wanted) {
+    pthread_attr_t attributes;
+    size_t stack_size;
+    sigset_t all, before;
+    uint32_t started = 0;
+    if (pthread_attr_init(&attributes) != 0)
+        return 0;
+    if (pthread_attr_getstacksize(&attributes, &stack_size) == 0 && stack_size < LEAST_STACK)
+        pthread_attr_setstacksize(&attributes, LEAST_STACK);
+    sigfillset(&all);
+    pthread_sigmask(SIG_SETMASK, &all, &before);
+    while (started < wanted && pthread_create(&helpers[started], &attributes, help, run) == 0)
+        started++;
+    pthread_sigmask(SIG_SETMASK, &before, NULL);
+    pthread_attr_destroy(&attributes);
+    return started;
+}
+
+/* Works all that comes after the beginning. */
+static void work_with_helpers(struct run *run, uint32_t wanted) {
+    pthread_t helpers[MOST_HELPERS];
+    uint32_t started = start_helpers(run, helpers, wanted);
+    work_segments(run);
+    make_tag(run);
+    clear_segments(run);
+    for (uint32_t i = 0; i < started; i++)
+        pthread_join(helpers[i], NULL);
+}
+
+static void give_slices(struct run *run, int count) {
+    while (count > 0)
+        give_zeros(run->slices[--count]);
+}
+
+static bool take_slices(struct run *run) {
+    for (int i = 0; i < SLICES; i++) {
+        run->slices[i] = take_zeros(run->slice_size * sizeof(struct argon2_block));
+        if (run->slices[i] == NULL) {
+            give_slices(run, i);
+            return false;
+        }
+    }
+    return true;
+}
+
+static uint8_t work(struct run *run, uint32_t threads) {
+    if (!take_slices(run))
+        return RIGZUMAL_MEMORY;
+    uint8_t fault = run->task->begin(run->task->inputs, run->slices[0], run->slice_size);
+    if (fault == RIGZUMAL_OK) {
+        work_with_helpers(run, threads - 1);
+        fault = atomic_load(&run->fault);
+    }
+    give_slices(run, SLICES);
+    return fault;
+}
+
+uint8_t work_lanes(const struct task *task, uint32_t threads) {
+    uint32_t segment_size;
+    uint8_t fault = v1_cred_argon2_segment_len(&task->numbers, &segment_size);
+    if (fault != RIGZUMAL_OK)
+        return fault;
+    struct run run = {.task = task,
+                      .segment_size = segment_size,
+                      .slice_size = (size_t)segment_size * task->numbers.lanes,
+                      .segments = (uint64_t)SLICES * task->numbers.passes * task->numbers.lanes,
+                      .lock = PTHREAD_MUTEX_INITIALIZER,
+                      .more_done = PTHREAD_COND_INITIALIZER};
+    int cancel_state;
+    pthread_setcancelstate(PTHREAD_CANCEL_DISABLE, &cancel_state);
+    fault = work(&run, threads);
+    pthread_setcancelstate(cancel_state, &cancel_state);
+    pthread_cond_destroy(&run.more_done);
+    pthread_mutex_destroy(&run.lock);
+    return fault;
+}
+
+/* How many processors this thread may run on. */
+static uint32_t allowed_processors(void) {
+    cpu_set_t set;
+    if (sched_getaffinity(0, sizeof set, &set) == 0)
+        return (uint32_t)CPU_COUNT(&set);
+    long online = sysconf(_SC_NPROCESSORS_ONLN); /* over 1024, say */
+    return online < 1 ? 1 : (uint32_t)online;
+}
+
+uint32_t useful_threads(const struct tag_numbers *numbers, uint32_t allowed) {
+    uint32_t most = allowed < numbers->lanes ? allowed : numbers->lanes;
+    if (most > MOST_HELPERS + 1)
+        most = MOST_HELPERS + 1;
+    if (most < 2 || numbers->memory < LEAST_SHARED_MEMORY)
+        return 1;
+    uint32_t processors = allowed_processors();
+    return processors < most ? processors : most;
+}

@@ -1,0 +1,26 @@
+/* The lanes of an Argon2 tag worked by several threads. */
+#ifndef LANES_H
+#define LANES_H
+
+#include "parts.h"
+
+/* What is worked: a tag's numbers, and how its memory begins and what is made of it at the end.
+ * Both are called on the caller's thread, once, with all blocks of the first slice and of the last.
+ * Each answers 0 or a fault, and with a fault it has written nothing. */
+struct task {
+    struct tag_numbers numbers;
+    uint8_t (*begin)(const void *inputs, struct argon2_block *first, size_t count);
+    uint8_t (*end)(const void *inputs, const struct argon2_block *last, size_t count);
+    const void *inputs;
+};
+
+/* How many threads are to work the lanes, if the program allows so many: no more than there are
+ * lanes, and processors that it may run on. One, if the memory is so small that the start of
+ * threads would take longer. */
+uint32_t useful_threads(const struct tag_numbers *numbers, uint32_t allowed);
+
+/* Works a task with so many threads, 1 to 255, the caller's among them. Where one can't be started
+ * the others work its lanes. All have ended when the call is over. */
+uint8_t work_lanes(const struct task *task, uint32_t threads);
+
+#endif

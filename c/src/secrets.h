@@ -1,0 +1,19 @@
+/* Secrets compared, and the traces of a call cleared. */
+#ifndef SECRETS_H
+#define SECRETS_H
+
+#include <stdbool.h>
+#include <stddef.h>
+
+/* How much of the stack is cleared: twice what the deepest call uses, with lazy binding too, which
+ * tests/cleared.c measures. */
+enum { CLEARED_STACK = 48 * 1024 };
+
+/* Clears the stack below the caller's frame, and the vector registers: to be called after all that
+ * a call did with secrets. */
+void clear_traces(void);
+
+/* Whether two secrets of one size are equal, in a time that doesn't depend on where they differ. */
+bool are_equal(const void *one, const void *other, size_t size);
+
+#endif

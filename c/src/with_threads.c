@@ -1,0 +1,125 @@
+/* The calls of rigzumal.h with threads. A task's begin and end are the crate's, and its lanes are
+ * worked by lanes.c. Where one thread is enough, and for a text that has a fault or is scrypt's,
+ * the call without threads does it. */
+#define _GNU_SOURCE
+#include "lanes.h"
+#include "secrets.h"
+#include "setting.h"
+
+/* What a tag is made of, and where to. */
+struct tag_inputs {
+    const struct tag_numbers *numbers;
+    bytes password, salt, secret, associated;
+    size_t password_size, salt_size, secret_size, associated_size;
+    uint8_t *tag;
+};
+
+static uint8_t begin_tag(const void *inputs, struct argon2_block *first, size_t count) {
+    const struct tag_inputs *it = inputs;
+    return CALL(cred_argon2_begin, it->numbers, BYTES(it->password, it->password_size),
+                BYTES(it->salt, it->salt_size), BYTES(it->secret, it->secret_size),
+                BYTES(it->associated, it->associated_size), first, count);
+}
+
+static uint8_t end_tag(const void *inputs, const struct argon2_block *last, size_t count) {
+    const struct tag_inputs *it = inputs;
+    return CALL(cred_argon2_end, it->numbers, last, count, it->tag, it->numbers->tag_size);
+}
+
+/* Works a task, clears what it left, and hands its answer on. */
+static int cleared_work(const struct task *task, uint32_t threads) {
+    uint8_t answer = work_lanes(task, threads);
+    clear_traces();
+    return answer;
+}
+
+int rigzumal_argon2_threads(void *tag, size_t tag_size, const struct rigzumal_argon2 *numbers,
+                            const void *password, size_t password_size, const void *salt,
+                            size_t salt_size, const void *secret, size_t secret_size,
+                            const void *associated, size_t associated_size, uint32_t threads) {
+    struct task task = {.numbers = {numbers->kind, numbers->version, numbers->memory,
+                                    numbers->passes, numbers->lanes, (uint32_t)tag_size},
+                        .begin = begin_tag,
+                        .end = end_tag};
+    threads = useful_threads(&task.numbers, threads);
+    if (threads == 1 || tag_size > UINT32_MAX)
+        return rigzumal_argon2(tag, tag_size, numbers, password, password_size, salt, salt_size,
+                               secret, secret_size, associated, associated_size);
+    struct tag_inputs inputs = {&task.numbers, password,  salt,        secret,          associated,
+                                password_size, salt_size, secret_size, associated_size, tag};
+    task.inputs = &inputs;
+    return cleared_work(&task, threads);
+}
+
+struct check_inputs {
+    const char *record;
+    const void *password;
+    size_t password_size;
+};
+
+static uint8_t begin_check(const void *inputs, struct argon2_block *first, size_t count) {
+    const struct check_inputs *it = inputs;
+    return CALL(cred_check_begin, TEXT(it->record), BYTES(it->password, it->password_size), first,
+                count);
+}
+
+static uint8_t end_check(const void *inputs, const struct argon2_block *last, size_t count) {
+    const struct check_inputs *it = inputs;
+    return CALL(cred_check_end, TEXT(it->record), last, count);
+}
+
+int rigzumal_check_threads(const char *record, const void *password, size_t password_size,
+                           uint32_t threads) {
+    struct check_inputs inputs = {record, password, password_size};
+    struct task task = {.begin = begin_check, .end = end_check, .inputs = &inputs};
+    uint8_t fault = v1_cred_check_numbers(TEXT(record), &task.numbers);
+    threads = useful_threads(&task.numbers, threads);
+    if (fault != RIGZUMAL_OK || threads == 1)
+        return rigzumal_check(record, password, password_size);
+    return cleared_work(&task, threads);
+}
+
+struct record_inputs {
+    const struct setting *setting;
+    uint32_t tag_size;
+    const void *password;
+    size_t password_size;
+    char *text;
+    size_t text_size, *written;
+};
+
+static uint8_t begin_record(const void *inputs, struct argon2_block *first, size_t count) {
+    const struct record_inputs *it = inputs;
+    return CALL(cred_hash_begin, it->setting->text, it->setting->size, it->tag_size,
+                BYTES(it->password, it->password_size), first, count);
+}
+
+static uint8_t end_record(const void *inputs, const struct argon2_block *last, size_t count) {
+    const struct record_inputs *it = inputs;
+    return CALL(cred_hash_end, it->setting->text, it->setting->size, it->tag_size, last, count,
+                ROOM(it->text, it->text_size), it->written);
+}
+
+int rigzumal_record_threads(char *text, size_t text_size, size_t tag_size, const char *costs,
+                            const void *salt, size_t salt_size, const void *password,
+                            size_t password_size, uint32_t threads) {
+    struct setting setting;
+    int fault = make_setting(&setting, costs, salt, salt_size);
+    if (fault != RIGZUMAL_OK)
+        return fault;
+    size_t written = 0;
+    struct record_inputs inputs = {&setting, tag_size > UINT32_MAX ? 0 : (uint32_t)tag_size,
+                                   password, password_size,
+                                   text,     text_size,
+                                   &written};
+    struct task task = {.begin = begin_record, .end = end_record, .inputs = &inputs};
+    fault = v1_cred_hash_numbers(setting.text, setting.size, inputs.tag_size, &task.numbers);
+    threads = useful_threads(&task.numbers, threads);
+    if (fault != RIGZUMAL_OK || threads == 1)
+        return rigzumal_record(text, text_size, tag_size, (const char *)setting.text, NULL, 0,
+                               password, password_size);
+    fault = cleared_work(&task, threads);
+    if (fault == RIGZUMAL_OK)
+        text[written] = '\0';
+    return fault;
+}

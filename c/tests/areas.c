@@ -1,0 +1,65 @@
+/* Kept areas go to one thread at a time, and none is lost. heap.c is built over
+ * tests/slow_atomics.h, so that a thread rests before each step on the kept areas: what isn't one
+ * step is met by another thread. */
+#define _GNU_SOURCE
+#include "check.h"
+
+#include <pthread.h>
+#include <stdatomic.h>
+#include <stdbool.h>
+#include <stdint.h>
+#include <sys/mman.h>
+
+struct tried {
+    bool ok;
+    void *start;
+};
+
+struct tried rattle_alloc(size_t size, size_t align);
+void rattle_dealloc(void *start);
+
+enum { THREADS = 6, TURNS = 150, SIZE = 64 * 1024, KEPT = 32 * 1024 * 1024 };
+
+static _Atomic(size_t) mapped;
+
+void *__real_mmap(void *at, size_t size, int protection, int flags, int file, off_t offset);
+void *__wrap_mmap(void *at, size_t size, int protection, int flags, int file, off_t offset);
+int __real_munmap(void *start, size_t size);
+int __wrap_munmap(void *start, size_t size);
+
+void *__wrap_mmap(void *at, size_t size, int protection, int flags, int file, off_t offset) {
+    mapped += size;
+    return __real_mmap(at, size, protection, flags, file, offset);
+}
+
+int __wrap_munmap(void *start, size_t size) {
+    mapped -= size;
+    return __real_munmap(start, size);
+}
+
+static void *work(void *number) {
+    int byte = *(const int *)number;
+    for (int turn = 0; turn < TURNS; turn++) {
+        struct tried tried = rattle_alloc(SIZE, 8);
+        CHECK(tried.ok);
+        CHECK(is_all(tried.start, 0, SIZE));
+        memset(tried.start, byte, SIZE);
+        sched_yield();
+        CHECK(is_all(tried.start, byte, SIZE));
+        rattle_dealloc(tried.start);
+    }
+    return NULL;
+}
+
+int main(void) {
+    pthread_t threads[THREADS];
+    int numbers[THREADS];
+    for (int i = 0; i < THREADS; i++) {
+        numbers[i] = i + 1;
+        CHECK(pthread_create(&threads[i], NULL, work, &numbers[i]) == 0);
+    }
+    for (int i = 0; i < THREADS; i++)
+        CHECK(pthread_join(threads[i], NULL) == 0);
+    CHECK(mapped <= KEPT);
+    return 0;
+}

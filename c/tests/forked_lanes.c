@@ -1,0 +1,128 @@
+/* A child that is forked while lanes are worked in threads finds nothing of it: neither in the
+ * memory nor on the helpers' stacks, and can start threads of its own. src/lanes.c and src/heap.c
+ * are over a stand-in for a segment's export that leaves marks in both, on helpers alone, and waits
+ * for the fork. */
+#define _GNU_SOURCE
+#include "check.h"
+#include "lanes.h"
+#include "marks.h"
+
+#include <pthread.h>
+#include <stdatomic.h>
+#include <sys/wait.h>
+#include <unistd.h>
+
+enum { LANES = 4, SEGMENT = 64, TURNS = 10 };
+
+static pthread_t caller;
+static _Atomic(int) marked, is_forked;
+
+static uint8_t segment(struct argon2_block *own) {
+    if (!pthread_equal(pthread_self(), caller)) {
+        leave_marks();
+        own->words[5] = MARK;
+        marked++;
+    }
+    while (!is_forked)
+        usleep(50);
+    return 0;
+}
+
+#define STAND_IN(build)                                                                            \
+    uint8_t build##_cred_argon2_segment(                                                           \
+        const struct tag_numbers *numbers, const struct segment_index *index,                      \
+        const struct argon2_block *oldest, size_t oldest_count, const struct argon2_block *middle, \
+        size_t middle_count, const struct argon2_block *newest, size_t newest_count,               \
+        struct argon2_block *own, size_t own_count) {                                              \
+        (void)numbers, (void)index, (void)oldest, (void)oldest_count, (void)middle;                \
+        (void)middle_count, (void)newest, (void)newest_count, (void)own_count;                     \
+        return segment(own);                                                                       \
+    }
+
+STAND_IN(v1)
+STAND_IN(v2)
+STAND_IN(v3)
+
+uint8_t v1_cred_argon2_segment_len(const struct tag_numbers *numbers, uint32_t *segment_size) {
+    (void)numbers;
+    *segment_size = SEGMENT;
+    return 0;
+}
+
+static uint8_t begin(const void *inputs, struct argon2_block *first, size_t count) {
+    (void)inputs, (void)first, (void)count;
+    return 0;
+}
+
+static uint8_t end(const void *inputs, const struct argon2_block *last, size_t count) {
+    (void)inputs, (void)last, (void)count;
+    return 0;
+}
+
+static void *call(void *unused) {
+    struct task task = {{2, 0x13, 4 * LANES * SEGMENT, 1, LANES, 32}, begin, end, NULL};
+    caller = pthread_self();
+    CHECK_NUMBER(work_lanes(&task, LANES), 0);
+    return unused;
+}
+
+static void *nothing(void *unused) {
+    return unused;
+}
+
+/* A thread that forks, on a stack that a helper may have had before: its child has it as it is. */
+static void *fork_here(void *unused) {
+    volatile unsigned char depths[16 * 1024];
+    for (size_t i = 0; i < sizeof depths; i++)
+        depths[i] = (unsigned char)i;
+    pid_t child = fork();
+    for (size_t i = 0; i < sizeof depths; i++)
+        CHECK(depths[i] == (unsigned char)i);
+    if (child == 0)
+        _exit(0);
+    int status;
+    CHECK(child > 0 && waitpid(child, &status, 0) == child);
+    CHECK(WIFEXITED(status) && WEXITSTATUS(status) == 0);
+    return unused;
+}
+
+/* On as many stacks as there were helpers: the C library hands out those that they had. */
+static void test_stacks_after_a_call(void) {
+    pthread_t threads[LANES];
+    for (int i = 0; i < LANES; i++)
+        CHECK(pthread_create(&threads[i], NULL, fork_here, NULL) == 0);
+    for (int i = 0; i < LANES; i++)
+        CHECK(pthread_join(threads[i], NULL) == 0);
+}
+
+static void be_child(void) {
+    CHECK_NUMBER(marks_left(), 0);
+    pthread_t thread;
+    CHECK(pthread_create(&thread, NULL, nothing, NULL) == 0);
+    CHECK(pthread_join(thread, NULL) == 0);
+    CHECK_NUMBER(marks_left(), 0);
+    _exit(0);
+}
+
+int main(void) {
+    alarm(100);
+    for (int turn = 0; turn < TURNS; turn++) {
+        pthread_t thread;
+        marked = is_forked = 0;
+        CHECK(pthread_create(&thread, NULL, call, NULL) == 0);
+        while (marked == 0)
+            usleep(50);
+        CHECK(marks_left() > 0);
+        pid_t child = fork();
+        if (child == 0)
+            be_child();
+        is_forked = 1;
+        int status;
+        CHECK(child > 0 && waitpid(child, &status, 0) == child);
+        CHECK(WIFEXITED(status) && WEXITSTATUS(status) == 0);
+        CHECK(pthread_join(thread, NULL) == 0);
+        CHECK_NUMBER(marks_left(), 0);
+        test_stacks_after_a_call();
+    }
+    return 0;
+}

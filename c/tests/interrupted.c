@@ -1,0 +1,180 @@
+/* Calls with threads in a program that gets signals, cancels its threads, forks, and may start no
+ * thread: each tag is right, helpers handle no signal, and none is there after the call. */
+#define _GNU_SOURCE
+#include "check.h"
+#include "rigzumal.h"
+
+#include <dirent.h>
+#include <pthread.h>
+#include <signal.h>
+#include <stdatomic.h>
+#include <sys/resource.h>
+#include <sys/wait.h>
+#include <unistd.h>
+
+enum { LANES = 4, SIGNALS = 400, CANCELS = 20, FORKS = 20, NOBODY = 65534 };
+
+static unsigned char wanted[32];
+
+static void make_tag(unsigned char *tag, uint32_t threads) {
+    struct rigzumal_argon2 numbers = {RIGZUMAL_ARGON2ID, RIGZUMAL_VERSION_13, 8192, 1, LANES};
+    CHECK_NUMBER(rigzumal_argon2_threads(tag, 32, &numbers, "password", 8, "somesalt", 8, NULL, 0,
+                                         NULL, 0, threads),
+                 RIGZUMAL_OK);
+}
+
+static void try_tag(void) {
+    unsigned char tag[32];
+    make_tag(tag, LANES);
+    CHECK(memcmp(tag, wanted, sizeof tag) == 0);
+}
+
+static int threads_now(void) {
+    int count = 0;
+    DIR *tasks = opendir("/proc/self/task");
+    CHECK(tasks != NULL);
+    while (readdir(tasks) != NULL)
+        count++;
+    closedir(tasks);
+    return count;
+}
+
+static void *nothing(void *unused) {
+    return unused;
+}
+
+static int threads_before;
+
+/* The sanitizer of threads has one of its own beside the first that a program starts. */
+static void count_threads_before(void) {
+    pthread_t thread;
+    CHECK(pthread_create(&thread, NULL, nothing, NULL) == 0);
+    CHECK(pthread_join(thread, NULL) == 0);
+    usleep(10000);
+    threads_before = threads_now();
+}
+
+/* One that was joined may be listed for a moment more. */
+static void check_threads(void) {
+    for (int turn = 0; turn < 2000 && threads_now() > threads_before; turn++)
+        usleep(500);
+    CHECK_NUMBER(threads_now(), threads_before);
+}
+
+static _Thread_local int is_ours;
+static _Atomic(int) handled, handled_elsewhere, is_over;
+
+static void handle(int number) {
+    (void)number;
+    handled++;
+    handled_elsewhere += !is_ours;
+}
+
+static void *send_signals(void *caller) {
+    is_ours = 1;
+    for (int i = 0; i < SIGNALS; i++) {
+        if (i % 2 == 0)
+            kill(getpid(), SIGUSR1);
+        else
+            pthread_kill(*(pthread_t *)caller, SIGUSR1);
+        usleep(100);
+    }
+    is_over = 1;
+    return NULL;
+}
+
+static void test_signals(void) {
+    struct sigaction action = {.sa_handler = handle};
+    CHECK(sigaction(SIGUSR1, &action, NULL) == 0);
+    pthread_t sender, self = pthread_self();
+    is_ours = 1;
+    CHECK(pthread_create(&sender, NULL, send_signals, &self) == 0);
+    while (!is_over)
+        try_tag();
+    CHECK(pthread_join(sender, NULL) == 0);
+    CHECK(handled > 0);
+    CHECK_NUMBER(handled_elsewhere, 0);
+    check_threads();
+}
+
+static _Atomic(int) is_within, calls;
+
+static void *call_for_ever(void *unused) {
+    for (;;) {
+        is_within = 1;
+        try_tag();
+        is_within = 0;
+        calls++;
+        pthread_testcancel();
+    }
+    return unused;
+}
+
+static void test_cancellation(void) {
+    for (int turn = 0; turn < CANCELS; turn++) {
+        pthread_t thread;
+        void *result;
+        calls = 0;
+        CHECK(pthread_create(&thread, NULL, call_for_ever, NULL) == 0);
+        while (calls == 0)
+            usleep(100);
+        usleep((useconds_t)turn * 150);
+        CHECK(pthread_cancel(thread) == 0);
+        CHECK(pthread_join(thread, &result) == 0 && result == PTHREAD_CANCELED);
+        CHECK(!is_within);
+        check_threads();
+    }
+}
+
+static void wait_for(pid_t child) {
+    int status;
+    CHECK(child > 0 && waitpid(child, &status, 0) == child);
+    CHECK(WIFEXITED(status) && WEXITSTATUS(status) == 0);
+}
+
+/* Forks of one thread, in the midst of another's calls: those go on, and nothing is in a child that
+ * keeps it from its end. */
+static void test_forks(void) {
+    pthread_t thread;
+    CHECK(pthread_create(&thread, NULL, call_for_ever, NULL) == 0);
+    for (int turn = 0; turn < FORKS; turn++) {
+        int before = calls;
+        usleep((useconds_t)turn * 130);
+        pid_t child = fork();
+        if (child == 0)
+            _exit(0);
+        wait_for(child);
+        while (calls == before)
+            usleep(100);
+    }
+    CHECK(pthread_cancel(thread) == 0);
+    CHECK(pthread_join(thread, NULL) == 0);
+    check_threads();
+}
+
+/* In a child that may start no thread. */
+static void test_no_threads(void) {
+    pid_t child = fork();
+    if (child == 0) {
+        struct rlimit none = {1, 1};
+        pthread_t thread;
+        CHECK(setrlimit(RLIMIT_NPROC, &none) == 0);
+        CHECK(geteuid() != 0 || setuid(NOBODY) == 0);
+        CHECK(pthread_create(&thread, NULL, nothing, NULL) != 0 ||
+              pthread_create(&thread, NULL, nothing, NULL) != 0);
+        try_tag();
+        _exit(0);
+    }
+    wait_for(child);
+}
+
+int main(void) {
+    alarm(500);
+    make_tag(wanted, 1);
+    count_threads_before();
+    test_signals();
+    test_cancellation();
+    test_forks();
+    test_no_threads();
+    return 0;
+}

@@ -1,0 +1,34 @@
+/* Every call that reads a secret, of rigzumal.h and of argon2.h, with its secrets in one place. */
+#ifndef JOBS_H
+#define JOBS_H
+
+#include "rigzumal.h"
+
+#include <stddef.h>
+
+enum { TAG = 40, KEY = 48, ENCODED = 200 };
+
+/* All secrets, and all that is written: nothing of it may stand elsewhere after a call. */
+struct vault {
+    unsigned char password[48], secret[40];
+    unsigned char tag[TAG], tag_with_secret[TAG], key[KEY];
+    char record[RIGZUMAL_TEXT_SIZE], bad_record[RIGZUMAL_TEXT_SIZE];
+    char record_with_secret[RIGZUMAL_TEXT_SIZE], scrypt_record[RIGZUMAL_TEXT_SIZE];
+    char setting[RIGZUMAL_TEXT_SIZE]; /* with the tag where a salt ought to be */
+    char text[RIGZUMAL_TEXT_SIZE];
+    unsigned char made[64];
+};
+
+struct job {
+    const char *name;
+    int (*call)(struct vault *vault);
+    int answer;
+};
+
+extern const struct job jobs[];
+extern const int job_count;
+
+/* Fills the vault: the secrets by a rule, and the rest by the calls. */
+void fill_vault(struct vault *vault);
+
+#endif
