@@ -1,0 +1,159 @@
+"""What a whole operation does at the copy of a record; no database is in here."""
+
+from __future__ import annotations
+
+import base64
+import os
+from collections.abc import Callable, Iterable
+from typing import Final, Optional, Union
+
+from rigzumal._hashers import PasswordHasher, ScryptHasher
+from rigzumal._library import InvalidRecordError
+from rigzumal._parts import Parts, parts
+from rigzumal.accounts._step import is_right, step
+from rigzumal.accounts._values import Copy, Kind, Reply, Ticket, Worked
+
+Hasher = Union[PasswordHasher, ScryptHasher]
+
+Foreign = Callable[[str, bytes], Optional[bool]]
+"""Judges a text that is no record of ours: whether it is one of the password.
+
+None says that no password is right and that nothing was hashed, as of a login that was
+shut: then a hash of ours is made, so that it takes as long.
+"""
+
+_TAG_SIZE: Final = 32
+
+
+class Judge:
+    """Works requests at copies, with new records by one hasher.
+
+    Args:
+        hasher: makes the settings of new records. Its tags have 32 bytes, and it has
+            no secret.
+        foreign: judges texts of other schemes.
+        upgrade_from: costs as at the front of a record
+            ("$argon2i$v=19$m=65536,t=3,p=4") that an upgrade replaces, whether its own
+            are higher or not.
+
+    Raises:
+        ValueError: the hasher's tags haven't 32 bytes, it has a secret, or its own
+            costs are in the list.
+        InvalidRecordError: the hasher's costs are out of range, or one of the list is
+            none.
+    """
+
+    def __init__(
+        self,
+        hasher: Hasher,
+        foreign: Optional[Foreign] = None,
+        upgrade_from: Iterable[str] = (),
+    ) -> None:
+        if hasher.hash_len != _TAG_SIZE:
+            raise ValueError(f"records of accounts have tags of {_TAG_SIZE} bytes")
+        if getattr(hasher, "secret", None) is not None:
+            raise ValueError("records of accounts are made without a secret")
+        self._hasher, self._foreign = hasher, foreign
+        self._dummy = f"{self._setting()}${_base64(os.urandom(_TAG_SIZE))}"
+        self._parts = parts(self._dummy)
+        old = [_parts_of_setting(f"{costs}${'A' * 22}") for costs in upgrade_from]
+        self._old = frozenset(it.costs for it in old)
+        if self._parts.costs in self._old:
+            raise ValueError(
+                "an upgrade would be from the hasher's costs to themselves"
+            )
+
+    def work(self, ticket: Ticket) -> Worked:
+        """What the whole operation does at the ticket's copy.
+
+        Whoever has no record costs one hash too, as does an account that isn't there.
+
+        Raises:
+            InvalidRecordError: the copy is of another scheme, and no hook judges it.
+            OutOfMemoryError: there was too little memory.
+        """
+        request, copy = ticket.request, ticket.copy
+        reply, after = self._judged(ticket)
+        if not isinstance(copy, str) and request.kind not in (Kind.ENROL, Kind.RESET):
+            is_right(self._dummy, request.password)
+        return Worked(ticket, reply, after)
+
+    def _judged(self, ticket: Ticket) -> tuple[Reply, Copy]:
+        request, copy = ticket.request, ticket.copy
+        if copy is not None and not isinstance(copy, str):
+            return Reply.NO_ACCOUNT, copy
+        password, new = request.password, request.new_password
+        if request.kind is Kind.RESET:
+            _, made = step(Kind.ENROL, None, new, b"", self._setting())
+            return (Reply.ENROLLED if copy is None else Reply.REPLACED), made
+        if copy is not None and request.kind is Kind.ENROL:
+            # Whatever text stands: an enrolment doesn't read it, and a step would.
+            return Reply.EXISTS, copy
+        setting = self._setting()
+        if copy is not None:
+            try:
+                found = parts(copy)
+            except InvalidRecordError:
+                if self._foreign is None:
+                    raise
+                return self._judged_by_hook(self._foreign, ticket, copy)
+            if request.kind is Kind.UPGRADE and not self._goes_up(found):
+                reply, _ = step(Kind.VERIFY, copy, password, b"", setting)
+                return (Reply.KEPT if reply is Reply.YES else Reply.WRONG), copy
+        return step(request.kind, copy, password, new, setting)
+
+    def _judged_by_hook(
+        self, foreign: Foreign, ticket: Ticket, copy: str
+    ) -> tuple[Reply, Copy]:
+        """The same at a text of another scheme, which any upgrade replaces."""
+        request = ticket.request
+        assert isinstance(request.password, bytes)
+        right = foreign(copy, request.password)
+        if right is None:
+            is_right(self._dummy, request.password)
+        if request.kind is Kind.VERIFY:
+            return (Reply.YES if right else Reply.NO), copy
+        if not right:
+            return Reply.WRONG, copy
+        if request.kind is Kind.REMOVE:
+            return Reply.REMOVED, None
+        changed = request.kind is Kind.CHANGE
+        new = request.new_password if changed else request.password
+        _, made = step(Kind.ENROL, None, new, b"", self._setting())
+        return (Reply.REPLACED if changed else Reply.UPGRADED), made
+
+    def _setting(self) -> str:
+        salt = os.urandom(self._hasher.salt_len)
+        return f"{self._hasher._costs()}${_base64(salt)}"
+
+    def _goes_up(self, found: Parts) -> bool:
+        """Whether an upgrade replaces a record of these numbers.
+
+        No way up leads back: of one scheme, neither version, memory nor work is lower,
+        and one of them is higher. So two versions of a service don't flip records to
+        and fro.
+        """
+        if found.costs in self._old:
+            return True
+        old, new = _dearness(found), _dearness(self._parts)
+        return (
+            found.scheme == self._parts.scheme
+            and old != new
+            and all(one <= two for one, two in zip(old, new))
+        )
+
+
+def _dearness(found: Parts) -> tuple[int, int, int]:
+    """Version, memory and work, in units that don't matter within one scheme."""
+    if found.scheme == "scrypt":
+        memory = found.passes << found.memory
+        return found.version, memory, memory * found.lanes
+    return found.version, found.memory, found.memory * found.passes
+
+
+def _parts_of_setting(setting: str) -> Parts:
+    return parts(f"{setting}${_base64(bytes(_TAG_SIZE))}")
+
+
+def _base64(data: bytes) -> str:
+    return base64.b64encode(data).decode().rstrip("=")

@@ -1,0 +1,140 @@
+"""What the operations on accounts take and answer."""
+
+from __future__ import annotations
+
+import enum
+import uuid
+from dataclasses import dataclass, field
+from typing import Final, Optional, Union
+
+from rigzumal._library import Secret, bytes_of
+
+Key = Union[int, str, bytes, uuid.UUID]
+"""What names an account: of its column's type."""
+
+
+LONGEST_PASSWORD: Final = 256
+"""Bytes of the longest password. A longer one is refused, and never cut off."""
+
+
+class Reply(enum.Enum):
+    """What an operation answers."""
+
+    ENROLLED = "enrolled"
+    EXISTS = "exists"
+    YES = "yes"
+    NO = "no"
+    ABSENT = "absent"
+    REPLACED = "replaced"
+    WRONG = "wrong"
+    UPGRADED = "upgraded"
+    KEPT = "kept"
+    REMOVED = "removed"
+    CHANGED = "changed"
+    NO_ACCOUNT = "noaccount"
+
+    @property
+    def makes_change(self) -> bool:
+        """Whether another record stands after it, or none does any more."""
+        return self in _CHANGES
+
+
+_CHANGES: Final = frozenset(
+    {Reply.ENROLLED, Reply.REPLACED, Reply.UPGRADED, Reply.REMOVED}
+)
+
+
+class Kind(enum.Enum):
+    """The operations."""
+
+    ENROL = "enrol"
+    VERIFY = "verify"
+    CHANGE = "change"
+    UPGRADE = "upgrade"
+    REMOVE = "remove"
+    RESET = "reset"
+
+
+class NoRow(enum.Enum):
+    """What is found if there is no account."""
+
+    NO_ROW = "no row"
+
+
+NO_ROW: Final = NoRow.NO_ROW
+
+Copy = Union[str, None, NoRow]
+"""An account's record as it was read; None for no record, NO_ROW for no account."""
+
+
+@dataclass(frozen=True)
+class Request:
+    """An operation to be done on an account.
+
+    Attributes:
+        kind: which.
+        key: the account's name, of its column's type.
+        password: bytes or text, up to 256 bytes; not of a reset.
+        new_password: of a change and of a reset.
+
+    Raises:
+        TypeError: a password is neither bytes nor text.
+        ValueError: a password has over 256 bytes, or is text that has no UTF-8.
+    """
+
+    kind: Kind
+    key: Key
+    password: Secret = field(default=b"", repr=False)
+    new_password: Secret = field(default=b"", repr=False)
+
+    def __post_init__(self) -> None:
+        for name in ("password", "new_password"):
+            password = bytes_of(getattr(self, name))
+            if len(password) > LONGEST_PASSWORD:
+                raise ValueError(f"a password has up to {LONGEST_PASSWORD} bytes")
+            object.__setattr__(self, name, password)
+
+
+@dataclass(frozen=True)
+class Ticket:
+    """A request that was begun, with the copy of the account's record."""
+
+    request: Request
+    copy: Copy = field(repr=False)
+
+
+@dataclass(frozen=True)
+class Worked:
+    """What the whole operation does at the copy: its reply, and the record after it."""
+
+    ticket: Ticket
+    reply: Reply
+    after: Copy = field(repr=False)
+
+
+@dataclass(frozen=True)
+class Answer:
+    """A reply, the record at which it was judged and the one that stands after it."""
+
+    reply: Reply
+    before: Copy = field(repr=False)
+    after: Copy = field(repr=False)
+
+
+class AccountsError(Exception):
+    """What an operation on accounts may raise of its own."""
+
+
+class StoreFault(AccountsError):
+    """The table, the server or a connection isn't as it has to be; nothing was done."""
+
+
+class Unavailable(AccountsError):
+    """No server took the operation in time; nothing was done."""
+
+
+class OutcomeUnknown(AccountsError):
+    """COMMIT was sent, no answer came, and what stands doesn't tell what was done.
+
+    The change may stand, may have stood and been replaced, or may still come to stand.
+    """
