@@ -1,7 +1,12 @@
 """Tests of the Python package, over records of other programs and hashlib's scrypt."""
 
+import base64
+import concurrent.futures
+import copy
 import hashlib
+import multiprocessing
 import os
+import pickle
 import subprocess
 import sys
 import threading
@@ -20,6 +25,87 @@ def run(words, given):
     return subprocess.run(
         [sys.executable, "-m", "rigzumal", *words], input=given, capture_output=True
     )
+
+
+class Calls:
+    """The library, with the name and the last argument of each call noted."""
+
+    def __init__(self):
+        self.library, self.made = rigzumal._library._library, []
+
+    def __enter__(self):
+        rigzumal._library._library = self
+        return self
+
+    def __exit__(self, *_):
+        rigzumal._library._library = self.library
+
+    def __getattr__(self, name):
+        def call(*given):
+            self.made.append((name, given[-1]))
+            return getattr(self.library, name)(*given)
+
+        return call
+
+
+class Threads(unittest.TestCase):
+    def test_a_record_is_the_same(self):
+        for secret in (None, b"pepper"):
+            one = PasswordHasher(1, 8192, 4, secret=secret)
+            four = PasswordHasher(1, 8192, 4, secret=secret, threads=4)
+            record = four.hash("password", salt=b"sixteen of salt.")
+            self.assertEqual(record, one.hash("password", salt=b"sixteen of salt."))
+            self.assertTrue(one.verify(record, "password"))
+            self.assertTrue(four.verify(record, "password"))
+            with self.assertRaises(rigzumal.VerifyMismatchError):
+                four.verify(record, "Password")
+            self.assertFalse(four.check_needs_rehash(record))
+        costs = {"time_cost": 1, "memory_cost": 8192, "parallelism": 4}
+        tags = {rigzumal.argon2("x", b"somesalt", **costs, threads=n) for n in (1, 2, 4, 9)}
+        self.assertEqual(len(tags), 1)
+
+    def test_those_that_are_asked_for(self):
+        for threads in (1, 3):
+            with Calls() as calls:
+                hasher = PasswordHasher(1, 64, 4, threads=threads)
+                hasher.verify(hasher.hash("x"), "x")
+                hasher = PasswordHasher(1, 64, 4, secret=b"pepper", threads=threads)
+                hasher.verify(hasher.hash("x"), "x")
+                costs = {"time_cost": 1, "memory_cost": 64, "parallelism": 4}
+                rigzumal.argon2("x", b"somesalt", **costs, threads=threads)
+            names = "record check record_with_secret check_with_secret argon2".split()
+            wanted = [(f"rigzumal_{name}_threads", threads) for name in names]
+            self.assertEqual(calls.made, wanted)
+
+    def test_one_if_none_are_asked_for(self):
+        with Calls() as calls:
+            SMALL.verify(SMALL.hash("x"), "x")
+            rigzumal.argon2("x", b"somesalt", time_cost=1, memory_cost=64, parallelism=4)
+            hasher = ScryptHasher(log2_n=1)
+            hasher.verify(hasher.hash("x"), "x")
+        self.assertEqual({threads for _, threads in calls.made}, {1})
+
+    def test_those_of_argon2_cffi_are_its_parallelism(self):
+        from rigzumal import argon2_cffi
+
+        hasher = argon2_cffi.PasswordHasher(1, 64, 4)
+        with Calls() as calls:
+            hasher.verify(hasher.hash("x"), "x")
+        made = dict(calls.made)
+        self.assertEqual(made["rigzumal_argon2_threads"], 4)
+        self.assertEqual(made["rigzumal_check_threads"], 255)  # as many as there are lanes
+
+    def test_bad_numbers(self):
+        for bad in (0, -1):
+            with self.assertRaises(ValueError):
+                PasswordHasher(threads=bad)
+        for bad in ("2", 2.0, None, True):
+            with self.assertRaises(TypeError):
+                PasswordHasher(threads=bad)
+        with self.assertRaises(OverflowError):
+            PasswordHasher(1, 64, 4, threads=2**32).hash("x")
+        with self.assertRaises(OverflowError):
+            rigzumal.argon2("x", b"somesalt", time_cost=1, memory_cost=64, parallelism=4, threads=-1)
 
 
 class Hashers(unittest.TestCase):
@@ -48,6 +134,36 @@ class Hashers(unittest.TestCase):
         self.assertTrue(hasher.verify(record, "password"))
         with self.assertRaises(rigzumal.VerifyMismatchError):
             hasher.verify(record, "another")
+
+    def test_keys_and_passwords_of_every_length_are_hashlibs(self):
+        for length in [*range(1, 8), *range(62, 101), 1000]:
+            key = rigzumal.scrypt(b"password", b"salt", log2_n=2, r=1, p=1, length=length)
+            wanted = hashlib.scrypt(b"password", salt=b"salt", n=4, r=1, p=1, dklen=length)
+            self.assertEqual(key, wanted)
+        for length in (0, 1, 63, 64, 65, 255, 256, 257, 300, 1000, 5000, 100_000):
+            password = bytes(i * 37 % 251 for i in range(length))
+            key = rigzumal.scrypt(password, password[:99], log2_n=1, r=1, p=1)
+            wanted = hashlib.scrypt(password, salt=password[:99], n=2, r=1, p=1, dklen=32)
+            self.assertEqual(key, wanted)
+
+    def test_a_secret_is_rfc_9106s(self):
+        hasher = PasswordHasher(2, 256, 1, secret=b"pepper")
+        record = hasher.hash("password", salt=b"somesalt")
+        tag = rigzumal.argon2(
+            "password", b"somesalt", time_cost=2, memory_cost=256, parallelism=1, secret=b"pepper"
+        )
+        self.assertEqual(record.rsplit("$", 1)[1], base64.b64encode(tag).decode().rstrip("="))
+        self.assertTrue(hasher.verify(record, "password"))
+        for other in (SMALL, PasswordHasher(2, 256, 1, secret=b"Pepper"), PasswordHasher(secret=b"")):
+            with self.assertRaises(rigzumal.VerifyMismatchError):
+                other.verify(record, "password")
+        with self.assertRaises(rigzumal.VerifyMismatchError):
+            hasher.verify(record, "Password")
+        self.assertTrue(PasswordHasher(secret=b"").verify(ARGON2, "password"))
+        self.assertFalse(PasswordHasher(2, 256, 1, salt_len=8).check_needs_rehash(record))
+        with self.assertRaises(rigzumal.InvalidRecordError):
+            hasher.verify(ScryptHasher(log2_n=4).hash("x"), "x")
+        self.assertNotIn("pepper", repr(hasher))
 
     def test_rehash(self):
         self.assertFalse(SMALL.check_needs_rehash(SMALL.hash("x")))
@@ -94,6 +210,67 @@ class Hashers(unittest.TestCase):
         for thread in threads:
             thread.join()
         self.assertEqual(found, [ARGON2] * 160)
+
+
+class Salts(unittest.TestCase):
+    """Where a salt comes from, by a getrandom that is the test's own."""
+
+    def salts(self, script, **env):
+        shim = os.environ.get("GETRANDOM_SHIM")
+        if shim is None:
+            self.skipTest("GETRANDOM_SHIM names none")
+        script = "import rigzumal; h = rigzumal.PasswordHasher(1, 8, 1)\n" + script
+        env = {**os.environ, "LD_PRELOAD": shim, **env}
+        done = subprocess.run([sys.executable, "-c", script], capture_output=True, env=env)
+        return done.stdout.decode() or done.stderr.decode()
+
+    def test_salts_are_the_systems(self):
+        said = self.salts("for it in range(2): print(h.hash('x').split('$')[4])")
+        found = [base64.b64decode(it + "==") for it in said.split()]
+        self.assertEqual([len(it) for it in found], [16, 16])
+        for salt in found:
+            self.assertEqual([byte - salt[0] for byte in salt], list(range(16)))
+        self.assertEqual(found[1][0], found[0][15] + 1)
+
+    def test_salts_of_scrypt_and_with_secrets_are_the_systems(self):
+        for hasher in ("ScryptHasher(log2_n=1)", "PasswordHasher(1, 8, 1, secret=b'x')"):
+            salt = self.salts(f"print(rigzumal.{hasher}.hash('x').split('$')[-2])")
+            salt = base64.b64decode(salt.strip() + "==")
+            self.assertEqual([byte - salt[0] for byte in salt], list(range(16)))
+
+    def test_no_salt_is_a_fault(self):
+        said = self.salts(
+            "try: h.hash('x')\nexcept rigzumal.NoRandomError as e: print(e.number, e.word)",
+            GETRANDOM_REFUSED="1",
+        )
+        self.assertEqual(said, "26 norandom\n")
+
+
+def fail(_):
+    SMALL.verify(ARGON2, "another")
+
+
+class Exceptions(unittest.TestCase):
+    def test_they_survive_pickle_and_copy(self):
+        for kind, number in (
+            (rigzumal.VerifyMismatchError, 10),
+            (rigzumal.InvalidRecordError, 3),
+            (rigzumal.InvalidNumbersError, 14),
+            (rigzumal.OutOfMemoryError, 8),
+            (rigzumal.NoRandomError, 23),
+        ):
+            made = kind(number)
+            for other in (pickle.loads(pickle.dumps(made)), copy.copy(made), copy.deepcopy(made)):
+                self.assertIs(type(other), kind)
+                found = (other.number, other.word, str(other))
+                self.assertEqual(found, (number, made.word, str(made)))
+
+    def test_they_come_out_of_other_processes(self):
+        context = multiprocessing.get_context("spawn")
+        with concurrent.futures.ProcessPoolExecutor(1, mp_context=context) as pool:
+            with self.assertRaises(rigzumal.VerifyMismatchError) as raised:
+                list(pool.map(fail, [0]))
+        self.assertEqual(str(raised.exception), "the record is of another password")
 
 
 class Refusals(unittest.TestCase):
@@ -144,6 +321,31 @@ class Refusals(unittest.TestCase):
         for wrong in (5, None, ["x"]):
             with self.assertRaises(TypeError):
                 SMALL.hash(wrong)
+        for wrong in (16, "somesalt", [1] * 16, (b"somesalt",)):
+            with self.assertRaises(TypeError):
+                SMALL.hash("x", salt=wrong)
+            with self.assertRaises(TypeError):
+                ScryptHasher(log2_n=1).hash("x", salt=wrong)
+            with self.assertRaises(TypeError):
+                rigzumal.scrypt("x", wrong, log2_n=1, r=1, p=1)
+            costs = {"time_cost": 1, "memory_cost": 8, "parallelism": 1}
+            with self.assertRaises(TypeError):
+                rigzumal.argon2("x", wrong, **costs)
+            with self.assertRaises(TypeError):
+                rigzumal.argon2("x", b"somesalt", associated=wrong, **costs)
+            with self.assertRaises(TypeError):
+                PasswordHasher(secret=wrong)
+        for name in ("time_cost", "memory_cost", "parallelism", "hash_len", "salt_len"):
+            for wrong in ("3", 3.0, None, True):
+                with self.assertRaises(TypeError, msg=name):
+                    PasswordHasher(**{name: wrong})
+        for name in ("log2_n", "block_size", "parallelism", "hash_len", "salt_len"):
+            with self.assertRaises(TypeError, msg=name):
+                ScryptHasher(**{name: "3"})
+        with self.assertRaises(ValueError):
+            PasswordHasher(type=7)
+        with self.assertRaises(TypeError):
+            rigzumal.argon2("x", b"somesalt", time_cost="1", memory_cost=8, parallelism=1)
         with self.assertRaises(ValueError) as raised:
             SMALL.hash("pass\ud800word")
         self.assertNotIn("pass", str(raised.exception))
@@ -174,6 +376,25 @@ class Shell(unittest.TestCase):
         self.assertIn(b"1 shape", bad.stderr)
         scrypt = run(["hash", "--scrypt", "--log2-n", "4"], b"secret")
         self.assertTrue(scrypt.stdout.startswith(b"$scrypt$ln=4,r=8,p=1$"))
+
+    def test_calibration(self):
+        done = run(["calibrate", "--target-ms", "40", "--memory", "4M", "--lanes", "1"], b"")
+        self.assertEqual(done.returncode, 0, done.stderr)
+        costs = done.stdout.decode().strip()
+        self.assertRegex(costs, r"^\$argon2id\$v=19\$m=\d+,t=\d+,p=1$")
+        times = [line.split()[-2:] for line in done.stderr.decode().splitlines() if costs in line]
+        self.assertTrue(times and all(float(ms) <= 40 and unit == "ms" for ms, unit in times))
+        least = run(["calibrate", "--target-ms", "0.001", "--memory", "1M", "--lanes", "2"], b"")
+        self.assertEqual(least.stdout, b"$argon2id$v=19$m=16,t=1,p=2\n")
+        self.assertEqual(run(["calibrate", "--memory", "4X"], b"").returncode, 2)
+        more = run(["calibrate", "--target-ms", "1", "--memory", "4M", "--threads", "2"], b"")
+        self.assertIn(b",p=4", more.stdout)
+        for bad in ("0", "-1", "x"):
+            refused = run(["calibrate", "--threads", bad], b"")
+            self.assertEqual((refused.returncode, b"Traceback" in refused.stderr), (2, False))
+
+    def test_the_version_is_the_headers(self):
+        self.assertRegex(rigzumal.version(), r"^\d+\.\d+\.\d+$")
 
     def test_nothing_secret_is_shown(self):
         self.assertNotIn("hunter2", repr(SMALL) + repr(ScryptHasher()))

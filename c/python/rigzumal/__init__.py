@@ -13,20 +13,27 @@ from rigzumal._hashers import PasswordHasher, ScryptHasher, Type, argon2, scrypt
 from rigzumal._library import (
     InvalidNumbersError,
     InvalidRecordError,
+    NoRandomError,
     OutOfMemoryError,
     RigzumalError,
     VerifyMismatchError,
+    version,
 )
+from rigzumal._parts import Parts, parts
 
 __all__ = [
     "InvalidNumbersError",
     "InvalidRecordError",
+    "NoRandomError",
     "OutOfMemoryError",
+    "Parts",
     "PasswordHasher",
     "RigzumalError",
     "ScryptHasher",
     "Type",
     "VerifyMismatchError",
     "argon2",
+    "parts",
     "scrypt",
+    "version",
 ]

@@ -5,7 +5,7 @@ from __future__ import annotations
 import ctypes
 import os
 import pathlib
-from typing import Any, Final, Union
+from typing import Any, Final, NamedTuple, Optional, Union
 
 Secret = Union[bytes, str]
 """A password or the like: bytes, or text, which stands for its bytes in UTF-8."""
@@ -14,6 +14,8 @@ TEXT_SIZE: Final = 513
 OK: Final = 0
 MEMORY: Final = 8
 MISMATCH: Final = 10
+INPUT_SIZE: Final = 18
+NO_RANDOM: Final = 26
 
 
 class RigzumalError(Exception):
@@ -28,6 +30,9 @@ class RigzumalError(Exception):
         super().__init__(_library.rigzumal_strerror(number).decode())
         self.number = number
         self.word: str = _library.rigzumal_word(number).decode()
+
+    def __reduce__(self) -> tuple[Any, ...]:
+        return type(self), (self.number,)
 
 
 class VerifyMismatchError(RigzumalError):
@@ -46,6 +51,10 @@ class InvalidNumbersError(RigzumalError, ValueError):
     """A cost, a kind, a version or a size is outside its range."""
 
 
+class NoRandomError(RigzumalError):
+    """The system gave no random bytes for a salt."""
+
+
 def raise_fault(number: int) -> None:
     """Raises the exception of a fault's number, and returns where there is none."""
     if number == OK:
@@ -54,6 +63,8 @@ def raise_fault(number: int) -> None:
         raise VerifyMismatchError(number)
     if number == MEMORY:
         raise OutOfMemoryError(number)
+    if number == NO_RANDOM:
+        raise NoRandomError(number)
     if number < MISMATCH:
         raise InvalidRecordError(number)
     raise InvalidNumbersError(number)
@@ -77,11 +88,22 @@ def bytes_of(secret: Secret) -> bytes:
     return bytes(secret)
 
 
+def data_of(data: object) -> bytes:
+    """The bytes of a salt or the like, which no text stands for.
+
+    Raises:
+        TypeError: it isn't bytes, a bytearray or a memoryview.
+    """
+    if not isinstance(data, (bytes, bytearray, memoryview)):
+        raise TypeError(f"bytes are wanted, not {type(data).__name__}")
+    return bytes(data)
+
+
 def text_bytes(text: Secret) -> bytes:
     """The bytes of a record or a setting, for a call that takes a string of C.
 
     Raises:
-        InvalidRecordError: where a zero byte stands in it, which no record has.
+        InvalidRecordError: a zero byte stands in it, which no record has.
     """
     found = bytes_of(text)
     if b"\0" in found:
@@ -121,63 +143,107 @@ class Parts(ctypes.Structure):
     ]
 
 
+NAME: Final = "librigzumal.so.1"
+
+
 def _path() -> str:
-    """The file that RIGZUMAL_LIBRARY names, else make's, else the installed one."""
+    """The file that RIGZUMAL_LIBRARY names; otherwise the package's, make's, or the system's."""
     named = os.environ.get("RIGZUMAL_LIBRARY")
     if named:
         return named
     here = pathlib.Path(__file__).resolve().parent
     for folder in (here, here.parent.parent / "out"):
-        if (folder / "librigzumal.so").exists():
-            return str(folder / "librigzumal.so")
-    return "librigzumal.so"
+        if (folder / NAME).exists():
+            return str(folder / NAME)
+    return NAME
+
+
+def _opened() -> ctypes.CDLL:
+    try:
+        return ctypes.CDLL(_path())
+    except OSError as refused:
+        hint = "build it by `make -C c`, or name it in RIGZUMAL_LIBRARY"
+        raise ImportError(f"{NAME} can't be loaded: {hint}: {refused}") from None
 
 
 def _load() -> Any:
-    library = ctypes.CDLL(_path())
+    library = _opened()
     pointer, size = ctypes.c_char_p, ctypes.c_size_t
     data = [pointer, size]
+    library.rigzumal_version.restype = pointer
     library.rigzumal_strerror.restype = pointer
     library.rigzumal_word.restype = pointer
-    library.rigzumal_record.argtypes = data + [size, pointer] + data * 2
-    library.rigzumal_check.argtypes = [pointer] + data
+    made = data + [size, pointer] + data * 2
+    check, threads = [pointer] + data, ctypes.c_uint32
+    library.rigzumal_record_threads.argtypes = [*made, threads]
+    library.rigzumal_record_with_secret_threads.argtypes = [*made, *data, threads]
+    library.rigzumal_check_threads.argtypes = [*check, threads]
+    library.rigzumal_check_with_secret_threads.argtypes = [*check, *data, threads]
     library.rigzumal_record_fault.argtypes = [pointer]
     library.rigzumal_setting_fault.argtypes = [pointer]
     library.rigzumal_parts.argtypes = [ctypes.POINTER(Parts), pointer]
-    numbers = [ctypes.POINTER(Argon2Numbers)]
-    library.rigzumal_argon2.argtypes = data + numbers + data * 4
-    numbers = [ctypes.POINTER(ScryptNumbers)]
-    library.rigzumal_scrypt.argtypes = data + numbers + data * 2
+    argon2, scrypt = ctypes.POINTER(Argon2Numbers), ctypes.POINTER(ScryptNumbers)
+    library.rigzumal_argon2_threads.argtypes = [*data, argon2, *data * 4, threads]
+    library.rigzumal_argon2_write.argtypes = [*data, argon2, *data * 2]
+    library.rigzumal_scrypt.argtypes = [*data, scrypt, *data * 2]
     return library
 
 
 _library = _load()
 
 
-def record(costs: str, salt: bytes, tag_size: int, password: Secret) -> str:
-    """rigzumal_record."""
+def version() -> str:
+    """rigzumal_version."""
+    found: bytes = _library.rigzumal_version()
+    return found.decode()
+
+
+def pair(data: bytes) -> tuple[bytes, int]:
+    """A pointer and its size, as the calls take them."""
+    return data, len(data)
+
+
+class Salt(NamedTuple):
+    """A salt, or how many bytes of one the library is to draw."""
+
+    data: Optional[bytes]
+    size: int
+
+
+def record(
+    costs: str,
+    salt: Salt,
+    tag_size: int,
+    password: Secret,
+    secret: Optional[bytes] = None,
+    threads: int = 1,
+) -> str:
+    """rigzumal_record_threads, or if there is a secret rigzumal_record_with_secret_threads."""
     text = ctypes.create_string_buffer(TEXT_SIZE)
-    secret = bytes_of(password)
-    raise_fault(
-        _library.rigzumal_record(
-            text,
-            TEXT_SIZE,
-            checked(tag_size),
-            text_bytes(costs),
-            salt,
-            len(salt),
-            secret,
-            len(secret),
-        )
-    )
+    room = (text, TEXT_SIZE, checked(tag_size), text_bytes(costs))
+    given = (*room, salt.data, checked(salt.size), *pair(bytes_of(password)))
+    if secret is None:
+        fault = _library.rigzumal_record_threads(*given, checked(threads))
+    else:
+        key = (*pair(secret), checked(threads))
+        fault = _library.rigzumal_record_with_secret_threads(*given, *key)
+    raise_fault(fault)
     return text.value.decode()
 
 
-def check(text: Secret, password: Secret) -> int:
-    """rigzumal_check: the number that it answers."""
-    secret = bytes_of(password)
-    answer: int = _library.rigzumal_check(text_bytes(text), secret, len(secret))
-    return answer
+def check(
+    text: Secret,
+    password: Secret,
+    secret: Optional[bytes] = None,
+    threads: int = 1,
+) -> int:
+    """What rigzumal_check_threads answers, or if there is a secret
+    rigzumal_check_with_secret_threads."""
+    known = (text_bytes(text), *pair(bytes_of(password)))
+    if secret is None:
+        return int(_library.rigzumal_check_threads(*known, checked(threads)))
+    call = _library.rigzumal_check_with_secret_threads
+    return int(call(*known, *pair(secret), checked(threads)))
 
 
 def parts(text: Secret) -> Parts:
@@ -187,12 +253,20 @@ def parts(text: Secret) -> Parts:
     return found
 
 
+def whole_number(name: str, number: object) -> None:
+    """Raises a TypeError that names the number if it is no int."""
+    if not isinstance(number, int) or isinstance(number, bool):
+        raise TypeError(f"{name} is to be an int, not {type(number).__name__}")
+
+
 def checked(number: int) -> int:
     """A number that ctypes cuts nothing off.
 
     Raises:
-        OverflowError: where it isn't 0 to 2^32 - 1.
+        TypeError: it is no int.
+        OverflowError: it isn't 0 to 2^32 - 1.
     """
+    whole_number("the number", number)
     if not 0 <= number < 2**32:
         raise OverflowError("the number is not 0 to 2^32 - 1")
     return number
@@ -205,15 +279,32 @@ def raw_argon2(
     secret: bytes,
     associated: bytes,
     tag_size: int,
+    threads: int = 1,
 ) -> bytes:
-    """rigzumal_argon2."""
+    """rigzumal_argon2_threads."""
     tag = ctypes.create_string_buffer(checked(tag_size))
     given: list[object] = []
     for data in (password, salt, secret, associated):
         given += [data, len(data)]
     costs = Argon2Numbers(*map(checked, numbers))
-    raise_fault(_library.rigzumal_argon2(tag, tag_size, ctypes.byref(costs), *given))
+    raise_fault(
+        _library.rigzumal_argon2_threads(
+            tag, tag_size, ctypes.byref(costs), *given, checked(threads)
+        )
+    )
     return tag.raw
+
+
+def written_argon2(numbers: tuple[int, ...], salt: bytes, tag: bytes) -> str:
+    """rigzumal_argon2_write."""
+    text = ctypes.create_string_buffer(TEXT_SIZE)
+    costs = Argon2Numbers(*map(checked, numbers))
+    raise_fault(
+        _library.rigzumal_argon2_write(
+            text, TEXT_SIZE, ctypes.byref(costs), *pair(salt), *pair(tag)
+        )
+    )
+    return text.value.decode()
 
 
 def raw_scrypt(

@@ -1,0 +1,105 @@
+"""Makes the wheel: pip calls it (PEP 517), and so does `make -C c wheel`.
+
+    python3 build_backend.py FOLDER
+
+The wheel holds the library that `make -C c` has built. It is for this machine's platform, and for
+every Python 3: the library is loaded by ctypes.
+"""
+
+from __future__ import annotations
+
+import base64
+import hashlib
+import pathlib
+import re
+import sys
+import sysconfig
+import zipfile
+from typing import Any, Optional
+
+HERE = pathlib.Path(__file__).resolve().parent
+LIBRARY = HERE.parent / "out" / "librigzumal.so.1"
+HEADER = HERE.parent / "include" / "rigzumal.h"
+
+
+def version() -> str:
+    """The version that the header says."""
+    found = re.search(r'RIGZUMAL_LIBRARY_VERSION "(.*)"', HEADER.read_text())
+    if found is None:
+        sys.exit(f"{HEADER} says no version")
+    return found[1]
+
+
+def tag() -> str:
+    """The wheel's tag, as py3-none-linux_x86_64."""
+    return "py3-none-" + re.sub(r"\W", "_", sysconfig.get_platform())
+
+
+def metadata() -> dict[str, bytes]:
+    """The files of the folder dist-info, but for RECORD."""
+    about = f"""Metadata-Version: 2.1
+Name: rigzumal
+Version: {version()}
+Summary: Argon2, scrypt and the strings of password records, proved
+Requires-Python: >=3.9
+"""
+    wheel = f"""Wheel-Version: 1.0
+Generator: rigzumal
+Root-Is-Purelib: false
+Tag: {tag()}
+"""
+    return {"METADATA": about.encode(), "WHEEL": wheel.encode()}
+
+
+def package() -> dict[str, bytes]:
+    """The package's files, with the library."""
+    if not LIBRARY.exists():
+        sys.exit(f"{LIBRARY} is not there: run `make -C c` first, which builds it")
+    files = {
+        str(path.relative_to(HERE)): path.read_bytes()
+        for path in sorted((HERE / "rigzumal").rglob("*"))
+        if path.is_file() and path.suffix != ".pyc"
+    }
+    return {**files, f"rigzumal/{LIBRARY.name}": LIBRARY.read_bytes()}
+
+
+def line_of(name: str, data: bytes) -> str:
+    """A file's line in RECORD."""
+    digest = (
+        base64.urlsafe_b64encode(hashlib.sha256(data).digest()).decode().rstrip("=")
+    )
+    return f"{name},sha256={digest},{len(data)}\n"
+
+
+def build_wheel(
+    wheel_directory: str,
+    config_settings: Optional[dict[str, Any]] = None,
+    metadata_directory: Optional[str] = None,
+) -> str:
+    """Writes the wheel into the folder, and answers its name."""
+    held = package()
+    folder = f"rigzumal-{version()}.dist-info"
+    files = {**held, **{f"{folder}/{name}": data for name, data in metadata().items()}}
+    record = "".join(line_of(name, data) for name, data in files.items())
+    files[f"{folder}/RECORD"] = (record + f"{folder}/RECORD,,\n").encode()
+    name = f"rigzumal-{version()}-{tag()}.whl"
+    with zipfile.ZipFile(
+        pathlib.Path(wheel_directory) / name, "w", zipfile.ZIP_DEFLATED
+    ) as archive:
+        for path, data in files.items():
+            entry = zipfile.ZipInfo(path)  # of 1980, so that one tree makes one wheel
+            entry.external_attr = 0o644 << 16
+            entry.compress_type = zipfile.ZIP_DEFLATED
+            archive.writestr(entry, data)
+    return name
+
+
+def build_sdist(
+    sdist_directory: str, config_settings: Optional[dict[str, Any]] = None
+) -> str:
+    """There is none: the library's proved code isn't built by Python."""
+    sys.exit("there is no sdist: build a wheel, by `make -C c wheel`")
+
+
+if __name__ == "__main__":
+    print(build_wheel(sys.argv[1]))

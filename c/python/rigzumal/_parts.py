@@ -1,0 +1,57 @@
+"""What stands in a record, read without its password."""
+
+from __future__ import annotations
+
+from dataclasses import dataclass
+from typing import Final
+
+from rigzumal import _library
+from rigzumal._library import Secret
+
+_SCHEMES: Final = ("argon2d", "argon2i", "argon2id", "scrypt")
+
+
+@dataclass(frozen=True)
+class Parts:
+    """The numbers of a record.
+
+    Attributes:
+        scheme: "argon2d", "argon2i", "argon2id" or "scrypt".
+        version: of Argon2, 0x13 or 0x10; of scrypt 0.
+        memory: of Argon2 in KiB; of scrypt log2 of N.
+        passes: of Argon2; of scrypt the block size r.
+        lanes: of Argon2; of scrypt the parallelism p.
+        salt_size: bytes of the salt.
+        tag_size: bytes of the tag.
+    """
+
+    scheme: str
+    version: int
+    memory: int
+    passes: int
+    lanes: int
+    salt_size: int
+    tag_size: int
+
+    @property
+    def costs(self) -> tuple[str, int, int, int, int]:
+        """Scheme, version and numbers: what an upgrade goes by."""
+        return self.scheme, self.version, self.memory, self.passes, self.lanes
+
+
+def parts(record: Secret) -> Parts:
+    """Reads the numbers of a record, as to see whether it is to be made anew.
+
+    Raises:
+        InvalidRecordError: it is no record; the exception has the first fault.
+    """
+    found = _library.parts(record)
+    return Parts(
+        _SCHEMES[found.scheme],
+        found.version,
+        found.memory,
+        found.passes,
+        found.lanes,
+        found.salt_size,
+        found.tag_size,
+    )

@@ -1,0 +1,157 @@
+"""argon2-cffi's hasher."""
+
+from __future__ import annotations
+
+import secrets
+from typing import Final, Literal, Optional, Union
+
+from rigzumal.argon2_cffi import profiles
+from rigzumal.argon2_cffi._parameters import Parameters, extract_parameters
+from rigzumal.argon2_cffi.exceptions import InvalidHashError
+from rigzumal.argon2_cffi.low_level import Type, hash_secret, verify_secret
+
+_DEFAULT = profiles.RFC_9106_LOW_MEMORY
+DEFAULT_RANDOM_SALT_LENGTH: Final = _DEFAULT.salt_len
+DEFAULT_HASH_LENGTH: Final = _DEFAULT.hash_len
+DEFAULT_TIME_COST: Final = _DEFAULT.time_cost
+DEFAULT_MEMORY_COST: Final = _DEFAULT.memory_cost
+DEFAULT_PARALLELISM: Final = _DEFAULT.parallelism
+
+_TYPES: Final = {b"$argon2d$": Type.D, b"$argon2i$": Type.I, b"$argon2id": Type.ID}
+
+
+def _bytes_of(text: Union[str, bytes], encoding: str) -> bytes:
+    return text if isinstance(text, bytes) else text.encode(encoding)
+
+
+def _check_types(**given: tuple[object, type]) -> None:
+    """Raises a TypeError that says which values are of another type."""
+    wrong = [
+        f"'{name}' must be a {kind.__name__} (got {type(value).__name__})"
+        for name, (value, kind) in given.items()
+        if not isinstance(value, kind)
+    ]
+    if wrong:
+        raise TypeError(", ".join(wrong) + ".")
+
+
+class PasswordHasher:
+    """Makes and verifies encoded hashes of Argon2.
+
+    Args:
+        time_cost: passes, 1 or more.
+        memory_cost: in KiB, 8 a lane to 2097152.
+        parallelism: lanes, 1 to 255, and how many threads may work them.
+        hash_len: bytes of the tag, 4 to 64.
+        salt_len: bytes of a drawn salt, 8 to 48.
+        encoding: of passwords that are text.
+        type: the kind of Argon2.
+
+    Raises:
+        TypeError: a value is of another type.
+    """
+
+    __slots__ = ["_parameters", "encoding"]
+
+    _parameters: Parameters
+    encoding: str
+
+    def __init__(
+        self,
+        time_cost: int = DEFAULT_TIME_COST,
+        memory_cost: int = DEFAULT_MEMORY_COST,
+        parallelism: int = DEFAULT_PARALLELISM,
+        hash_len: int = DEFAULT_HASH_LENGTH,
+        salt_len: int = DEFAULT_RANDOM_SALT_LENGTH,
+        encoding: str = "utf-8",
+        type: Type = Type.ID,
+    ) -> None:
+        _check_types(
+            time_cost=(time_cost, int),
+            memory_cost=(memory_cost, int),
+            parallelism=(parallelism, int),
+            hash_len=(hash_len, int),
+            salt_len=(salt_len, int),
+            encoding=(encoding, str),
+            type=(type, Type),
+        )
+        self._parameters = Parameters(
+            type, 19, salt_len, hash_len, time_cost, memory_cost, parallelism
+        )
+        self.encoding = encoding
+
+    @classmethod
+    def from_parameters(cls, params: Parameters) -> PasswordHasher:
+        """A hasher of these parameters, of version 0x13."""
+        return cls(
+            time_cost=params.time_cost,
+            memory_cost=params.memory_cost,
+            parallelism=params.parallelism,
+            hash_len=params.hash_len,
+            salt_len=params.salt_len,
+            type=params.type,
+        )
+
+    @property
+    def time_cost(self) -> int:
+        return self._parameters.time_cost
+
+    @property
+    def memory_cost(self) -> int:
+        return self._parameters.memory_cost
+
+    @property
+    def parallelism(self) -> int:
+        return self._parameters.parallelism
+
+    @property
+    def hash_len(self) -> int:
+        return self._parameters.hash_len
+
+    @property
+    def salt_len(self) -> int:
+        return self._parameters.salt_len
+
+    @property
+    def type(self) -> Type:
+        return self._parameters.type
+
+    def hash(self, password: Union[str, bytes], *, salt: Optional[bytes] = None) -> str:
+        """A new encoded hash; the salt is drawn if it is left out.
+
+        Raises:
+            HashingError: a number or a size is outside its range, or memory is short.
+        """
+        return hash_secret(
+            secret=_bytes_of(password, self.encoding),
+            salt=secrets.token_bytes(self.salt_len) if salt is None else salt,
+            time_cost=self.time_cost,
+            memory_cost=self.memory_cost,
+            parallelism=self.parallelism,
+            hash_len=self.hash_len,
+            type=self.type,
+        ).decode("ascii")
+
+    def verify(
+        self, hash: Union[str, bytes], password: Union[str, bytes]
+    ) -> Literal[True]:
+        """True if the hash is one of the password.
+
+        Raises:
+            VerifyMismatchError: it is one of another password.
+            VerificationError: it can't be verified for another reason.
+            InvalidHashError: it begins with no name of Argon2's kinds.
+        """
+        encoded = _bytes_of(hash, "ascii")
+        kind = _TYPES.get(encoded[:9])
+        if kind is None:
+            raise InvalidHashError
+        return verify_secret(encoded, _bytes_of(password, self.encoding), kind)
+
+    def check_needs_rehash(self, hash: Union[str, bytes]) -> bool:
+        """Whether the hash was made with other parameters than this hasher's.
+
+        Raises:
+            InvalidHashError: it is no hash of Argon2.
+        """
+        return self._parameters != extract_parameters(hash)

@@ -1,0 +1,50 @@
+"""argon2-cffi's exceptions, each of which is one of `rigzumal` too."""
+
+from __future__ import annotations
+
+from typing import Any
+
+import rigzumal
+from rigzumal._library import MISMATCH
+
+
+class _Said:
+    """An exception with a message of libargon2's, and the fault's number of rigzumal.h."""
+
+    def __init__(self, message: str = "", number: int = 1) -> None:
+        rigzumal.RigzumalError.__init__(self, number)  # type: ignore[arg-type]
+        self.args = (message,) if message else ()
+        self.number = number
+
+    def __reduce__(self) -> tuple[Any, ...]:
+        return type(self), (*self.args, self.number) if self.args else ()
+
+
+class Argon2Error(_Said, rigzumal.RigzumalError):
+    """What hashing and verifying raise."""
+
+
+class VerificationError(Argon2Error):
+    """A verification failed."""
+
+
+class VerifyMismatchError(VerificationError, rigzumal.VerifyMismatchError):
+    """The hash is one of another password."""
+
+    def __init__(self, message: str = "", number: int = MISMATCH) -> None:
+        super().__init__(message, number)
+
+
+class HashingError(Argon2Error):
+    """A hash couldn't be made."""
+
+
+class InvalidHashError(_Said, rigzumal.InvalidRecordError):
+    """The text is no hash of Argon2."""
+
+
+InvalidHash = InvalidHashError
+
+
+class UnsupportedParametersError(ValueError):
+    """Kept for code that names it: every system runs every parameter here."""

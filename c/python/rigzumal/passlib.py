@@ -1,0 +1,126 @@
+"""passlib's handlers argon2 and scrypt over the proved library.
+
+>>> import rigzumal.passlib
+>>> rigzumal.passlib.register()
+>>> from passlib.context import CryptContext
+>>> context = CryptContext(["argon2", "scrypt"], argon2__memory_cost=65536)
+
+The settings, the strings and the errors are passlib's own: what its handlers of the
+same names have written is read here, and theirs read this. `max_threads` is how many threads
+may work the lanes of a record of Argon2; as in passlib it is as many as there are lanes, and
+`argon2__max_threads=1` is right for a service with many logins at once.
+"""
+
+# mypy: allow-subclassing-any
+
+from __future__ import annotations
+
+from typing import Any, Union
+
+from passlib.handlers import argon2 as _argon2
+from passlib.handlers import scrypt as _scrypt
+from passlib.registry import register_crypt_handler
+from passlib.utils import handlers, to_bytes
+
+import rigzumal
+
+__all__ = ["argon2", "register", "scrypt"]
+
+_BACKEND = "rigzumal"
+_TYPES = {"id": rigzumal.Type.ID, "i": rigzumal.Type.I, "d": rigzumal.Type.D}
+
+
+class _OneBackend:
+    """passlib's calls for handlers with a choice of backends: there is one."""
+
+    backends = (_BACKEND,)
+
+    @classmethod
+    def get_backend(cls) -> str:
+        """The one backend's name."""
+        return _BACKEND
+
+    @classmethod
+    def has_backend(cls, name: str = "any") -> bool:
+        """Whether there is a backend of this name."""
+        return name in ("any", "default", _BACKEND)
+
+    @classmethod
+    def set_backend(cls, name: str = "any", dryrun: bool = False) -> str:
+        """Chooses the one backend.
+
+        Raises:
+            MissingBackendError: another one is named.
+        """
+        if not cls.has_backend(name):
+            raise handlers.exc.MissingBackendError(f"there is no backend {name!r}")
+        return _BACKEND
+
+
+class argon2(_OneBackend, _argon2._Argon2Common):
+    """passlib's argon2, with all of its settings, and `data`."""
+
+    name = "argon2"
+    version = max_version = 0x13
+    default_rounds = 3
+    memory_cost = 65536
+    parallelism = 4
+    checksum_size = 32
+    default_salt_size = 16
+    _backend_type_map = _TYPES
+
+    @classmethod
+    def from_string(cls, hash: Union[str, bytes]) -> Any:
+        """The parts of a record.
+
+        Raises:
+            ValueError: it is no record; also for base64 that is broken, of which
+                passlib makes a TypeError.
+        """
+        try:
+            return super().from_string(hash)
+        except TypeError:
+            if not isinstance(hash, (str, bytes)):
+                raise
+        raise handlers.exc.MalformedHashError(cls)
+
+    def _calc_checksum(self, secret: Union[str, bytes]) -> bytes:
+        return rigzumal.argon2(
+            to_bytes(secret, "utf-8", param="secret"),
+            self.salt,
+            time_cost=self.rounds,
+            memory_cost=self.memory_cost,
+            parallelism=self.parallelism,
+            hash_len=self.checksum_size,
+            type=self._get_backend_type(self.type),
+            version=self.version,
+            associated=self.data or b"",
+            threads=self.parallelism if self.max_threads < 1 else self.max_threads,
+        )
+
+
+class scrypt(_OneBackend, _scrypt.scrypt):
+    """passlib's scrypt, of its own strings and of $7$."""
+
+    name = "scrypt"
+
+    def _calc_checksum(self, secret: Union[str, bytes]) -> bytes:
+        return rigzumal.scrypt(
+            to_bytes(secret, "utf-8", param="secret"),
+            self.salt,
+            log2_n=self.rounds,
+            r=self.block_size,
+            p=self.parallelism,
+            length=self.checksum_size,
+        )
+
+
+def register() -> None:
+    """Puts both handlers in the place of passlib's own, for contexts made afterwards.
+
+    `passlib.hash.argon2` is the new one too, wherever it is imported from then on. If
+    passlib's own were loaded before, passlib's log says that they are overridden.
+    """
+    handler: Any
+    for handler in (argon2, scrypt):
+        register_crypt_handler(handler, force=True)

@@ -1,0 +1,96 @@
+"""argon2-cffi's own tests, with its names over Rigzumal.
+
+    python3 argon2_cffi_own.py FOLDER-OF-ARGON2-CFFI'S-SOURCE
+
+They need pytest and hypothesis. Their source is in Debian's package python-argon2, whose
+orig tarball `apt-get source` gets.
+"""
+
+import pathlib
+import sys
+import types
+
+import pytest
+
+from rigzumal import argon2_cffi
+
+# What fails, and why. A name stands for all tests whose names begin with it.
+EXPECTED = {
+    "test_legacy.py::": "the functions that argon2-cffi calls legacy aren't there",
+    "test_low_level.py::TestVerify::test_wrong_arg_type": "a TypeError whose text isn't cffi's",
+    "test_low_level.py::test_argument_ranges": "records hold salts of up to 48 bytes and tags of"
+    " up to 64",
+    "test_low_level.py::test_core": "there is no `core` and no `ffi`",
+    "test_packaging.py::": "what was deprecated, as `__uri__`, isn't there",
+    "test_password_hasher.py::TestEnsureBytes::": "a private function of argon2-cffi",
+    "test_password_hasher.py::TestPasswordHasher::test_params_on_wasm": "nothing here runs as"
+    " WebAssembly",
+    "test_utils.py::TestCheckTypes::": "a private function of argon2-cffi",
+    "test_utils.py::test_decoded_str_len": "a private function of argon2-cffi",
+}
+
+
+class Numbers:
+    """The numbers of argon2.h from which hypothesis draws."""
+
+    ARGON2_MIN_PWD_LENGTH = 0
+    ARGON2_MIN_TIME = 1
+    ARGON2_MIN_LANES = 1
+    ARGON2_MIN_OUTLEN = 4
+    ARGON2_MIN_SALT_LENGTH = 8
+
+
+class Missing(types.ModuleType):
+    """A module that isn't there, as the tests import it at their heads."""
+
+    def __getattr__(self, name):
+        if name.startswith("__"):
+            raise AttributeError(name)
+        return None
+
+
+class Outcomes:
+    """Which tests passed, and which didn't."""
+
+    def __init__(self):
+        self.passed, self.failed = [], []
+
+    def pytest_runtest_logreport(self, report):
+        path, _, rest = report.nodeid.partition("::")
+        name = f"{path.rpartition('/')[2]}::{rest}"
+        if report.when == "call" and report.passed:
+            self.passed.append(name)
+        elif not report.passed:
+            self.failed.append(name)
+
+
+def stand_in():
+    """Has the tests find Rigzumal's names for argon2-cffi's."""
+    sys.modules["argon2"] = argon2_cffi
+    for name in ("exceptions", "low_level", "profiles"):
+        sys.modules[f"argon2.{name}"] = getattr(argon2_cffi, name)
+    for name in ("_utils", "_password_hasher"):
+        sys.modules[f"argon2.{name}"] = Missing(f"argon2.{name}")
+    for name in ("hash_password", "hash_password_raw", "verify_password"):
+        setattr(argon2_cffi, name, None)
+    argon2_cffi.low_level.core = argon2_cffi.low_level.ffi = None
+    argon2_cffi.low_level.lib = Numbers
+
+
+def main():
+    stand_in()
+    outcomes = Outcomes()
+    folder = str(pathlib.Path(sys.argv[1]) / "tests")
+    pytest.main([folder, "-q", "-p", "no:cacheprovider", *sys.argv[2:]], plugins=[outcomes])
+    unexplained = [it for it in outcomes.failed if not it.startswith(tuple(EXPECTED))]
+    met = [it for it in EXPECTED if any(name.startswith(it) for name in outcomes.failed)]
+    for name in EXPECTED:
+        print(f"fails: {name}: {EXPECTED[name]}" if name in met else f"passes now: {name}")
+    for name in unexplained:
+        print(f"NOT EXPLAINED: {name}")
+    print(f"{len(outcomes.passed)} passed, {len(outcomes.failed)} failed")
+    return bool(unexplained) or len(met) < len(EXPECTED) or not outcomes.passed
+
+
+if __name__ == "__main__":
+    sys.exit(main())

@@ -1,0 +1,255 @@
+"""The hashers' strings, and what `manage.py check` says."""
+
+import base64
+import hashlib
+import unittest
+from unittest import mock
+
+from cheap import cheap
+from django.contrib.auth import get_user_model, hashers
+from django.core.checks import run_checks
+from django.test import override_settings
+
+import rigzumal
+from rigzumal.django import checks, passwords
+from rigzumal.django.hashers import Argon2PasswordHasher, ScryptPasswordHasher
+
+try:
+    import argon2 as argon2_cffi
+except ImportError:
+    argon2_cffi = None
+try:
+    import psycopg
+except ImportError:
+    psycopg = None
+
+OURS = "rigzumal.django.backends.CompareAndSetBackend"
+THEIRS = "django.contrib.auth.backends.ModelBackend"
+
+
+class Strings(unittest.TestCase):
+    """What stands in the database is what Django's own hashers write and read."""
+
+    PASSWORDS = ("", "lètmein", "x" * 300, "with\0zero")
+
+    @unittest.skipIf(argon2_cffi is None, "argon2-cffi is not there")
+    def test_argon2_both_ways(self):
+        theirs, ours = hashers.Argon2PasswordHasher(), Argon2PasswordHasher()
+        ours.hash_len = argon2_cffi.DEFAULT_HASH_LENGTH  # 16 before 21.2, then 32
+        for password in self.PASSWORDS:
+            one = theirs.encode(password, "somesaltsomesalt")
+            two = ours.encode(password, "somesaltsomesalt")
+            self.assertEqual(one, two)
+            self.assertTrue(theirs.verify(password, two))
+            self.assertTrue(ours.verify(password, one))
+            self.assertFalse(ours.verify("y", one))
+            self.assertEqual(theirs.safe_summary(one), ours.safe_summary(one))
+            for lower in ("memory_cost", "time_cost", "parallelism"):
+                with mock.patch.object(ours, lower, getattr(ours, lower) // 2):
+                    self.assertTrue(ours.must_update(one))
+            self.assertEqual(theirs.must_update(one), ours.must_update(one))
+
+    def test_argon2_of_the_reference_program(self):
+        for record in (
+            "argon2$argon2i$m=65536,t=2,p=1$c29tZXNhbHQ"
+            "$9sTbSlTio3Biev89thdrlKKiCaYsjjYVJxGAL3swxpQ",
+            "argon2$argon2i$v=19$m=65536,t=2,p=1$c29tZXNhbHQ"
+            "$wWKIMhR9lyDFvRz9YTZweHKfbftvj+qf+YFY4NeBbtA",
+            "argon2$argon2id$v=19$m=65536,t=2,p=1$c29tZXNhbHQ"
+            "$CTFhFdXPJO1aFaMaO6Mm5c8y7cJHAph8ArZWb2GRPPc",
+        ):
+            self.assertTrue(Argon2PasswordHasher().verify("password", record))
+            self.assertFalse(Argon2PasswordHasher().verify("Password", record))
+
+    def test_scrypt_as_hashlib_and_django_4(self):
+        for password in self.PASSWORDS:
+            for n, r, p in ((2**14, 8, 1), (2**10, 4, 5), (2, 1, 1)):
+                key = hashlib.scrypt(password.encode(), salt=b"seasalt", n=n, r=r, p=p, dklen=64)
+                record = f"scrypt${n}$seasalt${r}${p}${base64.b64encode(key).decode()}"
+                hasher = ScryptPasswordHasher()
+                self.assertEqual(hasher.encode(password, "seasalt", n, r, p), record)
+                self.assertTrue(hasher.verify(password, record))
+                self.assertFalse(hasher.verify(password + "x", record))
+                self.assertEqual(hasher.safe_summary(record)["work factor"], n)
+                self.assertTrue(hasher.must_update(record))
+        # from Django 4.0's tests
+        record = (
+            "scrypt$16384$seasalt$8$1$Qj3+9PPyRjSJIebHnG81TMjsqtaIGxNQG/aEB/NYafTJ7tibgfYz"
+            "71m0ldQESkXFRkdVCBhhY8mx7rQwite/Pw=="
+        )
+        self.assertTrue(ScryptPasswordHasher().verify("lètmein", record))
+
+    def test_broken(self):
+        argon2, scrypt = Argon2PasswordHasher(), ScryptPasswordHasher()
+        with cheap(), mock.patch.object(scrypt, "work_factor", 2):
+            good = argon2.encode("secret", "somesaltsomesalt")
+            broken = [good[:-1], good + "=", good + "$", good.replace("v=19", "v=20")]
+            broken += [good.replace("p=1", "p=256"), good.replace("m=64", "m=7")]
+            broken += [good.replace("t=1", "t=0"), good + "\n", "argon2", "argon2$"]
+            broken += [good.replace("m=64", "m=99999999999"), good.replace("id$", "x$")]
+            for number in ("m=64", "t=1", "p=1"):  # above 2^32
+                broken.append(good.replace(number, f"{number[:2]}9999999999"))
+            broken += [good.replace("m=64", "m=٦٤"), good.replace("m=64", "m=064")]
+            letters = "ABCDEFGHIJKLMNOPQRSTUVWXYZabcdefghijklmnopqrstuvwxyz0123456789+/"
+            spelled = good[:-1] + letters[letters.index(good[-1]) + 1]  # the same bytes
+            broken.append(spelled)
+            for record in broken:
+                self.assertIs(argon2.verify("secret", record), False, record)
+                argon2.harden_runtime("secret", record)
+                self.assertIn("algorithm", argon2.safe_summary(record))
+                argon2.must_update(record)
+                self.assertIs(hashers.check_password("secret", record), False)
+            for record in [good + "$", good.replace("v=19", "v=20"), "argon2$"]:
+                with self.assertRaises(ValueError):
+                    argon2.decode(record)
+                self.assertIn("broken record", argon2.safe_summary(record))
+                self.assertNotIn(record, str(argon2.safe_summary(record)))
+            good = scrypt.encode("secret", "salt")
+            for record in [
+                good.replace("$2$", "$3$"),
+                good.replace("$8$", "$0$"),
+                good.replace("$5$", "$256$"),
+                good.replace("$8$", "$9999999999$"),
+                good.replace("$5$", "$9999999999$"),
+                good.replace("$2$", "$8589934592$"),
+                good[:-3],
+                good + "$",
+                good.replace("salt", ""),
+                "scrypt$2$s$1$1$",
+            ]:
+                self.assertIs(scrypt.verify("secret", record), False, record)
+            self.assertTrue(scrypt.verify("secret", good))
+
+    def test_a_broken_record_costs_a_hash(self):
+        with cheap(), mock.patch.object(rigzumal, "argon2", side_effect=rigzumal.argon2) as hashed:
+            Argon2PasswordHasher().verify("secret", "argon2$broken")
+            self.assertEqual(hashed.call_count, 1)
+
+    def test_out_of_memory_is_no_wrong_password(self):
+        hasher = Argon2PasswordHasher()
+        with cheap():
+            record = hasher.encode("secret", "somesaltsomesalt")
+        fault = rigzumal.OutOfMemoryError(8)
+        with mock.patch.object(rigzumal, "argon2", side_effect=[fault, bytes(32)]):
+            with self.assertRaises(MemoryError):
+                hasher.verify("secret", record)
+
+    def test_bad_arguments_and_no_password_in_an_exception(self):
+        for hasher in (Argon2PasswordHasher(), ScryptPasswordHasher()):
+            for salt in ("", "a$b"):
+                with self.assertRaises(ValueError) as caught:
+                    hasher.encode("topsecret", salt)
+                self.assertNotIn("topsecret", str(caught.exception))
+            with self.assertRaises(TypeError):
+                hasher.encode(None, "somesalt")
+        with self.assertRaises(ValueError) as caught:
+            Argon2PasswordHasher().encode("topsecret\udc80", "somesalt")
+        self.assertNotIn("topsecret", repr(caught.exception))
+        with cheap():
+            record = Argon2PasswordHasher().encode("secret", "somesaltsomesalt")
+            self.assertIs(Argon2PasswordHasher().verify("\udc80", record), False)
+
+    def test_other_schemes_go_to_their_hashers(self):
+        record = hashers.make_password("secret", hasher="md5")
+        self.assertTrue(hashers.check_password("secret", record))
+        for hasher in (Argon2PasswordHasher(), ScryptPasswordHasher()):
+            with self.assertRaises(ValueError):
+                hasher.decode(record)
+
+    def test_what_is_old(self):
+        """Another kind, version, cost or size, or a salt of little entropy."""
+        hasher = Argon2PasswordHasher()
+        with cheap():
+            salt = hasher.salt()
+            record = hasher.encode("secret", salt)
+            self.assertFalse(hasher.must_update(record))
+            self.assertFalse(hasher.must_update(hasher.encode("secret", salt + "x")))
+            for old in (
+                record.replace("argon2id", "argon2i"),
+                record.replace("v=19$", ""),
+                record.replace("m=64", "m=128"),
+                record.replace("t=1", "t=2"),
+                record.replace("p=1", "p=2"),
+                hasher.encode("secret", salt[:-1]),
+                hasher.encode("secret", "somesalt"),
+            ):
+                self.assertTrue(hasher.must_update(old), old)
+            with mock.patch.object(hasher, "hash_len", 16):
+                self.assertTrue(hasher.must_update(record))
+
+    def test_new_records_fit(self):
+        for hasher in (Argon2PasswordHasher(), ScryptPasswordHasher()):
+            record = hasher.encode("secret", hasher.salt())
+            self.assertLessEqual(len(record), checks.WIDTH)
+            self.assertFalse(hasher.must_update(record))
+
+    def test_nothing_secret_is_shown(self):
+        record = Argon2PasswordHasher().encode("secret", "somesaltsomesalt")
+        shown = repr(passwords.Judged(True, record, record))
+        self.assertNotIn("argon2", shown)
+        shown = Argon2PasswordHasher().safe_summary(record)
+        self.assertEqual(shown["salt"], "somesa**********")
+        self.assertEqual(shown["hash"][6:], "*" * (len(shown["hash"]) - 6))
+        record = ScryptPasswordHasher().encode("secret", "somesaltsomesalt", 2, 1, 1)
+        shown = ScryptPasswordHasher().safe_summary(record)
+        self.assertEqual(shown["salt"], "somesa**********")
+        self.assertEqual(shown["hash"], record.split("$")[-1][:6] + "*" * 82)
+
+
+class Checks(unittest.TestCase):
+    def found(self):
+        return sorted(it.id for it in run_checks() if it.id.startswith("rigzumal"))
+
+    def test_all_is_well(self):
+        self.assertEqual(self.found(), [])
+
+    def test_backends(self):
+        with override_settings(AUTHENTICATION_BACKENDS=[THEIRS]):
+            self.assertEqual(self.found(), ["rigzumal.W001", "rigzumal.W002"])
+        with override_settings(AUTHENTICATION_BACKENDS=[OURS, THEIRS]):
+            self.assertEqual(self.found(), ["rigzumal.W002"])
+        remote = "django.contrib.auth.backends.RemoteUserBackend"
+        with override_settings(AUTHENTICATION_BACKENDS=[OURS, remote]):
+            self.assertEqual(self.found(), [])
+        with override_settings(AUTHENTICATION_BACKENDS=[remote]):
+            self.assertEqual(self.found(), ["rigzumal.W001"])
+
+    def test_a_short_column(self):
+        field = get_user_model()._meta.get_field("password")
+        with mock.patch.object(field, "max_length", 127):
+            self.assertEqual(self.found(), ["rigzumal.E003"])
+        with mock.patch.object(field, "max_length", None):
+            self.assertEqual(self.found(), [])
+
+    def test_hashers(self):
+        with override_settings(
+            PASSWORD_HASHERS=["django.contrib.auth.hashers.PBKDF2PasswordHasher"]
+        ):
+            self.assertEqual(self.found(), ["rigzumal.W004"])
+
+    def warned(self, engine, **options):
+        database = {"ENGINE": f"django.db.backends.{engine}", "OPTIONS": options}
+        with mock.patch.object(checks.settings, "DATABASES", {"default": database}):
+            return bool(checks.isolation())
+
+    def test_isolation(self):
+        for level, warned in (
+            ("repeatable read", True),
+            ("READ COMMITTED", False),
+            (2, True),
+            (3, True),
+            (1, False),
+            (None, False),
+        ):
+            self.assertEqual(self.warned("postgresql", isolation_level=level), warned, level)
+        self.assertFalse(self.warned("postgresql"))
+        # Django's own level of MySQL is READ COMMITTED; None is the server's.
+        self.assertFalse(self.warned("mysql"))
+        self.assertTrue(self.warned("mysql", isolation_level=None))
+
+    @unittest.skipIf(psycopg is None, "psycopg 3 is not there")
+    def test_isolation_of_psycopg_3(self):
+        """Its numbers aren't those of psycopg2."""
+        for level in psycopg.IsolationLevel:
+            warned = level.name in ("REPEATABLE_READ", "SERIALIZABLE")
+            self.assertEqual(self.warned("postgresql", isolation_level=level), warned, level)
