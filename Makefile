@@ -1,0 +1,56 @@
+# Rigzumal as a whole. What each part needs says docs/BUILDING.md.
+#
+#     make build                    the programs, the library for C and Python, and libargon2
+#     make test                     the gate and the tests behind it, and the library's tests
+#     make bench                    the library beside libargon2, libsodium and OpenSSL
+#     make interop                  other programs' strings, both ways
+#     make install PREFIX=/usr/local [DESTDIR=..]
+#     make uninstall PREFIX=/usr/local [DESTDIR=..]
+
+PREFIX ?= /usr/local
+DESTDIR ?=
+RT ?= rt
+PYTHON ?= /usr/bin/python3
+
+PROGRAMS := credbook credkeep
+BUILT := $(foreach name,$(PROGRAMS),crates/$(name)/out/$(name))
+SOURCES := $(shell find crates -name out -prune -o \( -name '*.rt' -o -name '*.antt' \) -print) \
+	crates.txt
+
+.PHONY: build library test bench interop install uninstall
+.DELETE_ON_ERROR:
+
+build: $(BUILT) library
+
+# rt builds a program as it runs it: here for its help, whose status says nothing.
+define PROGRAM_RULE
+crates/$(1)/out/$(1): $$(SOURCES)
+	rm -f $$@
+	-cd crates/$(1) && $$(RT) run -- --help > /dev/null
+	test -x $$@
+endef
+$(foreach name,$(PROGRAMS),$(eval $(call PROGRAM_RULE,$(name))))
+
+library:
+	$(MAKE) -C c RT='$(RT)' PYTHON='$(PYTHON)'
+
+test:
+	.ci/run
+	$(MAKE) -C c test RT='$(RT)' PYTHON='$(PYTHON)'
+
+bench: library
+	$(PYTHON) bench/c/run.py
+
+interop: crates/credbook/out/credbook
+	$(PYTHON) interop/run.py
+
+install: build
+	$(MAKE) -C c install PREFIX='$(PREFIX)' DESTDIR='$(DESTDIR)' RT='$(RT)'
+	install -d $(DESTDIR)$(PREFIX)/bin $(DESTDIR)$(PREFIX)/share/man/man1
+	install -m 755 $(BUILT) $(DESTDIR)$(PREFIX)/bin
+	install -m 644 $(PROGRAMS:%=man/%.1) $(DESTDIR)$(PREFIX)/share/man/man1
+
+uninstall:
+	$(MAKE) -C c uninstall PREFIX='$(PREFIX)' DESTDIR='$(DESTDIR)'
+	rm -f $(PROGRAMS:%=$(DESTDIR)$(PREFIX)/bin/%)
+	rm -f $(PROGRAMS:%=$(DESTDIR)$(PREFIX)/share/man/man1/%.1)
