@@ -4,13 +4,14 @@
     python3 tools/plant.py NAME [--only WORD] [--jobs N]
 
 A file of bugs is a list of paragraphs. `call:` names the public call whose meaning the next bugs turn, and `fn:` the function
-that they stand in, as `module::Type::function`; each holds until the next such line. A bug is pairs of lines `old:`, a text
-that stands once in that function, and `new:`, the text in its place; or one line `body:`, the whole body in its place. A line
-`passes:` in it says why the contract rightly lets it through, and which test refuses it.
+that they stand in, as `module::Type::function`; each holds until the next such line. `const:` names a constant in the place of a
+function, as `module::NAME`. A bug is pairs of lines `old:`, a text that stands once in that function or constant, and `new:`, the
+text in its place; or one line `body:`, the whole body in its place. A line `passes:` in it says why the contract rightly lets it
+through, and which test refuses it.
 
 One bug stands in each of many functions at a time: `rt check --allow-holes` tries the goals of every function, by the contracts of
-those that it calls. A bug that no goal refuses there is planted once more by itself. The work goes on in a copy under /tmp, over
-what earlier checks left in out/."""
+those that it calls. A bug that no goal refuses there is planted once more by itself, and so is one in a constant, which stands in
+no one function. The work goes on in a copy under /tmp, over what earlier checks left in out/."""
 
 import argparse
 import pathlib
@@ -26,8 +27,8 @@ GONE = re.compile(r"has no field|is not in scope|has no `|was not admitted")
 
 
 class Bug:
-    def __init__(self, call, function, line):
-        self.call, self.function, self.line = call, function, line
+    def __init__(self, call, function, line, is_constant):
+        self.call, self.function, self.line, self.is_constant = call, function, line, is_constant
         self.changes, self.body, self.passes, self.verdict = [], None, None, None
 
     def __str__(self):
@@ -36,17 +37,18 @@ class Bug:
 
 
 def bugs_of(path):
-    bugs, call, function, bug = [], None, None, None
+    bugs, call, function, is_constant, bug = [], None, None, False, None
     for number, line in enumerate(path.read_text().splitlines(), 1):
         word, _, text = line.partition(":")
         text = text[1:]
         if not line.strip() or line.startswith("#"):
             bug = None
-        elif word in ("call", "fn"):
+        elif word in ("call", "fn", "const"):
             call, function, bug = text if word == "call" else call, text, None
+            is_constant = word == "const"
         elif word in ("old", "new", "body", "passes"):
             if bug is None:
-                bug = Bug(call, function, number)
+                bug = Bug(call, function, number, is_constant)
                 bugs.append(bug)
             if word == "old":
                 bug.changes.append([text, None])
@@ -59,28 +61,41 @@ def bugs_of(path):
     return bugs
 
 
-def place_of(crate, function):
-    """The file of a function, and its first and last line there."""
-    *above, name = function.split("::")
-    file, owner = next((crate / "src" / ("/".join(above[:n]) + ".rt"), above[n:]) for n in range(len(above), 0, -1)
-                       if (crate / "src" / ("/".join(above[:n]) + ".rt")).is_file())
+def file_of(crate, path):
+    """The file of a function or a constant, its owner and its name."""
+    *above, name = path.split("::")
+    for n in range(len(above), 0, -1):
+        file = crate / "src" / ("/".join(above[:n]) + ".rt")
+        if file.is_file():
+            return file, above[n:], name
+    sys.exit(f"{path}: no file of this module")
+
+
+def place_of(crate, bug):
+    """The file of a bug's function or constant, and its first and last line there."""
+    file, owner, name = file_of(crate, bug.function)
     lines, found, holder = file.read_text().split("\n"), [], ""
     for i, line in enumerate(lines):
         if re.match(r"(impl|pub trait|trait)\b", line):
             holder = line
         elif line.startswith("}"):
             holder = ""
-        is_it = re.match(rf"\s*(pub(\([a-z]+\))? )?(const )?(extern .C. )?fn {re.escape(name)}\b", line)
+        if bug.is_constant:
+            is_it = re.match(rf"\s*(pub(\([a-z]+\))? )?(const|static) {re.escape(name)}:", line)
+        else:
+            is_it = re.match(rf"\s*(pub(\([a-z]+\))? )?(const )?(extern .C. )?fn {re.escape(name)}\b", line)
         if is_it and bool(owner) == bool(holder) and all(re.search(rf"\b{re.escape(it)}\b", holder) for it in owner):
             found.append(i)
     if len(found) != 1:
-        sys.exit(f"{function}: stands {len(found)} times in {file}")
+        sys.exit(f"{bug.function}: stands {len(found)} times in {file}")
     indent = re.match(r"\s*", lines[found[0]]).group()
+    if bug.is_constant:
+        return file, found[0], next(i for i in range(found[0], len(lines)) if lines[i].endswith(";"))
     return file, found[0], next(i for i in range(found[0], len(lines)) if lines[i] == indent + "}")
 
 
 def plant(crate, bug):
-    file, first, last = place_of(crate, bug.function)
+    file, first, last = place_of(crate, bug)
     lines = file.read_text().split("\n")
     text = "\n".join(lines[first:last + 1])
     if bug.body is not None:
@@ -134,6 +149,7 @@ class Copy:
 def is_of(path, name, function):
     """Whether this is the function's path, its closures' among them: an impl of a trait has both names in one."""
     *above, last = function.split("::")
+    above = above[1:] if above[:1] in (["lib"], ["main"]) else above
     module, owner = (above[:-1], above[-1]) if above and above[-1][:1].isupper() else (above, "")
     start = "::".join([name, *module]) + "::"
     if not path.startswith(start):
@@ -166,8 +182,23 @@ def verdict_of(bug, name, said):
     return verdict
 
 
+def verdict_of_all(said):
+    """The verdict of a bug in a constant, which any function may refuse."""
+    if "logic=proved" in said:
+        return "let through"
+    if not re.search(r"(?m)^fn \S+: ", said):
+        return "doesn't compile"
+    if "did not prove" in said or "it is not proved that" in said:
+        return "refused"
+    errors = re.findall(r"(?m)^\./proofs/\S+: error: (.*(?:\n  .*)?)", said)
+    return "by its proof" if errors and all(GONE.search(" ".join(it.split())) for it in errors) else "refused"
+
+
 def judge(copy, name, bugs):
-    waiting, alone = list(bugs), []
+    waiting, alone = [it for it in bugs if not it.is_constant], []
+    for bug in bugs:
+        if bug.is_constant:
+            bug.verdict = verdict_of_all(copy.planted([bug]))
     while waiting:
         chosen = {}
         for bug in waiting:
@@ -196,7 +227,7 @@ def judge(copy, name, bugs):
 def blame(copy, said, bugs):
     """Not one function was judged: a bug doesn't compile, and the compiler names its file and line."""
     for bug in bugs:
-        file, first, last = place_of(copy.crate, bug.function)
+        file, first, last = place_of(copy.crate, bug)
         places = re.findall(rf"{re.escape(str(file.relative_to(copy.crate)))}:(\d+)", said)
         if len(bugs) == 1 or any(first < int(it) <= last + 1 for it in places):
             bug.verdict = "doesn't compile"

@@ -1,56 +1,98 @@
 #!/usr/bin/env python3
-"""Runs each shell session of README.md and compares what it prints with the text that stands below it.
+"""Runs the shell sessions of the pages and compares what they print with the text that stands below them.
 
-    python3 tools/readme.py [FILE..]
+    python3 tools/readme.py [FILE..]          (README.md, docs/*.md and crates/*/README.md)
 
-A session is a block marked `sh`; the block marked `text` that follows is what it has to print. All sessions of a page run in one
-folder, in their order, by bash, with `credbook` and the other built programs of crates/*/out in their path (`rt run` in
-crates/credbook builds it). The folder holds links to crates/ and c/ and nothing else. A block with no text below it is named and not
-run. The status is 1 where one prints something else.
+A session is a block marked `sh`; the block marked `text` that follows is what it has to print. All sessions of a page run in one bash and
+one folder, in their order, with the built programs of crates/*/out (`rt run` builds them) and this Python as `python3` in their path, and
+the Python package of c/ beside them. The folder holds links to crates/ and c/ and nothing else. A session with no text below it is named
+and not run. One that needs a program that isn't there is named and skipped. The last line is `N passed, M failed`, and the status is 1
+if anything failed or nothing passed.
 """
 
 import difflib
 import os
 import pathlib
 import re
+import shutil
 import subprocess
 import sys
 import tempfile
 
 TOP = pathlib.Path(__file__).resolve().parent.parent
 BLOCK = re.compile(r"^```(\w+)\n(.*?)^```$", re.M | re.S)
+MARK = "-- the end of session"
+
+# What a session needs if it has this word: a program in the path, or a file of the repository.
+PROGRAMS = ["credbook", "credkeep", "php", "doveadm", "htpasswd", "django-admin"]
+LIBRARIES = {"rigzumal": "c/out/librigzumal.so", "LD_LIBRARY_PATH=c/out": "c/out/libargon2.so.1"}
+
+
+def pages():
+    named = sys.argv[1:] or ["README.md", *sorted(str(it.relative_to(TOP)) for it in TOP.glob("docs/*.md"))]
+    return named if sys.argv[1:] else [*named, *sorted(str(it.relative_to(TOP)) for it in TOP.glob("crates/*/README.md"))]
 
 
 def sessions_of(page):
-    """Each session with the text that it has to print, or with none."""
-    blocks = [(it.group(1), it.group(2), page[:it.start()].count("\n") + 1) for it in BLOCK.finditer(page)]
+    """Each session with its line and the text that it has to print, or none."""
+    blocks = [(it.group(1), it.group(2), page[: it.start()].count("\n") + 1) for it in BLOCK.finditer(page)]
     for (kind, script, line), below in zip(blocks, [*blocks[1:], ("", None, 0)]):
         if kind == "sh":
             yield line, script, below[1] if below[0] == "text" else None
 
 
-def differs(script, wanted, room):
-    """The lines in which what a session prints differs from what it has to print."""
-    programs = [str(it) for it in TOP.glob("crates/*/out") if it.is_dir()]
-    path = os.pathsep.join([*programs, os.environ["PATH"]])
-    done = subprocess.run(["bash", "-c", script], cwd=room, env={**os.environ, "PATH": path}, stdout=subprocess.PIPE, text=True,
-                          timeout=300)
-    return list(difflib.unified_diff(wanted.splitlines(), done.stdout.splitlines(), "page", "printed", lineterm="", n=0))
+def path_of(room):
+    """The path of a session: this Python, the built programs, and what was there."""
+    own = room / "bin"
+    own.mkdir()
+    (own / "python3").symlink_to(sys.executable)
+    built = [str(it) for it in TOP.glob("crates/*/out") if it.is_dir()]
+    return os.pathsep.join([str(own), *built, os.environ["PATH"]])
+
+
+def missing(script, path):
+    """What a session needs and this machine doesn't have."""
+    for name in PROGRAMS:
+        if re.search(rf"(^|[\s(|]){name}\s", script, re.M) and shutil.which(name, path=path) is None:
+            return f"{name} isn't there"
+    return next((f"{file} isn't built" for word, file in LIBRARIES.items() if word in script and not (TOP / file).exists()), None)
+
+
+def printed(scripts, path, room):
+    """What each of these scripts prints, in one bash and one folder."""
+    folder = room / "sessions"
+    folder.mkdir()
+    for name in ("crates", "c"):
+        (folder / name).symlink_to(TOP / name)
+    whole = "".join(f"{script}\nprintf '%s\\n' '{MARK}'\n" for script in scripts)
+    env = {**os.environ, "PATH": path, "PYTHONPATH": str(TOP / "c/python")}
+    done = subprocess.run(["bash", "-c", whole], cwd=folder, env=env, stdout=subprocess.PIPE, text=True, timeout=600)
+    return done.stdout.split(f"{MARK}\n")[:-1]
+
+
+def run(name):
+    """How many sessions of a page print what they have to, and how many don't."""
+    with tempfile.TemporaryDirectory(prefix="readme-") as folder:
+        room = pathlib.Path(folder)
+        path, taken = path_of(room), []
+        for line, script, wanted in sessions_of((TOP / name).read_text()):
+            lacks = "no text below it" if wanted is None else missing(script, path)
+            if lacks:
+                print(f"{name}:{line}: not run: {lacks}")
+            else:
+                taken.append((line, script, wanted))
+        found = printed([script for _, script, _ in taken], path, room) if taken else []
+    failed = len(taken) - len(found)
+    for (line, _, wanted), text in zip(taken, found):
+        differs = list(difflib.unified_diff(wanted.splitlines(), text.splitlines(), "page", "printed", lineterm="", n=0))
+        failed += bool(differs)
+        print("\n".join([f"{name}:{line}: {'FAILED' if differs else 'passed'}", *differs]))
+    return len(taken) - failed, failed
 
 
 def main():
-    passed = failed = 0
-    for name in sys.argv[1:] or ["README.md"]:
-        with tempfile.TemporaryDirectory(prefix="readme-") as room:
-            for folder in ("crates", "c"):
-                (pathlib.Path(room) / folder).symlink_to(TOP / folder)
-            for line, script, wanted in sessions_of((TOP / name).read_text()):
-                if wanted is None:
-                    print(f"{name}:{line}: not run: {script.splitlines()[0]}")
-                    continue
-                found = differs(script, wanted, room)
-                passed, failed = passed + (not found), failed + bool(found)
-                print("\n".join([f"{name}:{line}: {'FAILED' if found else 'passed'}", *found]))
+    results = [run(name) for name in pages()]
+    passed, failed = sum(it for it, _ in results), sum(it for _, it in results)
     print(f"{passed} passed, {failed} failed")
     return 1 if failed or not passed else 0
 

@@ -1,0 +1,117 @@
+#!/usr/bin/env python3
+"""Compares what the pages say of the tree with the tree.
+
+    python3 tools/pages.py
+
+- README.md says how many crates the gate proves, how many wrong bodies it tries and how many tests it runs: the tree's figures. A
+  time in it that nobody filled in (`.._MINUTES`) fails.
+- docs/PLANTED.md names each wrong body that the gate has to try, with the file or the test that it stands in: each is there.
+- docs/PROMISES.md names calls, clauses, wrong bodies, tests and files (tools/promises.py).
+- Each link between pages leads to a file, and each picture has a text for those who can't see it.
+- Each library and program of crates.txt has a page, crates/NAME/README.md, and stands in docs/pictures/crates.svg.
+- Code after a line `<!-- from FILE -->` stands in that file, word for word but for what is left out at a line of two dots.
+
+The last line is `N passed, M failed`, and the status is 1 if anything failed.
+"""
+
+import pathlib
+import re
+import sys
+import textwrap
+
+import promises
+
+TOP = pathlib.Path(__file__).resolve().parent.parent
+CRATES = TOP / "crates"
+PAGES = [
+    *sorted(TOP.glob("*.md")),
+    *sorted(TOP.glob("docs/*.md")),
+    *sorted(CRATES.glob("*/README.md")),
+    *(TOP / it for it in ("interop/README.md", "bench/RESULTS.md", "examples/login_page/README.md")),
+]
+
+
+def figures():
+    """What README counts: what is wrong with each figure."""
+    tests = sum(len(re.findall(r"^\s*#\[test\]", it.read_text(), re.M)) for it in CRATES.glob("*/src/**/*.rt"))
+    there = {"crates": len(promises.listed()), "wrong bodies": len([*CRATES.glob("*/must-fail/*.edit")]), "tests": tests}
+    readme = (TOP / "README.md").read_text()
+    for word, count in there.items():
+        said = re.findall(rf"(\d+) {word}", readme)
+        yield None if said else f"README.md doesn't say how many {word} there are: {count}"
+        yield from (None if int(it) == count else f"README.md says {it} {word}, and there are {count}" for it in said)
+    yield from (f"README.md: {it} isn't filled in" for it in re.findall(r"\b[A-Z_]+_MINUTES\b", readme))
+
+
+def stands(place):
+    """Whether a place is a wrong body of the gate, `CRATE/NAME`, a test, `CRATE::TEST`, or a list, `plants/CRATE.txt`."""
+    if "::" in place:
+        return promises.has_test(*place.split("::"))
+    return (TOP / place).is_file() if place.startswith("plants/") else promises.has_edit(*place.split("/"))
+
+
+def planted():
+    """The named wrong bodies of docs/PLANTED.md, `NAME | .. | PLACES |`, in the table whose head begins with "Wrong body"."""
+    table = (TOP / "docs/PLANTED.md").read_text().partition("| Wrong body |")[2].partition("\n\n")[0]
+    rows = table.splitlines()[2:]
+    yield None if rows else "docs/PLANTED.md has no table of named wrong bodies"
+    for row in rows:
+        name, _, where, _ = [it.strip() for it in row.strip("|").split("|")]
+        places = re.findall(r"`([^`]+)`", where)
+        lost = [it for it in places if not stands(it)]
+        yield f"docs/PLANTED.md: {name}: {', '.join(lost) or 'no place'} isn't there" if lost or not places else None
+
+
+def anchors(page):
+    """The anchors of a page's headings, as forges make them."""
+    heads = re.findall(r"^#+ (.*)$", re.sub(r"```.*?```", "", promises.source(page), flags=re.S), re.M)
+    return {re.sub(r"[^\w -]", "", it.lower()).replace(" ", "-") for it in heads}
+
+
+def links(page):
+    """Each link and picture of a page."""
+    text = re.sub(r"```.*?```", "", page.read_text(), flags=re.S)
+    for picture, words, target in re.findall(r"(!?)\[([^\]]*)\]\(([^)\s]+)\)", text):
+        file, _, place = target.partition("#")
+        there = (page.parent / file).resolve() if file else page
+        if re.match(r"\w+:", target):
+            continue
+        if not there.exists() or place and place not in anchors(there):
+            yield f"{page.relative_to(TOP)}: {target} isn't there"
+        elif picture and len(words) < 30:
+            yield f"{page.relative_to(TOP)}: the picture {target} has no text"
+        else:
+            yield None
+
+
+def callers(page):
+    """Each piece of code that is said to stand in a file."""
+    for name, code in re.findall(r"^<!-- from (\S+) -->\n```\w+\n(.*?)^```$", page.read_text(), re.S | re.M):
+        there = textwrap.dedent(promises.source(TOP / name))
+        plain = re.sub(r"[ \t]+", " ", re.sub(r"^[ \t]+", "", there, flags=re.M))
+        parts = [it for it in re.split(r"^\s*(?://\s*)?\.\.\s*$", code, flags=re.M) if it.strip()]
+        lost = [it for it in parts if re.sub(r"[ \t]+", " ", re.sub(r"^[ \t]+", "", it, flags=re.M)).strip("\n") not in plain]
+        yield f"{page.relative_to(TOP)}: code that isn't in {name}: {lost[0].strip().splitlines()[0]}" if lost else None
+
+
+def rooms():
+    """A page for each crate, and its place in the picture."""
+    picture = (TOP / "docs/pictures/crates.svg").read_text()
+    for name in sorted(promises.listed()):
+        yield None if (CRATES / name / "README.md").is_file() else f"crates/{name}/README.md isn't there"
+        if not re.match(r"(test|bench|example|hello)_|\w+_tests$", name):
+            yield None if f">{name}</text>" in picture else f"docs/pictures/crates.svg lacks {name}: run tools/pictures.py"
+
+
+def main():
+    found = [*figures(), *planted(), *rooms()]
+    for page in PAGES:
+        found += [*links(page), *callers(page)]
+    passed, failures = promises.check()
+    passed, failures = passed + found.count(None), [*(it for it in found if it), *failures]
+    print("\n".join([*failures, f"{passed} passed, {len(failures)} failed"]))
+    return 1 if failures else 0
+
+
+if __name__ == "__main__":
+    sys.exit(main())

@@ -1,0 +1,186 @@
+#!/usr/bin/env python3
+"""Draws the pictures of docs/pictures from text: the tree's own, and docs/pictures/*.txt.
+
+    /usr/bin/python3 tools/pictures.py [--check]
+
+overtaken.svg and kept-change.svg are drawn from the text beside them, crates.svg from crates.txt and around-the-crates.txt by
+graphviz's dot, and bench.svg from the tables of bench/RESULTS.md by matplotlib (Debian's graphviz and python3-matplotlib). With
+--check nothing is written: each picture that would come out otherwise is named, and the status is 1.
+"""
+
+import html
+import io
+import pathlib
+import re
+import subprocess
+import sys
+
+TOP = pathlib.Path(__file__).resolve().parent.parent
+PICTURES = TOP / "docs/pictures"
+FONT = 'font-family="Helvetica, Arial, sans-serif" font-size="14"'
+INK, PALE, SHADE = "#1f2a37", "#8793a3", "#eef2f7"
+PROVED, TESTED, TRUSTED = "#e2f2e4", "#fdf1d0", "#e9e9ee"
+
+
+def lines_of(name):
+    """The lines of a text that say something."""
+    return [it for it in (PICTURES / name).read_text().splitlines() if it.strip() and not it.startswith("#")]
+
+
+def text(x, y, words, anchor="start", colour=INK, weight="normal"):
+    return f'<text x="{x}" y="{y}" text-anchor="{anchor}" fill="{colour}" font-weight="{weight}">{html.escape(words)}</text>'
+
+
+def svg(width, height, title, parts):
+    head = f'<svg xmlns="http://www.w3.org/2000/svg" width="{width}" height="{height}" viewBox="0 0 {width} {height}" {FONT} role="img">'
+    arrow = f'<marker id="arrow" viewBox="0 0 10 10" refX="9" refY="5" markerWidth="8" markerHeight="8" orient="auto-start-reverse">'
+    arrow += f'<path d="M0 0 L10 5 L0 10 z" fill="{INK}"/></marker>'
+    ground = f'<rect width="{width}" height="{height}" fill="#ffffff"/>'
+    return "\n".join([head, f"<title>{html.escape(title)}</title>", f"<defs>{arrow}</defs>", ground, *parts, "</svg>", ""])
+
+
+def sequence(name):
+    """A sequence: a line of who takes part, `A | B`, and then `A > B: WORDS` for a step and `* WORDS` for what all of them do."""
+    title, who, *steps = lines_of(name)
+    who = [it.strip() for it in who.split("|")]
+    place = {it: 130 + 260 * i for i, it in enumerate(who)}
+    bottom = 70 + 44 * len(steps)
+    parts = []
+    for it, x in place.items():
+        parts.append(f'<line x1="{x}" y1="44" x2="{x}" y2="{bottom}" stroke="{PALE}" stroke-dasharray="4 4"/>')
+        parts.append(f'<rect x="{x - 80}" y="12" width="160" height="32" rx="5" fill="{SHADE}" stroke="{INK}"/>')
+        parts.append(text(x, 33, it, "middle", weight="bold"))
+    for i, step in enumerate(steps):
+        y = 88 + 44 * i
+        if step.startswith("*"):
+            left, right = min(place.values()) - 100, max(place.values()) + 100
+            parts.append(f'<rect x="{left}" y="{y - 24}" width="{right - left}" height="28" rx="5" fill="{TESTED}" stroke="{PALE}"/>')
+            parts.append(text((left + right) / 2, y - 5, step[1:].strip(), "middle"))
+            continue
+        ends, _, words = step.partition(":")
+        one, other = [place[it.strip()] for it in ends.split(">")]
+        parts.append(f'<line x1="{one}" y1="{y}" x2="{other}" y2="{y}" stroke="{INK}" stroke-width="1.5" marker-end="url(#arrow)"/>')
+        parts.append(text((one + other) / 2, y - 7, words.strip(), "middle"))
+    return svg(130 * 2 + 260 * (len(who) - 1), bottom + 14, title, parts)
+
+
+def steps(name):
+    """Steps in their order, `WORDS | WHAT A CRASH LEAVES`: those that leave the same stand beside one band."""
+    title, heads, *rows = [[it.strip() for it in line.split("|")] for line in lines_of(name)]
+    width, row = 900, 36
+    parts = [text(56, 30, heads[0], weight="bold"), text(600, 30, heads[1], weight="bold")]
+    tints = iter(["#ffffff", TESTED, PROVED])
+    start = 0
+    for i in range(len(rows) + 1):
+        if i == len(rows) or rows[i][1] != rows[start][1]:
+            y = 46 + row * start
+            parts.append(f'<rect x="12" y="{y}" width="{width - 24}" height="{row * (i - start) - 4}" rx="5" fill="{next(tints)}" stroke="{PALE}"/>')
+            parts.append(text(600, y + row * (i - start) / 2 + 3, rows[start][1]))
+            start = i
+    parts.append(f'<line x1="34" y1="60" x2="34" y2="{46 + row * len(rows) - 18}" stroke="{INK}" stroke-width="1.5"/>')
+    for i, (words, _) in enumerate(rows):
+        y = 46 + row * i + row / 2
+        parts.append(f'<circle cx="34" cy="{y - 2}" r="10" fill="#ffffff" stroke="{INK}" stroke-width="1.5"/>')
+        parts.append(text(34, y + 3, str(i + 1), "middle"))
+        parts.append(text(56, y + 3, words))
+    return svg(width, 60 + row * len(rows), title[0], parts)
+
+
+def crates():
+    """Each crate of crates.txt but tests and benches, with what it stands on directly."""
+    listed = [it.split("#")[0].partition(":") for it in (TOP / "crates.txt").read_text().splitlines()]
+    below = {head.split()[0]: rest.split() for head, _, rest in listed if head.strip()}
+    shown = {it for it in below if not re.search(r"_tests$|^test_|^bench_|^example_|^hello_", it)}
+    below = {it: {low for low in below[it] if low in shown} for it in shown}
+
+    def all_below(it):
+        return below[it].union(*(all_below(low) for low in below[it])) if below[it] else set()
+
+    return {it: sorted(low for low in below[it] if not any(low in all_below(other) for other in below[it])) for it in sorted(shown)}
+
+
+def crate_layers():
+    """The crates over one another, between what is tested above them and what is trusted below, as dot draws them."""
+    title, *around = lines_of("around-the-crates.txt")
+    graph = crates()
+    tested = [it.split("|") for it in around if it.startswith("tested")]
+    trusted = [it.split("|") for it in around if it.startswith("trusted")]
+    out = ["digraph crates {", 'rankdir=TB; nodesep=0.2; ranksep=0.35; compound=true; fontname="Helvetica"; fontsize=15; bgcolor="white";']
+    out += ['node [shape=box, style="filled,rounded", fontname="Helvetica", fontsize=13, fillcolor="white"]; edge [color="#6b7685", arrowsize=0.6];']
+    out += [f'subgraph cluster_tested {{ label="tested, not proved"; labeljust=l; style="dashed,rounded,filled"; fillcolor="{TESTED}";']
+    out += [f'"{name.strip()}" [label="{name.strip()}\\n{words.strip()}"];' for _, name, words, _ in tested] + ["}"]
+    out += [f'subgraph cluster_proved {{ label="proved"; labeljust=l; style="rounded,filled"; penwidth=2; fillcolor="{PROVED}";']
+    out += [f'"{it}";' for it in graph] + ["}"]
+    out += [f'subgraph cluster_trusted {{ label="trusted"; labeljust=l; style="dotted,rounded,filled"; fillcolor="{TRUSTED}";']
+    out += [f'"{name.strip()}" [label="{name.strip()}\\n{words.strip()}"];' for _, name, words, _ in trusted] + ["}"]
+    out += [f'"{it}" -> "{low}";' for it, lows in graph.items() for low in lows]
+    out += [f'"{name.strip()}" -> "{low}";' for _, name, _, lows in tested for low in lows.split()]
+    out += [f'"{upper}" -> "{name.strip()}" [style=dotted];' for _, name, _, uppers in trusted for upper in uppers.split()] + ["}"]
+    drawn = subprocess.run(["dot", "-Tsvg"], input="\n".join(out), text=True, stdout=subprocess.PIPE, check=True).stdout
+    drawn = re.sub(r"<title>(crates)</title>", f"<title>{html.escape(title)}</title>", drawn, count=1)
+    return re.sub(r"<!--.*?-->\n?", "", drawn, flags=re.S)
+
+
+def table_below(page, head):
+    """The rows of the table whose head begins so."""
+    rows = page.partition(f"\n{head}")[2].splitlines()[2:]
+    for row in rows:
+        if not row.startswith("|"):
+            return
+        yield [it.strip() for it in row.strip().strip("|").split("|")]
+
+
+def bench():
+    """Bars of the library for C beside libargon2, libsodium and OpenSSL, from bench/RESULTS.md."""
+    import matplotlib
+
+    matplotlib.use("svg")
+    matplotlib.rcParams.update({"svg.fonttype": "none", "svg.hashsalt": "rigzumal", "font.size": 11})
+    from matplotlib import pyplot
+
+    page = (TOP / "bench/RESULTS.md").read_text()
+    argon = [it[:4] for it in table_below(page, "| m (KiB), t, p | Ours, ms | libargon2, ms")]
+    scrypt = [it[:4] for it in table_below(page, "| N, r, p | Ours, ms | OpenSSL, ms")]
+    figure, axes = pyplot.subplots(2, 1, figsize=(8.6, 7.2), height_ratios=[len(argon), len(scrypt)])
+    for axis, rows, names, title in (
+        (axes[0], argon, ["ours", "libargon2", "libsodium"], "Argon2id: KiB of memory, passes, lanes (libargon2 has a thread a lane)"),
+        (axes[1], scrypt, ["ours", "OpenSSL", "libsodium"], "scrypt: N, r, p"),
+    ):
+        for i, (name, colour, hatch) in enumerate(zip(names, ("#2f7d4f", "#c2cad6", "#e8c46a"), ("", "//", "\\\\"))):
+            shown = [(j, float(it[1 + i])) for j, it in enumerate(rows) if it[1 + i]]
+            bars = axis.barh([j + 0.27 * (i - 1) for j, _ in shown], [ms for _, ms in shown], 0.25, color=colour, hatch=hatch, label=name, edgecolor=INK)
+            axis.bar_label(bars, fmt="%.0f", padding=3, fontsize=8)
+        axis.set_yticks(range(len(rows)), [it[0] for it in rows])
+        axis.invert_yaxis()
+        axis.set_title(title, loc="left", fontsize=11)
+        axis.legend(loc="lower right", fontsize=9)
+        axis.spines[["top", "right"]].set_visible(False)
+    axes[1].set_xlabel("milliseconds, the best of the turns: shorter is better")
+    figure.tight_layout()
+    out = io.StringIO()
+    figure.savefig(out, format="svg", metadata={"Date": None, "Creator": None})
+    return re.sub(r"[ \t]+$", "", out.getvalue(), flags=re.M)
+
+
+DRAWN = {
+    "overtaken.svg": lambda: sequence("overtaken.txt"),
+    "kept-change.svg": lambda: steps("kept-change.txt"),
+    "crates.svg": crate_layers,
+    "bench.svg": bench,
+}
+
+
+def main():
+    stale = []
+    for name, draw in DRAWN.items():
+        drawn, file = draw(), PICTURES / name
+        if not file.exists() or file.read_text() != drawn:
+            stale.append(name)
+            if "--check" not in sys.argv:
+                file.write_text(drawn)
+    print(f"drawn anew: {' '.join(stale) or 'none'}")
+    return 1 if stale and "--check" in sys.argv else 0
+
+
+if __name__ == "__main__":
+    sys.exit(main())

@@ -1,0 +1,135 @@
+#!/usr/bin/env python3
+"""Compares what docs/PROMISES.md names with the tree; tools/pages.py runs it.
+
+    python3 tools/promises.py [--left-out]
+
+Each call is named by its path, `cred_argon::argon::argon2` (`input_len`, `err`): the function has to stand in that file, and its
+contract has to have the clauses in brackets. Each wrong body `CRATE/NAME`, each test `CRATE::TEST`, each file, and each definition
+that a file "has" has to be there. No cell of a table has over 120 characters. With --left-out it prints the wrong bodies of the gate
+that the page doesn't name. The last line is `N passed, M failed`, and the status is 1 if anything failed.
+"""
+
+import functools
+import pathlib
+import re
+import sys
+
+TOP = pathlib.Path(__file__).resolve().parent.parent
+CRATES = TOP / "crates"
+PAGE = TOP / "docs/PROMISES.md"
+FILES = re.compile(r"(?<![\w/.-])((?:plants|crates|tools|c|docs|interop|bench)/[\w/.-]*\.(?:txt|rt|antt|py|c|md|h))")
+
+
+@functools.cache
+def listed():
+    """The crates of crates.txt."""
+    lines = (TOP / "crates.txt").read_text().splitlines()
+    return {it.split("#")[0].partition(":")[0].split()[0] for it in lines if it.split("#")[0].strip()}
+
+
+@functools.cache
+def source(path):
+    return path.read_text() if path.is_file() else ""
+
+
+def has_test(crate, test):
+    """Whether a crate has a test of this name."""
+    form = re.compile(rf"#\[test\](\s*#\[[^\n]*\])*\s*fn {re.escape(test)}\b")
+    return any(form.search(source(it)) for it in (CRATES / crate / "src").glob("**/*.rt"))
+
+
+def has_edit(crate, name):
+    """Whether a wrong body stands in the gate."""
+    return (CRATES / crate / "must-fail" / f"{name}.edit").is_file()
+
+
+def contract_of(text):
+    """The front of a function, up to its body: the only brace that neither `ensures` nor `requires` opens."""
+    depth = 0
+    for place, letter in enumerate(text):
+        if depth == 0 and (letter == ";" or letter == "{" and not re.search(r"\b(ensures|requires)(\s+\w+)?\s*$", text[:place])):
+            return text[:place]
+        depth += (letter in "([{") - (letter in ")]}")
+    return text
+
+
+def contracts(path):
+    """The contracts of the functions that a path names."""
+    crate, *modules, name = path.split("::")
+    modules = [it for it in modules if it.islower()]
+    text = source(CRATES / crate / "src" / f"{'/'.join(modules) or 'lib'}.rt")
+    return [contract_of(text[it.start() :]) for it in re.finditer(rf"\bfn {re.escape(name)}\b", text)]
+
+
+def calls(text):
+    """What is wrong with each call that a text names, and with the clauses in brackets behind it."""
+    for path, clauses in re.findall(r"`(\w+(?:::\w+)+)`(?:\s*\(((?:`\w+`(?:,\s*)?)+)\))?", text):
+        crate, *middle = path.split("::")
+        if crate not in listed():
+            yield f"`{path}`: there is no crate {crate}" if crate.islower() else None
+        elif crate.endswith("_tests"):
+            yield None if has_test(crate, middle[-1]) else f"the test `{path}` isn't there"
+        elif not (found := contracts(path)):
+            yield f"the call `{path}` isn't there"
+        else:
+            names = re.findall(r"\w+", clauses)
+            lost = [it for it in names if not any(re.search(rf"\bensures {it}\b", contract) for contract in found)]
+            yield f"`{path}` has no clause {', '.join(lost)}" if lost else None
+
+
+def words(text):
+    """What is wrong with each bare name in what carries a promise: it belongs to the crate that was named before it."""
+    for item in re.findall(r"^- \*Carried by\*.*?(?=^- |^#|^$|\Z)", text, re.S | re.M):
+        crate = None
+        for named, word in re.findall(r"crates/(\w+)/|`([\w:]+)`", re.sub(r"\(`[^()]*`\)", "", item)):
+            crate = named or (word.split("::")[0] if word.split("::")[0] in listed() else crate)
+            name = word.split("::")[-1]
+            if crate and word and crate != word.split("::")[0]:
+                texts = (source(it) for kind in ("src/**/*.rt", "specs/**/*.antt") for it in (CRATES / crate).glob(kind))
+                found = any(re.search(rf"\b{name}\b", it) for it in texts)
+                yield None if found or name in listed() else f"`{word}` isn't in {crate}"
+
+
+def edits(text):
+    """What is wrong with each wrong body that a text names."""
+    for crate, name in re.findall(r"`(\w+)/([\w-]+)`", text):
+        yield None if has_edit(crate, name) else f"the wrong body `{crate}/{name}` isn't there"
+
+
+def files(text):
+    """What is wrong with each file that a text names, and with the definitions that it is said to have."""
+    for name in FILES.findall(text):
+        yield None if (TOP / name).is_file() else f"the file {name} isn't there"
+    for name, words in re.findall(r"(crates/[\w/.-]+\.antt)\s+has\s+((?:`\w+`(?:,|\s+and)?\s*)+)", text):
+        for word in re.findall(r"\w+", words.replace(" and", "")):
+            yield None if re.search(rf"\b{word}\b", source(TOP / name)) else f"{name} has no {word}"
+
+
+def cells(text):
+    """Each cell that is too long to be read."""
+    for row in (it for it in text.splitlines() if it.startswith("|")):
+        yield from (f"a cell of over 120 characters: {it.strip()[:60]}.." for it in row.split("|") if len(it.strip()) > 120)
+
+
+def check():
+    """How many names are right, and what is wrong."""
+    text = PAGE.read_text()
+    found = [*calls(text), *words(text), *edits(text), *files(text), *cells(text)]
+    return found.count(None), [f"docs/PROMISES.md: {it}" for it in found if it]
+
+
+def left_out():
+    """The wrong bodies of the gate that the page doesn't name."""
+    named = set(re.findall(r"`(\w+/[\w-]+)`", PAGE.read_text()))
+    return sorted({f"{it.parent.parent.name}/{it.stem}" for it in CRATES.glob("*/must-fail/*.edit")} - named)
+
+
+def main():
+    passed, failures = check()
+    notes = [f"not named: {it}" for it in left_out()] if "--left-out" in sys.argv else []
+    print("\n".join([*notes, *failures, f"{passed} passed, {len(failures)} failed"]))
+    return 1 if failures or not passed else 0
+
+
+if __name__ == "__main__":
+    sys.exit(main())
