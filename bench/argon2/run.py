@@ -3,7 +3,7 @@
 
     python3 bench/argon2/run.py [--times N] [--quick]
 
-It proves and builds the crate bench_argon2 with `rt`, in its own folder, and checks that both programs give the same tags.
+It proves and builds the crate bench_hashes with `rt`, in its own folder, and checks that both programs give the same tags.
 Then it runs the two in turn on all settings, N times over, and prints the best wall time of each and their ratio, the ratio
 of the least processor times, the part of our processor time that the system took (for fresh memory), and how far the greatest
 resident memory lies over that of the parameters, the program's own (a run at 8 KiB) not counted. The reference program always
@@ -19,7 +19,7 @@ import tempfile
 import time
 
 TOP = os.path.dirname(os.path.dirname(os.path.dirname(os.path.abspath(__file__))))
-CRATE = os.path.join(TOP, "crates", "bench_argon2")
+CRATE = os.path.join(TOP, "crates", "bench_hashes")
 
 # Memory in KiB, passes, lanes, workers. The last lies in the processor's own cache, so no memory is waited for.
 SETTINGS = [
@@ -41,12 +41,12 @@ NEWER = "--cpu=x86-64-v3"
 
 def build(room, *flags):
     """Proves and builds the program, and gives the path of a copy."""
-    done = subprocess.run(["rt", "run", *flags, "--", "8", "1", "1", "1"], cwd=CRATE, stdout=subprocess.PIPE, stderr=subprocess.STDOUT)
-    program = os.path.join(CRATE, "out", "bench_argon2")
+    done = subprocess.run(["rt", "run", *flags, "--", "argon2", "8", "1", "1", "1"], cwd=CRATE, stdout=subprocess.PIPE, stderr=subprocess.STDOUT)
+    program = os.path.join(CRATE, "out", "bench_hashes")
     if done.returncode != 0 or not os.path.exists(program):
         sys.stdout.buffer.write(done.stdout)
         sys.exit("the program was not built")
-    return shutil.copy(program, os.path.join(room, "bench_argon2" + "".join(flags)))
+    return shutil.copy(program, os.path.join(room, "bench_hashes" + "".join(flags)))
 
 
 def reference_program():
@@ -73,7 +73,7 @@ def timed(command, given, env=None):
 
 
 def words_of(program, setting):
-    return [program] + [str(n) for n in setting]
+    return [program, "argon2"] + [str(n) for n in setting]
 
 
 def resident(program, setting):

@@ -5,8 +5,8 @@
 
 All are called from this one process in turn, N times over; the best wall time of each is printed, and the least processor
 time where libargon2 has threads. libargon2 gets as many threads as lanes; libsodium has one lane only; ours works on the
-caller's thread. All give the same tags, which is looked at. What isn't installed has no column's values. Ours clears its
-memory as it gives it back, and its stack.
+caller's thread, and threads.py times it with threads. All give the same tags, which is looked at. What isn't installed has no
+column's values. Ours clears its memory as it gives it back, and its stack.
 """
 import argparse
 import ctypes

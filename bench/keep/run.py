@@ -1,106 +1,279 @@
 #!/usr/bin/python3
-"""Times `credkeep` on a book of 4096 accounts beside `htpasswd -B`, which rewrites its file at each change.
+"""Times `credkeep` on books of many accounts, beside Python's sqlite3 on the same file and `htpasswd -B`.
 
-    bench/keep/run.py [--turns N] [PROGRAM]
+    bench/keep/run.py [--turns N] [--accounts N [N ..]] [PROGRAM]
 
-PROGRAM is the built credkeep, by default crates/credkeep/out/credkeep; htpasswd is that of Debian's apache2-utils. The hashes are as
-cheap as each takes (Argon2id with 8 KiB and one pass, bcrypt with cost 4), so that what is timed is the keeping. Each figure is the
-best of the turns. credkeep syncs at each change, and htpasswd never does.
+PROGRAM is the built credkeep, by default crates/credkeep/out/credkeep; htpasswd is that of Debian's apache2-utils. Names come in random
+order. The hashes are as cheap as each takes (Argon2id with 8 KiB and one pass, bcrypt with cost 4), so that what is timed is the
+keeping. Each figure is the best of the turns. credkeep syncs at each change, Python's sqlite3 does so too here (WAL, synchronous =
+FULL), and htpasswd never does. The files stand in TMPDIR.
 """
 
 import argparse
+import os
 import pathlib
+import random
 import shutil
+import sqlite3
 import subprocess
 import sys
 import tempfile
+import threading
 import time
-from collections.abc import Callable
+from collections.abc import Callable, Iterable
+from typing import NamedTuple
 
 TOP = pathlib.Path(__file__).resolve().parent.parent.parent
-ACCOUNTS = 4096
-LINES = 1000
 CHEAP = "$argon2id$v=19$m=8,t=1,p=1"
-# Of the password `secret`, by `credkeep`'s own hash; only its length and its cost matter here.
-SETTING = f"{CHEAP}$c29tZXNhbHQ"
 PASSWORD = "secret"
+PASSWORD_WORD = "c2VjcmV0"
+TABLE = "CREATE TABLE account (name TEXT NOT NULL PRIMARY KEY, record TEXT) STRICT"
+# How many lines of a kind are timed at once.
+LINES = 1000
+SHOWN = 20000
 
 
-def run(*words: str | pathlib.Path, given: str = "") -> str:
-    """Runs a program that has to end well, and gives what it writes."""
-    done = subprocess.run([str(word) for word in words], input=given, capture_output=True, text=True)
-    if done.returncode:
-        sys.exit(f"{words}: {done.returncode}: {done.stdout[-200:]}{done.stderr}")
-    return done.stdout
+class Ended(NamedTuple):
+    """How long a process took, and the most memory that it held."""
+
+    seconds: float
+    peak_mb: float
 
 
-def best(turns: int, work: Callable[[], object]) -> float:
-    """The least time of a call, in seconds."""
-    times = []
-    for _ in range(turns):
+def run(*words: str | pathlib.Path, given: pathlib.Path | str | None = None, status: int = 0) -> Ended:
+    """Runs a program, which has to end with this status, on a file or a text."""
+    with tempfile.TemporaryFile() as text, open(os.devnull, "rb") as nothing:
+        if isinstance(given, str):
+            text.write(given.encode())
+            text.seek(0)
+        source = open(given, "rb") if isinstance(given, pathlib.Path) else text if given else nothing
         start = time.perf_counter()
-        work()
-        times.append(time.perf_counter() - start)
-    return min(times)
+        child = subprocess.Popen([str(word) for word in words], stdin=source, stdout=subprocess.DEVNULL, stderr=-3)
+        _, ended, usage = os.wait4(child.pid, 0)
+        seconds = time.perf_counter() - start
+        child.returncode = os.waitstatus_to_exitcode(ended)
+    if child.returncode != status:
+        sys.exit(f"{words}: status {child.returncode}")
+    return Ended(seconds, usage.ru_maxrss / 1024)
 
 
-def answered(program: pathlib.Path, book: pathlib.Path, lines: list[str]) -> float:
-    """The seconds of a script, each of whose lines is written once the one before it is answered."""
-    command = [str(program), str(book), "run"]
-    with subprocess.Popen(command, stdin=subprocess.PIPE, stdout=subprocess.PIPE, text=True, bufsize=1) as made:
-        assert made.stdin and made.stdout
+def best(turns: int, work: Callable[[], Ended]) -> Ended:
+    """The least time of a call, and the most memory."""
+    ended = [work() for _ in range(turns)]
+    return Ended(min(each.seconds for each in ended), max(each.peak_mb for each in ended))
+
+
+class Service:
+    """A credkeep that serves lines."""
+
+    def __init__(self, program: pathlib.Path, book: pathlib.Path) -> None:
+        command = [str(program), str(book), "serve"]
+        self.process = subprocess.Popen(command, stdin=subprocess.PIPE, stdout=subprocess.PIPE)
+        self.ask(["show nobody"])
+
+    def ask(self, lines: list[str]) -> float:
+        """The seconds of lines, each of which is written once the one before it is answered."""
+        assert self.process.stdin and self.process.stdout
         start = time.perf_counter()
         for line in lines:
-            made.stdin.write(line + "\n")
-            made.stdin.flush()
-            if made.stdout.readline().startswith("bad"):
-                sys.exit(f"refused: {line}")
-        taken = time.perf_counter() - start
-        made.stdin.close()
-    return taken
+            self.process.stdin.write(line.encode() + b"\n")
+            self.process.stdin.flush()
+            if not self.process.stdout.readline():
+                sys.exit(f"the service ended at {line}")
+        return time.perf_counter() - start
+
+    def ask_at_once(self, lines: list[str]) -> float:
+        """The seconds of lines that don't wait for answers."""
+        assert self.process.stdin and self.process.stdout
+        text = "".join(line + "\n" for line in lines).encode()
+        writer = threading.Thread(target=lambda: (self.process.stdin.write(text), self.process.stdin.flush()))
+        start = time.perf_counter()
+        writer.start()
+        for _ in lines:
+            self.process.stdout.readline()
+        seconds = time.perf_counter() - start
+        writer.join()
+        return seconds
+
+    def end(self) -> float:
+        """Ends it, and gives the most memory that it held in MB."""
+        assert self.process.stdin and self.process.stdout
+        self.process.stdin.close()
+        self.process.stdout.close()
+        _, ended, usage = os.wait4(self.process.pid, 0)
+        self.process.returncode = os.waitstatus_to_exitcode(ended)
+        return usage.ru_maxrss / 1024
+
+
+class Sample:
+    """Accounts in random order, in each of the files."""
+
+    def __init__(
+        self, program: pathlib.Path, folder: pathlib.Path, accounts: int, records: tuple[str, str, str]
+    ) -> None:
+        self.program, self.count = program, accounts
+        # A change puts the second: SQLite writes nothing if a row stays as it is.
+        self.record, self.changed, bcrypt = records
+        self.book, self.other = folder / "users.db", folder / "other.db"
+        self.users, self.lines = folder / "users", folder / "lines"
+        chance = random.Random(accounts)
+        numbers = chance.sample(range(16**8), accounts + 2 * LINES)
+        names = [f"n{number:08x}" for number in numbers]
+        self.names, self.new = names[:accounts], names[accounts:]
+        run(program, self.book, "init")
+        fill(self.book, ((name, self.record) for name in self.names))
+        shutil.copy(self.book, self.other)
+        with sqlite3.connect(self.other) as connection:
+            connection.execute("CREATE TABLE other (note TEXT)")
+        connection.close()
+        self.users.write_text("".join(f"{name}:{bcrypt}\n" for name in self.names))
+        self.lines.write_text("".join(f"{name}:{self.record}\n" for name in self.names))
+
+    def some(self, count: int) -> list[str]:
+        """So many names out of all, in random order."""
+        return random.Random(7).choices(self.names, k=count)
+
+
+def fill(path: pathlib.Path, rows: Iterable[tuple[str, str]]) -> None:
+    """Puts rows into the table of a book."""
+    with sqlite3.connect(path) as connection:
+        connection.executemany("INSERT INTO account VALUES (?, ?)", rows)
+    connection.close()
+
+
+def records_of(program: pathlib.Path, folder: pathlib.Path) -> tuple[str, str, str]:
+    """Two records of credkeep and one of htpasswd, of the same password."""
+    first, users = folder / "first.db", folder / "first"
+    run(program, first, "init")
+    for name, salt in (("n0", "c29tZXNhbHQ"), ("n1", "b3RoZXJzYWx0")):
+        run(program, first, "add", name, "--setting", f"{CHEAP}${salt}", given=PASSWORD)
+    exported = subprocess.run([program, first, "export"], capture_output=True, text=True, check=True).stdout
+    record, changed = (line.split(":")[1] for line in exported.split())
+    run("htpasswd", "-c", "-b", "-B", "-C", "4", users, "n0", PASSWORD)
+    return record, changed, users.read_text().strip().split(":")[1]
+
+
+def ours(sample: Sample, turns: int) -> dict[str, str]:
+    """The figures of credkeep."""
+    program, book = sample.program, sample.book
+    opened = best(turns, lambda: run(program, book, "show", "nobody", status=4))
+    # A database with a table too many is refused once sqlite has looked at it, before a row is read.
+    refused = best(turns, lambda: run(program, sample.other, "list", status=5))
+    service = Service(program, book)
+    shown = [f"show {name}" for name in sample.some(SHOWN)]
+    pairs = [line for name in sample.some(LINES) for line in (f"begin 1 verify {name} {PASSWORD_WORD}", "commit 1")]
+    changes = [f"load {name} {sample.changed}" for name in sample.some(LINES)]
+    blank_s = min(service.ask_at_once([""] * SHOWN) for _ in range(turns)) / SHOWN
+    show_s = min(service.ask_at_once(shown) for _ in range(turns)) / SHOWN
+    verify_s = min(service.ask(pairs) for _ in range(turns)) / LINES
+    change_s = min(service.ask(changes) for _ in range(turns)) / LINES
+    new_s = service.ask([f"account {name}" for name in sample.new[:LINES]]) / LINES
+    peak = service.end()
+    one = sample.names[0]
+    two = f"{PASSWORD}\n{PASSWORD}\n"
+    change = best(turns, lambda: run(program, book, "change", one, "--setting", CHEAP, given=two))
+    check = best(turns, lambda: run(program, book, "check", one, given=PASSWORD))
+    listed = best(turns, lambda: run(program, book, "export"))
+    return {
+        "open, ms": f"{opened.seconds * 1e3:.1f}",
+        "of it sqlite's, ms": f"{refused.seconds * 1e3:.1f}",
+        "of it reading rows, us a row": f"{(opened.seconds - refused.seconds) * 1e6 / sample.count:.2f}",
+        "blank line, us": f"{blank_s * 1e6:.1f}",
+        "`show`, us a line": f"{show_s * 1e6:.1f}",
+        "verify, two lines, us": f"{verify_s * 1e6:.0f}",
+        "change with its sync, us": f"{change_s * 1e6:.0f}",
+        "new name with its sync, us": f"{new_s * 1e6:.0f}",
+        "import, lines a second": imported(sample),
+        "export, ms": f"{listed.seconds * 1e3:.1f}",
+        "one change by a process, ms": f"{change.seconds * 1e3:.1f}",
+        "one check by a process, ms": f"{check.seconds * 1e3:.1f}",
+        "peak memory of a service, MB": f"{peak:.0f}",
+    }
+
+
+def imported(sample: Sample) -> str:
+    """How many lines a second an import takes in."""
+    fresh = sample.book.with_name("fresh.db")
+    run(sample.program, fresh, "init")
+    ended = run(sample.program, fresh, "import", given=sample.lines)
+    for path in fresh.parent.glob("fresh.db*"):
+        path.unlink()
+    return f"{sample.count / ended.seconds:.0f}"
+
+
+def theirs(sample: Sample, turns: int) -> dict[str, str]:
+    """The figures of Python's sqlite3 on the same file, and of htpasswd."""
+    text = "import sqlite3, sys\n" "dict(sqlite3.connect(sys.argv[1]).execute('SELECT name, record FROM account'))\n"
+    read = best(turns, lambda: run(sys.executable, "-c", text, sample.book))
+    empty = best(turns, lambda: run(sys.executable, "-c", "import sqlite3, sys"))
+    connection = sqlite3.connect(sample.book, isolation_level=None)
+    connection.execute("PRAGMA journal_mode = WAL")
+    connection.execute("PRAGMA synchronous = FULL")
+    select, update = "SELECT record FROM account WHERE name = ?", "UPDATE account SET record = ? WHERE name = ?"
+    show_s = timed(lambda name: connection.execute(select, (name,)).fetchone(), sample.some(SHOWN))
+    change_s = timed(
+        lambda name: connection.execute(update, (sample.record, name)), list(dict.fromkeys(sample.some(LINES)))
+    )
+    insert = "INSERT INTO account VALUES (?, NULL)"
+    new_s = timed(lambda name: connection.execute(insert, (name,)), sample.new[LINES:])
+    connection.close()
+    one = sample.names[0]
+    words = ("htpasswd", "-b", "-B", "-C", "4", sample.users, one, PASSWORD)
+    change = best(turns, lambda: run(*words))
+    check = best(turns, lambda: run("htpasswd", "-v", "-b", sample.users, one, PASSWORD))
+    return {
+        "sqlite3: read all rows, ms": f"{(read.seconds - empty.seconds) * 1e3:.1f}",
+        "sqlite3: SELECT of one, us": f"{show_s * 1e6:.1f}",
+        "sqlite3: UPDATE with its sync, us": f"{change_s * 1e6:.0f}",
+        "sqlite3: INSERT with its sync, us": f"{new_s * 1e6:.0f}",
+        "sqlite3: INSERTs in one transaction, a second": filled(sample),
+        "sqlite3: peak memory with all rows, MB": f"{read.peak_mb:.0f}",
+        "htpasswd: one change by a process, ms": f"{change.seconds * 1e3:.1f}",
+        "htpasswd: one check by a process, ms": f"{check.seconds * 1e3:.1f}",
+    }
+
+
+def timed(work: Callable[[str], object], names: list[str]) -> float:
+    """The seconds of one of these calls."""
+    start = time.perf_counter()
+    for name in names:
+        work(name)
+    return (time.perf_counter() - start) / len(names)
+
+
+def filled(sample: Sample) -> str:
+    """How many rows a second Python's sqlite3 puts into a new table."""
+    fresh = sample.book.with_name("fresh.db")
+    with sqlite3.connect(fresh) as connection:
+        connection.execute(TABLE)
+    connection.close()
+    start = time.perf_counter()
+    fill(fresh, ((name, sample.record) for name in sample.names))
+    seconds = time.perf_counter() - start
+    fresh.unlink()
+    return f"{sample.count / seconds:.0f}"
 
 
 def main() -> None:
     """Prints the table."""
-    parser = argparse.ArgumentParser(description="Times credkeep beside htpasswd -B.")
-    parser.add_argument("--turns", type=int, default=5)
+    parser = argparse.ArgumentParser(description="Times credkeep beside Python's sqlite3 and htpasswd -B.")
+    parser.add_argument("--turns", type=int, default=3)
+    parser.add_argument("--accounts", type=int, nargs="+", default=[1000, 10000, 100000])
     parser.add_argument("program", nargs="?", type=pathlib.Path, default=TOP / "crates/credkeep/out/credkeep")
     words = parser.parse_args()
-    program, turns = words.program, words.turns
     if not shutil.which("htpasswd"):
         sys.exit("htpasswd isn't installed (Debian's apache2-utils)")
-    with tempfile.TemporaryDirectory(prefix="keep-") as folder:
-        book, first, users = (pathlib.Path(folder) / name for name in ("users.db", "first.db", "users"))
-        run(program, first, "init")
-        run(program, first, "add", "n0", "--setting", SETTING, given=PASSWORD)
-        record = run(program, first, "export").strip().split(":")[1]
-        run(program, book, "init")
-        run(program, book, "import", given="".join(f"n{at}:{record}\n" for at in range(ACCOUNTS - 1)))
-        run("htpasswd", "-c", "-b", "-B", "-C", "4", users, "n0", PASSWORD)
-        theirs = users.read_text().split(":")[1]
-        users.write_text("".join(f"n{at}:{theirs.strip()}\n" for at in range(ACCOUNTS)))
-
-        changes = [f"load n{at} {record}" for at in range(LINES)]
-        verify = "c2VjcmV0"
-        pairs = [line for at in range(LINES) for line in (f"begin 1 verify n{at} {verify}", "commit 1")]
-        change_s = min(answered(program, book, changes) for _ in range(turns))
-        verify_s = min(answered(program, book, pairs) for _ in range(turns))
-        ours = (str(program), str(book))
-        two = f"{PASSWORD}\n{PASSWORD}\n"
-        open_s = best(turns, lambda: run(*ours, "list"))
-        one_change = best(turns, lambda: run(*ours, "change", "n9", "--setting", CHEAP, given=two))
-        one_check = best(turns, lambda: run(*ours, "check", "n9", given=PASSWORD))
-        by_batch = ("htpasswd", "-b", "-B", "-C", "4", str(users), "n9", PASSWORD)
-        their_change = best(turns, lambda: run(*by_batch))
-        their_check = best(turns, lambda: run("htpasswd", "-v", "-b", str(users), "n9", PASSWORD))
-
-    print(f"| On a file of {ACCOUNTS} accounts | credkeep | htpasswd -B |")
-    print("|---|--:|--:|")
-    print(f"| changes a second in one `run`, each answered after its sync | {LINES / change_s:.0f} | |")
-    print(f"| verifies a second in one `run`, two lines each | {LINES / verify_s:.0f} | |")
-    print(f"| one change by a process of its own, ms | {one_change * 1e3:.1f} | {their_change * 1e3:.1f} |")
-    print(f"| one check by a process of its own, ms | {one_check * 1e3:.1f} | {their_check * 1e3:.1f} |")
-    print(f"| open and list all names, ms | {open_s * 1e3:.1f} | |")
+    columns = []
+    for accounts in words.accounts:
+        with tempfile.TemporaryDirectory(prefix="keep-") as name:
+            folder = pathlib.Path(name)
+            sample = Sample(words.program, folder, accounts, records_of(words.program, folder))
+            columns.append(ours(sample, words.turns) | theirs(sample, words.turns))
+        print(f"{accounts}: {columns[-1]}", file=sys.stderr, flush=True)
+    print("| Accounts | " + " | ".join(f"{accounts}" for accounts in words.accounts) + " |")
+    print("|---|" + "--:|" * len(columns))
+    for row in columns[0]:
+        print(f"| {row} | " + " | ".join(column[row] for column in columns) + " |")
 
 
 if __name__ == "__main__":

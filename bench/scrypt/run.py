@@ -2,11 +2,11 @@
 """Times our scrypt beside OpenSSL's (hashlib.scrypt), and prints a table of their ratios.
 
 Both sides work one key in turn, ours first, in one run. The time of each is the best of its turns, and the keys are
-compared. Our time is taken inside the program bench_scrypt, from before the call to after it, as OpenSSL's is inside
+compared. Our time is taken inside the program bench_hashes, from before the call to after it, as OpenSSL's is inside
 Python. OpenSSL works the p pieces one after another; ours are worked by as many threads as the row says.
 
-The crate bench_scrypt is proved and built with `rt`, in its own folder. What it prints is never the same twice, so the
-gate runs it on an empty input, for which it prints nothing.
+The crate bench_hashes is proved and built with `rt`, in its own folder. What it prints of scrypt is never the same twice,
+so the gate has it print a tag of Argon2.
 
     bench/scrypt/run.py [TURNS]
 """
@@ -17,7 +17,7 @@ import subprocess
 import sys
 import time
 
-CRATE = pathlib.Path(__file__).resolve().parent.parent.parent / "crates" / "bench_scrypt"
+CRATE = pathlib.Path(__file__).resolve().parent.parent.parent / "crates" / "bench_hashes"
 
 # ln, r, p, workers
 ROWS = [(14, 8, 1, 1), (17, 8, 1, 1), (14, 8, 8, 1), (14, 8, 8, 4)]
@@ -25,8 +25,8 @@ ROWS = [(14, 8, 1, 1), (17, 8, 1, 1), (14, 8, 8, 1), (14, 8, 8, 4)]
 
 def build():
     """Proves and links the program, and gives its path."""
-    program = CRATE / "out/bench_scrypt"
-    command = ["rt", "run", "--", "14", "8", "1", "1"]
+    program = CRATE / "out/bench_hashes"
+    command = ["rt", "run", "--", "scrypt", "14", "8", "1", "1"]
     done = subprocess.run(command, cwd=CRATE, stdin=subprocess.DEVNULL, capture_output=True, text=True)
     if done.returncode != 0 or not program.exists():
         sys.exit(done.stdout + done.stderr)
@@ -36,7 +36,7 @@ def build():
 def best(program, turns, ln, r, p, workers):
     """The least time of ours and of OpenSSL's, in seconds."""
     ours = subprocess.Popen(
-        [program, *map(str, (ln, r, p, workers))], stdin=subprocess.PIPE, stdout=subprocess.PIPE, text=True, bufsize=1
+        [program, "scrypt", *map(str, (ln, r, p, workers))], stdin=subprocess.PIPE, stdout=subprocess.PIPE, text=True, bufsize=1
     )
     times = []
     for _ in range(turns):
