@@ -670,6 +670,10 @@ EDITS: list[tuple[dict[str, str], list[str], dict[str, str]]] = [
     ({"ann": "R", "cat": ""}, ["delete", "ann"], {"cat": ""}),
 ]
 
+# The bytes of a log with nothing in it.
+EMPTY_LOG = 41
+
+
 def with_records(book: dict[str, str]) -> dict[str, str]:
     """The book, with a record for each R."""
     return {name: RECORD if stored else "" for name, stored in book.items()}
@@ -713,31 +717,40 @@ def killed_edits(room: Room) -> None:
     print(f"      {done} of {room.kills // 2} were done")
 
 
+def ended_within(keep: Keep, words: list[str], size: int) -> Ended:
+    """How an order ends whose files may be written up to so many bytes."""
+
+    def small() -> None:
+        resource.setrlimit(resource.RLIMIT_FSIZE, (size, size))
+
+    # SIGXFSZ stays ignored, so that a write answers EFBIG.
+    done = subprocess.run(
+        [str(keep.program), str(keep.path), *words],
+        stdin=subprocess.DEVNULL,
+        capture_output=True,
+        timeout=60,
+        preexec_fn=small,
+        restore_signals=False,
+    )
+    return Ended(done.returncode, done.stdout, done.stderr)
+
+
 def edits_of_a_full_file(room: Room) -> None:
-    """A file that can't be written: the change is named, and what is kept is the book before or after it."""
+    """A file whose log can't be begun isn't opened. If the log can't grow, the change is named, and what is kept is the book
+    before it or the one after it."""
     for book, words, after in EDITS:
-        keep = before_edit(room, book)
-
-        def small() -> None:
-            resource.setrlimit(resource.RLIMIT_FSIZE, (0, 0))
-
-        done = subprocess.run(
-            [str(keep.program), str(keep.path), *words],
-            stdin=subprocess.DEVNULL,
-            capture_output=True,
-            timeout=60,
-            preexec_fn=small,
-            restore_signals=False,
-        )
-        same((done.returncode, done.stdout), (5, b""))
-        there = own_records(keep)
-        if b"credkeep: the database failed: " in done.stderr:
-            holds(b"the change of ann may be kept or not" in done.stderr, f"{done.stderr!r}")
+        for size in (0, EMPTY_LOG - 1):
+            keep = before_edit(room, book)
+            same(ended_within(keep, words, size), Ended(5, b"", b"credkeep: disk I/O error\n"))
+            same(own_records(keep), with_records(book))
+        for size in (EMPTY_LOG, 4096):
+            keep = before_edit(room, book)
+            ended = ended_within(keep, words, size)
+            same((ended.status, ended.written), (5, b""))
+            holds(b"credkeep: the database failed: " in ended.faults, f"{ended.faults!r}")
+            holds(b"the change of ann may be kept or not" in ended.faults, f"{ended.faults!r}")
+            there = own_records(keep)
             holds(there in (with_records(book), with_records(after)), f"{words}: {there}")
-        else:
-            # Some systems refuse as the file is opened: then no change was begun.
-            same(done.stderr, b"credkeep: disk I/O error\n")
-            same(there, with_records(book))
 
 
 def refused_edits(room: Room) -> None:
@@ -801,7 +814,7 @@ def bad_imports(room: Room) -> None:
         (f"{good}\nBob:\n", {2: "3 name"}),
         (f"bob:\n{good}\nbob:\n", {3: "1 exists"}),
         (f"{good}\nbob:$argon2id$v=19$m=256,t=2\n", {2: "4 params"}),
-        (f"{good}\rx:\n", {1: "1 shape"}),
+        (f"{good}\rx:\n", {1: "7 tag"}),
         (f"x\n{good}\nb@c.org:{RECORD}\nbob:$2y$05$abc\ncat:{{ARGON2ID}}\ndan:{{SSHA}}abc\n{good}\n", None),
     ):
         ended = keep("import", given=lines.encode())
@@ -825,7 +838,7 @@ def bad_imports(room: Room) -> None:
 
 def imports_of_others(room: Room) -> None:
     """Lines as htpasswd, Dovecot and Django write them, and files with Windows line ends."""
-    other = "$argon2i$v=19$m=256,t=2,p=1$c29tZXNhbHQ$iekCn0Y3spW+sCcAVqczbEFPrdQ/ayCGRSgcshSlZFI"
+    other = "$argon2i$v=19$m=256,t=2,p=1$c29tZXNhbHQ$iekCn0Y3spW+sCcFanM2xBT63UP2sghkUoHLIUpWRS8"
     lines = [
         f"htpasswd:{RECORD}",
         f"dovecot:{{ARGON2ID}}{RECORD}:1000:1000::/home/dovecot::",
