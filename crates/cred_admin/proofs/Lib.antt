@@ -1,5 +1,5 @@
 mod Reading
 mod Records
 pub mod Tallies
-mod Printed
+pub mod Printed
 mod BeforeSalt

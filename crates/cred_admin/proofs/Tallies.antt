@@ -1,5 +1,5 @@
 -- What the lines of an import come to, a line at a time.
-use Rattle.std.proofs.Common.{Bool, true, false, cond, if◌then◌else◌, ◌≡◌, ℕ, ◌+◌, ◌<◌, ◌≤◌, List, [], ◌∷◌, length, Option, Result, Ok, Err, refl, sym, ap, ◌∙◌, arith}
+use Rattle.std.proofs.Common.{Bool, true, false, cond, if◌then◌else◌, ◌≡◌, ℕ, ◌+◌, ◌≤◌, List, [], ◌∷◌, length, Option, Result, Ok, Err, sym, ap, ◌∙◌, arith}
 use Rattle.std.specs.FinMap as map
 use Rattle.std.specs.Cmp.Lexicographic.{nat_list_cmp_total}
 use Rattle.cred_phc.specs.Values.{RecordValue}
@@ -10,7 +10,7 @@ use Rattle.cred_admin.specs.declared.entry.LineFault.{LineFault}
 use Rattle.cred_admin.specs.declared.entry.LineFault.TheVariants.{Book}
 use Rattle.cred_admin.specs.declared.gathering.Existing.{Existing}
 use Rattle.cred_admin.specs.declared.gathering.Existing.TheVariants.{Refused, Kept}
-use Rattle.cred_admin.specs.Import.{Tally, entry_of, import_lines, nothing_yet, tally, tally_from, with_account, with_bad, with_entry, with_existing, with_kept, with_line}
+use Rattle.cred_admin.specs.Import.{Tally, entry_of, import_lines, nothing_yet, tally, tally_from, with_account, with_bad, with_existing, with_line}
 use Rattle.cred_admin.specs.Listing.{Entry}
 
 pub tally_more : (how : Existing) (book : Accounts) (t next : Tally) (n : ℕ) (lines rest : List (List ℕ)) (line : List ℕ) (all : Tally) → tally_from how book t n lines ≡ all → lines ≡ line ∷ rest

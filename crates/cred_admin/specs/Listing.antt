@@ -1,10 +1,12 @@
 -- What lists and exports write.
 use Rattle.std.specs.Prelude.{◌≡◌, ℕ, List, [], ◌∷◌, ◌++◌, Option, Some, None, Result, Ok, Err}
-use Rattle.std.specs.Prelude.{Bool, true}
+use Rattle.std.specs.Prelude.{Bool, true, ◌⊎◌, ◌<◌, length, take}
 use Rattle.std.specs.Io.KnownBytes.{Appends, Keeps}
 use Rattle.cred_phc.specs.Values.{RecordValue}
 use Rattle.cred_phc.specs.Text.{record_text, scheme_text}
 use Rattle.cred_book.specs.declared.reply.Reply.TheVariants as reply
+use Rattle.cred_admin.specs.declared.listing.Line.{Line}
+use Rattle.cred_admin.specs.declared.listing.Line.TheVariants as line
 use Rattle.cred_admin.specs.declared.showing.Part.{Part}
 use Rattle.cred_admin.specs.declared.showing.Part.TheVariants.{Costs, Record}
 use Rattle.cred_admin.specs.declared.fault.Fault.{Fault}
@@ -30,6 +32,10 @@ stored_text (Some v) = record_text v
 -- the name, a colon (byte 58), the record's text or nothing, and a line end
 abbrev pub passwd_line : Entry → List ℕ
 passwd_line e = e.0 ++ 58 ∷ stored_text e.1 ++ 10 ∷ []
+
+abbrev pub line_text : Line → Entry → List ℕ
+line_text line.Name = name_line
+line_text line.Passwd = passwd_line
 
 -- a line each
 unfoldable pub lines_text : (Entry → List ℕ) → List Entry → List ℕ
@@ -61,7 +67,19 @@ Tells told before now failed (Err fault.Write) =
 Tells told before now failed (Err fault.Memory) = Keeps before now
 Tells told before now failed (Err _) = ⊥
 
--- likewise a text with which all is done
-abbrev pub Prints : List ℕ → Option (List ℕ) → Option (List ℕ) → Bool → Result Status Fault
-    → Type 0
-Prints text before now failed ended = Tells (text, Done) before now failed ended
+-- a line of each entry is written; or, if a call failed, a proper front of their text; or, if there
+-- was no memory for a line, the lines of the first n entries, which aren't all
+abbrev pub Prints : (Entry → List ℕ) → List Entry → Option (List ℕ) → Option (List ℕ) → Bool
+    → Result Status Fault → Type 0
+Prints line entries before now failed (Ok status) =
+    Appends before now (lines_text line entries) × (status ≡ Done)
+Prints line entries before now failed (Err fault.Write) =
+    (failed ≡ true) × FrontWritten before now (lines_text line entries)
+Prints line entries before now failed (Err fault.Memory) =
+    (n : ℕ) × (n < length entries) × Appends before now (lines_text line (take n entries))
+Prints line entries before now failed (Err _) = ⊥
+
+-- what was kept is written, and nothing is kept any more; or it is kept on, and nothing is written
+abbrev pub IsPiece : Option (List ℕ) → Option (List ℕ) → List ℕ → List ℕ → Type 0
+IsPiece before now old new =
+    (Appends before now old × (new ≡ [])) ⊎ ((now ≡ before) × (new ≡ old))

@@ -1,10 +1,11 @@
 //! The commands that write the accounts, in the order of their names.
 
-ghost use Rattle.std.specs.Prelude.{◌≡◌, ◌++◌, IfOk, OnOk};
+ghost use Rattle.std.specs.Prelude.{◌≡◌, ◌++◌, ◌<◌, length, IfErr, OnErr, OnOk, true};
 ghost use Rattle.std.specs.FinMap as map;
 ghost use Rattle.cred_phc.specs.Values.{RecordValue};
+ghost use Rattle.cred_cli.specs.Outcome.{FrontWritten};
 ghost use Rattle.cred_cli.specs.Watched.{failed_of, inner_of};
-ghost use Rattle.cred_admin.specs.Listing.{Prints, lines_text, name_line, passwd_line};
+ghost use Rattle.cred_admin.specs.Listing.{IsPiece, Prints, line_text, name_line, passwd_line};
 
 use crate::fault::Fault;
 use crate::printing::write_whole;
@@ -15,59 +16,100 @@ use cred_phc::write_record;
 use std::alloc::{AllocError, Global};
 use std::io::Write;
 
-/// Writes the names, a line each.
+/// The bytes of lines that are kept before they are written.
+const PIECE: usize = 65536;
+
+/// What a line tells of an account.
+#[derive(Clone, Copy)]
+pub(crate) enum Line {
+    /// Its name.
+    Name,
+    /// Its name and its record, as a passwd-file has them.
+    Passwd,
+}
+
+/// Writes the names, a line each. It keeps about 64 KiB of them at a time, however many there are.
 ///
-/// Errors: `Memory`, and nothing is written; `Write`.
+/// Errors: `Memory`, and the lines of some first accounts are written, but not of all; `Write`.
 pub fn list<W: Write>(
     alloc: Global,
     book: &Register,
     writer: &mut Watched<W>,
 ) -> Result<Status, Fault>
-    ensures { Prints (lines_text name_line (map.entries book.now))
+    ensures { Prints name_line (map.entries book.now)
         (W.contents (inner_of writer.old)) (W.contents (inner_of writer.new))
         (failed_of writer.new) result }
 {
-    let text = names(alloc, book)?;
-    write_whole(writer, &text)?;
-    Ok(Status::Done)
+    write_lines(alloc, book, Line::Name, writer)
 }
 
 /// Writes the accounts as a passwd-file has them, a line `NAME:RECORD` each, or `NAME:` where no
-/// record stands. `import` reads them.
+/// record stands. `import` reads them. It keeps about 64 KiB of them at a time, however many there
+/// are.
 ///
-/// Errors: `Memory`, and nothing is written; `Write`.
+/// Errors: `Memory`, and the lines of some first accounts are written, but not of all; `Write`.
 pub fn export<W: Write>(
     alloc: Global,
     book: &Register,
     writer: &mut Watched<W>,
 ) -> Result<Status, Fault>
-    ensures { Prints (lines_text passwd_line (map.entries book.now))
+    ensures { Prints passwd_line (map.entries book.now)
         (W.contents (inner_of writer.old)) (W.contents (inner_of writer.new))
         (failed_of writer.new) result }
 {
-    let text = entries(alloc, book)?;
+    write_lines(alloc, book, Line::Passwd, writer)
+}
+
+fn write_lines<W: Write>(
+    alloc: Global,
+    book: &Register,
+    line: Line,
+    writer: &mut Watched<W>,
+) -> Result<Status, Fault>
+    ensures { Prints (line_text line) (map.entries book.now)
+        (W.contents (inner_of writer.old)) (W.contents (inner_of writer.new))
+        (failed_of writer.new) result }
+{
+    let mut text = Vec::new(alloc);
+    for (name, slot) in book.iter() {
+        push_line(alloc, &mut text, line, name, slot)?;
+        write_piece(writer, &mut text)?;
+    }
     write_whole(writer, &text)?;
     Ok(Status::Done)
 }
 
-fn names(alloc: Global, book: &Register) -> Result<Vec<u8>, AllocError>
-    ensures { IfOk result (λ text. text.items ≡ lines_text name_line (map.entries book.now)) }
+/// Writes the lines that are kept once they come to a piece, and keeps them no longer.
+fn write_piece<W: Write>(writer: &mut Watched<W>, text: &mut Vec<u8>) -> Result<(), Fault>
+    ensures done { OnOk result (IsPiece (W.contents (inner_of writer.old))
+        (W.contents (inner_of writer.new)) text.old.items text.new.items) }
+    ensures small { OnOk result (length text.new.items < PIECE) }
+    ensures cut { OnErr result (FrontWritten (W.contents (inner_of writer.old))
+        (W.contents (inner_of writer.new)) text.old.items) }
+    ensures fault { IfErr result (λ e. (e ≡ Fault.Write) × (failed_of writer.new ≡ true)) }
 {
-    let mut text = Vec::new(alloc);
-    for (name, _) in book.iter() {
-        push_name(&mut text, name)?;
+    if text.len() < PIECE {
+        return Ok(());
     }
-    Ok(text)
+    write_whole(writer, text)?;
+    text.clear();
+    Ok(())
 }
 
-fn entries(alloc: Global, book: &Register) -> Result<Vec<u8>, AllocError>
-    ensures { IfOk result (λ text. text.items ≡ lines_text passwd_line (map.entries book.now)) }
+fn push_line(
+    alloc: Global,
+    text: &mut Vec<u8>,
+    line: Line,
+    name: &Name,
+    slot: &Slot,
+) -> Result<(), AllocError>
+    ensures { OnOk result
+        (text.new.items ≡ text.old.items ++ line_text line (name.now, slot.now)) }
 {
-    let mut text = Vec::new(alloc);
-    for (name, slot) in book.iter() {
-        push_entry(alloc, &mut text, name, slot)?;
+    match line {
+        Line::Name => push_name(text, name),
+        Line::Passwd => push_entry(alloc, text, name, slot),
     }
-    Ok(text)
 }
 
 fn push_name(text: &mut Vec<u8>, name: &Name) -> Result<(), AllocError>

@@ -7,7 +7,7 @@ use Rattle.cred_book.specs.Accounts.{Accounts, register_capacity}
 use Rattle.cred_book.specs.declared.request.Request.TheVariants as request
 use Rattle.cred_admin.specs.Commands.{Adds, Asks, AsksTwice, Resets}
 use Rattle.cred_admin.specs.Edits.{Edits, deletion, disabling, renaming}
-use Rattle.cred_admin.specs.Listing.{Prints, Tells, lines_text, name_line, passwd_line, shown_at}
+use Rattle.cred_admin.specs.Listing.{Entry, Prints, Tells, name_line, passwd_line, shown_at}
 use Rattle.cred_admin.specs.Seen.{Seen}
 use Rattle.cred_admin.specs.Statuses.{status_of_fault}
 use Rattle.cred_admin.specs.declared.edit_reply.EditReply.{EditReply}
@@ -107,10 +107,11 @@ RunsWithin longest s (Err e) = HasCause s.reader_failed s.writer_failed e
 abbrev pub Commands : (Result Status Fault → Type 0) → Result Status Failure → Type 0
 Commands Holds ended = (r : Result Status Fault) × Holds r × (ended ≡ command_end r)
 
--- what is written of the book, which stays as it is
-abbrev pub Shows : List ℕ → Seen → Result Status Failure → Type 0
-Shows text s ended =
-    Commands (Prints text s.before s.now s.writer_failed) ended × (s.new ≡ s.old)
+-- a line of each account is written, and the book stays as it is
+abbrev pub Lists : (Entry → List ℕ) → Seen → Result Status Failure → Type 0
+Lists line s ended =
+    Commands (Prints line (map.entries s.old) s.before s.now s.writer_failed) ended
+    × (s.new ≡ s.old)
 
 -- a change without a password
 abbrev pub Edited : EditReply × Accounts → Seen → Result Status Failure → Type 0
@@ -136,8 +137,8 @@ Performs (Rename name other) s ended = Edited (renaming s.old name other) s ende
 Performs (Show name part) s ended =
     Commands (Tells (shown_at part (map.get s.old name)) s.before s.now s.writer_failed) ended
     × (s.new ≡ s.old)
-Performs Names s ended = Shows (lines_text name_line (map.entries s.old)) s ended
-Performs Export s ended = Shows (lines_text passwd_line (map.entries s.old)) s ended
+Performs Names s ended = Lists name_line s ended
+Performs Export s ended = Lists passwd_line s ended
 Performs (Import existing) s ended =
     ((r : Result Status ImportFault) × Imports existing s.input s.reader_failed s.old s.new r
     × (ended ≡ import_end r)) × Keeps s.before s.now

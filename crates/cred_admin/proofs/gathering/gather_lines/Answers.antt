@@ -1,6 +1,5 @@
 use Rattle.std.proofs.Common.{ap, length, arith, Option}
 use Rattle.std.specs.FinMap as map
-use Rattle.std.proofs.lemmas.Result.{err_from_is_err_and}
 use Rattle.cred_phc.specs.Values.{RecordValue}
 use Rattle.cred_book.specs.Names.{name_cmp}
 use Rattle.cred_admin.specs.Import.{Tally, entry_of, tally_from, tally_of, whole_lines}
