@@ -16,7 +16,7 @@ use cred_phc::write_record;
 use std::alloc::{AllocError, Global};
 use std::io::Write;
 
-/// The bytes of lines that are kept before they are written.
+/// Lines are kept until they come to so many bytes, and then written.
 const PIECE: usize = 65536;
 
 /// What a line tells of an account.
@@ -30,7 +30,7 @@ pub(crate) enum Line {
 
 /// Writes the names, a line each. It keeps about 64 KiB of them at a time, however many there are.
 ///
-/// Errors: `Memory`, and the lines of some first accounts are written, but not of all; `Write`.
+/// Errors: `Memory`, and some first lines are written, perhaps none and never all; `Write`.
 pub fn list<W: Write>(
     alloc: Global,
     book: &Register,
@@ -47,7 +47,7 @@ pub fn list<W: Write>(
 /// record stands. `import` reads them. It keeps about 64 KiB of them at a time, however many there
 /// are.
 ///
-/// Errors: `Memory`, and the lines of some first accounts are written, but not of all; `Write`.
+/// Errors: `Memory`, and some first lines are written, perhaps none and never all; `Write`.
 pub fn export<W: Write>(
     alloc: Global,
     book: &Register,
@@ -60,6 +60,7 @@ pub fn export<W: Write>(
     write_lines(alloc, book, Line::Passwd, writer)
 }
 
+/// Writes a line of each account, a piece at a time.
 fn write_lines<W: Write>(
     alloc: Global,
     book: &Register,
