@@ -1,0 +1,3 @@
+-- The definitions that the contracts of a log cite.
+pub mod Beginnings
+pub mod Links

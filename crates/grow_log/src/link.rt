@@ -1,0 +1,8 @@
+//! What a log is made of.
+
+/// An entry, if it is one, and the key of the word where the next link goes. Links exist in proofs
+/// alone.
+pub struct Link<T> {
+    pub entry: Option<T>,
+    pub next: u64,
+}
