@@ -1,9 +1,7 @@
 -- Beginnings of one list, and books after entries.
-use Rattle.std.proofs.Common.{◌≡◌, ℕ, ◌+◌, ◌<◌, ◌≤◌, List, [], ◌∷◌, ◌++◌, length, Bool, true, false, MatchBool, Option, Some, None, inl, inr, is_some, refl, ap, subst, arith, length-append, get_or, sym, ◌∙◌}
-use Rattle.std.proofs.lemmas.Bool.Decides.{nat_tests}
+use Rattle.std.proofs.Common.{◌≡◌, ℕ, ◌+◌, ◌<◌, List, [], ◌∷◌, ◌++◌, length, Bool, true, false, Option, Some, None, inl, inr, is_some, refl, ap, subst, arith, length-append, get_or, sym, ◌∙◌}
 use Rattle.std.proofs.lemmas.Bool.{cases_eq}
 use Rattle.std.proofs.lemmas.List.{get_or_read, append_assoc}
-use lib.Dec.{leb}
 use mathlib.Core.List.{IsPrefix}
 use Rattle.std.specs.FinMap as map
 use Rattle.cred_phc.specs.Values.{RecordValue}
@@ -12,38 +10,11 @@ use Rattle.cred_book.proofs.Kept.{with_known, with_new}
 use Rattle.cred_desk.specs.declared.entry.Entry.{Entry}
 use Rattle.cred_desk.specs.Commits.{list_after, weight}
 use Rattle.cred_desk.specs.Histories.{put, after, FollowsAt, IsAllowed, IsLegal, IsListed, IsMade}
-use Rattle.cred_desk.specs.Rules.{IsLonger}
-
--- of two beginnings of one list the shorter begins the longer
-pub prefix_shorter : {A : Type 0} (xs ys zs : List A) → IsPrefix xs zs → IsPrefix ys zs → length xs ≤ length ys → IsPrefix xs ys
-prefix_shorter [] ys zs p q le = (ys, refl)
-prefix_shorter (x ∷ xs) [] zs p q le = absurd (omega arith)
-prefix_shorter (x ∷ xs) (y ∷ ys) [] p q le = absurd (cc (p.1))
-prefix_shorter (x ∷ xs) (y ∷ ys) (z ∷ zs) p q le =
-    let heads : x ≡ y = cc (p.1, q.1) in
-    let rest = prefix_shorter xs ys zs (p.0, cc (p.1)) (q.0, cc (q.1)) (omega arith) in
-    (rest.0, cc (heads, rest.1))
-
--- so it is enough to compare their lengths
-pub prefix_told : (xs ys zs : List Entry) → IsPrefix xs zs → IsPrefix ys zs → (b : Bool) → leb (length xs) (length ys) ≡ b → MatchBool b (IsPrefix xs ys) (IsLonger ys xs)
-prefix_told xs ys zs p q true is = let le : length xs ≤ length ys = grind (arith, nat_tests) in prefix_shorter xs ys zs p q le
-prefix_told xs ys zs p q false is = let lt : length ys < length xs = grind (arith, nat_tests) in (prefix_shorter ys xs zs q p (omega arith), lt)
+use Rattle.grow_log.specs.Beginnings.{IsLonger}
 
 -- a longer list is no beginning of a shorter one
 pub longer_ends : (xs ys : List Entry) → IsLonger xs ys → IsPrefix ys xs → ⊥
 longer_ends xs ys longer p = omega (arith, longer.1, ap length (p.1), length-append ys p.0)
-
--- a beginning as long as the whole is the whole
-pub prefix_whole : {A : Type 0} (xs ys : List A) → IsPrefix xs ys → length ys ≤ length xs → xs ≡ ys
-prefix_whole [] [] p le = refl
-prefix_whole [] (y ∷ ys) p le = absurd (omega arith)
-prefix_whole (x ∷ xs) [] p le = absurd (cc (p.1))
-prefix_whole (x ∷ xs) (y ∷ ys) p le =
-    let rest = prefix_whole xs ys (p.0, cc (p.1)) (omega arith) in cc (p.1, rest)
-
--- a beginning is no longer than the whole
-pub prefix_length : {A : Type 0} (xs ys : List A) → IsPrefix xs ys → length xs ≤ length ys
-prefix_length xs ys p = omega (arith, ap length (p.1), length-append xs p.0)
 
 -- the book after one entry more
 pub after_snoc : (book : Accounts) (list : List Entry) (entry : Entry) → after book (list ++ entry ∷ []) ≡ put (after book list) entry

@@ -5,7 +5,6 @@ pub mod Histories
 pub mod Naming
 pub mod Published
 pub mod Refusals
-pub mod Rules
 pub mod Standing
 pub use Rattle.cred_book.specs.Accounts
 pub use Rattle.cred_book.specs.Calls

@@ -6,7 +6,7 @@ ghost use Rattle.cred_desk.specs.Refusals.{IsRefusedToMake};
 ghost use Rattle.cred_desk.specs.Standing.{IsNew};
 
 use crate::error::DeskError;
-use crate::front::Front;
+use crate::list::Front;
 use crate::naming::{Naming, Opened};
 use crate::published::{BookWriter, Shown, show_copy};
 use crate::publisher::Publisher;
@@ -52,8 +52,8 @@ pub(crate) fn make<J: Naming, R: Wait>(
         return Err(DeskError::Memory);
     };
     let (total, mut spare) = blank.open::<J>();
-    let writer = open_writer(alloc, rt, history.front(), book, sessions)?;
-    match seats(alloc, &writer, history.front(), &mut spare, sessions) {
+    let writer = open_writer(alloc, rt, history.beginning(), book, sessions)?;
+    match seats(alloc, &writer, history.beginning(), &mut spare, sessions) {
         Ok(sessions) => Ok(Made {
             publisher: Publisher::new(alloc, writer, history),
             sessions,

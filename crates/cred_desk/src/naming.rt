@@ -2,10 +2,9 @@
 
 ghost use Rattle.std.specs.Prelude.{◌≡◌, [], IfSome};
 
-use crate::history::History;
-use crate::link::Link;
-use crate::rule::Law;
-use logbook::{Seen, Start, Word};
+use crate::entry::Entry;
+use crate::list::{Entries, History};
+use grow_log::NewLog;
 use std::marker::{Brand, Model};
 use std::sync::ledger::{Blank, Ledger};
 
@@ -40,25 +39,20 @@ impl Naming for Brand {
 /// An empty list, and the count of what sessions do, that no name stands for yet.
 #[derive(Drop)]
 pub struct Opened {
-    head: Word<Link, u64, Law>,
-    seen: Seen<Link, u64, Law>,
+    log: NewLog<Entry>,
     blank: Blank,
 }
 
 impl Model for Opened {
-    ghost use Rattle.std.specs.Prelude.{◌≡◌, []};
     ghost use Rattle.cred_desk.specs.Naming.{NewList};
-    ghost use Rattle.cred_desk.specs.Rules.{head_of};
 
     ghost Value = { NewList };
 
     ghost view = { λ o. record {
-      list = o.seen.book;
+      list = o.log;
       ledger = o.blank.name;
       sessions = o.blank.parts;
     } };
-
-    ghost invariant = { λ o. (o.seen.log ≡ []) × (o.head ≡ head_of o.seen.book) };
 }
 
 impl Opened {
@@ -66,10 +60,8 @@ impl Opened {
     pub fn new(sessions: u8) -> Opened
         ensures { result.sessions ≡ sessions }
     {
-        let (seen, mut first, _second) = Seen::open(Start::alone(), 0, 0);
         Opened {
-            head: Word::tracked(0, &mut first),
-            seen,
+            log: NewLog::new(),
             blank: Blank::new(u64::from(sessions)),
         }
     }
@@ -80,7 +72,7 @@ impl Opened {
         ensures list { IfSome result.0 (λ list. list ≡ []) }
         ensures blank { (result.1.name ≡ self.ledger) × (result.1.parts ≡ self.sessions) }
     {
-        let Opened { head, seen, blank } = self;
-        (History::open(head, seen), blank)
+        let Opened { log, blank } = self;
+        (log.named::<Entries<J>>(), blank)
     }
 }

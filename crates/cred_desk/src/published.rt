@@ -5,7 +5,7 @@ ghost use Rattle.cred_desk.specs.Histories.{after};
 ghost use Rattle.cred_desk.specs.Published.{with_step};
 
 use crate::entry::Entry;
-use crate::front::Front;
+use crate::list::Front;
 use crate::naming::Naming;
 use core::mem::replace_with;
 use cred_book::Book;

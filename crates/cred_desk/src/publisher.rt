@@ -10,8 +10,7 @@ ghost use Rattle.cred_desk.specs.Histories.{IsAllowed, IsLegal, IsListed, IsMade
 use crate::change::judge;
 use crate::closed::Remains;
 use crate::entry::Entry;
-use crate::front::Front;
-use crate::history::History;
+use crate::list::{Front, History};
 use crate::naming::Naming;
 use crate::published::{BookWriter, Shown, Step, show};
 use crate::told::Told;
@@ -86,7 +85,7 @@ impl<J: Naming> Publisher<J> {
     pub(crate) fn front(&self) -> &Front<J>
         ensures { result.now ≡ self.now }
     {
-        self.history.front()
+        self.history.beginning()
     }
 
     /// Finds that a list that somebody knows is a beginning of the present one.
@@ -132,7 +131,7 @@ impl<J: Naming> Publisher<J> {
         let step = Step {
             last: self.last,
             entry,
-            front: self.history.front().again(),
+            front: self.history.beginning().again(),
         };
         show(&mut self.writer, rt, step);
         self.last = Some(entry);

@@ -6,11 +6,11 @@ ghost use Rattle.cred_book.specs.Commits.{Begins};
 ghost use Rattle.cred_book.specs.Works.{is_for_current};
 ghost use Rattle.cred_desk.specs.Commits.{reply_of};
 ghost use Rattle.cred_desk.specs.Histories.{IsListed, after};
-ghost use Rattle.cred_desk.specs.Rules.{IsLonger};
 ghost use Rattle.cred_desk.specs.Standing.{BeginsAt, ClosesAt, IsNew, IsUncounted};
+ghost use Rattle.grow_log.specs.Beginnings.{IsLonger};
 
 use crate::error::DeskError;
-use crate::front::Front;
+use crate::list::Front;
 use crate::naming::Naming;
 use crate::published::{BookReader, Sees};
 use crate::told::Told;

@@ -2,7 +2,7 @@
 
 ghost use Rattle.std.specs.Prelude.{◌≡◌};
 
-use crate::front::Front;
+use crate::list::Front;
 use crate::naming::Naming;
 use std::fmt;
 use std::marker::Model;
