@@ -46,7 +46,7 @@ impl<T> Model for NewLog<T> {
 }
 
 impl<T> NewLog<T> {
-    /// A log that differs from every other one.
+    /// One that nobody holds yet.
     pub fn new() -> NewLog<T> {
         let (seen, mut first, _second) = Seen::open(Start::alone(), 0, 0);
         NewLog {
