@@ -38,7 +38,12 @@ class Argon2(unittest.TestCase):
                 self.assertTrue(two_of.using(memory_cost=72).needs_update(one))
 
     def test_threads(self):
-        for settings, threads in (({}, 4), ({"max_threads": -1}, 4), ({"max_threads": 1}, 1), ({"max_threads": 3}, 3)):
+        for settings, threads in (
+            ({}, 4),
+            ({"max_threads": -1}, 4),
+            ({"max_threads": 1}, 1),
+            ({"max_threads": 3}, 3),
+        ):
             handler = ours.using(memory_cost=64, time_cost=1, parallelism=4, **settings)
             with mock.patch.object(rigzumal, "argon2", wraps=rigzumal.argon2) as call:
                 record = handler.hash("password")
