@@ -13,7 +13,7 @@ LanesFit a = (1 ≤ a.lanes) × (a.lanes ≤ MAX_LANES)
 abbrev pub MemoryFits : Parameters → Type 0
 MemoryFits a = (8 * a.lanes ≤ a.memory) × (a.memory ≤ MAX_MEMORY)
 
--- the error is that of the first fault, where a tag has at most `most` bytes
+-- the error is that of the first fault, if a tag has at most `most` bytes
 abbrev pub IsFaultUpTo : ℕ → Parameters → ArgonError → Type 0
 IsFaultUpTo most a Lanes = (a.lanes ≡ 0) ⊎ (MAX_LANES < a.lanes)
 IsFaultUpTo most a Cost = LanesFit a × ((a.memory < 8 * a.lanes) ⊎ (MAX_MEMORY < a.memory))

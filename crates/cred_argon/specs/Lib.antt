@@ -13,6 +13,7 @@ pub mod Turns
 pub mod Segments
 pub mod SegmentWork
 pub mod Argon
+pub mod Tags
 pub mod Slices
 pub mod Lanes
 pub use Rattle.cred_blake.specs.Blake2b

@@ -45,7 +45,7 @@ abbrev pub without_last : List Place → List Place
 without_last xs = take (length xs - 1) xs
 
 -- W: the places of lane l that p may refer to, the oldest first. The last is left out in p's own
--- lane, where it is the block before p, and in another lane where p is the first of its segment.
+-- lane, if it is the block before p, and in another lane if p is the first of its segment.
 unfoldable pub reference_set : ℕ → Place → ℕ → List Place
 reference_set s p l =
     let all = filter (is_finished s p) (lane_places s p.pass l) in

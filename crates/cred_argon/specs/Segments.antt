@@ -10,8 +10,8 @@ use Rattle.cred_argon.specs.Places.{place}
 use Rattle.cred_argon.specs.Cells.{cell}
 use Rattle.cred_argon.specs.Turns.{number}
 
--- a segment for each lane, in order, with room for its blocks: it has them all where n segments or
--- more were worked before segment g, and else as many as it began with
+-- a segment for each lane, in order, with room for its blocks: it has them all if n segments or
+-- more were worked before segment g, and otherwise as many as it began with
 pub record IsSlice (a : Parameters) (g n start : ℕ) (segments : List Segment) : Type 0 where
   pub count : length segments ≡ a.lanes
   pub lane : (l : ℕ) (d : Segment) → l < a.lanes → (slice_index_or segments l d).lane ≡ l
@@ -40,14 +40,14 @@ HoldsSlice a h g segments =
     → HoldsSegment a h g l (slice_index_or segments l d).blocks.items
 
 -- what is shared while a slice is worked: those of the three slices before that were worked have
--- all blocks, where `full` says so of a slice
+-- all blocks, if `full` says so of a slice
 pub record IsShaped {S : Type 0} (full : Parameters → S → Type 0) (c : Shared S) : Type 0 where
   pub slice : c.turn.slice < 4
   pub oldest : 3 ≤ number c.turn → full c.turn.params c.oldest
   pub middle : 2 ≤ number c.turn → full c.turn.params c.middle
   pub newest : 1 ≤ number c.turn → full c.turn.params c.newest
 
--- their blocks are the cells of their segments, where `holds` says so of a slice
+-- their blocks are the cells of their segments, if `holds` says so of a slice
 pub record SharedHolds {S : Type 0} (holds : Parameters → List ℕ → ℕ → S → Type 0) (h : List ℕ)
     (c : Shared S) : Type 0 where
   pub oldest : 3 ≤ number c.turn → holds c.turn.params h (number c.turn - 3) c.oldest

@@ -36,7 +36,7 @@ DoneHolds h c l blocks =
     (i : ℕ) (d : Block) → i < length blocks
     → (slice_index_or blocks i d).0 ≡ cell c.params h (place_in c l i)
 
--- a segment that is worked up to k: before it the cells of this pass, behind it those of the pass
+-- a segment that is worked up to k: before it the cells of this pass, after it those of the pass
 -- before
 pub record OwnHolds (h : List ℕ) (c : Turn) (l k : ℕ) (blocks : List Block) : Type 0 where
   pub new : (i : ℕ) (d : Block) → i < k

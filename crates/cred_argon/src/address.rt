@@ -1,5 +1,5 @@
-//! Address blocks: where the words that name references come from the place alone, they are the
-//! words of blocks that are made of the segment's position and a running number (RFC 9106, section
+//! Address blocks. If the words that name references come from the place alone, they are the words
+//! of blocks that are made of the segment's position and a running number (RFC 9106, section
 //! 3.4.1.2).
 ghost use Rattle.std.specs.Prelude.{◌≡◌, ◌+◌, ◌*◌, ◌/◌, IsTrue, ◌↔◌};
 ghost use Rattle.cred_argon.specs.Parameters.{segment_len};

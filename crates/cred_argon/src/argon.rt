@@ -1,8 +1,7 @@
 //! Argon2 as a whole (RFC 9106, section 3.2).
-ghost use Rattle.std.specs.Prelude.{◌≡◌, ◌^◌, ◌<◌, ◌≤◌, ◌↔◌, ◌⊎◌, IsTrue, IfOk, IfErr, ℕ, length};
-ghost use Rattle.std.specs.Prelude.{slice_index_or};
-ghost use Rattle.cred_argon.specs.Argon.{argon};
+ghost use Rattle.std.specs.Prelude.{◌<◌, ℕ, length, slice_index_or};
 ghost use Rattle.cred_argon.specs.SegmentWork.{CanWork, Works};
+ghost use Rattle.cred_argon.specs.Tags.{Hashes};
 ghost use Rattle.cred_argon.specs.declared.segment.Segment.{Segment};
 ghost use denote.Param.Send.{IsSync};
 
@@ -23,8 +22,8 @@ use std::thread::Threads;
 ///
 /// The memory that is taken is that of the parameters, at most, and some KiB.
 ///
-/// Errors: `InputLen` where an input has 2^32 bytes or more, judged before memory is taken; else
-/// `Memory` where there is none for the blocks or the tag.
+/// Errors: `InputLen` if an input has 2^32 bytes or more, judged before memory is taken; otherwise
+/// `Memory` if it runs out for the blocks or the tag.
 pub fn argon2<R: Threads + Sync, G: Gate + Sync>(
     rt: &R,
     alloc: Global,
@@ -36,13 +35,7 @@ pub fn argon2<R: Threads + Sync, G: Gate + Sync>(
     secret: &[u8],
     assoc: &[u8],
 ) -> Result<Vec<u8>, ArgonError>
-    ensures ok { IfOk result (λ tag. tag.items
-        ≡ argon params.now pw.now salt.now secret.now assoc.now) }
-    ensures size { IfOk result (λ tag. length tag.items ≡ params.now.tag_len) }
-    ensures input_len { (result ≡ Err ArgonError.InputLen)
-        ↔ ((2 ^ 32 ≤ length pw.now) ⊎ (2 ^ 32 ≤ length salt.now)
-        ⊎ (2 ^ 32 ≤ length secret.now) ⊎ (2 ^ 32 ≤ length assoc.now)) }
-    ensures err { IfErr result (λ e. (e ≡ ArgonError.InputLen) ⊎ (e ≡ ArgonError.Memory)) }
+    ensures { Hashes params.now pw.now salt.now secret.now assoc.now result }
 {
     let work_each = |shared: &Shared<Vec<Segment>>, parts: &mut [Segment]|
         requires { IsSync R.row × IsSync G.row
@@ -74,13 +67,7 @@ pub fn argon2_alone<G: Gate>(
     secret: &[u8],
     assoc: &[u8],
 ) -> Result<Vec<u8>, ArgonError>
-    ensures ok { IfOk result (λ tag. tag.items
-        ≡ argon params.now pw.now salt.now secret.now assoc.now) }
-    ensures size { IfOk result (λ tag. length tag.items ≡ params.now.tag_len) }
-    ensures input_len { (result ≡ Err ArgonError.InputLen)
-        ↔ ((2 ^ 32 ≤ length pw.now) ⊎ (2 ^ 32 ≤ length salt.now)
-        ⊎ (2 ^ 32 ≤ length secret.now) ⊎ (2 ^ 32 ≤ length assoc.now)) }
-    ensures err { IfErr result (λ e. (e ≡ ArgonError.InputLen) ⊎ (e ≡ ArgonError.Memory)) }
+    ensures { Hashes params.now pw.now salt.now secret.now assoc.now result }
 {
     argon2_by(&Alone::new(gate), alloc, params, pw, salt, secret, assoc)
 }
@@ -96,13 +83,7 @@ fn argon2_by<W: Crew<Shared<Vec<Segment>>, Segment>>(
     assoc: &[u8],
 ) -> Result<Vec<u8>, ArgonError>
     requires { W.ready crew.now }
-    ensures ok { IfOk result (λ tag. tag.items
-        ≡ argon params.now pw.now salt.now secret.now assoc.now) }
-    ensures size { IfOk result (λ tag. length tag.items ≡ params.now.tag_len) }
-    ensures input_len { (result ≡ Err ArgonError.InputLen)
-        ↔ ((2 ^ 32 ≤ length pw.now) ⊎ (2 ^ 32 ≤ length salt.now)
-        ⊎ (2 ^ 32 ≤ length secret.now) ⊎ (2 ^ 32 ≤ length assoc.now)) }
-    ensures err { IfErr result (λ e. (e ≡ ArgonError.InputLen) ⊎ (e ≡ ArgonError.Memory)) }
+    ensures { Hashes params.now pw.now salt.now secret.now assoc.now result }
 {
     if is_any_too_long(pw, salt, secret, assoc) {
         return Err(ArgonError::InputLen);

@@ -1,17 +1,18 @@
 //! The first hash of all inputs, and the first two blocks of each lane (RFC 9106, section 3.2,
 //! steps 1, 3 and 4).
-ghost use Rattle.std.specs.Prelude.{◌≡◌, ℕ, ◌+◌, ◌^◌, ◌<◌, ◌≤◌, ◌↔◌, ◌⊎◌, List, ◌++◌, length};
+ghost use Rattle.std.specs.Prelude.{◌≡◌, ℕ, ◌+◌, ◌^◌, ◌<◌, ◌≤◌, ◌↔◌, List, ◌++◌, length};
 ghost use Rattle.std.specs.Prelude.{IsTrue, take};
 ghost use Rattle.cred_blake.specs.Hasher.{Holds};
 ghost use Rattle.cred_argon.specs.Argon.{le32, first_hash};
 ghost use Rattle.cred_argon.specs.Cells.{first_cell};
+ghost use Rattle.cred_argon.specs.Tags.{IsAnyTooLong};
 
 use crate::block::Block;
 use crate::bytes::block_of_bytes;
 use crate::params::Params;
 use cred_blake::{Blake2b, Digest, hprime_block};
 
-/// The first hash, of the parameters and the four inputs, each behind its length.
+/// The first hash, of the parameters and the four inputs, each after its length.
 pub(crate) fn first_hash(
     params: &Params,
     pw: &[u8],
@@ -51,7 +52,7 @@ fn feed_number(hasher: &mut Blake2b, number: u32)
     hasher.update(&number.to_le_bytes());
 }
 
-/// Feeds an input behind its length.
+/// Feeds an input after its length.
 fn feed_input(hasher: &mut Blake2b, input: &[u8])
     requires { length input.now < 2 ^ 32 }
     ensures { (n : ℕ) → (key m : List ℕ) → Holds n key hasher.old m
@@ -73,7 +74,7 @@ pub(crate) fn first_block(hash: &[u8], lane: u32, column: u32) -> Block
     block_of_bytes(&hprime_block(&input))
 }
 
-/// Writes a piece behind the bytes that are there.
+/// Writes a piece after the bytes that are there.
 fn put(out: &mut [u8; 72], at: usize, piece: &[u8])
     requires { at + length piece.now ≤ 72 }
     ensures len { length out.new ≡ 72 }
@@ -84,8 +85,7 @@ fn put(out: &mut [u8; 72], at: usize, piece: &[u8])
 
 /// Whether one of the inputs is too long.
 pub(crate) fn is_any_too_long(pw: &[u8], salt: &[u8], secret: &[u8], assoc: &[u8]) -> bool
-    ensures { IsTrue result ↔ ((2 ^ 32 ≤ length pw.now) ⊎ (2 ^ 32 ≤ length salt.now)
-        ⊎ (2 ^ 32 ≤ length secret.now) ⊎ (2 ^ 32 ≤ length assoc.now)) }
+    ensures { IsTrue result ↔ IsAnyTooLong pw.now salt.now secret.now assoc.now }
 {
     is_too_long(pw) || is_too_long(salt) || is_too_long(secret) || is_too_long(assoc)
 }

@@ -1,10 +1,11 @@
 //! Argon2 in parts, for a caller who works the lanes in threads of its own (RFC 9106, section 3.4).
 //! The memory is four slices of blocks, each with the segments of its lanes one after another.
-ghost use Rattle.std.specs.Prelude.{◌≡◌, ℕ, ◌+◌, ◌-◌, ◌*◌, ◌^◌, ◌<◌, ◌≤◌, ◌↔◌, ◌⊎◌, List, IfOk};
+ghost use Rattle.std.specs.Prelude.{◌≡◌, ℕ, ◌+◌, ◌-◌, ◌*◌, ◌<◌, ◌≤◌, ◌↔◌, List, IfOk};
 ghost use Rattle.std.specs.Prelude.{IfErr, length, slice_index_or};
 ghost use Rattle.cred_argon.specs.declared.block.Block.{Block};
 ghost use Rattle.cred_argon.specs.Parameters.{Parameters, segment_len};
 ghost use Rattle.cred_argon.specs.Argon.{argon, first_hash};
+ghost use Rattle.cred_argon.specs.Tags.{IsAnyTooLong};
 ghost use Rattle.cred_argon.specs.Lanes.{HoldsBlocks, HoldsFirstBlocks, WorksSegment};
 
 use crate::block::Block;
@@ -52,8 +53,7 @@ pub fn begin_lanes(
     ensures made { IfOk result (λ _. HoldsFirstBlocks params.now
         (first_hash params.now pw.now salt.now secret.now assoc.now) params.now.lanes first.new) }
     ensures input_len { (result ≡ Err ArgonError.InputLen)
-        ↔ ((2 ^ 32 ≤ length pw.now) ⊎ (2 ^ 32 ≤ length salt.now)
-        ⊎ (2 ^ 32 ≤ length secret.now) ⊎ (2 ^ 32 ≤ length assoc.now)) }
+        ↔ IsAnyTooLong pw.now salt.now secret.now assoc.now }
     ensures err { IfErr result (λ e. (e ≡ ArgonError.InputLen) × (first.new ≡ first.old)) }
 {
     if is_any_too_long(pw, salt, secret, assoc) {
@@ -120,7 +120,7 @@ pub fn work_lane(
 /// The tag, if `last` is the last slice and has been worked on the last pass (RFC 9106, section
 /// 3.2, steps 7 and 8).
 ///
-/// Errors: `Memory` if there is none for the tag.
+/// Errors: `Memory` if it runs out for the tag.
 pub fn tag_of_lanes(alloc: Global, params: &Params, last: &[Block]) -> Result<Vec<u8>, ArgonError>
     requires { length last.now ≡ params.now.lanes * segment_len params.now }
     ensures ok { (pw salt secret assoc : List ℕ)

@@ -3,9 +3,9 @@
 //!
 //! [`argon2`] makes a tag from a password, a salt and [`Params`], its lanes worked by threads;
 //! [`argon2_alone`] makes it on the caller's thread. [`begin_lanes`], [`work_lane`] and
-//! [`tag_of_lanes`] are its parts, for a caller who has threads and memory of its own.
-//! [`compress`] and [`reference`] are the two parts that its memory is filled with, for whoever
-//! wants to look at them alone.
+//! [`tag_of_lanes`] are its parts, for a caller who has threads and memory of its own. [`compress`]
+//! and [`reference`] are the two parts that its memory is filled with; look at them alone if you
+//! like.
 #![tactic(auto)]
 
 mod address;

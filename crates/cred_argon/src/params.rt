@@ -88,8 +88,8 @@ impl Params {
     /// Parameters of version 0x13 (RFC 9106, section 3.1), with `memory` in KiB and `tag_len` in
     /// bytes.
     ///
-    /// Errors: `Lanes` where `lanes` is outside 1 to 255; else `Cost` where `memory` is below 8 KiB
-    /// a lane or over 2 GiB; else `Passes` where there is no pass; else `TagLen` where the tag
+    /// Errors: `Lanes` if `lanes` is outside 1 to 255; otherwise `Cost` if `memory` is below 8 KiB
+    /// a lane or over 2 GiB; otherwise `Passes` if there is no pass; otherwise `TagLen` if the tag
     /// isn't 4 to 64 bytes long.
     pub fn new(
         kind: Kind,
@@ -125,7 +125,7 @@ impl Params {
 
     /// The same for a tag that no record has to hold: of 4 bytes or more, as RFC 9106 has it.
     ///
-    /// Errors: those of [`new`](Params::new), but `TagLen` where the tag is below 4 bytes alone.
+    /// Errors: those of [`new`](Params::new), but `TagLen` if the tag is below 4 bytes alone.
     pub fn raw(
         version: Version,
         kind: Kind,

@@ -121,7 +121,7 @@ fn picked(count: u32, j1: u32) -> u32
     count - 1 - back as u32
 }
 
-/// A column counted on from a lane's start, where it may have gone past the lane's end once.
+/// A column counted on from a lane's start, which may have gone past the lane's end once.
 fn wrapped(column: u32, columns: u32) -> u32
     requires { column < 2 * columns }
     ensures value { result ≡ column % columns }

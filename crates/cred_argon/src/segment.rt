@@ -87,7 +87,7 @@ pub(crate) fn work_segment<S: Slice>(shared: &Shared<S>, lane: u32, blocks: &mut
     }
 }
 
-/// On the first pass, puts a block more behind a segment's blocks, which have room for it.
+/// On the first pass, puts a block more after a segment's blocks, which have room for it.
 fn extend(turn: &Turn, blocks: &mut Vec<Block>)
     requires { turn.now.pass ≡ 0 → vec_len blocks.old < vec_capacity blocks.old }
     ensures items { (i : ℕ) (d : Block) → i < vec_len blocks.old
@@ -101,7 +101,7 @@ fn extend(turn: &Turn, blocks: &mut Vec<Block>)
     }
 }
 
-/// Where the words that name references come from the place alone, makes the address block of an
+/// If the words that name references come from the place alone, makes the address block of an
 /// offset, unless it is at hand.
 fn refresh(turn: &Turn, lane: u32, offset: u32, addresses: &mut Option<AddressBlock>)
     ensures keeps { KeepsAddresses turn.now lane addresses.old
@@ -146,7 +146,7 @@ fn work_offset<S: Slice>(
     work_block(shared, &position, done, addresses, &mut rest[0]);
 }
 
-/// Works a block, the due one, behind those of its segment that are done.
+/// Works a block, the due one, after those of its segment that are done.
 fn work_block<S: Slice>(
     shared: &Shared<S>,
     position: &Position,

@@ -3,7 +3,7 @@ use Rattle.std.specs.Prelude.{ℕ, ◌-◌, List, ◌++◌, length, replicate, i
 use Rattle.sha2.specs.Sha256.{sha256}
 use Rattle.cred_scrypt.specs.Xor.{xor_all}
 
--- the key, or its digest where it is longer than a block (section 2)
+-- the key, or its digest if it is longer than a block (section 2)
 abbrev pub short_key : List ℕ → List ℕ
 short_key key = if nat_lt 64 (length key) then sha256 key else key
 

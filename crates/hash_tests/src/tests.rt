@@ -1,5 +1,5 @@
 //! What no clause says: values from outside, that parts are worked side by side, which refusals
-//! come, and what want of memory leaves.
+//! come, and what running out of memory leaves.
 //!
 //! A test mostly plays a table: one function tells of a row whether it is as it should be, and the
 //! test asserts once that no row is otherwise, since each place that may end early beside a value

@@ -1,5 +1,5 @@
 //! Of `cred_blake`: the vectors of RFC 7693 and of the authors of BLAKE2, H' by other programs, the
-//! errors' texts, and what want of memory leaves.
+//! errors' texts, and what running out of memory leaves.
 ghost use Rattle.std.specs.Prelude.{◌≤◌, length};
 
 use super::{is_hex, is_made, is_shown};

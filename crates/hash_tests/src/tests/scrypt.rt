@@ -1,5 +1,5 @@
 //! Of `cred_scrypt`: outside vectors, keys that OpenSSL made, that two pieces are worked side by
-//! side, and what want of memory leaves.
+//! side, and what running out of memory leaves.
 
 mod keys;
 mod memory;

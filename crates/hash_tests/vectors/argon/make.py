@@ -54,6 +54,12 @@ def reference(lib, kind, version, memory, passes, lanes, tag_len, inputs):
     return out.raw[:tag_len].hex()
 
 
+def literal(digits):
+    """A string of Rust. One that is too long for its line is cut after each 64 digits."""
+    pieces = [digits] if len(digits) <= 88 else [digits[at:at + 64] for at in range(0, len(digits), 64)]
+    return '"' + "\\\n            ".join(pieces) + '"'
+
+
 def cases():
     chance = random.Random(9106)
     for n in range(72):
@@ -75,7 +81,7 @@ def main():
         numbers = [memory, passes, lanes, tag_len] + lengths + [seed]
         lines.append(" ".join([kind, version] + [str(n) for n in numbers] + [tag]))
         call = ", ".join([kind, version] + [str(n) for n in numbers[:4]] + [str(lengths), str(seed)])
-        rows.append(f'    (Case({call}), "{tag}"),')
+        rows.append(f"    (Case({call}), {literal(tag)}),")
     with open(os.path.join(HERE, "tags.txt"), "w") as out:
         out.write("\n".join(lines) + "\n")
     with open(os.path.join(HERE, "..", "..", "src", "tests", "argon", "tags.rt"), "w") as out:

@@ -76,6 +76,12 @@ def numbers(row, cut):
     return ", ".join(str(it[0]) if len(it) == 1 else f"({', '.join(map(str, it))})" for it in parts)
 
 
+def literal(digits):
+    """A string of Rust. One that is too long for its line is cut after each 64 digits."""
+    pieces = [digits] if len(digits) <= 88 else [digits[at:at + 64] for at in range(0, len(digits), 64)]
+    return '"' + "\\\n            ".join(pieces) + '"'
+
+
 def main():
     text, source = [], [
         "//! Keys that OpenSSL made, by vectors/scrypt/make.py, which writes this file. Byte i of an input with seed s is",
@@ -88,7 +94,7 @@ def main():
         text += [" ".join([name, *map(str, row), key.hex()]) for row, key in made]
         source += [f"/// {columns[0].upper()}{columns[1:]} in hexadecimal.",
                    f"pub(super) const {table}: [{shape}; {len(made)}] = ["]
-        source += [f'    ({numbers(row, cut)}, "{key.hex()}"),' for row, key in made]
+        source += [f"    ({numbers(row, cut)}, {literal(key.hex())})," for row, key in made]
         source += ["];", ""]
     (HERE / "keys.txt").write_text("\n".join(text) + "\n")
     (HERE.parent.parent / "src/tests/scrypt/keys.rt").write_text("\n".join(source[:-1]) + "\n")

@@ -1,5 +1,5 @@
 //! That the lanes of a slice are worked side by side by as many threads as there are workers for,
-//! each behind the gate, and what a want of memory gives.
+//! each behind the gate, and what running out of memory gives.
 use super::standard_tag;
 use super::vectors::I_TAG;
 use crate::tests::is_hex;

@@ -4,7 +4,7 @@ ghost use Rattle.cred_argon.specs.Places.{IsComputed, place};
 
 use cred_argon::{ArgonError, Kind, Params, Place, reference};
 
-/// The column that is referred to on lane 0, where there is one lane.
+/// The column that is referred to on lane 0, if there is one lane.
 fn column_of(params: &Params, pass: u32, column: u32, j1: u32) -> u32
     requires { IsComputed (segment_len params.now) params.now.lanes (place pass 0 column) }
 {

@@ -19,7 +19,8 @@ pub(super) struct Case(
 pub(super) static TAGS: [(Case, &str); 72] = [
     (
         Case(D, V13, 47, 1, 3, 53, [256, 41, 8, 1], 48),
-        "19987db1f929d492240bb8a1eb1eea1cb30cf79407c556804adca589297d74b1e26844d097c2f2081402d27469164744f7682a919a",
+        "19987db1f929d492240bb8a1eb1eea1cb30cf79407c556804adca589297d74b1\
+            e26844d097c2f2081402d27469164744f7682a919a",
     ),
     (
         Case(I, V13, 119, 2, 1, 18, [200, 17, 0, 0], 171),
@@ -27,11 +28,13 @@ pub(super) static TAGS: [(Case, &str); 72] = [
     ),
     (
         Case(Id, V13, 134, 3, 2, 64, [127, 24, 0, 1], 150),
-        "26f768823095c4af435e95a469120541470aeb13b3fd526752503438eea487124285eeb73b73ff5f7319713d79f192301a110f9326d8a5cce04f18ede7525b6a",
+        "26f768823095c4af435e95a469120541470aeb13b3fd526752503438eea48712\
+            4285eeb73b73ff5f7319713d79f192301a110f9326d8a5cce04f18ede7525b6a",
     ),
     (
         Case(D, V10, 170, 4, 6, 55, [0, 18, 300, 0], 46),
-        "73fa13eb31c6dd3a071af4facdf3d497154f15f0b3c1c8cc7208ced77528b25af668bef555947a55199960c82740a0bce26408a66a5d01",
+        "73fa13eb31c6dd3a071af4facdf3d497154f15f0b3c1c8cc7208ced77528b25a\
+            f668bef555947a55199960c82740a0bce26408a66a5d01",
     ),
     (
         Case(I, V10, 93, 1, 3, 41, [63, 47, 0, 0], 190),
@@ -39,7 +42,8 @@ pub(super) static TAGS: [(Case, &str); 72] = [
     ),
     (
         Case(Id, V10, 109, 2, 2, 57, [64, 12, 0, 1], 15),
-        "a88bf038cfeb030468369ca76e309ed234780f3929be95f69f5a593de8b7c56d4d929c3ceafb3597b5d96d0e96f31beda0b58e50054ad6a644",
+        "a88bf038cfeb030468369ca76e309ed234780f3929be95f69f5a593de8b7c56d\
+            4d929c3ceafb3597b5d96d0e96f31beda0b58e50054ad6a644",
     ),
     (
         Case(D, V13, 120, 3, 8, 41, [129, 14, 0, 100], 120),
@@ -55,7 +59,8 @@ pub(super) static TAGS: [(Case, &str); 72] = [
     ),
     (
         Case(D, V10, 66, 2, 8, 49, [63, 11, 0, 0], 239),
-        "996e39ce9dbba287a16dc2a5d6706eb37384378fe7746537734986bba27941561ecdfccf4207df1a7ca02ab142076303bb",
+        "996e39ce9dbba287a16dc2a5d6706eb37384378fe7746537734986bba2794156\
+            1ecdfccf4207df1a7ca02ab142076303bb",
     ),
     (
         Case(I, V10, 165, 3, 1, 36, [8, 42, 200, 100], 65),
@@ -63,7 +68,8 @@ pub(super) static TAGS: [(Case, &str); 72] = [
     ),
     (
         Case(Id, V10, 130, 4, 1, 62, [0, 9, 200, 12], 153),
-        "2fd4510de372dd4a560c94ec80dd56222c3976ccc7fbe1aa097d1b861dda5a0da23b871a665f8631b3a8f29eeae1b82afa7f1141b92e055f5df74a79f4fb",
+        "2fd4510de372dd4a560c94ec80dd56222c3976ccc7fbe1aa097d1b861dda5a0d\
+            a23b871a665f8631b3a8f29eeae1b82afa7f1141b92e055f5df74a79f4fb",
     ),
     (
         Case(D, V13, 197, 1, 6, 18, [128, 39, 8, 0], 60),
@@ -79,7 +85,8 @@ pub(super) static TAGS: [(Case, &str); 72] = [
     ),
     (
         Case(D, V10, 141, 4, 1, 63, [64, 28, 32, 0], 251),
-        "e27586f2965984f2ca66a6882aab06b9c7451fe92d358b4d19905a9a2fdbd8fd1e65f93cc6b974fc589434d0a70db04ad1735046c563e55a5e96f6dcc62652",
+        "e27586f2965984f2ca66a6882aab06b9c7451fe92d358b4d19905a9a2fdbd8fd\
+            1e65f93cc6b974fc589434d0a70db04ad1735046c563e55a5e96f6dcc62652",
     ),
     (
         Case(I, V10, 146, 1, 1, 22, [200, 30, 300, 12], 23),
@@ -91,11 +98,13 @@ pub(super) static TAGS: [(Case, &str); 72] = [
     ),
     (
         Case(D, V13, 16, 3, 1, 54, [200, 21, 0, 0], 233),
-        "3cc84dbd2791fe9459e21c4eaf24ba8d62a655c2a8ae69d6decc5174fc10d7d8c241dce641d667ad13bd9196af4c3aca7640613d231c",
+        "3cc84dbd2791fe9459e21c4eaf24ba8d62a655c2a8ae69d6decc5174fc10d7d8\
+            c241dce641d667ad13bd9196af4c3aca7640613d231c",
     ),
     (
         Case(I, V13, 154, 4, 7, 64, [1, 13, 200, 100], 176),
-        "477d90b0a973267c7299b55c4f438059b32805b55c9c161aca18514b6352e159fc66c7db3990626480e8cae36e2505adbe95a01c5cc9a01d59521ce979767c8f",
+        "477d90b0a973267c7299b55c4f438059b32805b55c9c161aca18514b6352e159\
+            fc66c7db3990626480e8cae36e2505adbe95a01c5cc9a01d59521ce979767c8f",
     ),
     (
         Case(Id, V13, 132, 1, 5, 35, [129, 27, 0, 1], 15),
@@ -107,15 +116,18 @@ pub(super) static TAGS: [(Case, &str); 72] = [
     ),
     (
         Case(I, V10, 196, 3, 7, 58, [0, 22, 32, 300], 209),
-        "53d07f1202af6fbdfbe1dae3f5bf50d62f8d97a7bc92368ae25daef6dee82dce43d32c895dad06e2cd94568fea52a65f32f9208433e4734906fa",
+        "53d07f1202af6fbdfbe1dae3f5bf50d62f8d97a7bc92368ae25daef6dee82dce\
+            43d32c895dad06e2cd94568fea52a65f32f9208433e4734906fa",
     ),
     (
         Case(Id, V10, 61, 4, 1, 55, [1, 39, 8, 0], 179),
-        "f2b9b80afe0d5d108169d85705147dfd1786e9c9b1841430b48b1772c938304b266384f3069303993a154a25b3e4f6eea63aae8e4948f1",
+        "f2b9b80afe0d5d108169d85705147dfd1786e9c9b1841430b48b1772c938304b\
+            266384f3069303993a154a25b3e4f6eea63aae8e4948f1",
     ),
     (
         Case(D, V13, 64, 1, 1, 62, [256, 27, 300, 300], 156),
-        "c2323a34406a6dc4686eb23dfc306e3088b3943399d9c89f0fc045608e7841f9319c92bd4b474a99de12c684025a33dfdce30fca7b6c4a8cc98f19437784",
+        "c2323a34406a6dc4686eb23dfc306e3088b3943399d9c89f0fc045608e7841f9\
+            319c92bd4b474a99de12c684025a33dfdce30fca7b6c4a8cc98f19437784",
     ),
     (
         Case(I, V13, 116, 2, 6, 13, [300, 26, 300, 100], 6),
@@ -143,7 +155,8 @@ pub(super) static TAGS: [(Case, &str); 72] = [
     ),
     (
         Case(I, V13, 144, 4, 2, 59, [127, 29, 200, 12], 168),
-        "136e97cd6f487fcb895ed0ae7c8821d872636e048c9bc60bd9e9ed6265281d05d11ccc4b1e234b2bee73d1a2671e8caee7fe040f67ba0565543bd5",
+        "136e97cd6f487fcb895ed0ae7c8821d872636e048c9bc60bd9e9ed6265281d05\
+            d11ccc4b1e234b2bee73d1a2671e8caee7fe040f67ba0565543bd5",
     ),
     (
         Case(Id, V13, 75, 1, 7, 13, [1, 47, 8, 0], 111),
@@ -151,7 +164,8 @@ pub(super) static TAGS: [(Case, &str); 72] = [
     ),
     (
         Case(D, V10, 156, 2, 2, 64, [300, 14, 32, 300], 3),
-        "dcbc94c652464bc5dcc174c83eda3f793f63ba87c2bc252dac479c9de0f5cd5219b0f8abab815b5a4bdc30b988f032636ed4da7af4cad9f9513d80c03b02b140",
+        "dcbc94c652464bc5dcc174c83eda3f793f63ba87c2bc252dac479c9de0f5cd52\
+            19b0f8abab815b5a4bdc30b988f032636ed4da7af4cad9f9513d80c03b02b140",
     ),
     (
         Case(I, V10, 157, 3, 2, 26, [1, 48, 200, 0], 156),
@@ -159,7 +173,8 @@ pub(super) static TAGS: [(Case, &str); 72] = [
     ),
     (
         Case(Id, V10, 154, 4, 1, 58, [64, 10, 8, 0], 129),
-        "8f419dba5809df402d23a122f386fdd3cfecb109e8860e00959f5b335bc213d0f03344c2d7d5b32de2c11c08fedc8f769d39ab4fbd178f66de99",
+        "8f419dba5809df402d23a122f386fdd3cfecb109e8860e00959f5b335bc213d0\
+            f03344c2d7d5b32de2c11c08fedc8f769d39ab4fbd178f66de99",
     ),
     (
         Case(D, V13, 153, 1, 8, 21, [127, 44, 8, 12], 0),
@@ -171,7 +186,8 @@ pub(super) static TAGS: [(Case, &str); 72] = [
     ),
     (
         Case(Id, V13, 111, 3, 8, 54, [200, 46, 0, 0], 242),
-        "af042dc58ac2a17df11d045c7d004c4c897b6830761e4388a7ff094a6ba18ff39e77e59e97dab7a1c2d133fb2af0b52a153494d30860",
+        "af042dc58ac2a17df11d045c7d004c4c897b6830761e4388a7ff094a6ba18ff3\
+            9e77e59e97dab7a1c2d133fb2af0b52a153494d30860",
     ),
     (
         Case(D, V10, 165, 4, 4, 10, [64, 10, 200, 100], 133),
@@ -192,7 +208,8 @@ pub(super) static TAGS: [(Case, &str); 72] = [
     ),
     (
         Case(Id, V13, 172, 1, 4, 59, [256, 25, 300, 0], 187),
-        "31e7657999a6ba0c888356b6a7668653d018ab104e0bec1c13d6bb847eb6ccfd00c8e3b60ddd62f0639e9579b8f5c92ca96297f1f743cf3f030223",
+        "31e7657999a6ba0c888356b6a7668653d018ab104e0bec1c13d6bb847eb6ccfd\
+            00c8e3b60ddd62f0639e9579b8f5c92ca96297f1f743cf3f030223",
     ),
     (
         Case(D, V10, 71, 2, 7, 12, [256, 41, 1, 1], 210),
@@ -256,11 +273,13 @@ pub(super) static TAGS: [(Case, &str); 72] = [
     ),
     (
         Case(D, V13, 100, 1, 2, 51, [256, 24, 200, 100], 200),
-        "5d42d22323b8f7f29ca175573e8c533758c7a0b926879f2eca8f5b73adff467810602e320c3f2250e646420ac04d8f8d03472c",
+        "5d42d22323b8f7f29ca175573e8c533758c7a0b926879f2eca8f5b73adff4678\
+            10602e320c3f2250e646420ac04d8f8d03472c",
     ),
     (
         Case(I, V13, 204, 2, 7, 58, [64, 45, 200, 1], 95),
-        "346094414219e65a24e6c97658158334d0184ab912ec515413d311c77288e10675800a712a9e8a375a1cfc7f2c76e8cb8a50b6905d26a10d9d5a",
+        "346094414219e65a24e6c97658158334d0184ab912ec515413d311c77288e106\
+            75800a712a9e8a375a1cfc7f2c76e8cb8a50b6905d26a10d9d5a",
     ),
     (
         Case(Id, V13, 116, 3, 2, 5, [129, 14, 32, 1], 198),
@@ -268,11 +287,13 @@ pub(super) static TAGS: [(Case, &str); 72] = [
     ),
     (
         Case(D, V10, 144, 4, 7, 64, [128, 11, 0, 1], 45),
-        "67a420c9742c471be304412b5a215e80ebe2865c28f4570fc6f3dbdf4e09fd90dce29d813b450f7ed9d466d3ad57a5fc9ab2226fd63b6946c81d6cf88eddc6f0",
+        "67a420c9742c471be304412b5a215e80ebe2865c28f4570fc6f3dbdf4e09fd90\
+            dce29d813b450f7ed9d466d3ad57a5fc9ab2226fd63b6946c81d6cf88eddc6f0",
     ),
     (
         Case(I, V10, 120, 1, 1, 48, [200, 40, 300, 100], 147),
-        "21a1506e9592f634ceb0827bd9511304773f51f21271ac2e306e5f33abd771d24775f4eae4e136cf11c6ded7c0faebdc",
+        "21a1506e9592f634ceb0827bd9511304773f51f21271ac2e306e5f33abd771d2\
+            4775f4eae4e136cf11c6ded7c0faebdc",
     ),
     (
         Case(Id, V10, 161, 2, 7, 40, [200, 21, 8, 1], 196),
@@ -280,7 +301,8 @@ pub(super) static TAGS: [(Case, &str); 72] = [
     ),
     (
         Case(D, V13, 94, 3, 6, 61, [63, 24, 32, 100], 171),
-        "1bdc0629b240fceb1158469a33d1adceed2656360886daef12f7bd2ba6ca90ee22ae74784a42a72fe4e891973d01e97af5ab2ba629ef4ff01f65227d6f",
+        "1bdc0629b240fceb1158469a33d1adceed2656360886daef12f7bd2ba6ca90ee\
+            22ae74784a42a72fe4e891973d01e97af5ab2ba629ef4ff01f65227d6f",
     ),
     (
         Case(I, V13, 174, 4, 4, 35, [200, 42, 8, 0], 210),

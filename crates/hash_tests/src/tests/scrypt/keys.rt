@@ -14,7 +14,8 @@ pub(super) const SCRYPT: [((u8, u8, u8), (u32, usize, usize, u8), &str); 40] = [
     (
         (1, 9, 5),
         (64, 300, 300, 4),
-        "8f2dfba0d2e18a0ffbd37be21ad97d0e9929c7e48823335e3076a7dd56324817974cfce957dd22971cb5142829cd1230541cac1dcafc7e715e5c2579e9155ff9",
+        "8f2dfba0d2e18a0ffbd37be21ad97d0e9929c7e48823335e3076a7dd56324817\
+            974cfce957dd22971cb5142829cd1230541cac1dcafc7e715e5c2579e9155ff9",
     ),
     ((2, 1, 1), (5, 0, 16, 5), "67047c9e01"),
     (
@@ -45,7 +46,8 @@ pub(super) const SCRYPT: [((u8, u8, u8), (u32, usize, usize, u8), &str); 40] = [
     (
         (3, 4, 1),
         (63, 66, 48, 11),
-        "41704b08536bf079d6eec9770db99e1c7faf35fcf3b0ab956ada4493d347c427d7848696d2ca22c08ef5de519cd5368d81645fcd18a4e7e7aadcff119a93b5",
+        "41704b08536bf079d6eec9770db99e1c7faf35fcf3b0ab956ada4493d347c427\
+            d7848696d2ca22c08ef5de519cd5368d81645fcd18a4e7e7aadcff119a93b5",
     ),
     (
         (3, 7, 2),
@@ -91,7 +93,8 @@ pub(super) const SCRYPT: [((u8, u8, u8), (u32, usize, usize, u8), &str); 40] = [
     (
         (6, 1, 1),
         (64, 256, 121, 21),
-        "a7c2006293d7bc9536544677ee009d538b3acbd32d2810803ea24fefb261657a11b47adece203c86a646d9b648f4b26c33037ce0640bfbd4eaff9b94bc7fd67c",
+        "a7c2006293d7bc9536544677ee009d538b3acbd32d2810803ea24fefb261657a\
+            11b47adece203c86a646d9b648f4b26c33037ce0640bfbd4eaff9b94bc7fd67c",
     ),
     (
         (6, 2, 3),
@@ -148,7 +151,8 @@ pub(super) const SCRYPT: [((u8, u8, u8), (u32, usize, usize, u8), &str); 40] = [
     (
         (9, 3, 2),
         (48, 33, 24, 34),
-        "7f56b6d57a7044122129bb8f46058eabc37fa57fd3ee8a8e8622638940f8bd85e3deeda0ed5d9813887ab5361b744018",
+        "7f56b6d57a7044122129bb8f46058eabc37fa57fd3ee8a8e8622638940f8bd85\
+            e3deeda0ed5d9813887ab5361b744018",
     ),
     (
         (9, 7, 1),
@@ -163,7 +167,8 @@ pub(super) const SCRYPT: [((u8, u8, u8), (u32, usize, usize, u8), &str); 40] = [
     (
         (10, 1, 1),
         (64, 50, 40, 37),
-        "0212de8b0b089f4c2ace805e9b20c50057884e7467c4f3859a868269438771ac5208b201be88598ffcdb0bc606cc7acc758d97efbcca0cd7b7b463b15104b056",
+        "0212de8b0b089f4c2ace805e9b20c50057884e7467c4f3859a868269438771ac\
+            5208b201be88598ffcdb0bc606cc7acc758d97efbcca0cd7b7b463b15104b056",
     ),
     (
         (10, 2, 2),
@@ -250,7 +255,16 @@ pub(super) const PBKDF2: [(u32, (u32, usize, usize, u8), &str); 10] = [
     (
         1,
         (300, 64, 65, 3),
-        "10ec4b7e91b95920bb2c09f97dbb80f0d325b8c8b5470d4242f31a3bcd668a33a421ce217f95fed716b0b3d4d4e90475d15af35bd2049bdc8bd51bdafbfafcd8b8d7d62265e9eaa54e67cfcc3f6421b7ec3024f3dbf6bd079ac4f7516ac3c03a97c11fa90891b0eacffb01b113505e2610bb2722d73e05aadd44e141cff9ca033ceaea38fd9707827a3ed0997b1f829b1537bb0367324edb4143a45b29c6b2dfd7e33fc707901faa8d8867fd1f99f3c938c78b5efb70a8747658b7cc90538ed7930fa20e6a0979078a61575020e2b762aca1c29734634d45a3b4d685aab941b457d69bfd3fae148de8deb20ebe5751a3698261170d5fd68cafbaa16e82eba4aee8cf313c53808a0940ccf54fe6d466f8f7e3486a9f0bd8a4126df8bb13d590210c18d21c5194a791d7c70f3e",
+        "10ec4b7e91b95920bb2c09f97dbb80f0d325b8c8b5470d4242f31a3bcd668a33\
+            a421ce217f95fed716b0b3d4d4e90475d15af35bd2049bdc8bd51bdafbfafcd8\
+            b8d7d62265e9eaa54e67cfcc3f6421b7ec3024f3dbf6bd079ac4f7516ac3c03a\
+            97c11fa90891b0eacffb01b113505e2610bb2722d73e05aadd44e141cff9ca03\
+            3ceaea38fd9707827a3ed0997b1f829b1537bb0367324edb4143a45b29c6b2df\
+            d7e33fc707901faa8d8867fd1f99f3c938c78b5efb70a8747658b7cc90538ed7\
+            930fa20e6a0979078a61575020e2b762aca1c29734634d45a3b4d685aab941b4\
+            57d69bfd3fae148de8deb20ebe5751a3698261170d5fd68cafbaa16e82eba4ae\
+            e8cf313c53808a0940ccf54fe6d466f8f7e3486a9f0bd8a4126df8bb13d59021\
+            0c18d21c5194a791d7c70f3e",
     ),
     (
         2,
@@ -260,7 +274,8 @@ pub(super) const PBKDF2: [(u32, (u32, usize, usize, u8), &str); 10] = [
     (
         2,
         (64, 65, 51, 5),
-        "d0c9bed1cb89ce2f956fb2f46e3bb9bfc838719c12ec59d50f9e9a000baf1976d16bd8bdc3ee665f3709ad38e7b810ddf4312e42c6fc718c917b9d6073ec6e48",
+        "d0c9bed1cb89ce2f956fb2f46e3bb9bfc838719c12ec59d50f9e9a000baf1976\
+            d16bd8bdc3ee665f3709ad38e7b810ddf4312e42c6fc718c917b9d6073ec6e48",
     ),
     (
         3,
@@ -270,7 +285,9 @@ pub(super) const PBKDF2: [(u32, (u32, usize, usize, u8), &str); 10] = [
     (
         10,
         (65, 1, 0, 7),
-        "4082cb87cacacc9df65b8e8900833b012aae266bd29cdb451a65f27036b7d7b32c82eab0718954c8b5916fb669cb925f26115daf310094f170d2cc8ac95981c2d7",
+        "4082cb87cacacc9df65b8e8900833b012aae266bd29cdb451a65f27036b7d7b3\
+            2c82eab0718954c8b5916fb669cb925f26115daf310094f170d2cc8ac95981c2\
+            d7",
     ),
     (
         100,
@@ -285,6 +302,9 @@ pub(super) const PBKDF2: [(u32, (u32, usize, usize, u8), &str); 10] = [
     (
         1000,
         (100, 65, 300, 10),
-        "2eca3952c4eb06bf53c3638b2691e2d07d7c33c82f172ab33c1fe3882a522d50e3bef43f84c4621e3e0b97a8d143a8db3202c1087253c54bde86509b49632c09c326a2ec315550ae63e96b4a54a405044bfa70cffa65b17bb2417c8a1575a0643fb57e80",
+        "2eca3952c4eb06bf53c3638b2691e2d07d7c33c82f172ab33c1fe3882a522d50\
+            e3bef43f84c4621e3e0b97a8d143a8db3202c1087253c54bde86509b49632c09\
+            c326a2ec315550ae63e96b4a54a405044bfa70cffa65b17bb2417c8a1575a064\
+            3fb57e80",
     ),
 ];

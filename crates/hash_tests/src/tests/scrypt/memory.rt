@@ -1,4 +1,4 @@
-//! What want of memory leaves. These tests hold whichever request is refused:
+//! What running out of memory leaves. These tests hold whichever request is refused:
 //! tools/refuse_memory.py refuses each in turn.
 use super::standard::{BLOCKS, BLOCKS_WALKED};
 use super::workers::{KEY, key_at};

@@ -20,7 +20,7 @@ const CORE_OUTPUT: [u32; 16] = [
     0x683139b4, 0xbce6c9e3, 0xb7c56bfe, 0xba966da0, 0x10cc24e4, 0x5c74912c, 0x3d67ad24, 0x818f61c7,
 ];
 
-/// RFC 7914, sections 9 and 10, where r is 1.
+/// RFC 7914, sections 9 and 10, if r is 1.
 pub(super) const BLOCKS: [u32; 32] = [
     0x650bcef7, 0xa4722d3d, 0xabf58c10, 0xddff12e9, 0xdb167677, 0x0ea727bb, 0xaef30482, 0xad6f0f2d,
     0x488ff689, 0x7be8d111, 0x40d73bcc, 0x29fd9f0a, 0x84014f09, 0xf3749563, 0x31a1e59a, 0xd7bc1752,
@@ -44,14 +44,14 @@ pub(super) const BLOCKS_WALKED: [u32; 32] = [
 ];
 
 /// The first vector of RFC 7914, section 12.
-const FIRST_KEY: &str =
-    "77d6576238657b203b19ca42c18a0497f16b4844e3074ae8dfdffa3fede21442fcd0069ded0948f8326a753a0fc81f17e8d3e0fb2e0d3628cf35e20c38d18906";
+const FIRST_KEY: &str = "77d6576238657b203b19ca42c18a0497f16b4844e3074ae8dfdffa3fede21442\
+    fcd0069ded0948f8326a753a0fc81f17e8d3e0fb2e0d3628cf35e20c38d18906";
 
-const SECOND_KEY: &str =
-    "fdbabe1c9d3472007856e7190d01e9fe7c6ad7cbc8237830e77376634b3731622eaf30d92e22a3886ff109279d9830dac727afb94a83ee6d8360cbdfa2cc0640";
+const SECOND_KEY: &str = "fdbabe1c9d3472007856e7190d01e9fe7c6ad7cbc8237830e77376634b373162\
+    2eaf30d92e22a3886ff109279d9830dac727afb94a83ee6d8360cbdfa2cc0640";
 
-const THIRD_KEY: &str =
-    "7023bdcb3afd7348461c06cd81fd38ebfda8fbba904f8e3ea9b543f6545da1f2d5432955613f0fcf62d49705242a9af9e61e85dc0d651e40dfcf017b45575887";
+const THIRD_KEY: &str = "7023bdcb3afd7348461c06cd81fd38ebfda8fbba904f8e3ea9b543f6545da1f2\
+    d5432955613f0fcf62d49705242a9af9e61e85dc0d651e40dfcf017b45575887";
 
 #[test]
 fn core(rt: HostRuntime) {
@@ -99,11 +99,11 @@ fn hmac_vectors(rt: HostRuntime) {
 }
 
 /// RFC 7914, section 11.
-const DERIVED_ONCE: &str =
-    "55ac046e56e3089fec1691c22544b605f94185216dde0465e68b9d57c20dacbc49ca9cccf179b645991664b39d77ef317c71b845b1e30bd509112041d3a19783";
+const DERIVED_ONCE: &str = "55ac046e56e3089fec1691c22544b605f94185216dde0465e68b9d57c20dacbc\
+    49ca9cccf179b645991664b39d77ef317c71b845b1e30bd509112041d3a19783";
 
-const DERIVED_OFTEN: &str =
-    "4ddcd8f60b98be21830cee5ef22701f9641a4418d04c0414aeff08876b34ab56a1d425a1225833549adb841b51c9b3176a272bdebba1d078478f62b397f33c8d";
+const DERIVED_OFTEN: &str = "4ddcd8f60b98be21830cee5ef22701f9641a4418d04c0414aeff08876b34ab56\
+    a1d425a1225833549adb841b51c9b3176a272bdebba1d078478f62b397f33c8d";
 
 #[test]
 fn pbkdf2_vectors(rt: HostRuntime) {
