@@ -72,7 +72,7 @@ named_fault old last (Some (Argon2 variant)) fields =
     version_fault old (judges_of (Argon2 variant) ++ last) fields
 named_fault old last (Some Scrypt) fields = judgement (judges_of Scrypt ++ last) fields
 
--- nothing stands before the first `$`, and the name behind it
+-- nothing stands before the first `$`, and the name after it
 abbrev pub fields_fault : Bool → List Judge → List (List ℕ) → Option PhcError
 fields_fault old last [] = Some Shape
 fields_fault old last (front ∷ []) = Some Shape

@@ -17,7 +17,7 @@ name_of field =
     else if bytes_eq field scrypt_name then Some Scrypt
     else None
 
--- the number behind a label
+-- the number after a label
 abbrev pub labelled_number : List ℕ → List ℕ → Option ℕ
 labelled_number label piece =
     if bytes_eq (take (length label) piece) label then number_of (drop (length label) piece)
@@ -34,6 +34,6 @@ labelled_numbers x y z (a ∷ b ∷ c ∷ []) =
     triple (labelled_number x a) (labelled_number y b) (labelled_number z c)
 labelled_numbers x y z _ = None
 
--- three numbers, each behind its label, with commas (byte 44) between
+-- three numbers, each after its label, with commas (byte 44) between
 unfoldable pub numbers_of : List ℕ → List ℕ → List ℕ → List ℕ → Option (ℕ × ℕ × ℕ)
 numbers_of x y z field = labelled_numbers x y z (pieces 44 field)

@@ -1,4 +1,4 @@
--- Bytes with zeros behind them.
+-- Bytes with zeros after them.
 use Rattle.std.specs.Prelude.{◌≡◌, ℕ, ◌-◌, ◌≤◌, List, ◌++◌, length, take, drop, replicate}
 use Rattle.base64.specs.GeneralPurpose.{IsBytes}
 use Rattle.std.proofs.Common.{arith, length-take-le, take-append-drop}

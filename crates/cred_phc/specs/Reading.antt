@@ -39,21 +39,21 @@ abbrev pub ◌>>=◌ : {A B E : Type 0} → Result A E → (A → Result B E) �
 (Ok x) >>= f = f x
 (Err e) >>= f = Err e
 
--- goes on where the test holds
+-- goes on if the test holds
 abbrev pub guard : Bool → PhcError → Result (Unit {0}) PhcError
 guard b e = if b then Ok tt else Err e
 
--- the next field, and those behind it
+-- the next field, and those after it
 abbrev pub next : List (List ℕ) → Result (List ℕ × List (List ℕ)) PhcError
 next [] = Err Shape
 next (field ∷ fields) = Ok (field, fields)
 
--- nothing stands behind the last field
+-- nothing comes after the last field
 abbrev pub end : List (List ℕ) → Result (Unit {0}) PhcError
 end [] = Ok tt
 end (field ∷ fields) = Err Shape
 
--- the scheme of these numbers, where they are in their ranges
+-- the scheme of these numbers, if they are in their ranges
 abbrev pub argon_of : Version → Variant → ℕ × ℕ × ℕ → Option Scheme
 argon_of version variant n =
     if argon_fits n.0 n.1 n.2 then Some (Argon2 version variant n.0 n.1 n.2) else None
@@ -61,7 +61,7 @@ argon_of version variant n =
 abbrev pub scrypt_of : ℕ × ℕ × ℕ → Option Scheme
 scrypt_of n = if scrypt_fits n.0 n.1 n.2 then Some (Scrypt n.0 n.1 n.2) else None
 
--- the version, and the fields behind it; a record may be old, and then its version may be left out
+-- the version, and the fields after it; a record may be old, and then its version may be left out
 abbrev pub version_of : Bool → List (List ℕ) → List ℕ × List (List ℕ)
     → Result (Version × List (List ℕ)) PhcError
 version_of old fields field =
@@ -74,7 +74,7 @@ version_of old fields field =
 unfoldable pub version_at : Bool → List (List ℕ) → Result (Version × List (List ℕ)) PhcError
 version_at old fields = next fields >>= version_of old fields
 
--- the numbers behind these labels, as a scheme
+-- the numbers after these labels, as a scheme
 unfoldable pub numbers_at : List ℕ → List ℕ → List ℕ → (ℕ × ℕ × ℕ → Option Scheme)
     → List (List ℕ) → Result (Scheme × List (List ℕ)) PhcError
 numbers_at x y z scheme_of fields =
@@ -95,7 +95,7 @@ abbrev pub named_at : Bool → Name → List (List ℕ) → Result (Scheme × Li
 named_at old (NamesArgon2 variant) fields = argon_at old variant fields
 named_at old NamesScrypt fields = scrypt_at fields
 
--- the scheme of the fields from the first on, and those behind it
+-- the scheme of the fields from the first on, and those after it
 unfoldable pub scheme_at : Bool → List (List ℕ) → Result (Scheme × List (List ℕ)) PhcError
 scheme_at old fields =
     next fields >>= λ front.

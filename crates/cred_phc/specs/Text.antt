@@ -13,7 +13,7 @@ use Rattle.cred_phc.specs.Base64.{base64}
 abbrev pub label : List ℕ → ℕ → List ℕ
 label name n = name ++ decimal n
 
--- three numbers in decimal, each behind its label, with commas (byte 44) between
+-- three numbers in decimal, each after its label, with commas (byte 44) between
 abbrev pub numbers_text : List ℕ → ℕ → List ℕ → ℕ → List ℕ → ℕ → List ℕ
 numbers_text x a y b z c = join_with_byte 44 (label x a ∷ label y b ∷ label z c ∷ [])
 

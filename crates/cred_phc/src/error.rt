@@ -7,7 +7,7 @@ ghost use Rattle.cred_phc.specs.declared.error.PhcError.TheVariants.{Memory as O
 use std::alloc::AllocError;
 use thiserror::Error;
 
-/// The fault of a text or of a value's parts: the first from the left, where there are several.
+/// The fault of a text or of a value's parts: the first from the left, if there are several.
 #[derive(Clone, Copy, Debug, PartialEq, Eq, Error)]
 pub enum PhcError {
     /// A field is missing, or there is one too many.

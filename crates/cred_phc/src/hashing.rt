@@ -52,7 +52,7 @@ impl TagError {
 /// no associated data (RFC 9106, section 3.1), or scrypt (RFC 7914, section 6). The work is done by
 /// at most `workers` threads, behind the gate; the tag is the same for any number.
 ///
-/// Errors: `Memory` where there is too little for the setting.
+/// Errors: `Memory` if there is too little for the setting.
 pub fn tag_of<R: Threads + Sync, G: Gate + Sync>(
     rt: &R,
     alloc: Global,
@@ -95,7 +95,7 @@ pub fn tag_of<R: Threads + Sync, G: Gate + Sync>(
 /// The same with all the work done on the caller's thread, so that it needs no runtime, and for a
 /// password of any length that Argon2 takes.
 ///
-/// Errors: `Memory` where there is too little for the setting.
+/// Errors: `Memory` if there is too little for the setting.
 pub fn tag_alone<G: Gate>(
     alloc: Global,
     gate: &G,
@@ -166,8 +166,8 @@ impl Function {
     }
 }
 
-/// The tag of the bytes that a function made. It refuses no input of a setting, so it made none for
-/// want of memory alone.
+/// The tag of the bytes that a function made. It refuses no input of a setting, so it made none
+/// only because memory ran out.
 fn tag_made<E: Drop>(made: Result<Vec<u8>, E>) -> Result<Tag, TagError>
     requires low { IfOk made (λ v. 4 ≤ length v.items) }
     requires high { IfOk made (λ v. length v.items ≤ 64) }

@@ -1,4 +1,4 @@
-//! Decimal numbers, and three of them behind their labels.
+//! Decimal numbers, and three of them after their labels.
 
 ghost use Rattle.std.specs.Prelude.{◌≡◌};
 ghost use Rattle.std.specs.Char.{is_ascii_digit};
@@ -26,8 +26,8 @@ fn all_digits(text: &[u8]) -> bool
     text.iter().all(|byte| byte.is_ascii_digit())
 }
 
-/// The number that decimal digits write, with no zero in front of others; the greatest `u64` in the
-/// place of a greater one. None where the bytes write no number so.
+/// The number that decimal digits write, with no zero in front of others; the greatest `u64` in
+/// place of a greater one. None if the bytes write no number so.
 #[tactic(auto, using(crate::proofs::NumberLaws::push), unfolding(crate::specs::Number::number_of))]
 pub fn decimal(digits: &[u8]) -> Option<u64>
     ensures { result ≡ option_map saturation (number_of digits.now) }
@@ -50,7 +50,7 @@ fn labelled_number(piece: &[u8], label: &str) -> Option<u64>
     decimal(piece.strip_prefix(label.as_bytes())?)
 }
 
-/// The three numbers of a field, each behind its label and with commas between.
+/// The three numbers of a field, each after its label and with commas between.
 #[tactic(auto, unfolding(crate::specs::Fields::numbers_of))]
 pub(crate) fn numbers(
     field: &[u8],

@@ -47,8 +47,8 @@ impl Form {
 /// The setting that a text stands for, as `$argon2id$v=19$m=256,t=2,p=1$c29tZXNhbHQ`. One of
 /// version 0x10 is not read: new records are of version 0x13.
 ///
-/// Errors: `TooLong` where the text has over 512 bytes; else, by the first field from the left that
-/// is wrong or missing, `Shape`, `Scheme`, `Version`, `Params`, `Range` or `Salt`.
+/// Errors: `TooLong` if the text has over 512 bytes; otherwise, by the first field from the left
+/// that is wrong or missing, `Shape`, `Scheme`, `Version`, `Params`, `Range` or `Salt`.
 pub fn parse_setting(text: &[u8]) -> Result<Setting, PhcError>
     ensures found { IfOk result (λ v. IsSetting v × IsSettingText text.now v) }
     ensures only { (v : SettingValue) → IsSetting v → IsSettingText text.now v → result ≡ Ok v }
@@ -62,8 +62,8 @@ pub fn parse_setting(text: &[u8]) -> Result<Setting, PhcError>
 /// The record that a text stands for: a setting's text, then `$` and the tag in base64. A record of
 /// version 0x10 has `$v=16` or no version.
 ///
-/// Errors: `TooLong` where the text has over 512 bytes; else, by the first field from the left that
-/// is wrong or missing, `Shape`, `Scheme`, `Version`, `Params`, `Range`, `Salt` or `Tag`.
+/// Errors: `TooLong` if the text has over 512 bytes; otherwise, by the first field from the left
+/// that is wrong or missing, `Shape`, `Scheme`, `Version`, `Params`, `Range`, `Salt` or `Tag`.
 pub fn parse_record(text: &[u8]) -> Result<Record, PhcError>
     ensures found { IfOk result (λ v. IsRecord v × IsRecordText text.now v) }
     ensures only { (v : RecordValue) → IsRecord v → IsRecordText text.now v → result ≡ Ok v }

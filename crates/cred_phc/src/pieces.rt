@@ -56,7 +56,7 @@ impl<'a> Pieces<'a> {
     }
 }
 
-/// The piece before the first `byte`, and what stands behind that byte, if the text has it.
+/// The piece before the first `byte`, and what comes after that byte, if the text has it.
 fn cut(text: &[u8], byte: u8) -> (&[u8], Option<&[u8]>)
     ensures { pieces byte text.now ≡ result.0.now ∷ pieces_left byte (option_copied result.1) }
 {

@@ -30,7 +30,7 @@ impl Model for Record {
 impl Record {
     /// This setting with a tag of 4 to 64 bytes.
     ///
-    /// Errors: `Tag` where the tag has another length.
+    /// Errors: `Tag` if the tag has another length.
     pub fn new(setting: Setting, tag: &[u8]) -> Result<Record, PhcError>
         ensures made { result ≡ made_record setting tag.now }
         ensures ranges { IfOk result IsRecord }

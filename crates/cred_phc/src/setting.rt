@@ -37,8 +37,8 @@ impl Model for Setting {
 impl Setting {
     /// This scheme with this salt.
     ///
-    /// Errors: `Range` where one of the scheme's numbers is outside its range; else `Salt` where
-    /// the salt's length is.
+    /// Errors: `Range` if one of the scheme's numbers is outside its range; otherwise `Salt` if the
+    /// salt's length is.
     pub fn new(scheme: Scheme, salt: &[u8]) -> Result<Setting, PhcError>
         ensures made { result ≡ made_setting scheme salt.now }
         ensures ranges { IfOk result IsSetting }

@@ -14,7 +14,7 @@ const MOST_BYTES: usize = 256;
 /// How many letters so many bytes have.
 const MOST_LETTERS: usize = 342;
 
-/// At most `CAP` bytes. The room behind them is zero, so that equal bytes are equal values.
+/// At most `CAP` bytes. The room after them is zero, so that equal bytes are equal values.
 #[derive(Clone, Copy, Debug)]
 pub struct ShortBytes<const CAP: usize> {
     cells: [u8; CAP],
@@ -76,7 +76,7 @@ impl<const CAP: usize> ShortBytes<CAP> {
         }
     }
 
-    /// The bytes, without the room behind them.
+    /// The bytes, without the room after them.
     pub fn as_slice(&self) -> &[u8]
         ensures value { result.now ≡ self.now }
         ensures fits { length self.now ≤ CAP }
@@ -95,8 +95,8 @@ impl<const CAP: usize> PartialEq for ShortBytes<CAP> {
 
     ghost laws = { partial_equiv_from_equiv nat_list_eq_equiv };
 
-    /// Every byte is read also where an early one differs, so that its time doesn't tell how far
-    /// two tags agree.
+    /// Every byte is read also if an early one differs, so that its time doesn't tell how far two
+    /// tags agree.
     fn eq(&self, other: &Self) -> bool {
         let (these, those) = (self.as_slice(), other.as_slice());
         if these.len() != those.len() {

@@ -22,7 +22,7 @@ use std::alloc::{AllocError, Global};
 /// 64 letters of salt.
 const LONGEST_SETTING: usize = 108;
 
-/// The same with `$` and the letters of a tag behind it.
+/// The same with `$` and the letters of a tag after it.
 const LONGEST_RECORD: usize = 195;
 
 /// The letters of the longest tag.
@@ -31,7 +31,7 @@ const LONGEST_LETTERS: usize = 86;
 /// The text of a setting, as `$scrypt$ln=10,r=8,p=16$TmFDbA`. That of a setting of version 0x10 is
 /// not read again.
 ///
-/// Errors: `Memory` where there is none for the text.
+/// Errors: `Memory` if it runs out for the text.
 pub fn write_setting(alloc: Global, setting: &Setting) -> Result<Vec<u8>, PhcError>
     ensures text { IfOk result (λ text. text.items ≡ setting_text setting.now) }
     ensures memory { IfErr result (λ fault. fault ≡ PhcError.Memory) }
@@ -43,7 +43,7 @@ pub fn write_setting(alloc: Global, setting: &Setting) -> Result<Vec<u8>, PhcErr
 /// The text of a record, which is read as this record: its setting's, then `$` and the tag in
 /// base64. One of version 0x10 is written with `$v=16`.
 ///
-/// Errors: `Memory` where there is none for the text.
+/// Errors: `Memory` if it runs out for the text.
 #[tactic(auto, using(crate::proofs::WritingLaws::record_written))]
 pub fn write_record(alloc: Global, stored: &Record) -> Result<Vec<u8>, PhcError>
     ensures text { IfOk result (λ text. text.items ≡ record_text stored.now) }
@@ -123,7 +123,7 @@ impl Labelled {
     }
 }
 
-/// A field with three numbers, each behind its label.
+/// A field with three numbers, each after its label.
 fn push_numbers(
     text: &mut String,
     first: Labelled,

@@ -23,5 +23,5 @@ pub const OLD_WRITTEN: &str =
     "$argon2i$v=16$m=256,t=2,p=1$c29tZXNhbHQ$/U3YPXYsSb3q9XxHvc0MLxur+GP960kN9j7emXX8zwY";
 
 /// The vector of RFC 7914, section 12, for `password` and the salt `NaCl`.
-pub const SCRYPT: &str =
-    "$scrypt$ln=10,r=8,p=16$TmFDbA$/bq+HJ00cgB4VucZDQHp/nxq18vII3gw53N2Y0s3MWIurzDZLiKjiG/xCSedmDDaxyevuUqD7m2DYMvfoswGQA";
+pub const SCRYPT: &str = "$scrypt$ln=10,r=8,p=16$TmFDbA$\
+    /bq+HJ00cgB4VucZDQHp/nxq18vII3gw53N2Y0s3MWIurzDZLiKjiG/xCSedmDDaxyevuUqD7m2DYMvfoswGQA";

@@ -10,8 +10,7 @@ fn answer_to(text: &[u8]) -> Answer {
     Some((fault.number(), fault.word()))
 }
 
-/// What is answered to the text with the other so many times in the place of the first `part` in
-/// it.
+/// What is answered to the text with the other so many times in place of the first `part` in it.
 fn answer_changed(
     alloc: Global,
     text: &str,

@@ -44,7 +44,7 @@ fn known_tags(rt: HostRuntime) {
     }
 }
 
-/// Also right where memory is refused, by tools/refuse_memory.py: the tag, or `Memory`.
+/// Also right if memory is refused, by tools/refuse_memory.py: the tag, or `Memory`.
 #[test]
 fn refused_memory(rt: HostRuntime) {
     for text in [TWO_LANES, OLD, SCRYPT] {

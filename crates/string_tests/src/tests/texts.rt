@@ -11,8 +11,9 @@ use test_samples::{A, A_SETTING, OLD, OLD_WRITTEN, SCRYPT};
 const ALPHABET: &str =
     "$argon2id$v=19$m=256,t=2,p=1$ABCDEFGHIJKLMNOPQRSTUVWXYZabcdefghijklmnopqrstuvwxyz0123456789+/";
 
-const ALPHABET_SALT: &[u8] =
-    b"\x00\x10\x83\x10\x51\x87\x20\x92\x8b\x30\xd3\x8f\x41\x14\x93\x51\x55\x97\x61\x96\x9b\x71\xd7\x9f\x82\x18\xa3\x92\x59\xa7\xa2\x9a\xab\xb2\xdb\xaf\xc3\x1c\xb3\xd3\x5d\xb7\xe3\x9e\xbb\xf3\xdf\xbf";
+const ALPHABET_SALT: &[u8] = b"\x00\x10\x83\x10\x51\x87\x20\x92\x8b\x30\xd3\x8f\x41\x14\x93\x51\
+    \x55\x97\x61\x96\x9b\x71\xd7\x9f\x82\x18\xa3\x92\x59\xa7\xa2\x9a\
+    \xab\xb2\xdb\xaf\xc3\x1c\xb3\xd3\x5d\xb7\xe3\x9e\xbb\xf3\xdf\xbf";
 
 #[test]
 fn round_trip(rt: HostRuntime) {
@@ -54,8 +55,8 @@ fn passwords(rt: HostRuntime) {
     assert_eq!(rt; Password::from_base64(b""), None);
 }
 
-/// Whether the text is the one that is written for the record that it is read as; none where it
-/// isn't read.
+/// Whether the text is the one that is written for the record that it is read as; none if it isn't
+/// read.
 fn is_written_again(alloc: Global, text: &[u8]) -> Result<Option<bool>, PhcError> {
     match parse_record(text) {
         Ok(stored) => Ok(Some(is_record_text(alloc, &stored, text)?)),
@@ -115,7 +116,7 @@ fn old_settings(rt: HostRuntime) {
     assert_eq!(rt; is_setting_text(rt.alloc(), &old, text), Ok(true));
 }
 
-/// Also right where memory is refused, by tools/refuse_memory.py: the text, or `Memory`.
+/// Also right if memory is refused, by tools/refuse_memory.py: the text, or `Memory`.
 #[test]
 fn refused_memory(rt: HostRuntime) {
     let stored = stored(&rt, A);
