@@ -1,6 +1,6 @@
 //! That the calls succeed, that the rules of names and the limit are those that were meant, that
 //! whole operations answer as records from outside want it and hash no oftener than they must, what
-//! want of memory leaves, and that no password is shown.
+//! running out of memory leaves, and that no password is shown.
 //!
 //! `calls` plays calls on a book and `work` whole operations; the other files have the tests. What
 //! a test asserts it is handed as a plain value, since its proof is far longer where a book is

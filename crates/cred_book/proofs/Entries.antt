@@ -1,21 +1,20 @@
 -- Entries in the order of their keys: what a binary search finds among them, and what a write at
 -- its place does.
-use Rattle.std.proofs.Common.{◌≡◌, ℕ, zero, suc, ◌<◌, ◌≤◌, List, [], ◌∷◌, length, lit≤, get_or, set, Some, None, Result, Ok, Err, T, Bool, true, false, refl, sym, ap, subst, ◌∙◌, arith, ◌&&◌}
-use Rattle.std.specs.List.{insert}
+use Rattle.std.proofs.Common.{◌≡◌, ℕ, zero, suc, ◌<◌, ◌≤◌, List, [], ◌∷◌, length, lit≤, get_or, set, Some, None, Result, Ok, Err, T, Bool, true, false, cond, not, refl, sym, ap, subst, ◌∙◌, arith, ◌&&◌}
+use Rattle.std.specs.List.{insert, remove}
 use Rattle.std.specs.List.Sorted.{IsSearchInRange, IsBinarySearchResult, IsNonDecreasingBy}
-use Rattle.std.specs.Ordering.{ordering_index, ordering_reverse, is_lt}
+use Rattle.std.specs.Ordering.{ordering_index, ordering_reverse, is_lt, is_eq, eq_by_cmp}
 use Rattle.std.specs.declared.cmp.Ordering.{Ordering}
 use Rattle.std.specs.declared.cmp.Ordering.TheVariants.{Less, Equal, Greater}
 use Rattle.std.specs.Bool.{IsTrue}
-use Rattle.std.specs.Cmp.{IsTotalOrder}
+use Rattle.std.specs.Cmp.{IsTotalOrder, eq_by_cmp_equiv}
 use Rattle.std.proofs.lemmas.Cmp.{alike_right}
 use Rattle.std.proofs.lemmas.Bool.{cases_eq}
 use Rattle.std.proofs.Common.{inl, inr}
 use Rattle.std.specs.Result.{MatchResult}
 use Rattle.cred_book.specs.Places.{IsPlaceOf, IsGapFor}
-use Rattle.std.specs.FinMap.{entries, find, put, is_sorted, get, insert as map_insert, len, from_sorted, same_entries_map, entries-from_sorted, entries-insert, get-from_sorted, len-entries, empty, empty_of_len}
-use Rattle.std.specs.FinMap.Entries.{is_sorted-put}
-use Rattle.std.specs.FinMap.Entries.{below_all}
+use Rattle.std.specs.FinMap.{entries, find, put, is_sorted, get, insert as map_insert, remove as map_remove, len, from_sorted, IsAntisymmetric, same_map, same_entries_map, entries-from_sorted, entries-insert, get-from_sorted, get-remove, len-entries, empty, empty_of_len}
+use Rattle.std.specs.FinMap.Entries.{below_all, find-where_key, is_sorted-put, is_sorted-where_key, where_key}
 
 first : (a b : Bool) → T (a && b) → T a
 first true b h = tt
@@ -45,6 +44,14 @@ tested b e = subst T (sym e) tt
 told : (b : Bool) → T b → IsTrue b
 told true h = refl
 told false h = absurd h
+
+-- whether x is another key than q
+abbrev other : {K : Type 0} → (K → K → Ordering) → K → K → Bool
+other R q x = not (eq_by_cmp R q x)
+
+flipped : {A : Type 0} (b : Bool) (x y : A) → cond (not b) x y ≡ cond b y x
+flipped true x y = refl
+flipped false x y = refl
 
 module _ {K X : Type 0} (R : K → K → Ordering) (o : IsTotalOrder R) where
   -- a key below all others is below the one at each place
@@ -133,6 +140,35 @@ module _ {K X : Type 0} (R : K → K → Ordering) (o : IsTotalOrder R) where
 
   pub insert_gap : (es : List (K × X)) → IsTrue (is_sorted R es) → (q : K) (v : X) (i : ℕ) → IsGapFor R es q i → from_sorted {R = R} (insert es i (q, v)) ≡ map_insert (from_sorted es) q v
   insert_gap es sorted q v i p = rw (← put_gap es q v i p) (from_sorted-put es sorted q v)
+
+  -- ---- an entry taken out
+
+  -- greater keys are others
+  greater_stay : (k q : K) (es : List (K × X)) → R q k ≡ Equal → T (below_all R k es) → where_key R (other R q) es ≡ es
+  greater_stay k q [] tie h = refl
+  greater_stay k q (e ∷ es) tie h =
+      let above : R q e.0 ≡ Less = o.congr q k e.0 tie ∙ less _ (first _ _ h) in
+      rw above (ap (λ t. e ∷ t) (greater_stay k q es tie (second _ _ h)))
+
+  -- without the entry at the key's place, all with other keys are left
+  pub remove_place : (es : List (K × X)) → T (is_sorted R es) → (q : K) (i : ℕ) → K × X → IsPlaceOf R es q i → remove es i ≡ where_key R (other R q) es
+  remove_place [] h q i d p = absurd (omega (arith, p.within))
+  remove_place (e ∷ es) h q zero d p =
+      let tie = turned o e.0 q Equal (p.here d) in
+      rw tie (sym (greater_stay e.0 q es tie (first _ _ h)))
+  remove_place (e ∷ es) h q (suc i) d p = rw (turned o e.0 q Less (p.before 0 d (omega arith))) (ap (λ t. e ∷ t) (remove_place es (second _ _ h) q i d (place_behind e es q i p)))
+
+  pub sorted_without : (es : List (K × X)) → IsTrue (is_sorted R es) → (q : K) (i : ℕ) → K × X → IsPlaceOf R es q i → IsTrue (is_sorted R (remove es i))
+  sorted_without es sorted q i d p = rw (remove_place es (tested _ sorted) q i d p) (told _ (is_sorted-where_key R (other R q) es (tested _ sorted)))
+
+  pub remove_entry : IsAntisymmetric R → (es : List (K × X)) → IsTrue (is_sorted R es) → (q : K) (i : ℕ) → K × X → IsPlaceOf R es q i → from_sorted {R = R} (remove es i) ≡ map_remove (from_sorted es) q
+  remove_entry same es sorted q i d p = same_map o same _ _ (λ k.
+      get-from_sorted R (remove es i) k (tested _ (sorted_without es sorted q i d p))
+      ∙ ap (find R k) (remove_place es (tested _ sorted) q i d p)
+      ∙ find-where_key R (other R q) k (λ x t. ap (λ r. not (is_eq r)) (sym (alike_right o k x q t))) es
+      ∙ flipped (eq_by_cmp R q k) _ _
+      ∙ ap (λ b. cond b None (find R k es)) ((eq_by_cmp_equiv o).symm q k)
+      ∙ sym (get-remove o (from_sorted es) q k ∙ ap (cond (eq_by_cmp R k q) None) (get-from_sorted R es k (tested _ sorted))))
 
 -- sorted entries are those of their map
 pub entries_from : {K X : Type 0} (R : K → K → Ordering) (es : List (K × X)) → IsTrue (is_sorted R es) → entries (from_sorted {R = R} es) ≡ es

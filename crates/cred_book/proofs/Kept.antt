@@ -1,16 +1,17 @@
 -- What a book's entries say of its map, and what a write among them does to it.
 use Rattle.std.proofs.Common.{refl, nat_lt, nat_eq, Bool, MatchBool, ◌≡◌, ℕ, ◌<◌, ◌≤◌, List, length, get_or, set, Option, Some, None, true, false, is_some, ap, arith}
 use Rattle.std.proofs.lemmas.Bool.Decides.{nat_tests}
-use Rattle.std.specs.List.{insert}
+use Rattle.std.specs.List.{insert, remove}
 use Rattle.std.specs.FinMap as map
 use Rattle.std.specs.Cmp.Lexicographic.{nat_list_cmp_total}
-use Rattle.std.proofs.lemmas.List.Edits.{length-insert}
+use Rattle.std.proofs.lemmas.List.Edits.{length-insert, length-remove}
 use Rattle.std.proofs.Math.ListN.{length-set}
 use Rattle.cred_phc.specs.Values.{RecordValue}
 use Rattle.cred_book.specs.Accounts.{Accounts, IsKept, most_accounts, with_entry}
 use Rattle.cred_book.specs.Names.{name_cmp}
 use Rattle.cred_book.specs.Places.{IsPlaceOf, IsGapFor}
-use Rattle.cred_book.proofs.Entries.{get_place, get_gap, sorted_place, sorted_gap, set_place, insert_gap, len-from_sorted, entries_from}
+use Rattle.cred_book.proofs.Entries.{get_place, get_gap, sorted_place, sorted_gap, sorted_without, set_place, insert_gap, remove_entry, len-from_sorted, entries_from}
+use Rattle.cred_book.proofs.Registered.{same_names}
 
 abbrev Entries : Type 0
 Entries = List (List ℕ × Option RecordValue)
@@ -48,6 +49,16 @@ module _ (entries : Entries) (capacity : ℕ) (kept : IsKept entries capacity) (
     kept_set now = record {
       sorted = sorted_place name_cmp nat_list_cmp_total entries kept.sorted name now i d p;
       few = rw length-set kept.few;
+      room = kept.room;
+    }
+
+    pub remove_there : map.from_sorted (remove entries i) ≡ map.remove book name
+    remove_there = rw (← view) (remove_entry name_cmp nat_list_cmp_total same_names entries kept.sorted name i d p)
+
+    pub kept_remove : IsKept (remove entries i) capacity
+    kept_remove = record {
+      sorted = sorted_without name_cmp nat_list_cmp_total entries kept.sorted name i d p;
+      few = omega (arith, length-remove entries i p.within, kept.few);
       room = kept.room;
     }
 

@@ -19,7 +19,7 @@ use Rattle.cred_book.specs.Names.{name_cmp}
 use Rattle.cred_book.proofs.Entries.{len-from_sorted, entries_from}
 
 -- only equal names tie
-same_names : map.IsAntisymmetric name_cmp
+pub same_names : map.IsAntisymmetric name_cmp
 same_names = map.slice_cmp-IsAntisymmetric map.nat_cmp-IsAntisymmetric
 
 both : (a b : Bool) → IsTrue a → IsTrue b → IsTrue (a && b)
@@ -90,28 +90,42 @@ pub not_there : {X A : Type 0} (o : Option X) → None ≡ o → is_some o ≡ t
 not_there None none there = absurd cc
 not_there (Some x) none there = absurd cc
 
--- a new name that is taken away again
+-- ---- names that aren't there
+
+nothing : (found : Option (Option RecordValue)) → is_some found ≡ false → found ≡ None
+nothing None e = refl
+nothing (Some v) e = absurd cc
+
+equal : (r : Ordering) → is_eq r ≡ true → r ≡ Equal
+equal Less e = absurd cc
+equal Equal e = refl
+equal Greater e = absurd cc
+
+-- nothing stands at a name that isn't there, and at those that tie with it
+absent_tied : (book : Accounts) (name q : List ℕ) → map.contains_key book name ≡ false → eq_by_cmp name_cmp q name ≡ true → map.get book q ≡ None
+absent_tied book name q absent tie =
+    map.get_tied nat_list_cmp_total book name q (equal _ (sym ((eq_by_cmp_equiv nat_list_cmp_total).symm q name) ∙ tie))
+    ∙ nothing _ absent
+
+-- a name that isn't there is taken away
+pub remove_absent : (book : Accounts) (name : List ℕ) → map.contains_key book name ≡ false → map.remove book name ≡ book
+remove_absent book name absent = map.same_map nat_list_cmp_total same_names _ _ (λ q.
+    map.get-remove nat_list_cmp_total book name q ∙ by_tie q (eq_by_cmp name_cmp q name) refl)
+  where
+    by_tie : (q : List ℕ) (b : Bool) → eq_by_cmp name_cmp q name ≡ b → cond b None (map.get book q) ≡ map.get book q
+    by_tie q false e = refl
+    by_tie q true e = sym (absent_tied book name q absent e)
+
+-- a new name is taken away again
 pub remove_again : (book : Accounts) (name : List ℕ) (now : Option RecordValue) → map.contains_key book name ≡ false → map.remove (map.insert book name now) name ≡ book
 remove_again book name now absent = map.same_map nat_list_cmp_total same_names _ _ (λ q.
     map.get-remove nat_list_cmp_total (map.insert book name now) name q
     ∙ ap (λ o. cond (eq_by_cmp name_cmp q name) None o) (map.get-insert nat_list_cmp_total book name now q)
     ∙ by_tie q (eq_by_cmp name_cmp q name) refl)
   where
-    nothing : (o : Option (Option RecordValue)) → is_some o ≡ false → o ≡ None
-    nothing None e = refl
-    nothing (Some v) e = absurd cc
-
-    equal : (r : Ordering) → is_eq r ≡ true → r ≡ Equal
-    equal Less e = absurd cc
-    equal Equal e = refl
-    equal Greater e = absurd cc
-
-    tied : (q : List ℕ) → eq_by_cmp name_cmp q name ≡ true → name_cmp name q ≡ Equal
-    tied q e = equal _ (sym ((eq_by_cmp_equiv nat_list_cmp_total).symm q name) ∙ e)
-
     by_tie : (q : List ℕ) (b : Bool) → eq_by_cmp name_cmp q name ≡ b → cond b None (cond b (Some now) (map.get book q)) ≡ map.get book q
     by_tie q false e = refl
-    by_tie q true e = sym (map.get_tied nat_list_cmp_total book name q (tied q e) ∙ nothing _ absent)
+    by_tie q true e = sym (absent_tied book name q absent e)
 
 -- ---- a book of a register's entries
 

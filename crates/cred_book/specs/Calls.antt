@@ -8,7 +8,7 @@ use Rattle.cred_book.specs.declared.error.BookError.{BookError}
 use Rattle.cred_book.specs.declared.error.BookError.TheVariants as error
 
 -- a new name is there from now on, with this record or none, where there is room for so many names;
--- memory is wanting only where it would have been added
+-- memory runs out only if it would have been added
 abbrev pub EntersWithin : ℕ → Accounts → Accounts → List ℕ → Option RecordValue
     → Result (Unit {0}) BookError → Type 0
 EntersWithin room old new name now (Ok _) =
@@ -30,7 +30,7 @@ AdmitsWithin room old new name result = EntersWithin room old new name None resu
 abbrev pub Admits : Accounts → Accounts → List ℕ → Result (Unit {0}) BookError → Type 0
 Admits old new name result = AdmitsWithin most_accounts old new name result
 
--- the name has this record from now on; memory is wanting only where the name is there
+-- the name has this record from now on; memory runs out only if the name is there
 abbrev pub Loads : Accounts → Accounts → List ℕ → RecordValue → Result (Unit {0}) BookError → Type 0
 Loads old new name stored (Ok _) =
     (map.contains_key old name ≡ true) × (new ≡ map.insert old name (Some stored))

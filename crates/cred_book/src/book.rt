@@ -216,6 +216,18 @@ impl Book {
         }
     }
 
+    /// Removes a name with its record. Without that name, nothing changes.
+    pub fn remove(&mut self, name: &Name)
+        ensures { self.new ≡ map.remove self.old name.now }
+    {
+        match place_of(&self.accounts, name) {
+            Ok(place) => {
+                let _taken = self.accounts.remove(place);
+            }
+            Err(_) => {}
+        }
+    }
+
     /// An equal book.
     ///
     /// Errors: `Memory` if there is not enough for 4096 accounts.

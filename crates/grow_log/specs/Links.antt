@@ -1,7 +1,7 @@
 -- The rule of the words behind a log, and what its steps tell.
 --
--- A log is kept as links: each names the place, a word with a key, where the next link goes.
--- Whoever holds the pen of the last place alone can add a link, by bringing its word home.
+-- A log is kept as links: each names the place, a word with a key, where the next link goes. Only
+-- the holder of the last place's pen can add a link, by bringing its word home.
 use Rattle.std.specs.Prelude.{ℕ, ◌≡◌, ◌==◌, ◌<◌, Bool, true, List, [], ◌∷◌, ◌++◌, length}
 use Rattle.std.specs.Prelude.{MatchBool, Option, Some, None}
 use mathlib.Core.List.{IsPrefix}

@@ -65,7 +65,7 @@ pub(super) fn play_on_new(alloc: Global, lines: &[Line]) -> Result<Option<Slip>,
     Ok(play(&mut book, lines))
 }
 
-/// What a keeper answers to the call; none where keepers have no such call.
+/// What a keeper answers to the call; none if keepers have no such call.
 fn kept<R: Wait, K: Keeper>(rt: &R, keeper: &mut K, call: Call) -> Option<Answer> {
     match call {
         Call::Admit(name) => Some(done(keeper.admit(rt, name))),

@@ -50,7 +50,7 @@ fn set_wants_the_name_and_put_adds_it(rt: HostRuntime) {
     assert_eq!(rt; slips, Ok([None, None]));
 }
 
-/// What comes back where the request is begun at a book with no name; none where a ticket is made.
+/// What comes back if the request is begun at a book with no name; none if a ticket is made.
 fn begun_without_account(alloc: Global, request: Request) -> Option<(Request, BookError)> {
     let book = Book::new(alloc).ok()?;
     if !request.is_for_current() {
@@ -66,7 +66,7 @@ fn a_beginning_without_account(rt: HostRuntime) {
     assert_eq!(rt; refusal, Some(wanted));
 }
 
-/// Commits the work that comes back where it isn't a verify's.
+/// Commits the work that comes back if it isn't a verify's.
 fn commit_handed_back<R: Threads + Sync>(
     rt: &R,
     alloc: Global,

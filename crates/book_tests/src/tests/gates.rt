@@ -62,7 +62,7 @@ fn hold<R: Threads + Sync + Abort>(rt: &R, alloc: Global, table: &[Row]) {
 }
 
 /// A hash has two passes of four slices, and lets each lane in once in each: `A` is of one lane,
-/// and the setting of two where a new record may be made.
+/// and the setting of two if a new record may be made.
 #[test]
 fn no_hash_too_many(rt: HostRuntime) {
     let table = [

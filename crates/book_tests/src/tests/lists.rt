@@ -12,7 +12,7 @@ fn lists(book: &Book, entries: &[Entry]) -> bool {
     book.len() == entries.len() && book.iter().eq(entries.iter())
 }
 
-/// Whether a book lists these entries in this order, which were put there in the other one; none where
+/// Whether a book lists these entries in this order, which were put there in the other one; none if
 /// it has no memory.
 fn lists_in_order(alloc: Global, entries: &[Entry]) -> Option<bool> {
     let mut book = Book::new(alloc).ok()?;

@@ -32,7 +32,7 @@ fn requests<R: Abort>(rt: &R) -> [Request; 5] {
     ]
 }
 
-/// Whether the password is seen in the request, in its ticket or in its work; none where it isn't
+/// Whether the password is seen in the request, in its ticket or in its work; none if it isn't
 /// begun or worked.
 fn shown_at<R: Threads + Sync>(
     rt: &R,
@@ -54,7 +54,7 @@ fn shown_in_work(alloc: Global, work: Worked) -> Result<bool, AllocError> {
     }
 }
 
-/// The same of the refusal to begin the request at a book without its name; none where it is begun.
+/// The same of the refusal to begin the request at a book without its name; none if it is begun.
 fn shown_in_refusal(alloc: Global, request: Request) -> Option<bool> {
     let book = Book::new(alloc).ok()?;
     if !request.is_for_current() {

@@ -31,7 +31,7 @@ impl Seen {
     }
 }
 
-/// A ticket of the request; none where it is refused.
+/// A ticket of the request; none if it is refused.
 pub(super) fn begun(book: &Book, request: Request) -> Option<Ticket> {
     if !request.is_for_current() {
         return None;

@@ -1,5 +1,6 @@
-//! That a ticket's work reaches the workers and the gate, and what want of memory leaves of it.
-//! `refused_work` holds whichever request is refused: tools/refuse_memory.py refuses each in turn.
+//! That a ticket's work reaches the workers and the gate, and what running out of memory leaves of
+//! it. `refused_work` holds whichever request is refused: tools/refuse_memory.py refuses each in
+//! turn.
 use super::calls::book_with;
 use super::work::{Seen, begun, committed};
 use super::{enrol, name, stored};
@@ -9,8 +10,8 @@ use std::alloc::Global;
 use std::thread::Threads;
 use test_samples::{A, A_SETTING, Meetings};
 
-/// What is answered to the request at an account with no record where the lanes of its work meet at
-/// a gate, and how often they met in time.
+/// What is answered to the request at an account with no record if the lanes of its work meet at a
+/// gate, and how often they met in time.
 fn met<R: Threads + Sync>(
     rt: &R,
     alloc: Global,
@@ -42,8 +43,8 @@ fn hands_workers_on(rt: HostRuntime) {
     assert_eq!(rt; met, (Some(Reply::Enrolled), 4));
 }
 
-/// Works the ticket, a second time where it comes back; none where that is refused too, or another
-/// ticket comes back.
+/// Works the ticket, a second time if it comes back; none if that is refused too, or another ticket
+/// comes back.
 fn worked_again<R: Threads + Sync>(rt: &R, alloc: Global, ticket: Ticket) -> Option<Worked> {
     let asked = (ticket.request(), ticket.copy());
     match ticket.work(rt, alloc, 2, &NoGate) {
