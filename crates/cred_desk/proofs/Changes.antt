@@ -17,7 +17,7 @@ use Rattle.cred_book.specs.declared.request.Request.{Request}
 use Rattle.cred_book.specs.declared.request.Request.TheVariants.{Enrol, Verify, Change, Upgrade, Remove}
 use Rattle.cred_desk.specs.declared.entry.Entry.{Entry}
 use Rattle.cred_desk.specs.Commits.{HavePasswords, reply_of, entry_of, list_after}
-use Rattle.cred_desk.specs.Histories.{entry, put, after, Follows, FollowsAt}
+use Rattle.cred_desk.specs.Histories.{entry, put, after, state_of, Follows, FollowsAt}
 use Rattle.cred_desk.proofs.Lists.{after_snoc}
 
 abbrev Outcome : Type 0
@@ -38,7 +38,7 @@ module _ (P : Outcome → Type 0) where
 -- ---- whole operations
 
 abbrev IsSound : Option RecordValue → Outcome → Type 0
-IsSound now outcome = makes_change outcome.0 ≡ true → Follows now outcome.1
+IsSound now outcome = makes_change outcome.0 ≡ true → Follows now (state_of outcome.1)
 
 -- where one makes a change, what it leaves follows what stood
 whole_follows : (request : Request) → HavePasswords request → (now : Option RecordValue) → IsSound now (whole request now)
@@ -79,20 +79,25 @@ whole_stays (Remove name pw) (Some stored) stays = two (IsStill (Some stored)) (
 
 -- ---- commits
 
-judged_if_follows : (work : Task) → HavePasswords work.0 → (now : Option RecordValue) (fresh : Bool) → (judgement_if work now fresh).2 ≡ true → Follows now (judgement_if work now fresh).1
+judged_if_follows : (work : Task) → HavePasswords work.0 → (now : Option RecordValue) (fresh : Bool) → (judgement_if work now fresh).2 ≡ true → Follows now (state_of (judgement_if work now fresh).1)
 judged_if_follows work held now true change = whole_follows work.0 held now change
 judged_if_follows work held now false change = absurd cc
 
-judged_at_follows : (work : Task) → HavePasswords work.0 → (found : Option (Option RecordValue)) → (judgement_at work found).2 ≡ true → FollowsAt found (judgement_at work found).1
+judged_at_follows : (work : Task) → HavePasswords work.0 → (found : Option (Option RecordValue)) → (judgement_at work found).2 ≡ true → FollowsAt found (state_of (judgement_at work found).1)
 judged_at_follows work held None change = absurd cc
 judged_at_follows work held (Some now) change = judged_if_follows work held now (same now work.1) change
 
 -- the entry of a commit is one that some operation makes
-pub entry_made : (book : Accounts) (work : Task) → HavePasswords work.0 → (judgement book work).2 ≡ true → FollowsAt (map.get book (name_of work.0)) (judgement book work).1
+pub entry_made : (book : Accounts) (work : Task) → HavePasswords work.0 → (judgement book work).2 ≡ true → FollowsAt (map.get book (name_of work.0)) (state_of (judgement book work).1)
 unfolding judgement
 entry_made book work held change = judged_at_follows work held (map.get book (name_of work.0)) change
 
 -- ---- books after commits
+
+-- an entry of a record, or of none, puts it at its name
+put_entry : (book : Accounts) (name : List ℕ) (stored : Option RecordValue) → put book (entry name stored) ≡ map.insert book name stored
+put_entry book name None = refl
+put_entry book name (Some stored) = refl
 
 -- the book after the entry of a commit, if it makes one
 abbrev after_entry : Accounts → Option Entry → Accounts
@@ -119,7 +124,7 @@ module _ (book : Accounts) (work : Task) where
 
     by_change : (change : Bool) → makes_change (whole work.0 now).0 ≡ change
         → after_entry book (if change then Some (entry (name_of work.0) (whole work.0 now).1) else None) ≡ map.insert book (name_of work.0) (whole work.0 now).1
-    by_change true is = refl
+    by_change true is = put_entry book (name_of work.0) (whole work.0 now).1
     by_change false is = sym (ap (map.insert book (name_of work.0)) (whole_stays work.0 now is) ∙ insert_again)
 
     by_copy : (fresh : Bool) → ((judgement_if work now fresh).0, after_entry book (entry_if work (judgement_if work now fresh))) ≡ commit_outcome_if book work now fresh

@@ -1,7 +1,8 @@
--- What a desk does for sessions that add names and records, and what it answers where a writer may
--- refuse an entry.
-use Rattle.std.specs.Prelude.{◌≡◌, ◌≢◌, ◌+◌, Bool, List, ◌∷◌, [], ◌++◌, None}
+-- What a desk does for sessions that add entries of their own: admissions, loads and deletions; and
+-- what it answers if a writer may refuse an entry.
+use Rattle.std.specs.Prelude.{◌≡◌, ◌≢◌, ◌+◌, ℕ, Bool, true, false, List, ◌∷◌, [], ◌++◌, None}
 use mathlib.Core.List.{IsPrefix}
+use Rattle.std.specs.FinMap as map
 use Rattle.cred_book.specs.Accounts.{Accounts}
 use Rattle.cred_book.specs.Works.{Task}
 use Rattle.cred_book.specs.declared.error.BookError.{BookError}
@@ -13,16 +14,18 @@ use Rattle.cred_desk.specs.Standing.{Standing, IsUncounted}
 use Rattle.cred_desk.specs.declared.entry.Entry.{Entry}
 use Rattle.cred_desk.specs.declared.writer.KeepError.{KeepError}
 use Rattle.cred_desk.specs.declared.writer.KeepError.TheVariants.{Book, Writer}
+use Rattle.cred_desk.specs.declared.writer.Unrecorded.{Unrecorded}
+use Rattle.cred_desk.specs.declared.writer.Unrecorded.TheVariants as unrecorded
 
--- what a book would say: where a writer refuses an entry, the change would have been done
+-- what a book would say: if a writer refuses an entry, the change would have been done
 abbrev pub refusal_of : {E : Type 0} → KeepError E → BookError
 refusal_of (Book e) = e
 refusal_of (Writer e) = error.Memory
 
--- a desk that is out of memory doesn't ask its writer; every other refusal is the writer's
-abbrev pub IsRefusedBy : {E W : Type 0} → W → W → KeepError E → Type 0
-IsRefusedBy old new (Book e) = (e ≡ error.Memory) × (new ≡ old)
-IsRefusedBy old new (Writer e) = Unit {0}
+-- whoever is out of memory doesn't ask the writer; every other refusal is the writer's
+abbrev pub IsRefusedBy : {E W : Type 0} → W → W → Unrecorded E → Type 0
+IsRefusedBy old new unrecorded.Memory = new ≡ old
+IsRefusedBy old new (unrecorded.Writer e) = Unit {0}
 
 -- the session knows this list, and no less than before
 abbrev pub IsAt : Bool → Accounts → Standing → Standing → Type 0
@@ -44,7 +47,7 @@ IsUnsettled loads opening old new work =
     IsAt loads opening old new × (entry_of (after opening new.known) work ≢ None)
     × IsUncounted old new
 
--- an entry was added, at a list that begins with the known one and where it may be, and no other
+-- an entry was added, at a list that begins with the known one and at which it may be, and no other
 -- one: the session counts one
 abbrev pub IsAdded : Bool → Accounts → Standing → Standing → (Accounts → Entry → Type 0) → Entry
     → List Entry → Type 0
@@ -55,3 +58,11 @@ IsAdded loads opening old new may entry told =
     × (new.known ≡ told)
     × (new.count ≡ old.count)
     × (new.additions ≡ old.additions + 1)
+
+-- why a name isn't taken away: it isn't there; memory runs out only if it is
+abbrev pub RefusesDeletion : Accounts → List ℕ → BookError → Type 0
+RefusesDeletion book name error.NoAccount = map.contains_key book name ≡ false
+RefusesDeletion book name error.Memory = map.contains_key book name ≡ true
+RefusesDeletion book name error.Name = ⊥
+RefusesDeletion book name error.Exists = ⊥
+RefusesDeletion book name error.Full = ⊥

@@ -6,16 +6,34 @@ use Rattle.cred_phc.specs.Tags.{tag}
 use Rattle.cred_phc.specs.Values.{RecordValue, IsPassword}
 use Rattle.cred_book.specs.Accounts.{Accounts, most_accounts}
 use Rattle.cred_book.specs.Works.{right}
+use Rattle.cred_desk.specs.declared.entry.AccountState.{AccountState}
+use Rattle.cred_desk.specs.declared.entry.AccountState.TheVariants as state
 use Rattle.cred_desk.specs.declared.entry.Entry.{Entry}
 
+-- what stands at a name that is there
+abbrev pub state_of : Option RecordValue → AccountState
+state_of None = state.NoRecord
+state_of (Some stored) = state.Record stored
+
+-- the name has this record from now on, or none
 abbrev pub entry : List ℕ → Option RecordValue → Entry
-entry name now = record { name = name; now = now }
+entry name stored = record { name = name; now = state_of stored }
+
+-- the name is gone from now on
+abbrev pub deletion : List ℕ → Entry
+deletion name = record { name = name; now = state.NoAccount }
 
 -- ---- books
 
+-- the book in which this stands at the name
+abbrev pub with_state : Accounts → List ℕ → AccountState → Accounts
+with_state book name (state.Record stored) = map.insert book name (Some stored)
+with_state book name state.NoRecord = map.insert book name None
+with_state book name state.NoAccount = map.remove book name
+
 -- the book after an entry, whose name is added if it isn't there
 abbrev pub put : Accounts → Entry → Accounts
-put book entry = map.insert book entry.name entry.now
+put book entry = with_state book entry.name entry.now
 
 -- the book after all of them, one after another
 abbrev pub after : Accounts → List Entry → Accounts
@@ -32,15 +50,17 @@ IsOpened stored = (pw : List ℕ) × IsPassword pw × (right stored pw ≡ true)
 abbrev pub IsMinted : RecordValue → Type 0
 IsMinted stored = (pw : List ℕ) × IsPassword pw × (stored.tag ≡ tag stored.setting 32 pw)
 
--- an operation may leave this where that stood: a new record where none stood or its password was
--- known, and none where it was known
-abbrev pub Follows : Option RecordValue → Option RecordValue → Type 0
-Follows None None = ⊥
-Follows None (Some new) = IsMinted new
-Follows (Some old) None = IsOpened old
-Follows (Some old) (Some new) = IsOpened old × IsMinted new
+-- what an operation may leave at a name in place of what was there: a new record if there was none
+-- or its password was known, and none if it was known. The name stays
+abbrev pub Follows : Option RecordValue → AccountState → Type 0
+Follows None state.NoRecord = ⊥
+Follows None (state.Record new) = IsMinted new
+Follows None state.NoAccount = ⊥
+Follows (Some old) state.NoRecord = IsOpened old
+Follows (Some old) (state.Record new) = IsOpened old × IsMinted new
+Follows (Some old) state.NoAccount = ⊥
 
-abbrev pub FollowsAt : Option (Option RecordValue) → Option RecordValue → Type 0
+abbrev pub FollowsAt : Option (Option RecordValue) → AccountState → Type 0
 FollowsAt None now = ⊥
 FollowsAt (Some old) now = Follows old now
 
@@ -53,20 +73,25 @@ IsMade book entry = FollowsAt (map.get book entry.name) entry.now
 -- a new name, with no record, while there is room
 abbrev pub IsAdmitted : Accounts → Entry → Type 0
 IsAdmitted book entry = (map.contains_key book entry.name ≡ false) × (map.len book < most_accounts)
-    × (entry.now ≡ None)
+    × (entry.now ≡ state.NoRecord)
 
 -- a record at a name that is there
 abbrev pub IsLoaded : Accounts → Entry → Type 0
 IsLoaded book entry = (map.contains_key book entry.name ≡ true)
-    × ((stored : RecordValue) × (entry.now ≡ Some stored))
+    × ((stored : RecordValue) × (entry.now ≡ state.Record stored))
+
+-- a name that is there, which is taken away
+abbrev pub IsDeleted : Accounts → Entry → Type 0
+IsDeleted book entry = (map.contains_key book entry.name ≡ true) × (entry.now ≡ state.NoAccount)
 
 -- ---- lists
 
--- an entry that may come next: of an operation, and where loads may stand in the list, of one who
+-- an entry that may come next: of an operation, and if loads may stand in the list, of one who
 -- keeps the book
 abbrev pub IsAllowed : Bool → Accounts → Entry → Type 0
 IsAllowed false book entry = IsMade book entry
-IsAllowed true book entry = IsMade book entry ⊎ (IsAdmitted book entry ⊎ IsLoaded book entry)
+IsAllowed true book entry = IsMade book entry
+    ⊎ (IsAdmitted book entry ⊎ (IsLoaded book entry ⊎ IsDeleted book entry))
 
 -- each entry was allowed at the book of those before it
 abbrev pub IsListed : Bool → Accounts → List Entry → Type 0
@@ -78,6 +103,6 @@ IsListed loads book (entry ∷ entries) = IsAllowed loads book entry
 abbrev pub IsLegal : Accounts → List Entry → Type 0
 IsLegal = IsListed false
 
--- operations, admissions and loads made it
+-- operations, admissions, loads and deletions made it
 abbrev pub IsLawful : Accounts → List Entry → Type 0
 IsLawful = IsListed true

@@ -5,7 +5,7 @@ use Rattle.cred_book.specs.Accounts.{Accounts}
 
 -- the members of `Naming`, with those of `Ledger` above it
 abbrev pub Naming : Type 0
-Naming = record { name : ℕ; parts : ℕ; book : Book; opening : Accounts; loads : Bool }
+Naming = record { name : ℕ; parts : ℕ; list : Book; opening : Accounts; loads : Bool }
 
 -- what a clause sees of a list that was opened, before it has a name
 pub record NewList : Type 0 where
@@ -17,7 +17,7 @@ pub record NewList : Type 0 where
 
 -- the name is that of this list
 abbrev pub IsNamed : Naming → NewList → Type 0
-IsNamed name opened = (opened.list ≡ name.book) × (opened.ledger ≡ name.name)
+IsNamed name opened = (opened.list ≡ name.list) × (opened.ledger ≡ name.name)
     × (opened.sessions ≡ name.parts)
 
 -- its list starts from this book, and has so many sessions

@@ -17,7 +17,7 @@ pub record Standing : Type 0 where
   pub known : List Entry
   -- how many changes its settles made
   pub count : ℕ
-  -- how many names it admitted and records it loaded
+  -- how many entries it added: admissions, loads and deletions
   pub additions : ℕ
 
 -- a session that knows nothing, and has done nothing
@@ -55,8 +55,8 @@ ClosesAt book old new work (Err (back, error.Session)) = ⊥
 ClosesAt book old new work (Err (back, error.NoAccount)) = ⊥
 
 -- a settle is a commit at a legal list that begins with the known one, and is counted if it is a
--- change. Where a change that was due there found no memory, the session knows that list, and
--- nothing is counted
+-- change. If a change that was due there found no memory, the session knows that list, and nothing
+-- is counted
 abbrev pub Settles : Accounts → Standing → Standing → Task
     → Result (Reply × List Entry) (Task × DeskError) → Type 0
 Settles opening old new work (Ok (answer, told)) =

@@ -4,7 +4,7 @@ ghost use Rattle.std.specs.Prelude.{◌≡◌, IfSome};
 ghost use Rattle.cred_desk.specs.Commits.{HavePasswords, entry_of, reply_of};
 ghost use Rattle.cred_desk.specs.Histories.{IsMade};
 
-use crate::entry::Entry;
+use crate::entry::{AccountState, Entry};
 use cred_book::{Book, Reply, Request, Worked};
 
 /// The answer that the commit of the work has at this book, and the entry that it makes if it is a
@@ -21,6 +21,7 @@ pub(crate) fn judge(book: &Book, work: &Worked) -> (Reply, Option<Entry>)
         return (reply, None);
     }
     let name = request.name();
+    let now = AccountState::from(now);
     (reply, Some(Entry { name, now }))
 }
 

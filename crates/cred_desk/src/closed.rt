@@ -5,6 +5,8 @@ ghost use Rattle.std.specs.FinMap as map;
 ghost use Rattle.std.specs.Slice.Iter.{iter_rest};
 
 use crate::entry::Entry;
+use crate::naming::Naming;
+use crate::told::Told;
 use cred_book::{Book, Name};
 use cred_phc::Record;
 use std::{fmt, slice};
@@ -69,8 +71,29 @@ impl fmt::Debug for Remains {
 #[derive(Drop)]
 pub struct Kept<W> {
     pub closed: Closed,
-    /// How many names each session admitted and records it loaded, in the order of the counts.
+    /// How many entries each session added (admissions, loads and deletions), in the order of the
+    /// counts.
     pub additions: Vec<u64>,
     /// It keeps the journal.
+    pub writer: W,
+}
+
+/// What a desk that lives on hands out of its journal.
+#[derive(Drop)]
+pub struct Checkpoint<J: Naming> {
+    /// The entries since the last one, in order.
+    pub entries: Vec<Entry>,
+    /// The whole list up to here.
+    pub told: Told<J>,
+}
+
+/// What is left of a desk that lived on, whatever became of its sessions.
+#[derive(Drop)]
+pub struct Finished<W> {
+    /// The book, and the entries since the last checkpoint.
+    pub remains: Remains,
+    /// How many of all entries the sessions made that weren't handed in.
+    pub missing: u64,
+    /// It keeps all entries.
     pub writer: W,
 }

@@ -12,7 +12,7 @@ ghost use Rattle.cred_desk.specs.Refusals.{IsRefusedToMake};
 ghost use Rattle.cred_desk.specs.Standing.{IsNew};
 ghost use Rattle.cred_desk.specs.declared.error.DeskError.TheVariants as error;
 
-use crate::entry::Entry;
+use crate::entry::{AccountState, Entry};
 use crate::error::DeskError;
 use crate::making::{MOST_SESSIONS, Made, make};
 use crate::naming::{Naming, Opened};
@@ -57,10 +57,10 @@ impl<J: Naming> fmt::Debug for Committer<J> {
 }
 
 impl<J: Naming> Committer<J> {
-    /// Copies the book, and shows it to so many sessions, 0 to 32 of them.
+    /// Copies the book, and shows it to so many sessions, 0 to 128 of them.
     ///
-    /// Errors: `Sessions` for another number, which is judged first; `Memory` where there is none;
-    /// `Reader` where a session gets no place to read, which isn't met.
+    /// Errors: `Sessions` for another number, which is judged first; `Memory` if it runs out;
+    /// `Reader` if a session gets no place to read, which isn't met.
     pub fn new<R: Wait>(
         rt: &R,
         alloc: Global,
@@ -74,8 +74,8 @@ impl<J: Naming> Committer<J> {
         ensures list { IfOk result (λ made. made.0 ≡ []) }
         ensures sessions { IfOk result
             (λ made. (vec_len made.1 ≡ sessions) × All IsNew made.1.items) }
-        ensures few { IfOk result (λ _. nat_le sessions 32 ≡ true) }
-        ensures refused { IfErr result (IsRefusedToMake (nat_le sessions 32)) }
+        ensures few { IfOk result (λ _. nat_le sessions 128 ≡ true) }
+        ensures refused { IfErr result (IsRefusedToMake (nat_le sessions 128)) }
     {
         if sessions > MOST_SESSIONS {
             return Err(DeskError::Sessions);
@@ -89,11 +89,11 @@ impl<J: Naming> Committer<J> {
         Ok((Committer { publisher }, sessions))
     }
 
-    /// Does the whole operation, if the record is the one that was copied, and else nothing, and
-    /// tells the list then.
+    /// Does the whole operation, if the record is the one that was copied, and otherwise nothing,
+    /// and tells the list then.
     ///
-    /// Errors: `Memory` where an entry finds none; nothing changes then, and the work comes back. A
-    /// commit that makes no change takes no memory.
+    /// Errors: `Memory` if it runs out for an entry; nothing changes then, and the work comes back.
+    /// A commit that makes no change takes no memory.
     pub fn commit_told<R: Wait>(
         &mut self,
         rt: &R,
@@ -116,7 +116,7 @@ impl<J: Naming> Committer<J> {
     }
 
     /// Finds that what the session knows is a beginning of the list. So whatever a session reads is
-    /// of this list, and where it has learned what `commit_told` told last it knows the whole.
+    /// of this list, and if it has learned what `commit_told` told last it knows the whole.
     pub fn covers(&mut self, session: &Session<J>)
         ensures begins { IsPrefix session.now.known self.new }
         ensures same { self.new ≡ self.old }
@@ -150,8 +150,9 @@ impl<J: Naming> Keeper for Committer<J> {
         if self.publisher.book().is_full() {
             return Err(BookError::Full);
         }
+        let now = AccountState::NoRecord;
         self.publisher
-            .publish(rt, Entry { name, now: None }, &mut Unkept)
+            .publish(rt, Entry { name, now }, &mut Unkept)
             .map_err(|_| BookError::Memory)
     }
 
@@ -165,7 +166,7 @@ impl<J: Naming> Keeper for Committer<J> {
         ensures lawful { IsLawful J.opening self.new }
     {
         self.show(name)?;
-        let now = Some(stored);
+        let now = AccountState::Record(stored);
         self.publisher
             .publish(rt, Entry { name: *name, now }, &mut Unkept)
             .map_err(|_| BookError::Memory)

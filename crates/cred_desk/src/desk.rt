@@ -14,6 +14,7 @@ use crate::entry::Entry;
 use crate::error::DeskError;
 use crate::making::{MOST_SESSIONS, Made, make};
 use crate::naming::{Naming, Opened};
+use crate::recorder::Recorder;
 use crate::session::Session;
 use crate::tally::Tallies;
 use crate::told::Told;
@@ -47,11 +48,11 @@ impl<J: Naming> fmt::Debug for Desk<J> {
 }
 
 impl<J: Naming> Desk<J> {
-    /// Copies the book, and shows it to so many sessions, 1 to 32 of them. The names are those of
+    /// Copies the book, and shows it to so many sessions, 1 to 128 of them. The names are those of
     /// the book from then on.
     ///
-    /// Errors: `Sessions` for another number, which is judged first; `Memory` where there is none;
-    /// `Reader` where a session gets no place to read, which isn't met.
+    /// Errors: `Sessions` for another number, which is judged first; `Memory` if it runs out;
+    /// `Reader` if a session gets no place to read, which isn't met.
     pub fn new<R: Wait>(
         rt: &R,
         alloc: Global,
@@ -64,8 +65,9 @@ impl<J: Naming> Desk<J> {
         requires loads { J.loads ≡ false }
         ensures sessions { IfOk result
             (λ made. (vec_len made.1 ≡ sessions) × All IsNew made.1.items) }
-        ensures few { IfOk result (λ _. (nat_le 1 sessions && nat_le sessions 32) ≡ true) }
-        ensures refused { IfErr result (IsRefusedToMake (nat_le 1 sessions && nat_le sessions 32)) }
+        ensures few { IfOk result (λ _. (nat_le 1 sessions && nat_le sessions 128) ≡ true) }
+        ensures refused { IfErr result
+            (IsRefusedToMake (nat_le 1 sessions && nat_le sessions 128)) }
     {
         if sessions == 0 || sessions > MOST_SESSIONS {
             return Err(DeskError::Sessions);
@@ -77,16 +79,18 @@ impl<J: Naming> Desk<J> {
             total,
             spare,
         } = make(rt, alloc, opened, book, sessions)?;
-        let clerk = Mutex::new(Clerk::new(publisher, Unkept, total, spare, sessions, tallies));
+        let recorder = Recorder::new(alloc, publisher.front(), Unkept);
+        let clerk = Mutex::new(Clerk::new(publisher, recorder, total, spare, sessions, tallies));
         Ok((Desk { clerk }, seats))
     }
 
     /// Waits for the lock, and does the whole operation, if the record is the one that was copied,
-    /// and else nothing. The session knows the list after it from then on, and counts a change. The
-    /// ticket may be of another session, or of another desk: a copy of a record is all that it has.
+    /// and otherwise nothing. The session knows the list after it from then on, and counts a
+    /// change. The ticket may be of another session, or of another desk: a copy of a record is all
+    /// that it has.
     ///
-    /// Errors: `Memory` where a change finds none. Nothing changes then but that the session knows
-    /// the list at which the change was due, and the work comes back.
+    /// Errors: `Memory` if it runs out for a change. Nothing changes then but that the session
+    /// knows the list at which the change was due, and the work comes back.
     #[tactic(auto, using(crate::proofs::Lists::legal_if))]
     pub fn settle<R: Wait>(
         &self,
@@ -107,10 +111,10 @@ impl<J: Naming> Desk<J> {
         }
     }
 
-    /// Gives the book, the journal and the counts, where all sessions of the desk are handed in, in
+    /// Gives the book, the journal and the counts, if all sessions of the desk are handed in, in
     /// any order. It waits for those that read the book.
     ///
-    /// Errors: `Session` where some are missing. The desk and the sessions come back.
+    /// Errors: `Session` if some are missing. The desk and the sessions come back.
     #[tactic(auto, using(crate::proofs::Lists::legal_if))]
     pub fn close<R: Wait>(
         self,
@@ -169,6 +173,6 @@ impl<J: Naming> Desk<J> {
     /// Lets the sessions in to no book from now on. It waits for those that read it.
     pub fn end<R: Wait>(self, rt: &R) {
         let Desk { clerk } = self;
-        let (_remains, _unkept) = clerk.into_inner().give_up(rt);
+        let _unkept = clerk.into_inner().end(rt);
     }
 }

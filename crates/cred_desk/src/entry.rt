@@ -3,10 +3,35 @@
 use cred_book::Name;
 use cred_phc::Record;
 
-/// What stands at a name from a change on: a record, or none.
+/// What stands at a name.
+#[derive(Clone, Copy, Debug, PartialEq, Eq)]
+pub enum AccountState {
+    /// A record.
+    Record(Record),
+    /// The name alone, without a record.
+    NoRecord,
+    /// Not even the name.
+    NoAccount,
+}
+
+/// What stands at a name that is there.
+impl From<Option<Record>> for AccountState {
+    ghost use Rattle.std.specs.Prelude.{◌≡◌};
+    ghost use Rattle.cred_desk.specs.Histories.{state_of};
+
+    ghost from_gives = { λ stored state. state ≡ state_of stored };
+
+    fn from(stored: Option<Record>) -> Self {
+        match stored {
+            Some(stored) => AccountState::Record(stored),
+            None => AccountState::NoRecord,
+        }
+    }
+}
+
+/// A change: what stands at a name from then on.
 #[derive(Clone, Copy, Debug, PartialEq, Eq)]
 pub struct Entry {
     pub name: Name,
-    /// The record that stands from then on.
-    pub now: Option<Record>,
+    pub now: AccountState,
 }

@@ -1,22 +1,27 @@
 //! A desk whose entries a writer of its owner's keeps, and at which people sign up.
 
-ghost use Rattle.std.specs.Prelude.{◌≡◌, ◌+◌, ◌&&◌, [], All, Err, IfErr, IfOk, MatchResult, None};
-ghost use Rattle.std.specs.Prelude.{Some, false, length, map, nat_le, sum, true, vec_len};
+ghost use Rattle.std.specs.Prelude.{◌≡◌, ◌+◌, ◌++◌, ◌&&◌, [], All, Err, IfErr, IfOk, IfSome};
+ghost use Rattle.std.specs.Prelude.{MatchResult, None, Some, false, length, map, nat_le, sum, true};
+ghost use Rattle.std.specs.Prelude.{List, vec_len};
 ghost use mathlib.Core.List.{IsPrefix};
 ghost use Rattle.cred_book.specs.Calls.{Admits, Loads};
 ghost use Rattle.cred_book.specs.declared.error.BookError.TheVariants.{Memory as memory};
-ghost use Rattle.cred_desk.specs.Additions.{IsAdded, IsAt, IsSettled, IsUnsettled, refusal_of};
-ghost use Rattle.cred_desk.specs.Histories.{IsAdmitted, IsListed, IsLoaded, after, entry};
+ghost use Rattle.cred_desk.specs.Additions.{IsAdded, IsAt, IsSettled, IsUnsettled, RefusesDeletion};
+ghost use Rattle.cred_desk.specs.Additions.{refusal_of};
+ghost use Rattle.cred_desk.specs.Histories.{IsAdmitted, IsDeleted, IsListed, IsLoaded, after};
+ghost use Rattle.cred_desk.specs.Histories.{deletion, entry};
 ghost use Rattle.cred_desk.specs.Naming.{IsNamed, StartsAt};
 ghost use Rattle.cred_desk.specs.Refusals.{IsRefusedToMake};
 ghost use Rattle.cred_desk.specs.Standing.{IsMissed, IsNew, IsUncounted};
+ghost use Rattle.cred_desk.specs.declared.entry.Entry.{Entry as DeskEntry};
 
 use crate::clerk::Clerk;
-use crate::closed::{Kept, Remains};
+use crate::closed::{Checkpoint, Finished, Kept, Remains};
 use crate::entry::Entry;
 use crate::error::DeskError;
 use crate::making::{MOST_SESSIONS, Made, make};
 use crate::naming::{Naming, Opened};
+use crate::recorder::Recorder;
 use crate::session::Session;
 use crate::tally::Tallies;
 use crate::told::Told;
@@ -30,8 +35,9 @@ use std::sync::{Mutex, MutexGuard, Wait};
 /// A desk that hands each entry to a writer, under its lock and before anybody sees it. So what the
 /// writer keeps is the journal, or while an entry is added the journal with that entry.
 ///
-/// Where its naming allows loads, names are admitted and records loaded while sessions live. It
-/// isn't `Drop`: end it by `close` or `give_up`.
+/// If its naming allows loads, names are admitted and deleted, and records loaded, while sessions
+/// live. Each of these adds an entry, and counts as an addition. It isn't `Drop`: end it by `close`
+/// or `give_up`.
 pub struct KeptDesk<J: Naming, W: EntryWriter> {
     clerk: Mutex<Clerk<J, W>>,
 }
@@ -43,7 +49,7 @@ impl<J: Naming, W: EntryWriter> fmt::Debug for KeptDesk<J, W> {
 }
 
 impl<J: Naming, W: EntryWriter> KeptDesk<J, W> {
-    /// Copies the book, and shows it to so many sessions, 1 to 32 of them. The writer is one that
+    /// Copies the book, and shows it to so many sessions, 1 to 128 of them. The writer is one that
     /// keeps no entry yet.
     ///
     /// Errors: those of `Desk::new`. The writer comes back.
@@ -60,9 +66,9 @@ impl<J: Naming, W: EntryWriter> KeptDesk<J, W> {
         requires kept { W.keeps writer [] }
         ensures sessions { IfOk result
             (λ made. (vec_len made.1 ≡ sessions) × All IsNew made.1.items) }
-        ensures few { IfOk result (λ _. (nat_le 1 sessions && nat_le sessions 32) ≡ true) }
+        ensures few { IfOk result (λ _. (nat_le 1 sessions && nat_le sessions 128) ≡ true) }
         ensures refused { IfErr result (λ e. (e.0 ≡ writer)
-            × IsRefusedToMake (nat_le 1 sessions && nat_le sessions 32) e.1) }
+            × IsRefusedToMake (nat_le 1 sessions && nat_le sessions 128) e.1) }
     {
         if sessions == 0 || sessions > MOST_SESSIONS {
             return Err((writer, DeskError::Sessions));
@@ -79,7 +85,8 @@ impl<J: Naming, W: EntryWriter> KeptDesk<J, W> {
                     spare,
                 },
             ) => {
-                let clerk = Clerk::new(publisher, writer, total, spare, sessions, tallies);
+                let recorder = Recorder::new(alloc, publisher.front(), writer);
+                let clerk = Clerk::new(publisher, recorder, total, spare, sessions, tallies);
                 let clerk = Mutex::new(clerk);
                 Ok((KeptDesk { clerk }, seats))
             }
@@ -88,11 +95,12 @@ impl<J: Naming, W: EntryWriter> KeptDesk<J, W> {
     }
 
     /// Waits for the lock, and does the whole operation, if the record is the one that was copied,
-    /// and else nothing. The session knows the list after it from then on, and counts a change.
+    /// and otherwise nothing. The session knows the list after it from then on, and counts a
+    /// change.
     ///
-    /// Errors: `Memory` where a change finds none; the writer's own where it doesn't keep the
-    /// entry. Nothing changes then but that the session knows the list at which the change was due,
-    /// and the work comes back.
+    /// Errors: `Memory` if it runs out for a change; the writer's own if it doesn't keep the entry.
+    /// Nothing changes then but that the session knows the list at which the change was due, and
+    /// the work comes back.
     pub fn settle<R: Wait>(
         &self,
         rt: &R,
@@ -119,9 +127,9 @@ impl<J: Naming, W: EntryWriter> KeptDesk<J, W> {
     /// Waits for the lock, and adds a name with no record. The session knows the list after it from
     /// then on, and counts an addition.
     ///
-    /// Errors: `Exists` where the name is there; `Full` where the book has 4096 names; `Memory`
-    /// where there is none, or the writer's own, where the name would have been added. Nothing
-    /// changes then but that the session knows the list at which it was refused.
+    /// Errors: `Exists` if the name is there; `Full` if the book has 4096 names; `Memory` if it
+    /// runs out, or the writer's own, if the name would have been added. Nothing changes then but
+    /// that the session knows the list at which it was refused.
     pub fn admit<R: Wait>(
         &self,
         rt: &R,
@@ -143,12 +151,12 @@ impl<J: Naming, W: EntryWriter> KeptDesk<J, W> {
         admitted
     }
 
-    /// Waits for the lock, and puts a record at a name, in the place of one that stands there. The
+    /// Waits for the lock, and puts a record at a name, in place of one that stands there. The
     /// session knows the list after it from then on, and counts an addition.
     ///
-    /// Errors: `NoAccount` where the name isn't there; `Memory` where there is none, or the
-    /// writer's own, where the record would have been put. Nothing changes then but that the
-    /// session knows the list at which it was refused.
+    /// Errors: `NoAccount` if the name isn't there; `Memory` if it runs out, or the writer's own,
+    /// if the record would have been put. Nothing changes then but that the session knows the list
+    /// at which it was refused.
     pub fn load<R: Wait>(
         &self,
         rt: &R,
@@ -171,16 +179,47 @@ impl<J: Naming, W: EntryWriter> KeptDesk<J, W> {
         loaded
     }
 
+    /// Waits for the lock, and takes a name away, with the record if one stands there. So there is
+    /// room for another name. The session knows the list after it from then on, and counts an
+    /// addition.
+    ///
+    /// A ticket that was begun at the name is answered `Reply::NoAccount` as it is settled, unless
+    /// somebody admitted the name again.
+    ///
+    /// Errors: `NoAccount` if the name isn't there; `Memory` if it runs out, or the writer's own,
+    /// if the name would have been taken away. Nothing changes then but that the session knows the
+    /// list at which it was refused.
+    pub fn delete<R: Wait>(
+        &self,
+        rt: &R,
+        session: &mut Session<J>,
+        name: Name,
+    ) -> Result<Told<J>, KeepError<W::Error>>
+        requires loads { J.loads ≡ true }
+        ensures done { IfOk result (IsAdded J.loads J.opening session.old session.new
+            IsDeleted (deletion name)) }
+        ensures refused { IfErr result (λ e. IsAt J.loads J.opening session.old session.new
+            × RefusesDeletion (after J.opening session.new.known) name (refusal_of e)
+            × IsUncounted session.old session.new) }
+        ensures known { IsPrefix session.old.known session.new.known }
+    {
+        let mut clerk = self.clerk.lock(rt);
+        let deleted = clerk.delete(rt, session, name);
+        MutexGuard::unlock(clerk);
+        deleted
+    }
+
     /// Gives the book, the journal, the writer, and how many changes and additions each session
     /// made, if all sessions of the desk are handed in, in any order. It waits for those that read
     /// the book.
     ///
-    /// Errors: `Session` where some are missing. The desk and the sessions come back.
+    /// Errors: `Session` if some are missing. The desk and the sessions come back.
     pub fn close<R: Wait>(
         self,
         rt: &R,
         sessions: Vec<Session<J>>,
     ) -> Result<Kept<W>, (KeptDesk<J, W>, Vec<Session<J>>, DeskError)>
+        requires { W.lasts ≡ false }
         ensures listed { IfOk result (λ kept.
             IsListed J.loads J.opening kept.closed.journal.items) }
         ensures book { IfOk result (λ kept.
@@ -217,6 +256,7 @@ impl<J: Naming, W: EntryWriter> KeptDesk<J, W> {
     ///
     /// The writer keeps this journal, with no session handed in too.
     pub fn give_up<R: Wait>(self, rt: &R, sessions: &[Session<J>]) -> (Remains, W)
+        requires { W.lasts ≡ false }
         ensures listed { IsListed J.loads J.opening result.0.journal.items }
         ensures book { result.0.book ≡ after J.opening result.0.journal.items }
         ensures known { All (λ s. IsPrefix s.known result.0.journal.items) sessions.now }
@@ -226,5 +266,80 @@ impl<J: Naming, W: EntryWriter> KeptDesk<J, W> {
         let mut clerk = clerk.into_inner();
         clerk.cover(sessions);
         clerk.give_up(rt)
+    }
+
+    /// Waits for the lock, and tells the session the list as it stands. A session that its owner
+    /// held back knows what everybody was told by then, and so can take the place of one that a
+    /// thread lost.
+    pub fn tell<R: Wait>(&self, rt: &R, session: &mut Session<J>) -> Told<J>
+        ensures told { result ≡ session.new.known }
+        ensures at { IsAt J.loads J.opening session.old session.new }
+        ensures count { IsUncounted session.old session.new }
+    {
+        let mut clerk = self.clerk.lock(rt);
+        let told = clerk.tell(session);
+        MutexGuard::unlock(clerk);
+        told
+    }
+
+    /// Waits for the lock, and hands out the entries after those that were handed out before: at
+    /// first after those that a new session knows, and then after the last checkpoint's. The desk
+    /// lets go of them.
+    ///
+    /// `None` if the last checkpoint was another. Nothing changes then.
+    pub fn checkpoint<R: Wait>(&self, rt: &R, handed: &Told<J>) -> Option<Checkpoint<J>>
+        requires { W.lasts ≡ true }
+        ensures entries { IfSome result (λ c. c.told ≡ handed.now ++ c.entries.items) }
+        ensures listed { IfSome result (λ c. IsListed J.loads J.opening c.told) }
+    {
+        let mut clerk = self.clerk.lock(rt);
+        let checkpoint = clerk.checkpoint(handed);
+        MutexGuard::unlock(clerk);
+        checkpoint
+    }
+
+    /// Gives the book, the entries after those that were handed out, the writer, and how many of
+    /// all entries were made by sessions that are lost. It waits for those that read the book.
+    ///
+    /// Errors: the desk and the sessions come back if the last checkpoint was another.
+    pub fn finish<R: Wait>(
+        self,
+        rt: &R,
+        handed: &Told<J>,
+        sessions: Vec<Session<J>>,
+    ) -> Result<Finished<W>, (KeptDesk<J, W>, Vec<Session<J>>)>
+        ensures listed { IfOk result (λ f.
+            IsListed J.loads J.opening (handed.now ++ f.remains.journal.items)) }
+        ensures book { IfOk result (λ f.
+            f.remains.book ≡ after J.opening (handed.now ++ f.remains.journal.items)) }
+        ensures known { IfOk result (λ f.
+            All (λ s. IsPrefix s.known (handed.now ++ f.remains.journal.items)) sessions.items) }
+        ensures total { IfOk result (λ f. sum (map (λ s. s.count) sessions.items)
+            + sum (map (λ s. s.additions) sessions.items) + f.missing
+            ≡ length (handed.now ++ f.remains.journal.items)) }
+        ensures all { IfOk result (λ f. vec_len sessions ≡ J.parts → f.missing ≡ 0) }
+        ensures kept { IfOk result (λ f.
+            W.keeps f.writer (handed.now ++ f.remains.journal.items)) }
+        ensures back { IfErr result (λ e. e.1.items ≡ sessions.items) }
+    {
+        let KeptDesk { clerk } = self;
+        let mut clerk = clerk.into_inner();
+        clerk.cover(&sessions);
+        match clerk.finish(rt, handed, sessions) {
+            Ok(finished) => Ok(finished),
+            Err((clerk, sessions)) => {
+                let clerk = Mutex::new(clerk);
+                Err((KeptDesk { clerk }, sessions))
+            }
+        }
+    }
+
+    /// Lets the sessions in to no book from now on, and gives the writer. It waits for those that
+    /// read the book.
+    pub fn end<R: Wait>(self, rt: &R) -> W
+        ensures { (list : List DeskEntry) × IsListed J.loads J.opening list × W.keeps result list }
+    {
+        let KeptDesk { clerk } = self;
+        clerk.into_inner().end(rt)
     }
 }

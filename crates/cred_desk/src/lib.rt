@@ -19,15 +19,16 @@ mod making;
 mod naming;
 mod published;
 mod publisher;
+mod recorder;
 mod session;
 mod tally;
 mod told;
 mod writer;
 
-pub use closed::{Closed, Kept, Remains};
+pub use closed::{Checkpoint, Closed, Finished, Kept, Remains};
 pub use committer::Committer;
 pub use desk::Desk;
-pub use entry::Entry;
+pub use entry::{AccountState, Entry};
 pub use error::DeskError;
 pub use kept_desk::KeptDesk;
 pub use naming::{Naming, Opened};

@@ -13,7 +13,7 @@ pub(crate) struct Entries<J> {
 impl<J: Naming> LogName<Entry> for Entries<J> {
     ghost use Rattle.cred_desk.specs.Histories.{IsListed};
 
-    ghost book = { J.book };
+    ghost book = { J.list };
 
     ghost holds = { IsListed J.loads J.opening };
 }

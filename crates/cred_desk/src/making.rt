@@ -17,7 +17,7 @@ use std::sync::Wait;
 use std::sync::ledger::{Book as Total, Share};
 
 /// How many sessions a desk or a committer has at most.
-pub(crate) const MOST_SESSIONS: u8 = 32;
+pub(crate) const MOST_SESSIONS: u8 = 128;
 
 /// A publisher with its sessions, and the tokens that count what they do.
 pub(crate) struct Made<J: Naming> {
@@ -29,8 +29,8 @@ pub(crate) struct Made<J: Naming> {
 
 /// Copies the book, and shows it to so many sessions.
 ///
-/// Errors: `Memory` where there is none; `Reader` where a session gets no place to read. The first
-/// that is met is answered.
+/// Errors: `Memory` if it runs out; `Reader` if a session gets no place to read. The first that is
+/// met is answered.
 pub(crate) fn make<J: Naming, R: Wait>(
     rt: &R,
     alloc: Global,
@@ -55,7 +55,7 @@ pub(crate) fn make<J: Naming, R: Wait>(
     let writer = open_writer(alloc, rt, history.beginning(), book, sessions)?;
     match seats(alloc, &writer, history.beginning(), &mut spare, sessions) {
         Ok(sessions) => Ok(Made {
-            publisher: Publisher::new(alloc, writer, history),
+            publisher: Publisher::new(writer, history),
             sessions,
             total,
             spare,

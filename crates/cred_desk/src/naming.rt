@@ -16,12 +16,12 @@ pub trait Naming: Ledger {
     ghost use Rattle.cred_book.specs.Accounts.{Accounts};
 
     /// Which list.
-    ghost book: { Book };
+    ghost list: { Book };
 
     /// The opening book.
     ghost opening: { Accounts };
 
-    /// Whether admissions and loads may stand in the list.
+    /// Whether admissions, loads and deletions may stand in the list.
     ghost loads: { Bool };
 }
 
@@ -29,7 +29,7 @@ impl Naming for Brand {
     ghost use Rattle.std.specs.Prelude.{false};
     ghost use Rattle.std.specs.FinMap as map;
 
-    ghost book = { record { number = 0; log_name = 0; cells_name = 0 } };
+    ghost list = { record { number = 0; log_name = 0; cells_name = 0 } };
 
     ghost opening = { map.empty };
 
@@ -68,7 +68,7 @@ impl Opened {
 
     /// The list under a name, if nobody holds it yet.
     pub(crate) fn named<J: Naming>(self) -> (Option<History<J>>, Blank)
-        requires { self.list ≡ J.book }
+        requires { self.list ≡ J.list }
         ensures list { IfSome result.0 (λ list. list ≡ []) }
         ensures blank { (result.1.name ≡ self.ledger) × (result.1.parts ≡ self.sessions) }
     {

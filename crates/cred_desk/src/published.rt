@@ -4,7 +4,7 @@ ghost use Rattle.std.specs.Prelude.{◌≡◌, IfOk, Some};
 ghost use Rattle.cred_desk.specs.Histories.{after};
 ghost use Rattle.cred_desk.specs.Published.{with_step};
 
-use crate::entry::Entry;
+use crate::entry::{AccountState, Entry};
 use crate::list::Front;
 use crate::naming::Naming;
 use core::mem::replace_with;
@@ -54,10 +54,21 @@ impl<J: Naming> Shown<J> {
         ensures front { self.new.front ≡ step.now.front }
     {
         if let Some(last) = &step.last {
-            self.book.put(&last.name, last.now);
+            apply(&mut self.book, last);
         }
-        self.book.put(&step.entry.name, step.entry.now);
+        apply(&mut self.book, &step.entry);
         self.front = step.front.again();
+    }
+}
+
+/// Makes the change in a book. Without room for a new name nothing changes.
+fn apply(book: &mut Book, change: &Entry)
+    ensures { book.new ≡ with_step book.old (Some change.entry.now) }
+{
+    match change.now {
+        AccountState::Record(stored) => book.put(&change.name, Some(stored)),
+        AccountState::NoRecord => book.put(&change.name, None),
+        AccountState::NoAccount => book.remove(&change.name),
     }
 }
 

@@ -1,23 +1,20 @@
-//! The one who changes the published book, and keeps a journal of it.
+//! The one who changes the published book.
 
 ghost use Rattle.std.specs.Prelude.{◌≡◌, ◌++◌, ◌∷◌, [], None, IfErr, IfOk, IsOk, MatchResult};
 ghost use mathlib.Core.List.{IsPrefix};
-ghost use Rattle.cred_book.specs.declared.error.BookError.TheVariants.{Memory as memory};
-ghost use Rattle.cred_desk.specs.Additions.{IsRefusedBy, refusal_of};
+ghost use Rattle.cred_desk.specs.Additions.{IsRefusedBy};
 ghost use Rattle.cred_desk.specs.Commits.{entry_of, list_after, reply_of};
 ghost use Rattle.cred_desk.specs.Histories.{IsAllowed, IsLegal, IsListed, IsMade, after};
 
 use crate::change::judge;
-use crate::closed::Remains;
 use crate::entry::Entry;
 use crate::list::{Front, History};
 use crate::naming::Naming;
 use crate::published::{BookWriter, Shown, Step, show};
 use crate::told::Told;
-use crate::writer::{EntryWriter, KeepError};
+use crate::writer::{EntryWriter, Unrecorded};
 use cred_book::{Book, Reply, Worked};
 use left_right::Absorb;
-use std::alloc::Global;
 use std::marker::Model;
 use std::sync::Wait;
 
@@ -30,7 +27,6 @@ where
     /// The entry that the spare copy lacks.
     last: Option<Entry>,
     history: History<J>,
-    journal: Vec<Entry>,
 }
 
 impl<J: Naming> Model for Publisher<J>
@@ -47,7 +43,6 @@ where
     ghost view = { λ p. p.history };
 
     ghost invariant = { λ p. record {
-      journal_is_list : p.journal.items ≡ p.history;
       shown_list : p.writer.desk.shown.value.front ≡ p.history;
       shown_book : p.writer.desk.shown.value.book ≡ after J.opening p.history;
       spare_book : with_step p.writer.desk.spare.value.book p.last
@@ -58,7 +53,7 @@ where
 
 impl<J: Naming> Publisher<J> {
     /// One with no entry yet.
-    pub(crate) fn new(alloc: Global, writer: BookWriter<J>, history: History<J>) -> Publisher<J>
+    pub(crate) fn new(writer: BookWriter<J>, history: History<J>) -> Publisher<J>
         requires empty { history ≡ [] }
         requires shown { (writer.desk.shown.value.front ≡ [])
             × (writer.desk.shown.value.book ≡ J.opening) }
@@ -69,7 +64,6 @@ impl<J: Naming> Publisher<J> {
             writer,
             last: None,
             history,
-            journal: Vec::new(alloc),
         }
     }
 
@@ -104,56 +98,56 @@ impl<J: Naming> Publisher<J> {
         Told::new(self.front().again())
     }
 
-    /// Hands an entry to the writer, and then adds it to the list, the journal and the published
-    /// book. Nothing of that can fail once the writer has it.
+    /// Hands an entry to the writer, and then adds it to the list and the published book. Nothing
+    /// of that can fail once the writer has it.
     ///
-    /// Errors: `Memory` where there is none, before the writer is asked; the writer's own. Nothing
-    /// changes then.
+    /// Errors: `Memory` if the list has 2^64 entries; the writer's own. Nothing changes then.
     #[tactic(auto, using(crate::proofs::Lists::legal_snoc))]
     pub(crate) fn publish<R: Wait, W: EntryWriter>(
         &mut self,
         rt: &R,
         entry: Entry,
         writer: &mut W,
-    ) -> Result<(), KeepError<W::Error>>
+    ) -> Result<(), Unrecorded<W::Error>>
         requires { IsAllowed J.loads (after J.opening self.old) entry }
         ensures done { MatchResult result (λ _. self.new ≡ self.old ++ entry ∷ [])
-            (λ e. (self.new ≡ self.old) × (refusal_of e ≡ memory)) }
+            (λ _. self.new ≡ self.old) }
         ensures asked { IfErr result (IsRefusedBy writer.old writer.new) }
         ensures kept { W.keeps writer.old self.old → W.keeps writer.new self.new }
         ensures legal { IsMade (after J.opening self.old) entry → IsLegal J.opening self.old
             → IsLegal J.opening self.new }
         ensures listed { IsListed J.loads J.opening self.new }
     {
-        self.journal.reserve(1)?;
-        writer.write(&entry).map_err(KeepError::Writer)?;
+        let last = self.last;
+        if self.front().len() == u64::MAX {
+            return Err(Unrecorded::Memory);
+        }
+        writer.write(&entry).map_err(Unrecorded::Writer)?;
         self.history.add(&entry);
         let step = Step {
-            last: self.last,
+            last,
             entry,
             front: self.history.beginning().again(),
         };
         show(&mut self.writer, rt, step);
         self.last = Some(entry);
-        self.journal.push_reserved(entry);
         Ok(())
     }
 
-    /// Does the whole operation, if the record is the one that was copied, and else nothing.
+    /// Does the whole operation, if the record is the one that was copied, and otherwise nothing.
     ///
-    /// Errors: `Memory` where an entry finds none; the writer's own. Nothing changes then, and the
-    /// work comes back.
+    /// Errors: those of `publish`, if a change is due. Nothing changes then, and the work comes
+    /// back.
     pub(crate) fn commit<R: Wait, W: EntryWriter>(
         &mut self,
         rt: &R,
         work: Worked,
         writer: &mut W,
-    ) -> Result<Reply, (Worked, KeepError<W::Error>)>
+    ) -> Result<Reply, (Worked, Unrecorded<W::Error>)>
         ensures reply { IfOk result (λ reply. reply ≡ reply_of (after J.opening self.old) work) }
         ensures list { IfOk result (λ _.
             self.new ≡ list_after self.old (entry_of (after J.opening self.old) work)) }
         ensures refused { IfErr result (λ e. (e.0 ≡ work) × (self.new ≡ self.old)) }
-        ensures error { IfErr result (λ e. refusal_of e.1 ≡ memory) }
         ensures asked { IfErr result (λ e. IsRefusedBy writer.old writer.new e.1) }
         ensures plain { entry_of (after J.opening self.old) work ≡ None → IsOk result }
         ensures kept { W.keeps writer.old self.old → W.keeps writer.new self.new }
@@ -169,20 +163,17 @@ impl<J: Naming> Publisher<J> {
         Ok(reply)
     }
 
-    /// Lets nobody in to the book from now on, waits for those that read it, and gives the book and
-    /// the journal.
-    pub(crate) fn finish<R: Wait>(self, rt: &R) -> Remains
-        ensures book { result.book ≡ after J.opening self }
-        ensures journal { result.journal.items ≡ self }
+    /// Lets nobody in to the book from now on, waits for those that read it, and gives the book.
+    pub(crate) fn finish<R: Wait>(self, rt: &R) -> Book
+        ensures book { result ≡ after J.opening self }
         ensures listed { IsListed J.loads J.opening self }
     {
         let Publisher {
             writer,
             last: _,
             history: _,
-            journal,
         } = self;
         let Shown { book, front: _ } = Box::into_inner(writer.take(rt));
-        Remains { book, journal }
+        book
     }
 }

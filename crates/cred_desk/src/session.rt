@@ -24,7 +24,7 @@ use std::sync::ledger::{Book as Total, Share};
 /// than it has read or was told of.
 ///
 /// Contracts see it as the list of entries that it knows, the number of changes that its settles
-/// made, and the number of names that it admitted and records that it loaded.
+/// made, and the number of entries that it added: admissions, loads and deletions.
 #[derive(Drop)]
 pub struct Session<J: Naming> {
     reader: BookReader<J>,
@@ -80,6 +80,13 @@ impl<J: Naming> Session<J> {
         }
     }
 
+    /// The list that it knows, for others to learn.
+    pub fn told(&self) -> Told<J>
+        ensures { result ≡ self.now.known }
+    {
+        Told::new(self.known.again())
+    }
+
     /// The list that it knows.
     pub(crate) fn known(&self) -> &Front<J>
         ensures { result.now ≡ self.now.known }
@@ -100,7 +107,7 @@ impl<J: Naming> Session<J> {
         self.settled += changes;
     }
 
-    /// Counts so many names and records that it added.
+    /// Counts so many entries that it added.
     pub(crate) fn count_additions(&mut self, total: &mut Total<J>, additions: u64)
         requires room { total.old.total + additions < 2 ^ 64 }
         requires loads { J.loads ≡ true }
@@ -115,33 +122,37 @@ impl<J: Naming> Session<J> {
     }
 
     /// How many changes its settles made.
-    pub(crate) fn count(&self) -> u64
+    pub fn count(&self) -> u64
         ensures { result ≡ self.now.count }
     {
         self.settled
     }
 
-    /// How many names it admitted and records it loaded.
-    pub(crate) fn additions(&self) -> u64
+    /// How many entries it added: admissions, loads and deletions.
+    pub fn additions(&self) -> u64
         ensures additions { result ≡ self.now.additions }
         ensures allowed { J.loads ≡ false → result ≡ 0 }
     {
         self.added
     }
 
-    /// The part of the total that it counted.
-    pub(crate) fn into_share(self) -> Share<J>
-        ensures parts { result.parts ≡ 1 }
-        ensures amount { result.amount ≡ self.count + self.additions }
+    /// The part of the total that it counted, and how much that is.
+    pub(crate) fn into_share(self, total: &mut Total<J>) -> (Share<J>, u64)
+        requires { total.old.total < 2 ^ 64 }
+        ensures parts { result.0.parts ≡ 1 }
+        ensures amount { result.0.amount ≡ self.count + self.additions }
+        ensures made { result.1 ≡ self.count + self.additions }
+        ensures total { total.new.total ≡ total.old.total }
     {
         let Session {
             reader: _,
             known: _,
-            settled: _,
-            added: _,
-            share,
+            settled,
+            added,
+            mut share,
         } = self;
-        share
+        total.audit(&mut share);
+        (share, settled + added)
     }
 
     /// Copies the record of the request's account from the published book into a ticket, and knows
@@ -153,8 +164,8 @@ impl<J: Naming> Session<J> {
     /// is known, which isn't met: a book is shown before anybody is told of it. Nothing changes
     /// after `Reader` and `Older`. The request comes back.
     ///
-    /// The ticket doesn't name the session. Where its work is closed at another one that knows
-    /// less, the answer may be `Changed` with an older record than the ticket's.
+    /// The ticket doesn't name the session. If its work is closed at another one that knows less,
+    /// the answer may be `Changed` with an older record than the ticket's.
     pub fn begin(&mut self, request: Request) -> Result<Ticket, (Request, DeskError)>
         requires { is_for_current request ≡ true }
         ensures known { IsPrefix self.old.known self.new.known }
@@ -215,8 +226,8 @@ impl<J: Naming> Session<J> {
         self.know(told.front().again());
     }
 
-    /// Knows this list from now on, if it begins with the one that was known. Else that one goes
-    /// on after it.
+    /// Knows this list from now on, if it begins with the one that was known. Otherwise that one
+    /// goes on after it.
     fn know(&mut self, list: Front<J>) -> bool
         ensures known { MatchBool result (self.new.known ≡ list)
             (IsLonger list self.old.known × (self.new.known ≡ self.old.known)) }
@@ -232,8 +243,8 @@ impl<J: Naming> Session<J> {
     }
 }
 
-/// Begins the request in the book that is shown, and gives that book's list too. None where there
-/// is no book.
+/// Begins the request in the book that is shown, and gives that book's list too. None if there is
+/// no book.
 fn begin_in<J: Naming>(
     reader: BookReader<J>,
     request: &Request,
@@ -254,8 +265,8 @@ fn begin_in<J: Naming>(
     }
 }
 
-/// What the commit of the verify answers at the book that is shown, and that book's list. None
-/// where there is no book.
+/// What the commit of the verify answers at the book that is shown, and that book's list. None if
+/// there is no book.
 fn judge_in<J: Naming>(
     reader: BookReader<J>,
     work: &VerifyWorked,

@@ -39,7 +39,7 @@ pub(crate) fn write_counts<J: Naming>(counts: &mut Vec<u64>, sessions: &[Session
     }
 }
 
-/// Writes how many names each session admitted and records it loaded.
+/// Writes how many entries each session added.
 pub(crate) fn write_additions<J: Naming>(additions: &mut Vec<u64>, sessions: &[Session<J>])
     requires empty { additions.old.items ≡ [] }
     requires room { length sessions.now ≤ vec_capacity additions.old }

@@ -1,6 +1,6 @@
 //! What a session is told of a change.
 
-ghost use Rattle.std.specs.Prelude.{◌≡◌};
+ghost use Rattle.std.specs.Prelude.{◌≡◌, length};
 
 use crate::list::Front;
 use crate::naming::Naming;
@@ -34,6 +34,13 @@ impl<J: Naming> Told<J> {
         ensures { result ≡ front }
     {
         Told { front }
+    }
+
+    /// How many entries the list has.
+    pub fn len(&self) -> u64
+        ensures { result ≡ length self.now }
+    {
+        self.front.len()
     }
 
     pub(crate) fn front(&self) -> &Front<J>

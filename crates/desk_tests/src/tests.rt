@@ -1,9 +1,11 @@
 //! What no clause says: that the calls succeed, what is answered at records from outside, that
-//! sessions in threads see what was settled, and what want of memory leaves.
+//! sessions in threads see what was settled, and what running out of memory leaves.
 
 mod closing;
 mod committing;
+mod deleting;
 mod kept;
+mod lasting;
 mod lost;
 mod refused;
 mod scene;
@@ -12,7 +14,7 @@ mod threads;
 mod under_lock;
 
 use cred_book::{Book, Name, Request};
-use cred_desk::Entry;
+use cred_desk::{AccountState, Entry};
 use cred_phc::{Password, Record, Setting, parse_record, parse_setting};
 use std::alloc::Global;
 use std::process::Abort;
@@ -107,11 +109,19 @@ fn standing<R: Abort>(rt: &R, record: Option<&str>) -> Option<Record> {
 fn entry<R: Abort>(rt: &R, account: &str, record: Option<&str>) -> Entry {
     Entry {
         name: name(rt, account),
-        now: standing(rt, record),
+        now: AccountState::from(standing(rt, record)),
     }
 }
 
-/// A book with these accounts; none where there is no memory for it.
+/// The entry of a deletion.
+fn deletion<R: Abort>(rt: &R, account: &str) -> Entry {
+    Entry {
+        name: name(rt, account),
+        now: AccountState::NoAccount,
+    }
+}
+
+/// A book with these accounts; none if there is no memory for it.
 fn book_of<R: Abort>(rt: &R, alloc: Global, accounts: Accounts) -> Option<Book> {
     let mut book = Book::new(alloc).ok()?;
     for (account, record) in accounts {

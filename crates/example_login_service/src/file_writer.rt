@@ -1,16 +1,17 @@
 //! What keeps the changes of the desk: the database of a book.
 
-ghost use Rattle.std.specs.Prelude.{◌≡◌};
+ghost use Rattle.std.specs.Prelude.{◌≡◌, OnErr, OnOk};
+ghost use Rattle.cred_desk.specs.Histories.{put};
 
 use crate::error::{ServiceError, WriteError};
 use cred_book::BookError;
-use cred_desk::{Entry, EntryWriter, Naming};
+use cred_desk::{AccountState, Entry, EntryWriter, Naming};
 use cred_file::{FileBook, OpenFault};
 use sqlite::{Alter, Connection};
 use std::alloc::Global;
 use std::marker::{Model, PhantomData};
 
-/// Opens the book that the database holds, or begins one where there is none.
+/// Opens the book that the database holds, or begins one if there is none.
 pub(crate) fn open_book<S: Alter + Drop>(
     alloc: Global,
     conn: Connection<S>,
@@ -39,7 +40,8 @@ fn create_book<S: Alter + Drop>(
     }
 }
 
-/// Writes each change into the database: a new name, a record, or that none stands from now on.
+/// Writes each change into the database: a name, a record, that none stands from now on, or that
+/// the name is gone.
 #[derive(Drop)]
 pub(crate) struct FileWriter<J: Naming, S: Alter> {
     file: FileBook<S>,
@@ -75,7 +77,19 @@ impl<J: Naming, S: Alter> FileWriter<J, S> {
         self.file
     }
 
-    /// Why the book didn't take an entry. Where the database failed, the book has the cause.
+    /// Makes a change in the book that the database holds.
+    fn keep(&mut self, change: &Entry) -> Result<(), BookError>
+        ensures done { OnOk result (self.new ≡ put self.old change.entry.now) }
+        ensures same { OnErr result (self.new ≡ self.old) }
+    {
+        match change.now {
+            AccountState::Record(stored) => self.file.put(&change.name, Some(stored)),
+            AccountState::NoRecord => self.file.put(&change.name, None),
+            AccountState::NoAccount => self.file.delete(&change.name),
+        }
+    }
+
+    /// Why the book didn't take an entry. If the database failed, the book has the cause.
     fn cause_of(&self, error: BookError) -> WriteError {
         match self.file.lost() {
             Some(lost) => WriteError::Database(lost.error),
@@ -95,7 +109,7 @@ impl<J: Naming, S: Alter> EntryWriter for FileWriter<J, S> {
 
     #[tactic(auto, using(cred_desk::proofs::Lists::after_snoc))]
     fn write(&mut self, new: &Entry) -> Result<(), WriteError> {
-        match self.file.put(&new.name, new.now) {
+        match self.keep(new) {
             Ok(()) => Ok(()),
             Err(error) => Err(self.cause_of(error)),
         }

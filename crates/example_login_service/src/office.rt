@@ -22,7 +22,7 @@ use std::thread::Threads;
 /// How many threads work one hash.
 const WORKERS: u8 = 2;
 
-/// How often a login is begun again where the record was changed while it hashed.
+/// How often a login is begun again if the record was changed while it hashed.
 const ATTEMPTS: u32 = 8;
 
 /// A door: who comes, where its salts are from, and what it answered.
@@ -90,7 +90,7 @@ fn read_password(typed: &str) -> Result<Password, ServiceError> {
 }
 
 impl<'a, J: Naming, R: Threads + Wait + Sync, S: Alter> Office<'a, J, R, S> {
-    /// Answers all who come to the door, or shuts it where an answer can't be noted.
+    /// Answers all who come to the door, or shuts it if an answer can't be noted.
     pub(crate) fn serve_door(&self, session: &mut Session<J>, door: &mut Door) {
         for visit in door.visits {
             let name = visit.name();
@@ -116,6 +116,7 @@ impl<'a, J: Naming, R: Threads + Wait + Sync, S: Alter> Office<'a, J, R, S> {
             Visit::LogIn(person) => self.welcome(session, salts, person),
             Visit::ChangePassword(change) => self.change_password(session, salts, change),
             Visit::Leave(person) => self.leave(session, person),
+            Visit::Deletion(name) => self.delete(session, name),
             Visit::Loss => Ok(Answer::Lost),
         }
     }
@@ -191,8 +192,15 @@ impl<'a, J: Naming, R: Threads + Wait + Sync, S: Alter> Office<'a, J, R, S> {
         }
     }
 
-    /// Who is let in has the record made anew where it isn't of today's scheme, and stays let in
-    /// where that fails.
+    /// Takes the name away too, so that there is room for another.
+    fn delete(&self, session: &mut Session<J>, name: &str) -> Result<Answer, ServiceError> {
+        self.desk
+            .delete(self.rt, session, Name::new(name.as_bytes())?)?;
+        Ok(Answer::Deleted)
+    }
+
+    /// Who is let in has the record made anew if it isn't of today's scheme, and stays let in if
+    /// that fails.
     fn welcome(
         &self,
         session: &mut Session<J>,

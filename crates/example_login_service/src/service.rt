@@ -202,7 +202,7 @@ fn hand_in<J: Naming>(
     Ok((sessions, doors))
 }
 
-/// Closes the desk, or gives it up where a session is lost. What was kept stays kept.
+/// Closes the desk, or gives it up if a session is lost. What was kept stays kept.
 fn end<J: Naming, R: Wait, S: Alter + Drop>(
     rt: &R,
     desk: KeptDesk<J, FileWriter<J, S>>,

@@ -34,6 +34,8 @@ pub(crate) enum Visit {
     ChangePassword(Change),
     /// The record is taken away. The name stays.
     Leave(Person),
+    /// Whoever keeps the book takes a name away, with the record if one stands there.
+    Deletion(&'static str),
     /// The door's thread loses its session, as one does that fails.
     Loss,
 }
@@ -44,6 +46,7 @@ impl Visit {
         match *self {
             Visit::SignUp(person) | Visit::LogIn(person) | Visit::Leave(person) => person.name,
             Visit::Join(account) => account.name,
+            Visit::Deletion(name) => name,
             Visit::ChangePassword(change) => change.person.name,
             Visit::Loss => "a door",
         }
@@ -73,6 +76,7 @@ pub(crate) enum Answer {
     TurnedAway,
     PasswordChanged,
     Removed,
+    Deleted,
     Lost,
 }
 
@@ -145,7 +149,7 @@ const DEARER: Scheme = Scheme::Argon2 {
 };
 
 /// On the second day records are made anew, and a door loses its session. The third opens what was
-/// kept all the same.
+/// kept all the same, and an account is deleted.
 pub(crate) const DAYS: [Day; 3] = [
     Day {
         scheme: CHEAP,
@@ -174,7 +178,13 @@ pub(crate) const DAYS: [Day; 3] = [
     Day {
         scheme: DEARER,
         doors: [
-            &[Visit::LogIn(ADA_SINCE), Visit::LogIn(CID)],
+            &[
+                Visit::LogIn(ADA_SINCE),
+                Visit::LogIn(CID),
+                Visit::Deletion("cid"),
+                Visit::LogIn(CID),
+                Visit::Deletion("cid"),
+            ],
             &[
                 Visit::LogIn(MAL),
                 Visit::LogIn(BEA_TYPES),

@@ -90,8 +90,8 @@ fn numbers_of_sessions(rt: HostRuntime) {
     let table = [
         (0, Some(DeskError::Sessions)),
         (1, None),
-        (32, None),
-        (33, Some(DeskError::Sessions)),
+        (128, None),
+        (129, Some(DeskError::Sessions)),
     ];
     for (sessions, want) in table {
         let opened = Opened::new(sessions);

@@ -218,7 +218,7 @@ fn make_and_end<J: Naming, R: Wait>(
 #[test]
 fn numbers_of_sessions(rt: HostRuntime) {
     let book = book_of(&rt, rt.alloc(), A_ALONE).expect(&rt, "a book");
-    for (sessions, want) in [(0, None), (32, None), (33, Some(DeskError::Sessions))] {
+    for (sessions, want) in [(0, None), (128, None), (129, Some(DeskError::Sessions))] {
         let opened = Opened::new(sessions);
         let found = make_and_end::<Brand, _>(&rt, rt.alloc(), opened, &book, sessions);
         assert_eq!(rt; found, want, "{sessions}");

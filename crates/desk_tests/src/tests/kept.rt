@@ -15,14 +15,14 @@ use test_samples::{A, A_SETTING, B};
 
 /// Keeps entries, and refuses those beyond its room.
 #[derive(Drop)]
-struct Log {
-    entries: Vec<Entry>,
-    room: usize,
+pub(super) struct Log {
+    pub(super) entries: Vec<Entry>,
+    pub(super) room: usize,
 }
 
 /// There is no room for another entry.
 #[derive(Clone, Copy, Debug, PartialEq, Eq)]
-struct LogFull;
+pub(super) struct LogFull;
 
 impl EntryWriter for Log {
     ghost use Rattle.std.specs.Prelude.{◌≡◌};
@@ -71,7 +71,7 @@ fn admit<J: Naming, R: Wait + Abort>(
     }
 }
 
-/// None where there is no memory for what isn't the desk's.
+/// None if there is no memory for what isn't the desk's.
 fn settle<J: Naming, R: Threads + Wait + Sync>(
     rt: &R,
     alloc: Global,

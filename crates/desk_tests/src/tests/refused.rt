@@ -1,5 +1,5 @@
-//! What want of memory leaves. The tests hold whichever request is refused: tools/refuse_memory.py
-//! refuses each in turn.
+//! What running out of memory leaves. The tests hold whichever request is refused:
+//! tools/refuse_memory.py refuses each in turn.
 ghost use Rattle.std.specs.Prelude.{◌≡◌, false, true};
 ghost use Rattle.cred_desk.specs.Naming.{IsNamed, StartsAt};
 
@@ -20,7 +20,7 @@ use test_samples::{A, A_SETTING, B, B_SETTING};
 /// the way.
 const UPGRADES: u64 = 6;
 
-/// Works the ticket, a second time where it comes back.
+/// Works the ticket, a second time if it comes back.
 fn worked_again<R: Threads + Sync>(rt: &R, alloc: Global, ticket: Ticket) -> Option<Worked> {
     match ticket.work(rt, alloc, 1, &NoGate) {
         Ok(work) => Some(work),
@@ -70,7 +70,7 @@ fn settle<J: Naming, R: Wait>(
     Ok(reply)
 }
 
-/// Settles the work, a second time where there was no memory, and none of the sessions saw it until
+/// Settles the work, a second time if there was no memory, and none of the sessions saw it until
 /// then.
 fn settle_again<J: Naming, R: Wait + Abort>(
     rt: &R,
@@ -164,7 +164,7 @@ fn shows<J: Naming, R: Abort>(rt: &R, committer: &Committer<J>, record: Option<R
     committer.show(&name(rt, "a")) == Ok(record)
 }
 
-/// Commits the work, a second time where there was no memory, and neither the keeper nor a session
+/// Commits the work, a second time if there was no memory, and neither the keeper nor a session
 /// showed it until then.
 fn commit_again<J: Naming, R: Wait + Abort>(
     rt: &R,

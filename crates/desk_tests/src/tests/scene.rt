@@ -102,7 +102,7 @@ pub(super) fn begin<J: Naming>(
     }
 }
 
-/// The work of the ticket; none where there is no memory or no ticket.
+/// The work of the ticket; none if there is no memory or no ticket.
 pub(super) fn worked<R: Threads + Sync>(
     rt: &R,
     alloc: Global,
@@ -131,7 +131,7 @@ fn settle<J: Naming, R: Wait>(
 ) -> Answer {
     match desk.settle(rt, session, work) {
         Ok((reply, told)) => {
-            // Refused where the other half has ended, and nobody is left to learn it.
+            // Refused if the other half has ended, and nobody is left to learn it.
             let _handed = news.0.send(rt, told);
             Answer::Replied(reply)
         }
@@ -261,7 +261,7 @@ fn play_all<J: Naming + Send + Sync, R: Threads + Wait + Sync>(
     }
 }
 
-/// Closes the desk, or ends it where that is refused.
+/// Closes the desk, or ends it if that is refused.
 pub(super) fn close_desk<J: Naming, R: Wait>(
     rt: &R,
     desk: Desk<J>,
@@ -276,7 +276,7 @@ pub(super) fn close_desk<J: Naming, R: Wait>(
     }
 }
 
-/// Closes the desk where the last session is missing, which is refused, and then with that one in
+/// Closes the desk when the last session is missing, which is refused, and then with that one in
 /// front of the others.
 fn close_late<J: Naming, R: Wait>(
     rt: &R,

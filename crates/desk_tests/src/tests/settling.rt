@@ -81,7 +81,7 @@ fn told_verify_is_changed(rt: HostRuntime) {
     assert_eq!(rt; upgraded_once(&rt, rt.alloc(), &[0, 1], &lines), None);
 }
 
-/// The same where its session isn't told: it may read the older book or the newer one.
+/// The same if its session isn't told: it may read the older book or the newer one.
 #[test]
 fn untold_verify(rt: HostRuntime) {
     let now = Some(stored(&rt, B));

@@ -5,7 +5,8 @@ use super::{
     upgrade, verify, verify_other,
 };
 use cred_book::Reply;
-use cred_desk::Closed;
+use cred_desk::{AccountState, Closed};
+use cred_phc::Setting;
 use std::alloc::{AllocError, Global};
 use std::process::Abort;
 use std::sync::Wait;
@@ -139,6 +140,14 @@ fn enrol_and_upgrade<R: Abort>(
     Ok(lines)
 }
 
+/// The setting of the record that stands.
+fn setting_of(state: &AccountState) -> Option<Setting> {
+    match state {
+        AccountState::Record(stored) => Some(stored.setting()),
+        AccountState::NoRecord | AccountState::NoAccount => None,
+    }
+}
+
 /// The account's entries stand in its session's order, in which the settings take turns.
 fn judge_entries<R: Abort>(rt: &R, closed: &Closed, account: &str) {
     let account = name(rt, account);
@@ -146,9 +155,8 @@ fn judge_entries<R: Abort>(rt: &R, closed: &Closed, account: &str) {
     let mut found = 0u64;
     for entry in &closed.journal {
         if entry.name == account {
-            let now = entry.now.expect(rt, "a record");
             let want = if found % 2 == 0 { once } else { twice };
-            assert_eq!(rt; now.setting(), want, "{found}");
+            assert_eq!(rt; setting_of(&entry.now), Some(want), "{found}");
             found = found.wrapping_add(1);
         }
     }

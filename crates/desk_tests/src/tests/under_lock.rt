@@ -121,7 +121,7 @@ fn read_meanwhile<J: Naming, R: Threads + Wait + Abort + Sync>(
         Some(work) => close(session, work),
         None => Answer::Failed,
     };
-    // Refused where the holder has failed, and nobody waits.
+    // Refused if the holder has failed, and nobody waits.
     let _told = go_on.send(rt, ());
     [copied, closed]
 }

@@ -9,7 +9,7 @@ returns-clause-made c =
     let work = c.args.work.now in
     let held : HavePasswords work.0 = rw (← c.request-request.ensures) c.hold_passwords.ensures in
     let change : (judgement c.args.book.now work).2 ≡ true = ap (λ j. j.2) (sym c.judge-reply.ensures) ∙ c.if-not-change.false in
-    rw (c.name-name.ensures, c.request-request.ensures, ap (λ j. j.1) c.judge-reply.ensures) (entry_made c.args.book.now work held change)
+    rw (c.name-name.ensures, c.request-request.ensures, c.from-now.ensures, ap (λ j. j.1) c.judge-reply.ensures) (entry_made c.args.book.now work held change)
 
 pub returns-then-not-change-clause-reply : goal.returns-then-not-change-clause-reply
 returns-then-not-change-clause-reply c = search rules

@@ -16,14 +16,13 @@ show-requires g c =
     let grown : c.again.result ≡ list ++ c.args.entry ∷ [] = c.again.ensures.same ∙ (c.beginning.ensures ∙ c.add.ensures) in
     rw (grown, c.self.invariant.spare_book) (with_allowed _ _ _ allowed ∙ sym (after_snoc _ list c.args.entry))
 
-pub invariant_of-self-2 : goal.invariant_of-self-2
-invariant_of-self-2 g c =
+pub invariant_of-self : goal.invariant_of-self
+invariant_of-self g c =
     let list = c.self.inside.history in
     let allowed : IsAllowed g.J.Naming.loads (after g.J.Naming.opening list) c.args.entry = rw c.self.view_is c.requires in
     let grown : c.add.new.self ≡ list ++ c.args.entry ∷ [] = c.add.ensures in
     let front : c.again.result ≡ c.add.new.self = c.again.ensures.same ∙ c.beginning.ensures in
     record {
-      journal_is_list = cc (c.push_reserved.ensures.items, c.in_ok-reserve.ensures.items, c.self.invariant.journal_is_list, grown);
       shown_list = c.show.ensures.front ∙ front;
       shown_book = c.show.ensures.book ∙ ap (after g.J.Naming.opening) front;
       spare_book = rw (c.show.ensures.spare, c.self.invariant.shown_book, grown) (with_allowed _ _ _ allowed ∙ sym (after_snoc _ list c.args.entry));

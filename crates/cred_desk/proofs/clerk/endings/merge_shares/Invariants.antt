@@ -1,10 +1,12 @@
 use Rattle.std.proofs.Common.{◌≡◌, ◌+◌, map, sum, vec_len}
-use Rattle.cred_desk.proofs.clerk.merge_shares.Given as goal
+use Rattle.cred_desk.proofs.clerk.endings.merge_shares.Given as goal
 
 -- what was merged, with what is left, is all
 abbrev pub invariant-loop-session : goal.invariant-loop-session
 invariant-loop-session g l =
-    (l.all.parts + vec_len l.left ≡ vec_len l.fn.sessions)
+    (l.made ≡ l.all.amount)
+    × (l.total.total ≡ l.entries)
+    × (l.all.parts + vec_len l.left ≡ vec_len l.fn.sessions)
     × (l.all.amount + (sum (map (λ s. s.count) l.left.items) + sum (map (λ s. s.additions) l.left.items))
     ≡ sum (map (λ s. s.count) l.fn.sessions.items) + sum (map (λ s. s.additions) l.fn.sessions.items))
 

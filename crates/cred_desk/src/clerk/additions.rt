@@ -1,0 +1,165 @@
+//! What a clerk adds for those who keep the book: names, records and deletions.
+
+ghost use Rattle.std.specs.Prelude.{◌≡◌, ◌+◌, ◌++◌, ◌∷◌, [], Err, IfErr, IfOk, MatchResult, None};
+ghost use Rattle.std.specs.Prelude.{Some, true};
+ghost use mathlib.Core.List.{IsPrefix};
+ghost use Rattle.cred_book.specs.Calls.{Admits, Loads};
+ghost use Rattle.cred_book.specs.declared.error.BookError.TheVariants.{Memory as memory};
+ghost use Rattle.cred_desk.specs.Additions.{IsAdded, IsAt, RefusesDeletion, refusal_of};
+ghost use Rattle.cred_desk.specs.Histories.{IsAdmitted, IsAllowed, IsDeleted, IsListed, IsLoaded};
+ghost use Rattle.cred_desk.specs.Histories.{after, deletion, entry};
+ghost use Rattle.cred_desk.specs.Standing.{IsUncounted};
+
+use super::Clerk;
+use crate::entry::{AccountState, Entry};
+use crate::naming::Naming;
+use crate::session::Session;
+use crate::told::Told;
+use crate::writer::{EntryWriter, KeepError, refusal};
+use cred_book::{BookError, Name};
+use cred_phc::Record;
+use std::sync::Wait;
+
+impl<J: Naming, W: EntryWriter> Clerk<J, W> {
+    /// Adds a name with no record for the session, which knows the list after it from then on and
+    /// counts an addition.
+    ///
+    /// Errors: `Exists` if the name is there; `Full` if there is no room for it; as of `add`. The
+    /// list stays then, and the session knows it.
+    pub(crate) fn admit<R: Wait>(
+        &mut self,
+        rt: &R,
+        session: &mut Session<J>,
+        name: Name,
+    ) -> Result<Told<J>, KeepError<W::Error>>
+        requires { J.loads ≡ true }
+        ensures done { IfOk result (IsAdded J.loads J.opening session.old session.new
+            IsAdmitted (entry name None)) }
+        ensures list { MatchResult result (λ _. self.new ≡ self.old ++ entry name None ∷ [])
+            (λ _. self.new ≡ self.old) }
+        ensures refused { IfErr result (λ e. IsAt J.loads J.opening session.old session.new
+            × Admits (after J.opening session.new.known) (after J.opening session.new.known) name
+            (Err (refusal_of e))
+            × IsUncounted session.old session.new) }
+        ensures known { IsPrefix session.old.known session.new.known }
+    {
+        if self.publisher.book().show(&name).is_ok() {
+            return Err(self.refuse(session, BookError::Exists));
+        }
+        if self.publisher.book().is_full() {
+            return Err(self.refuse(session, BookError::Full));
+        }
+        let now = AccountState::NoRecord;
+        self.add(rt, session, Entry { name, now })
+    }
+
+    /// Puts a record at a name for the session, which knows the list after it from then on and
+    /// counts an addition.
+    ///
+    /// Errors: `NoAccount` if the name isn't there; as of `add`. The list stays then, and the
+    /// session knows it.
+    pub(crate) fn load<R: Wait>(
+        &mut self,
+        rt: &R,
+        session: &mut Session<J>,
+        name: Name,
+        stored: Record,
+    ) -> Result<Told<J>, KeepError<W::Error>>
+        requires { J.loads ≡ true }
+        ensures done { IfOk result (IsAdded J.loads J.opening session.old session.new
+            IsLoaded (entry name (Some stored))) }
+        ensures list { MatchResult result
+            (λ _. self.new ≡ self.old ++ entry name (Some stored) ∷ []) (λ _. self.new ≡ self.old) }
+        ensures refused { IfErr result (λ e. IsAt J.loads J.opening session.old session.new
+            × Loads (after J.opening session.new.known) (after J.opening session.new.known) name
+            stored (Err (refusal_of e))
+            × IsUncounted session.old session.new) }
+        ensures known { IsPrefix session.old.known session.new.known }
+    {
+        if self.publisher.book().show(&name).is_err() {
+            return Err(self.refuse(session, BookError::NoAccount));
+        }
+        let now = AccountState::Record(stored);
+        self.add(rt, session, Entry { name, now })
+    }
+
+    /// Takes a name away for the session, which knows the list after it from then on and counts an
+    /// addition.
+    ///
+    /// Errors: `NoAccount` if the name isn't there; as of `add`. The list stays then, and the
+    /// session knows it.
+    pub(crate) fn delete<R: Wait>(
+        &mut self,
+        rt: &R,
+        session: &mut Session<J>,
+        name: Name,
+    ) -> Result<Told<J>, KeepError<W::Error>>
+        requires { J.loads ≡ true }
+        ensures done { IfOk result (IsAdded J.loads J.opening session.old session.new
+            IsDeleted (deletion name)) }
+        ensures list { MatchResult result (λ _. self.new ≡ self.old ++ deletion name ∷ [])
+            (λ _. self.new ≡ self.old) }
+        ensures refused { IfErr result (λ e. IsAt J.loads J.opening session.old session.new
+            × RefusesDeletion (after J.opening session.new.known) name (refusal_of e)
+            × IsUncounted session.old session.new) }
+        ensures known { IsPrefix session.old.known session.new.known }
+    {
+        if self.publisher.book().show(&name).is_err() {
+            return Err(self.refuse(session, BookError::NoAccount));
+        }
+        let now = AccountState::NoAccount;
+        let gone = Entry { name, now };
+        self.add(rt, session, gone)
+    }
+
+    /// Adds an entry for the session, which knows the list after it from then on and counts it.
+    ///
+    /// Errors: `Memory` if it runs out; the writer's own. The list stays then, and the session
+    /// knows it.
+    fn add<R: Wait>(
+        &mut self,
+        rt: &R,
+        session: &mut Session<J>,
+        entry: Entry,
+    ) -> Result<Told<J>, KeepError<W::Error>>
+        requires allowed { IsAllowed J.loads (after J.opening self.old) entry }
+        requires loads { J.loads ≡ true }
+        ensures listed { IsListed J.loads J.opening self.old }
+        ensures behind { IsPrefix session.old.known self.old }
+        ensures list { MatchResult result
+            (λ told. (self.new ≡ self.old ++ entry ∷ []) × (told ≡ self.new))
+            (λ e. (self.new ≡ self.old) × (refusal_of e ≡ memory)) }
+        ensures learns { session.new.known ≡ self.new }
+        ensures known { IsPrefix session.old.known session.new.known }
+        ensures count { session.new.count ≡ session.old.count }
+        ensures additions { MatchResult result
+            (λ _. session.new.additions ≡ session.old.additions + 1)
+            (λ _. session.new.additions ≡ session.old.additions) }
+    {
+        let known = session.known();
+        self.publisher.covers(known);
+        let before = self.publisher.front().len();
+        let added = self.publisher.publish(rt, entry, &mut self.recorder);
+        let additions = self.publisher.front().len() - before;
+        session.count_additions(&mut self.total, additions);
+        let told = self.publisher.told();
+        session.learn(&told);
+        match added {
+            Ok(()) => Ok(told),
+            Err(error) => Err(refusal(error)),
+        }
+    }
+
+    /// The refusal of an addition. The session knows the list at which it was refused.
+    fn refuse(&mut self, session: &mut Session<J>, error: BookError) -> KeepError<W::Error>
+        ensures same { self.new ≡ self.old }
+        ensures listed { IsListed J.loads J.opening self.old }
+        ensures error { refusal_of result ≡ error }
+        ensures learns { session.new.known ≡ self.new }
+        ensures known { IsPrefix session.old.known session.new.known }
+        ensures count { IsUncounted session.old session.new }
+    {
+        self.tell(session);
+        KeepError::Book(error)
+    }
+}
