@@ -30,7 +30,7 @@ pub(crate) struct Ran {
 }
 
 impl Ran {
-    /// The first of these is the thread that upgrades. None where a thread failed.
+    /// The first of these is the thread that upgrades. None if a thread failed.
     pub(crate) fn of(all: &[Option<Figures>], changes: u64) -> Option<Ran> {
         let (first, others) = all.split_first()?;
         let upgrades = (*first)?;

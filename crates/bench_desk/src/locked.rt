@@ -1,4 +1,4 @@
-//! The load with a lock round the book, for comparison: whoever reads takes it too.
+//! The load with a lock round the book, for comparison: readers take it too.
 
 use crate::figures::{Figures, Ran};
 use crate::load::Load;

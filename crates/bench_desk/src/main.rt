@@ -2,11 +2,15 @@
 //! with a lock round the book. The arguments are `desk` or `lock`, how many threads verify, how
 //! often each does, how many upgrades are made, `hashed` if these aren't settled or `kept` if each
 //! is kept for a millisecond under the lock, and `figures` if times are to be printed too.
+//!
+//! Or they are `soak` and a number of operations: these are done in four threads at desks of both
+//! kinds, and what is left of each desk is compared with what its sessions were told.
 #![tactic(auto)]
 
 use anyhow::{Context, Result};
 use figures::Ran;
 use load::{Beside, Load};
+use soak::soak;
 use std::alloc::Global;
 use std::env;
 use std::sync::Wait;
@@ -17,6 +21,7 @@ mod figures;
 mod load;
 mod locked;
 mod published;
+mod soak;
 mod store;
 
 /// What the arguments ask for.
@@ -78,6 +83,12 @@ fn has(words: &[String], wanted: &str) -> bool {
 fn main(rt: HostRuntime) -> Result<()> {
     let alloc = rt.alloc();
     let words: Vec<String> = env::args(&rt)?.skip(1).collect(alloc)?;
+    if has(&words, "soak") {
+        let operations = words.get(1).context("how many operations?")?;
+        let soaked = soak(&rt, alloc, operations.as_str().parse::<u64>()?)?;
+        println!(rt; "{soaked}; every journal leads to its book, and all counts agree")?;
+        return Ok(());
+    }
     let asked = Asked::of(&words)?;
     let ran = asked.run(&rt, alloc)?;
     println!(rt;

@@ -10,7 +10,7 @@ use std::time::{Clock, Duration, Instant};
 
 /// Where one thread finds the book.
 pub(crate) trait Store<R> {
-    /// Begins at the book as it stands; None where the request is refused.
+    /// Begins at the book as it stands; None if the request is refused.
     fn begin(&mut self, rt: &R, request: Request) -> Option<Ticket>;
 
     /// What a verify answers when it is hashed.
