@@ -7,13 +7,14 @@ use Rattle.cred_book.specs.Commits.{Begins, Commits, commit_outcome}
 use Rattle.cred_book.specs.Works.{Task, name_of}
 use Rattle.cred_book.specs.declared.error.BookError.TheVariants as error
 use Rattle.cred_book.specs.declared.reply.Reply.{Reply}
+use Rattle.cred_book.specs.declared.reply.Reply.TheVariants as reply
 use Rattle.cred_book.specs.declared.request.Request.{Request}
 use Rattle.cred_cli.specs.declared.answer.AnswerLine.{AnswerLine}
 use Rattle.cred_cli.specs.declared.refusal.Refusal.TheVariants.{Book, Busy, Idle}
 use Rattle.cred_cli.specs.Answers.{IsDone, line_bytes}
 use Rattle.cred_cli.specs.History.{Answer, Begun, Refused}
 use Rattle.cred_cli.specs.Steps.{Step, stay, slot, begin_step, begin_step_at, commit_step, reply_answer}
-use Rattle.cred_cli.specs.Texts.{line_of}
+use Rattle.cred_cli.specs.Texts.{line_of, reply_line}
 use Rattle.cred_cli.proofs.Simulation.{begun-at, committing-at}
 
 -- an answer that leaves all as it is
@@ -61,3 +62,18 @@ pub commits_done : (old new : Accounts) (slots left : List (Option Task)) (key :
 commits_done old new slots left key task work reply some closed is commits =
     let done : commit_outcome old task ≡ (reply, new) = ap (commit_outcome old) (sym is) ∙ sym commits in
     committing-at old slots key (Some task) (sym some) ∙ ap (λ c. record { answer = reply_answer c.0; book = c.1; slots = set slots (key - 1) None }) done ∙ ap (λ s. record { answer = reply_answer reply; book = new; slots = s }) (sym closed)
+
+-- a reply's line is that of its answer
+pub line_of_reply : (r : Reply) → reply_line r ≡ line_of (reply_answer r)
+line_of_reply reply.Enrolled = refl
+line_of_reply reply.Exists = refl
+line_of_reply reply.Yes = refl
+line_of_reply reply.No = refl
+line_of_reply reply.Absent = refl
+line_of_reply reply.Replaced = refl
+line_of_reply reply.Wrong = refl
+line_of_reply reply.Upgraded = refl
+line_of_reply reply.Kept = refl
+line_of_reply reply.Removed = refl
+line_of_reply (reply.Changed now) = refl
+line_of_reply reply.NoAccount = refl

@@ -62,7 +62,7 @@ take-kept n line b = elim (cases_lt (length line) n) [
 ]
 
 -- where the bytes of the script are cut, byte by byte
-pub cut_at : (all front bytes rest : List ℕ) (i : ℕ) → all ≡ (front ++ bytes) ++ rest → i < length bytes → all ≡ (front ++ take i bytes) ++ get_or bytes i 0 ∷ (drop (suc i) bytes ++ rest)
+pub cut_at : (all front bytes rest : List ℕ) (i : ℕ) → all ≡ (front ++ bytes) ++ rest → i < length bytes → all ≡ ((front ++ take i bytes) ++ get_or bytes i 0 ∷ []) ++ (drop (suc i) bytes ++ rest)
 cut_at all front bytes rest i cut within =
     cut ∙ ap (λ xs. (front ++ xs) ++ rest) (sym (take-append-drop i bytes) ∙ ap (λ xs. take i bytes ++ xs) (drop-cons bytes i 0 within)) ∙ simp append_assoc
 

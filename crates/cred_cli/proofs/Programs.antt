@@ -9,6 +9,7 @@ use Rattle.cred_cli.specs.Statuses.{status_number, status_of}
 use Rattle.cred_cli.specs.Commands.{Runs}
 use Rattle.cred_cli.specs.Outcome.{FailsWithin, HasCause, ScriptFails, StandsAfter}
 use Rattle.cred_cli.specs.Script.{events_of}
+use Rattle.cred_cli.specs.Watched.{Reading, Writing}
 use Rattle.cred_cli.proofs.Names.{book_at-zero}
 use Rattle.cred_cli.proofs.Readings.{if_known}
 use Rattle.cred_cli.proofs.Runs.{answers_before-zero}
@@ -24,17 +25,17 @@ pub script_unbegun : (longest capacity : ℕ) (known before : Option (List ℕ))
 script_unbegun longest capacity known before book = if_known known (λ bytes. FailsWithin longest capacity book bytes known before before book Memory) (λ bytes is. (0, inr refl, nothing_done capacity book bytes before))
 
 -- there was no memory to begin with
-pub no_memory : (bytes left before : Option (List ℕ)) (reader writer : Bool) (status : ℕ) → status ≡ status_number (status_of Memory) → Runs bytes left before before reader writer status
-no_memory bytes left before reader writer status is =
-    inr (Memory, is, record { stands = if_known bytes _ (λ bs known. (map.empty, (0, inr refl, nothing_done most_accounts map.empty bs before))); cause = tt })
+pub no_memory : (r : Reading) (before : Option (List ℕ)) (failed : Bool) (status : ℕ) → status ≡ status_number (status_of Memory) → Runs r (record { before = before; now = before; failed = failed }) status
+no_memory r before failed status is =
+    inr (Memory, is, record { stands = if_known r.input _ (λ bs known. (map.empty, (0, inr refl, nothing_done most_accounts map.empty bs before))); cause = tt })
 
 -- the script met a fault
-pub run_fails : (book : Accounts) (bytes left before now : Option (List ℕ)) (reader writer : Bool) (accounts : Accounts) (fault : ScriptFault) (status : ℕ) →
-    book ≡ map.empty → status ≡ status_number (status_of fault) → IfSome bytes (λ bs. ScriptFails most_accounts book bs left before now accounts fault) → HasCause reader writer fault →
-    Runs bytes left before now reader writer status
-run_fails book bytes left before now reader writer accounts fault status empty is fails cause =
-    inr (fault, is, record { stands = known bytes fails; cause = cause })
+pub run_fails : (book : Accounts) (r : Reading) (w : Writing) (accounts : Accounts) (fault : ScriptFault) (status : ℕ) →
+    book ≡ map.empty → status ≡ status_number (status_of fault) → IfSome r.input (λ bs. ScriptFails most_accounts book bs r.left w.before w.now accounts fault) → HasCause r.failed w.failed fault →
+    Runs r w status
+run_fails book r w accounts fault status empty is fails cause =
+    inr (fault, is, record { stands = known r.input fails; cause = cause })
   where
-    known : (bytes : Option (List ℕ)) → IfSome bytes (λ bs. ScriptFails most_accounts book bs left before now accounts fault) → IfSome bytes (λ bs. (accounts : Accounts) × ScriptFails most_accounts map.empty bs left before now accounts fault)
+    known : (bytes : Option (List ℕ)) → IfSome bytes (λ bs. ScriptFails most_accounts book bs r.left w.before w.now accounts fault) → IfSome bytes (λ bs. (accounts : Accounts) × ScriptFails most_accounts map.empty bs r.left w.before w.now accounts fault)
     known None fails = tt
     known (Some bs) fails = (accounts, rw empty at fails)

@@ -27,7 +27,7 @@ no_tickets capacity book events slots empty = record {
 
 -- no byte was taken
 pub opening : (capacity : ℕ) (book : Accounts) (all : List ℕ) (before : Option (List ℕ)) (slots : List (Option Task)) (progress : Progress) → slots ≡ replicate 64 None → progress.start ≡ [] → progress.lines ≡ 0 → progress.taken ≡ 0 →
-    IsAt capacity book all [] before before book slots progress
+    IsAt capacity (record { book = book; bytes = all; before = before }) [] (record { written = before; accounts = book; slots = slots; progress = progress })
 opening capacity book all before slots progress empty start lines taken = record {
   stands = record {
     written = rw (lines, answers_before-zero capacity book (events_of all)) (Appends-nil before);

@@ -15,35 +15,32 @@ use Rattle.cred_book.specs.Works.{new_record, right}
 use Rattle.cred_cli.specs.declared.fault.ScriptFault.{ScriptFault}
 use Rattle.cred_cli.specs.declared.refusal.Refusal.{Refusal}
 use Rattle.cred_cli.specs.declared.refusal.Refusal.TheVariants.{Password}
-use Rattle.cred_cli.specs.declared.status.Status.{Status}
-use Rattle.cred_cli.specs.declared.status.Status.TheVariants.{Done, Refused, Failed, OutOfMemory}
-use Rattle.cred_cli.specs.declared.status.Status.TheVariants.{No}
+use Rattle.cred_cli.specs.declared.exit_status.ExitStatus.{ExitStatus}
+use Rattle.cred_cli.specs.declared.exit_status.ExitStatus.TheVariants.{Done, Refused, Failed}
+use Rattle.cred_cli.specs.declared.exit_status.ExitStatus.TheVariants.{OutOfMemory, No}
 use Rattle.cred_cli.specs.Statuses.{status_number, status_of}
 use Rattle.cred_cli.specs.Events.{record_field, setting_field}
 use Rattle.cred_cli.specs.Outcome.{FrontWritten, HasCause, ScriptFails, longest_script}
 use Rattle.cred_cli.specs.History.{Shown}
 use Rattle.cred_cli.specs.Script.{out}
 use Rattle.cred_cli.specs.Texts.{line_of}
+use Rattle.cred_cli.specs.Watched.{Reading, Writing}
 
 -- a script on an empty book was answered whole
-pub record RunsWhole (bytes before now : Option (List ℕ)) : Type 0 where
-  pub written : IfSome bytes (λ bs. Appends before now (out most_accounts map.empty bs))
-  pub short : IfSome bytes (λ bs. length bs ≤ longest_script)
+pub record RunsWhole (r : Reading) (w : Writing) : Type 0 where
+  pub written : IfSome r.input (λ bytes. Appends w.before w.now (out most_accounts map.empty bytes))
+  pub short : IfSome r.input (λ bytes. length bytes ≤ longest_script)
 
 -- or it met a fault, and its book is let go
-pub record RunFails (bytes left before now : Option (List ℕ)) (reader_failed writer_failed : Bool)
-    (fault : ScriptFault) : Type 0 where
-  pub stands : IfSome bytes (λ bs. (accounts : Accounts)
-      × ScriptFails most_accounts map.empty bs left before now accounts fault)
-  pub cause : HasCause reader_failed writer_failed fault
+pub record RunFails (r : Reading) (w : Writing) (fault : ScriptFault) : Type 0 where
+  pub stands : IfSome r.input (λ bytes. (accounts : Accounts)
+      × ScriptFails most_accounts map.empty bytes r.left w.before w.now accounts fault)
+  pub cause : HasCause r.failed w.failed fault
 
--- `run`: left is what the reader has left
-abbrev pub Runs : Option (List ℕ) → Option (List ℕ) → Option (List ℕ) → Option (List ℕ) → Bool
-    → Bool → ℕ → Type 0
-Runs bytes left before now reader_failed writer_failed status =
-    ((status ≡ status_number Done) × RunsWhole bytes before now)
-    ⊎ ((fault : ScriptFault) × (status ≡ status_number (status_of fault))
-    × RunFails bytes left before now reader_failed writer_failed fault)
+-- `run`
+abbrev pub Runs : Reading → Writing → ℕ → Type 0
+Runs r w status = ((status ≡ status_number Done) × RunsWhole r w)
+    ⊎ ((fault : ScriptFault) × (status ≡ status_number (status_of fault)) × RunFails r w fault)
 
 -- ---- `hash` and `check`
 
@@ -64,36 +61,32 @@ to_check stored pw = record_field stored >>= λ r. password_word pw >>= λ passw
 abbrev pub record_line : RecordValue → List ℕ
 record_line stored = line_of (Shown (Some stored))
 
--- the line was written whole, or the writer failed behind a proper front of it
-abbrev pub Prints : List ℕ → Status → Option (List ℕ) → Option (List ℕ) → Bool → ℕ → Type 0
-Prints line good before now writer_failed status =
-    ((status ≡ status_number good) × Appends before now line)
-    ⊎ ((status ≡ status_number Failed) × (writer_failed ≡ true) × FrontWritten before now line)
+-- the line was written whole, or the writer failed after a proper prefix of it
+abbrev pub Prints : List ℕ → ExitStatus → Writing → ℕ → Type 0
+Prints line good w status = ((status ≡ status_number good) × Appends w.before w.now line)
+    ⊎ ((status ≡ status_number Failed) × (w.failed ≡ true) × FrontWritten w.before w.now line)
 
 -- nothing was written
-abbrev pub Ends : Status → Option (List ℕ) → Option (List ℕ) → ℕ → Type 0
-Ends why before now status = (status ≡ status_number why) × Keeps before now
+abbrev pub Ends : ExitStatus → Writing → ℕ → Type 0
+Ends why w status = (status ≡ status_number why) × Keeps w.before w.now
 
-abbrev pub Hashes : Option Text → Option Text → Option (List ℕ) → Option (List ℕ) → Bool → ℕ
-    → Type 0
-Hashes None pw before now writer_failed status = Ends Refused before now status
-Hashes (Some setting) pw before now writer_failed status = MatchResult (to_hash setting pw)
-    (λ values. Prints (record_line (new_record values.0 values.1)) Done before now writer_failed
-    status ⊎ Ends OutOfMemory before now status)
-    (λ why. Ends Refused before now status)
+abbrev pub Hashes : Option Text → Option Text → Writing → ℕ → Type 0
+Hashes None pw w status = Ends Refused w status
+Hashes (Some setting) pw w status = MatchResult (to_hash setting pw)
+    (λ values. Prints (record_line (new_record values.0 values.1)) Done w status
+    ⊎ Ends OutOfMemory w status)
+    (λ why. Ends Refused w status)
 
 -- the answer and its status
-abbrev pub verdict : Bool → List ℕ × Status
+abbrev pub verdict : Bool → List ℕ × ExitStatus
 verdict is_right = if is_right then (codes "yes" ++ 10 ∷ [], Done) else (codes "no" ++ 10 ∷ [], No)
 
-abbrev pub Checks : Option Text → Option Text → Option (List ℕ) → Option (List ℕ) → Bool → ℕ
-    → Type 0
-Checks None pw before now writer_failed status = Ends Refused before now status
-Checks (Some stored) pw before now writer_failed status = MatchResult (to_check stored pw)
-    (λ values. Prints (verdict (right values.0 values.1)).0
-    (verdict (right values.0 values.1)).1 before now writer_failed status
-    ⊎ Ends OutOfMemory before now status)
-    (λ why. Ends Refused before now status)
+abbrev pub Checks : Option Text → Option Text → Writing → ℕ → Type 0
+Checks None pw w status = Ends Refused w status
+Checks (Some stored) pw w status = MatchResult (to_check stored pw)
+    (λ values. Prints (verdict (right values.0 values.1)).0 (verdict (right values.0 values.1)).1 w
+    status ⊎ Ends OutOfMemory w status)
+    (λ why. Ends Refused w status)
 
 -- ---- all of it
 
@@ -103,14 +96,9 @@ is_run None = false
 is_run (Some (word, rows)) = bytes_eq word (codes "run")
 
 -- by the subcommand and its values
-abbrev pub Acts : Option (Text × List Row) → Option (List ℕ) → Option (List ℕ) → Option (List ℕ)
-    → Option (List ℕ) → Bool → Bool → ℕ → Type 0
-Acts None bytes left before now reader_failed writer_failed status = Ends Refused before now status
-Acts (Some (word, rows)) bytes left before now reader_failed writer_failed status =
-    MatchBool (bytes_eq word (codes "run"))
-    (Runs bytes left before now reader_failed writer_failed status)
+abbrev pub Acts : Option (Text × List Row) → Reading → Writing → ℕ → Type 0
+Acts None r w status = Ends Refused w status
+Acts (Some (word, rows)) r w status = MatchBool (bytes_eq word (codes "run")) (Runs r w status)
     (MatchBool (bytes_eq word (codes "hash"))
-    (Hashes (first_of (codes "setting") rows)
-    (first_of (codes "password") rows) before now writer_failed status)
-    (Checks (first_of (codes "record") rows)
-    (first_of (codes "password") rows) before now writer_failed status))
+    (Hashes (first_of (codes "setting") rows) (first_of (codes "password") rows) w status)
+    (Checks (first_of (codes "record") rows) (first_of (codes "password") rows) w status))

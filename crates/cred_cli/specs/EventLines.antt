@@ -8,7 +8,7 @@ use Rattle.cred_cli.specs.declared.event.Event.TheVariants.{Account, Load, Show,
 use Rattle.cred_cli.specs.Events.{key_field, name_field, password_field, record_field}
 use Rattle.cred_cli.specs.Events.{setting_field}
 
--- behind the number of a `begin`: the operation's word and its fields
+-- after the number of a `begin`: the operation's word and its fields
 abbrev pub IsRequestOf : Request → List (List ℕ) → Type 0
 IsRequestOf (Verify name pw) words =
     (x p : List ℕ) × (words ≡ codes "verify" ∷ x ∷ p ∷ [])

@@ -84,7 +84,7 @@ abbrev pub commit_event : List (List ℕ) → Result Event Refusal
 commit_event (k ∷ []) = key_field k >>= λ key. Ok (Commit key)
 commit_event _ = Err Line
 
--- the operation of this word, if it has so many fields of its own behind the password
+-- the operation of this word, if it has so many fields of its own after the password
 abbrev pub operation_of : List ℕ → List (List ℕ) → Result Operation Refusal
 operation_of word [] =
     if bytes_eq word (codes "verify") then Ok operation.Verify

@@ -43,7 +43,7 @@ pub record Opened : Type 0 where
   pub place : ℕ
   pub request : Request
 
--- a begin is accepted where its number isn't open and its name is there; a commit closes its number
+-- a begin is accepted if its number isn't open and its name is there; a commit closes its number
 abbrev pub open_after : List (List ℕ) → ℕ → ℕ → Option Opened → Option Event → Option Opened
 open_after names i key now (Some (Begin k request)) =
     if k == key && (is_none now && is_among names (name_of request))

@@ -20,11 +20,11 @@ abbrev pub longest_service : ℕ
 longest_service = 2 ^ 64 - 2
 
 -- how often the reader is called at most: once for each byte, once for a byte too many or the end,
--- and once behind that
+-- and once after that
 abbrev pub most_calls : ℕ
 most_calls = longest_script + 2
 
--- a proper front of the bytes is written
+-- a proper prefix of the bytes is written
 abbrev pub FrontWritten : Option (List ℕ) → Option (List ℕ) → List ℕ → Type 0
 FrontWritten before now bytes = (n : ℕ) × (n < length bytes) × Appends before now (take n bytes)
 
@@ -41,8 +41,8 @@ pub record StandsAfter (capacity : ℕ) (book : Accounts) (events : List Event) 
   pub written : Appends before now (answers_before capacity book events i)
   pub accounts_are : accounts ≡ book_at capacity book events i
 
--- the first i lines are answered, a proper front of the next one's answer is written, and that line
--- is done
+-- the first i lines are answered, a proper prefix of the next one's answer is written, and that
+-- line is done
 pub record StopsIn (capacity : ℕ) (book : Accounts) (events : List Event) (i : ℕ)
     (before now : Option (List ℕ)) (accounts : Accounts) : Type 0 where
   pub written : (n : ℕ) × (n < length (line_of (answer_at capacity book events i)))
@@ -50,7 +50,7 @@ pub record StopsIn (capacity : ℕ) (book : Accounts) (events : List Event) (i :
       ++ take n (line_of (answer_at capacity book events i)))
   pub accounts_are : accounts ≡ book_at capacity book events (suc i)
 
--- what stands after a fault where at most so many bytes are read; left is what the reader has left.
+-- what stands after a fault if at most so many bytes are read; left is what the reader has left.
 -- Memory was refused to the line after those that are answered, or before the first line
 abbrev pub FailsWithin : ℕ → ℕ → Accounts → List ℕ → Option (List ℕ) → Option (List ℕ)
     → Option (List ℕ) → Accounts → ScriptFault → Type 0
@@ -73,7 +73,7 @@ abbrev pub ScriptFails : ℕ → Accounts → List ℕ → Option (List ℕ) →
     → Accounts → ScriptFault → Type 0
 ScriptFails = FailsWithin longest_script
 
--- a fault of the reader or of the writer comes only where a call on it failed
+-- a fault of the reader or of the writer comes only if a call on it failed
 abbrev pub HasCause : Bool → Bool → ScriptFault → Type 0
 HasCause reader_failed writer_failed Read = reader_failed ≡ true
 HasCause reader_failed writer_failed Write = writer_failed ≡ true

@@ -2,11 +2,11 @@
 use Rattle.std.specs.Prelude.{ℕ}
 use Rattle.cred_cli.specs.declared.fault.ScriptFault.{ScriptFault}
 use Rattle.cred_cli.specs.declared.fault.ScriptFault.TheVariants.{Read, Write, Memory, TooLong}
-use Rattle.cred_cli.specs.declared.status.Status.{Status}
-use Rattle.cred_cli.specs.declared.status.Status.TheVariants.{Done, Refused, Failed, OutOfMemory}
-use Rattle.cred_cli.specs.declared.status.Status.TheVariants.{No}
+use Rattle.cred_cli.specs.declared.exit_status.ExitStatus.{ExitStatus}
+use Rattle.cred_cli.specs.declared.exit_status.ExitStatus.TheVariants.{Done, Refused, Failed}
+use Rattle.cred_cli.specs.declared.exit_status.ExitStatus.TheVariants.{OutOfMemory, No}
 
-abbrev pub status_number : Status → ℕ
+abbrev pub status_number : ExitStatus → ℕ
 status_number Done = 0
 status_number Refused = 1
 status_number Failed = 2
@@ -14,7 +14,7 @@ status_number OutOfMemory = 3
 status_number No = 4
 
 -- that of a script that met a fault
-abbrev pub status_of : ScriptFault → Status
+abbrev pub status_of : ScriptFault → ExitStatus
 status_of Read = Failed
 status_of Write = Failed
 status_of TooLong = Failed

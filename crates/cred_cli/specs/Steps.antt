@@ -79,7 +79,7 @@ step capacity book slots (Begin key request) = begin_step book slots key request
 step capacity book slots (Commit key) = commit_step book slots key
 step capacity book slots (Bad why) = stay (Refused why) book slots
 
--- what stands where a line met a fault
+-- what stands if a line met a fault
 abbrev pub LineFails : ℕ → Accounts → List Event → ℕ → Option (List ℕ) → Option (List ℕ) → Accounts
     → ScriptFault → Type 0
 LineFails capacity book events i before now accounts Memory =
@@ -89,6 +89,6 @@ LineFails capacity book events i before now accounts Write =
 LineFails capacity book events i before now accounts Read = ⊥
 LineFails capacity book events i before now accounts TooLong = ⊥
 
--- how writing them ends where it doesn't end well
+-- how writing them ends if it doesn't end well
 abbrev pub WriteFails : Option (List ℕ) → Option (List ℕ) → List ℕ → Bool → ScriptFault → Type 0
 WriteFails before now bytes failed e = (e ≡ Write) × (failed ≡ true) × FrontWritten before now bytes

@@ -26,6 +26,10 @@ reply_text reply.Removed = codes "removed"
 reply_text (reply.Changed now) = codes "changed"
 reply_text reply.NoAccount = codes "noaccount"
 
+-- with the line end
+abbrev pub reply_line : Reply → List ℕ
+reply_line reply = reply_text reply ++ 10 ∷ []
+
 abbrev pub text_of : Answer → List ℕ
 text_of Done = codes "ok"
 text_of (Shown None) = codes "none"

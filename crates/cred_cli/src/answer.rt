@@ -6,16 +6,16 @@ ghost use Rattle.cred_book.specs.Works.{is_for_current};
 ghost use Rattle.cred_cli.specs.Answers.{IsDone, line_bytes};
 ghost use Rattle.cred_cli.specs.Events.{IsSound};
 ghost use Rattle.cred_cli.specs.History.{Done, Refused, Shown};
-ghost use Rattle.cred_cli.specs.Steps.{WriteFails, begin_step, commit_step, reply_answer, step};
-ghost use Rattle.cred_cli.specs.Texts.{line_of};
+ghost use Rattle.cred_cli.specs.Steps.{WriteFails, begin_step, commit_step, step};
+ghost use Rattle.cred_cli.specs.Texts.{line_of, reply_line};
 ghost use Rattle.cred_cli.specs.Watched.{failed_of, inner_of};
 
 use crate::event::Event;
 use crate::fault::ScriptFault;
 use crate::key::Key;
 use crate::refusal::Refusal;
-use crate::resources::Resources;
 use crate::tickets::Tickets;
+use crate::tools::Tools;
 use crate::watched::Watched;
 use crate::writing::write_whole;
 use cred_book::{BookError, Keeper, Reply, Request};
@@ -35,7 +35,7 @@ pub(crate) enum AnswerLine {
 }
 
 impl AnswerLine {
-    /// Writes the line whole. Where that fails a proper front of it is written.
+    /// Writes the line whole. If that fails a proper prefix of it is written.
     pub(crate) fn write_to<W: Write>(self, writer: &mut Watched<W>) -> Result<(), ScriptFault>
         ensures done { OnOk result
             (Appends (W.contents (inner_of writer.old)) (W.contents (inner_of writer.new))
@@ -51,10 +51,9 @@ impl AnswerLine {
     }
 }
 
-/// Does the event on the keeper's book and the open tickets. Where there is no memory the book
-/// stays.
+/// Does the event on the keeper's book and the open tickets. If memory runs out the book stays.
 pub(crate) fn do_event<T: Threads + Wait + Sync, K: Keeper>(
-    resources: &Resources<'_, T>,
+    tools: &Tools<'_, T>,
     keeper: &mut K,
     tickets: &mut Tickets,
     event: Event,
@@ -66,21 +65,21 @@ pub(crate) fn do_event<T: Threads + Wait + Sync, K: Keeper>(
     ensures refused { OnErr result (K.book keeper.new ≡ K.book keeper.old) }
 {
     match event {
-        Event::Account(name) => match keeper.admit(resources.rt, name) {
+        Event::Account(name) => match keeper.admit(tools.rt, name) {
             Ok(()) => Ok(AnswerLine::Fixed(b"ok\n")),
             Err(refusal) => refused(refusal),
         },
-        Event::Load(name, stored) => match keeper.load(resources.rt, &name, stored) {
+        Event::Load(name, stored) => match keeper.load(tools.rt, &name, stored) {
             Ok(()) => Ok(AnswerLine::Fixed(b"ok\n")),
             Err(refusal) => refused(refusal),
         },
         Event::Show(name) => match keeper.show(&name) {
             Ok(None) => Ok(AnswerLine::Fixed(b"none\n")),
-            Ok(Some(stored)) => shown(resources.alloc, &stored),
+            Ok(Some(stored)) => shown(tools.alloc, &stored),
             Err(refusal) => refused(refusal),
         },
         Event::Begin(key, request) => Ok(begin(keeper, tickets, key, request)),
-        Event::Commit(key) => commit(resources, keeper, tickets, key),
+        Event::Commit(key) => commit(tools, keeper, tickets, key),
         Event::Bad(why) => Ok(bad(why)),
     }
 }
@@ -103,7 +102,7 @@ fn begin<K: Keeper>(keeper: &K, tickets: &mut Tickets, key: Key, request: Reques
 }
 
 fn commit<T: Threads + Wait + Sync, K: Keeper>(
-    resources: &Resources<'_, T>,
+    tools: &Tools<'_, T>,
     keeper: &mut K,
     tickets: &mut Tickets,
     key: Key,
@@ -115,17 +114,19 @@ fn commit<T: Threads + Wait + Sync, K: Keeper>(
     let Some(ticket) = tickets.close(key) else {
         return Ok(bad(Refusal::Idle));
     };
-    let Ok(worked) = ticket.work(resources.rt, resources.alloc, resources.workers, &NoGate) else {
+    let Ok(worked) = ticket.work(tools.rt, tools.alloc, tools.workers, &NoGate) else {
         return Err(AllocError);
     };
-    let Ok(reply) = keeper.commit(resources.rt, worked) else {
+    let Ok(reply) = keeper.commit(tools.rt, worked) else {
         return Err(AllocError);
     };
     Ok(AnswerLine::Fixed(reply_line(&reply)))
 }
 
-fn reply_line(reply: &Reply) -> &'static [u8]
-    ensures { result.now ≡ line_of (reply_answer reply.now) }
+/// The reply's word with the line end. It stands ready, so that a change that was made needs no
+/// memory for its answer.
+pub fn reply_line(reply: &Reply) -> &'static [u8]
+    ensures { result.now ≡ reply_line reply.now }
 {
     match reply {
         Reply::Enrolled => b"enrolled\n",

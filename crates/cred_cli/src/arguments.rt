@@ -34,12 +34,14 @@ static CHECK: HelpTexts = HelpTexts {
 const AFTER_HELP: &str = "\
 Examples:
   printf 'account a\\nshow a\\n' | credbook run
-  credbook hash '$argon2id$v=19$m=19456,t=2,p=1$c29tZXNhbHQ' c2VjcmV0
+  salt=$(head -c 16 /dev/urandom | base64 -w0 | tr -d =)
+  credbook hash '$argon2id$v=19$m=65536,t=3,p=4$'\"$salt\" c2VjcmV0
   credbook check \"$record\" c2VjcmV0
 A password stands in base64: printf %s secret | base64 -w0 | tr -d =
+A salt has to be fresh for each record: equal ones show which accounts have equal passwords.
 
 Exit statuses:
-  0  done; `check` said yes
+  0  done, whatever lines of a script were refused; `check` said yes
   1  a word, a setting, a record or a password was refused, or help was asked for
   2  reading or writing failed, or the script has over 1048576 bytes
   3  out of memory
@@ -53,7 +55,7 @@ Commonest causes of a refusal:
   password  base64 with '=', or plain text
 docs/ERRORS.md has them all, by word.";
 
-/// What the words say; `clap`'s error where they don't parse.
+/// What the words say; `clap`'s error if they don't parse.
 pub(crate) fn matches_of<'a>(alloc: Global, words: &'a [&'a str]) -> Result<ArgMatches<'a>, Error>
     ensures matches { IfOk result (λ m. subcommand_rows_of m
         ≡ subcommand_of credbook (map (λ s. s.now) words.entry.now)) }
@@ -83,7 +85,7 @@ fn credbook<'a>(alloc: Global) -> Result<Command<'a>, AllocError>
 }
 
 /// The same with a subcommand on one setting or record. It is made here, so that no second command
-/// stands where the caller may end early.
+/// lives while the caller may end early.
 fn with_one<'a>(
     alloc: Global,
     command: Command<'a>,

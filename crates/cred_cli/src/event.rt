@@ -161,7 +161,7 @@ fn begin_event(fields: &[&[u8]]) -> Result<Event, Refusal>
     Ok(Event::Begin(key, request))
 }
 
-/// The operation of this word, if it has so many fields of its own behind the password.
+/// The operation of this word, if it has so many fields of its own after the password.
 fn operation_of(word: &[u8], own: &[&[u8]]) -> Result<Operation, Refusal>
     ensures { result ≡ operation_of word.now (map (λ s. s.now) own.now) }
 {

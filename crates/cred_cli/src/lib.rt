@@ -1,13 +1,15 @@
-//! The script engine: lines that ask for operations on a book, and an answer line for each.
+//! The library of the program `credbook`: the script engine, with lines that ask for operations on
+//! a book and an answer line for each, and the program's words.
 //!
 //! [`run_script`] runs a script on any keeper of a book, [`serve`] answers lines without end in the
-//! same way, and [`command`] is the program `credbook`: a script on an empty book, or one record
-//! made or judged.
+//! same way, and [`command`] is the program: a script on an empty book, or one record made or
+//! judged. The book itself is `cred_book`'s.
 #![tactic(auto)]
 
 mod answer;
 mod arguments;
 mod event;
+mod exit_status;
 mod fault;
 mod fields;
 mod key;
@@ -19,21 +21,22 @@ mod process;
 mod program;
 mod progress;
 mod refusal;
-mod resources;
+mod run;
 mod script;
 mod service;
-mod session;
 mod single;
-mod status;
 mod tickets;
+mod tools;
 mod watched;
 mod writing;
 
+pub use answer::reply_line;
 pub use fault::ScriptFault;
 pub use laws::{history_is_a_front, line_is_its_events, names_are_the_books};
 pub use process::run_program;
 pub use program::command;
 pub use script::{End, run_script};
 pub use service::serve;
+pub use tools::Tools;
 pub use watched::Watched;
 pub use writing::write_whole;

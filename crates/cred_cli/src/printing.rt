@@ -3,11 +3,11 @@
 ghost use Rattle.std.specs.Prelude.{◌≡◌};
 ghost use Rattle.cred_cli.specs.Commands.{Prints};
 ghost use Rattle.cred_cli.specs.Statuses.{status_number, status_of};
-ghost use Rattle.cred_cli.specs.Watched.{failed_of, inner_of};
+ghost use Rattle.cred_cli.specs.Watched.{writing};
 
+use crate::exit_status::ExitStatus;
 use crate::fault::ScriptFault;
 use crate::refusal::Refusal;
-use crate::status::Status;
 use crate::watched::Watched;
 use crate::writing::write_whole;
 use std::io::Write;
@@ -17,10 +17,10 @@ pub(crate) fn print<W: Write, F: Write>(
     writer: &mut Watched<W>,
     faults: &mut F,
     line: &[u8],
-    good: Status,
-) -> Status
-    ensures { Prints line.now good (W.contents (inner_of writer.old))
-        (W.contents (inner_of writer.new)) (failed_of writer.new) (status_number result) }
+    good: ExitStatus,
+) -> ExitStatus
+    ensures { Prints line.now good (writing W.contents writer.old writer.new)
+        (status_number result) }
 {
     match write_whole(writer, line) {
         Ok(()) => good,
@@ -29,20 +29,20 @@ pub(crate) fn print<W: Write, F: Write>(
 }
 
 /// Names the fault on `faults`, and gives its status.
-pub(crate) fn failed<F: Write>(faults: &mut F, fault: ScriptFault) -> Status
+pub(crate) fn failed<F: Write>(faults: &mut F, fault: ScriptFault) -> ExitStatus
     ensures { result ≡ status_of fault }
 {
     let _ = writeln!(faults, "credbook: {}", fault.word());
     match fault {
-        ScriptFault::Read | ScriptFault::Write | ScriptFault::TooLong => Status::Failed,
-        ScriptFault::Memory => Status::OutOfMemory,
+        ScriptFault::Read | ScriptFault::Write | ScriptFault::TooLong => ExitStatus::Failed,
+        ScriptFault::Memory => ExitStatus::OutOfMemory,
     }
 }
 
 /// Says on `faults` why a value is refused.
-pub(crate) fn refused<F: Write>(faults: &mut F, why: Refusal) -> Status
-    ensures { result ≡ Status.Refused }
+pub(crate) fn refused<F: Write>(faults: &mut F, why: Refusal) -> ExitStatus
+    ensures { result ≡ ExitStatus.Refused }
 {
     let _ = writeln!(faults, "credbook: {} {}", why.number(), why.word());
-    Status::Refused
+    ExitStatus::Refused
 }

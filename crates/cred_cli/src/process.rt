@@ -5,8 +5,8 @@ ghost use Rattle.std.specs.Prelude.{◌≡◌, ◌⊎◌, MatchResult};
 ghost use Rattle.std.specs.Process.{exit_status};
 ghost use Rattle.cred_cli.specs.Statuses.{status_number};
 
+use crate::exit_status::ExitStatus;
 use crate::program::command;
-use crate::status::Status;
 use crate::watched::Watched;
 use std::env::Env;
 use std::io::{ErrorKind, Read, Write};
@@ -16,8 +16,8 @@ use std::thread::Threads;
 use std::{env, io};
 
 /// Runs [`command`] on the words that the process was started with, and gives its status to the
-/// shell. A word that isn't UTF-8 is named on `faults`, and is 1; want of memory for the words is
-/// 3.
+/// shell. A word that isn't UTF-8 is named on `faults`, and is 1; running out of memory for the
+/// words is 3.
 pub fn run_program<R, I, O, F>(rt: &R, input: I, output: O, faults: &mut F) -> ExitCode
 where
     R: Env + AllocGlobal + Threads + Wait + Sync,
@@ -36,18 +36,18 @@ where
     exit_code(&ended)
 }
 
-/// The status of the command, where there was memory for its words and they are UTF-8.
+/// The status of the command, if there was memory for its words and they are UTF-8.
 fn exit_code(ended: &io::Result<u8>) -> ExitCode
     ensures { MatchResult ended.now (λ status. exit_status result ≡ status)
-        (λ _. (exit_status result ≡ status_number Status.Refused)
-        ⊎ (exit_status result ≡ status_number Status.OutOfMemory)) }
+        (λ _. (exit_status result ≡ status_number ExitStatus.Refused)
+        ⊎ (exit_status result ≡ status_number ExitStatus.OutOfMemory)) }
 {
     match ended {
         Ok(status) => ExitCode::from(*status),
         Err(error) if error.kind() == ErrorKind::OutOfMemory => {
-            ExitCode::from(Status::OutOfMemory.number())
+            ExitCode::from(ExitStatus::OutOfMemory.number())
         },
-        Err(_) => ExitCode::from(Status::Refused.number()),
+        Err(_) => ExitCode::from(ExitStatus::Refused.number()),
     }
 }
 

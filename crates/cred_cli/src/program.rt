@@ -1,20 +1,19 @@
 //! The program behind `main`.
 
 ghost use Rattle.std.specs.Prelude.{◌≡◌, ◌⊎◌, [], false, map};
-ghost use Rattle.std.specs.Io.KnownBytes.{Keeps};
 ghost use Rattle.clap.specs.Words.{fault_of, subcommand_of, subcommand_rows_of};
 ghost use Rattle.cred_cli.specs.Arguments.{credbook};
 ghost use Rattle.cred_cli.specs.Commands.{Acts, Ends, Runs, is_run};
 ghost use Rattle.cred_cli.specs.Statuses.{status_number};
-ghost use Rattle.cred_cli.specs.Watched.{IsNew, failed_of, inner_of};
+ghost use Rattle.cred_cli.specs.Watched.{IsNew, reading, writing};
 
 use crate::arguments::{matches_of, workers_of};
+use crate::exit_status::ExitStatus;
 use crate::fault::ScriptFault;
 use crate::printing::failed;
-use crate::resources::Resources;
 use crate::script::run_script;
 use crate::single::{check, hash};
-use crate::status::Status;
+use crate::tools::Tools;
 use crate::watched::Watched;
 use clap::ArgMatches;
 use clap::error::ErrorKind;
@@ -27,11 +26,11 @@ use std::thread::Threads;
 /// Runs the program on the words after its name, and answers its exit status. No call was made on
 /// the reader or the writer before.
 ///
-/// `run` runs a script on an empty book: 0 where it was answered whole, 2 after the faults `Read`,
+/// `run` runs a script on an empty book: 0 if it was answered whole, 2 after the faults `Read`,
 /// `Write` and `TooLong`. `hash` prints the record of a password: 0. `check` prints `yes`, 0, or
 /// `no`, 4. A bad setting, record or password, and words that don't parse, are 1; a failed write is
-/// 2; want of memory is 3. Only `run` calls the reader. What ended it is named on `faults`, as
-/// `credbook: read`, or by `clap`'s text. Whether `faults` takes its text changes nothing.
+/// 2; running out of memory is 3. Only `run` calls the reader. What ended it is named on `faults`,
+/// as `credbook: read`, or by `clap`'s text. Whether `faults` takes its text changes nothing.
 pub fn command<T: Threads + Wait + Sync, R: Read, W: Write, F: Write>(
     rt: &T,
     alloc: Global,
@@ -44,16 +43,12 @@ pub fn command<T: Threads + Wait + Sync, R: Read, W: Write, F: Write>(
     requires new_writer { IsNew writer.old }
     ensures acts { fault_of credbook (map (λ s. s.now) words.entry.now) ≡ []
         → Acts (subcommand_of credbook (map (λ s. s.now) words.entry.now))
-        (R.remaining (inner_of reader.old)) (R.remaining (inner_of reader.new))
-        (W.contents (inner_of writer.old)) (W.contents (inner_of writer.new))
-        (failed_of reader.new) (failed_of writer.new) result
-        ⊎ Ends Status.OutOfMemory (W.contents (inner_of writer.old))
-        (W.contents (inner_of writer.new)) result }
+        (reading R.remaining reader.old reader.new)
+        (writing W.contents writer.old writer.new) result
+        ⊎ Ends ExitStatus.OutOfMemory (writing W.contents writer.old writer.new) result }
     ensures refused { (fault_of credbook (map (λ s. s.now) words.entry.now) ≡ [] → ⊥)
-        → Ends Status.Refused (W.contents (inner_of writer.old))
-        (W.contents (inner_of writer.new)) result
-        ⊎ Ends Status.OutOfMemory (W.contents (inner_of writer.old))
-        (W.contents (inner_of writer.new)) result }
+        → Ends ExitStatus.Refused (writing W.contents writer.old writer.new) result
+        ⊎ Ends ExitStatus.OutOfMemory (writing W.contents writer.old writer.new) result }
     ensures unread { is_run (subcommand_of credbook (map (λ s. s.now) words.entry.now)) ≡ false
         → reader.new ≡ reader.old }
     ensures unparsed { (fault_of credbook (map (λ s. s.now) words.entry.now) ≡ [] → ⊥)
@@ -66,7 +61,7 @@ pub fn command<T: Threads + Wait + Sync, R: Read, W: Write, F: Write>(
                 return failed(faults, ScriptFault::Memory).number();
             }
             let _ = write!(faults, "{error}");
-            Status::Refused.number()
+            ExitStatus::Refused.number()
         }
     }
 }
@@ -78,57 +73,55 @@ fn act<T: Threads + Wait + Sync, R: Read, W: Write, F: Write>(
     reader: &mut Watched<R>,
     writer: &mut Watched<W>,
     faults: &mut F,
-) -> Status
+) -> ExitStatus
     requires new_reader { IsNew reader.old }
     requires new_writer { IsNew writer.old }
     ensures acts { Acts (subcommand_rows_of matches.now)
-        (R.remaining (inner_of reader.old)) (R.remaining (inner_of reader.new))
-        (W.contents (inner_of writer.old)) (W.contents (inner_of writer.new))
-        (failed_of reader.new) (failed_of writer.new) (status_number result) }
+        (reading R.remaining reader.old reader.new)
+        (writing W.contents writer.old writer.new) (status_number result) }
     ensures unread { is_run (subcommand_rows_of matches.now) ≡ false
         → reader.new ≡ reader.old }
 {
     let Some((word, values)) = matches.subcommand() else {
-        return Status::Refused;
+        return ExitStatus::Refused;
     };
-    let resources = Resources {
+    let tools = Tools {
         rt,
         alloc,
         workers: workers_of(values),
     };
     if word == "run" {
-        return run(&resources, reader, writer, faults);
+        return run(&tools, reader, writer, faults);
     }
     if word == "hash" {
-        return hash(&resources, values, writer, faults);
+        return hash(&tools, values, writer, faults);
     }
-    check(&resources, values, writer, faults)
+    check(&tools, values, writer, faults)
 }
 
 fn run<T: Threads + Wait + Sync, R: Read, W: Write, F: Write>(
-    resources: &Resources<'_, T>,
+    tools: &Tools<'_, T>,
     reader: &mut Watched<R>,
     writer: &mut Watched<W>,
     faults: &mut F,
-) -> Status
+) -> ExitStatus
     requires new_reader { IsNew reader.old }
     requires new_writer { IsNew writer.old }
-    ensures { Runs (R.remaining (inner_of reader.old)) (R.remaining (inner_of reader.new))
-        (W.contents (inner_of writer.old)) (W.contents (inner_of writer.new))
-        (failed_of reader.new) (failed_of writer.new) (status_number result) }
+    ensures { Runs (reading R.remaining reader.old reader.new)
+        (writing W.contents writer.old writer.new) (status_number result) }
 {
-    let Ok(mut book) = Book::new(resources.alloc) else {
+    let Ok(mut book) = Book::new(tools.alloc) else {
         return failed(faults, ScriptFault::Memory);
     };
     match run_script(
-        resources.rt,
-        resources.alloc,
-        resources.workers,
+        tools.rt,
+        tools.alloc,
+        tools.workers,
         &mut book,
         reader,
         writer,
     ) {
-        Ok(_) => Status::Done,
+        Ok(_) => ExitStatus::Done,
         Err(fault) => failed(faults, fault),
     }
 }

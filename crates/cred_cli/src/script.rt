@@ -7,8 +7,8 @@ ghost use Rattle.cred_cli.specs.Watched.{IsNew, calls_of, failed_of, inner_of};
 
 use crate::fault::ScriptFault;
 use crate::limit::Limit;
-use crate::resources::Resources;
-use crate::session::answer_all;
+use crate::run::answer_all;
+use crate::tools::Tools;
 use crate::watched::Watched;
 use cred_book::Keeper;
 use std::alloc::Global;
@@ -28,8 +28,8 @@ pub struct End {
 /// `workers` threads hash. No call was made on the reader or the writer before. The writer is one
 /// that holds nothing back, as it is never flushed.
 ///
-/// Errors: `Read` or `Write` where a call on the reader or the writer failed; `Memory` where there
-/// is none; `TooLong` where the script has more bytes.
+/// Errors: `Read` or `Write` if a call on the reader or the writer failed; `Memory` if it runs out;
+/// `TooLong` if the script has more bytes.
 pub fn run_script<T: Threads + Wait + Sync, K: Keeper, R: Read, W: Write>(
     rt: &T,
     alloc: Global,
@@ -52,6 +52,6 @@ pub fn run_script<T: Threads + Wait + Sync, K: Keeper, R: Read, W: Write>(
     ensures cause { IfErr result (HasCause (failed_of reader.new) (failed_of writer.new)) }
     ensures calls { calls_of reader.new ≤ most_calls }
 {
-    let resources = Resources { rt, alloc, workers };
-    answer_all(&resources, Limit::script(), keeper, reader, writer)
+    let tools = Tools { rt, alloc, workers };
+    answer_all(&tools, Limit::script(), keeper, reader, writer)
 }

@@ -6,9 +6,9 @@ ghost use Rattle.cred_cli.specs.Watched.{IsNew, calls_of, failed_of, inner_of};
 
 use crate::fault::ScriptFault;
 use crate::limit::Limit;
-use crate::resources::Resources;
+use crate::run::answer_all;
 use crate::script::End;
-use crate::session::answer_all;
+use crate::tools::Tools;
 use crate::watched::Watched;
 use cred_book::Keeper;
 use std::alloc::Global;
@@ -26,8 +26,8 @@ use std::thread::Threads;
 /// `workers` threads hash. No call was made on the reader or the writer before. The writer is one
 /// that holds nothing back, as it is never flushed.
 ///
-/// Errors: `Read` or `Write` if a call on the reader or the writer failed; `Memory` if there is
-/// none; `TooLong` after 2^64 - 2 bytes, which take centuries to come.
+/// Errors: `Read` or `Write` if a call on the reader or the writer failed; `Memory` if it runs out;
+/// `TooLong` after 2^64 - 2 bytes, which take centuries to come.
 pub fn serve<T: Threads + Wait + Sync, K: Keeper, R: Read, W: Write>(
     rt: &T,
     alloc: Global,
@@ -51,6 +51,6 @@ pub fn serve<T: Threads + Wait + Sync, K: Keeper, R: Read, W: Write>(
     ensures calls { IfSome (R.remaining (inner_of reader.old))
         (λ bytes. calls_of reader.new ≤ length bytes + 1) }
 {
-    let resources = Resources { rt, alloc, workers };
-    answer_all(&resources, Limit::service(), keeper, reader, writer)
+    let tools = Tools { rt, alloc, workers };
+    answer_all(&tools, Limit::service(), keeper, reader, writer)
 }

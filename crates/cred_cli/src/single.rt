@@ -7,16 +7,16 @@ ghost use Rattle.cred_book.specs.Works.{new_record};
 ghost use Rattle.cred_cli.specs.Commands.{Checks, Hashes, password_word, record_line, to_check};
 ghost use Rattle.cred_cli.specs.Commands.{to_hash};
 ghost use Rattle.cred_cli.specs.Statuses.{status_number};
-ghost use Rattle.cred_cli.specs.Watched.{failed_of, inner_of};
+ghost use Rattle.cred_cli.specs.Watched.{writing};
 
 use crate::answer::record_line;
 use crate::arguments::value;
+use crate::exit_status::ExitStatus;
 use crate::fault::ScriptFault;
 use crate::fields;
 use crate::printing::{failed, print, refused};
 use crate::refusal::Refusal;
-use crate::resources::Resources;
-use crate::status::Status;
+use crate::tools::Tools;
 use crate::watched::Watched;
 use clap::ArgMatches;
 use cred_phc::{Password, Record, Setting};
@@ -26,22 +26,21 @@ use std::thread::Threads;
 
 /// Prints the record of the password under the setting, with a tag of 32 bytes.
 pub(crate) fn hash<T: Threads + Sync, W: Write, F: Write>(
-    resources: &Resources<'_, T>,
+    tools: &Tools<'_, T>,
     values: &ArgMatches<'_>,
     writer: &mut Watched<W>,
     faults: &mut F,
-) -> Status
+) -> ExitStatus
     ensures { Hashes (first_of (codes "setting") (rows_of (found_of values.now)))
         (first_of (codes "password") (rows_of (found_of values.now)))
-        (W.contents (inner_of writer.old)) (W.contents (inner_of writer.new))
-        (failed_of writer.new) (status_number result) }
+        (writing W.contents writer.old writer.new) (status_number result) }
 {
     let Some(text) = value(values, "setting") else {
-        return Status::Refused;
+        return ExitStatus::Refused;
     };
     match to_hash(text, value(values, "password")) {
-        Ok((setting, pw)) => match hash_line(resources, &setting, &pw) {
-            Ok(line) => print(writer, faults, &line, Status::Done),
+        Ok((setting, pw)) => match hash_line(tools, &setting, &pw) {
+            Ok(line) => print(writer, faults, &line, ExitStatus::Done),
             Err(_) => failed(faults, ScriptFault::Memory),
         },
         Err(why) => refused(faults, why),
@@ -50,23 +49,22 @@ pub(crate) fn hash<T: Threads + Sync, W: Write, F: Write>(
 
 /// Prints whether the record is one of the password.
 pub(crate) fn check<T: Threads + Sync, W: Write, F: Write>(
-    resources: &Resources<'_, T>,
+    tools: &Tools<'_, T>,
     values: &ArgMatches<'_>,
     writer: &mut Watched<W>,
     faults: &mut F,
-) -> Status
+) -> ExitStatus
     ensures { Checks (first_of (codes "record") (rows_of (found_of values.now)))
         (first_of (codes "password") (rows_of (found_of values.now)))
-        (W.contents (inner_of writer.old)) (W.contents (inner_of writer.new))
-        (failed_of writer.new) (status_number result) }
+        (writing W.contents writer.old writer.new) (status_number result) }
 {
     let Some(text) = value(values, "record") else {
-        return Status::Refused;
+        return ExitStatus::Refused;
     };
     match to_check(text, value(values, "password")) {
-        Ok((stored, pw)) => match resources.hashing().is_right(&stored, &pw) {
-            Ok(true) => print(writer, faults, b"yes\n", Status::Done),
-            Ok(false) => print(writer, faults, b"no\n", Status::No),
+        Ok((stored, pw)) => match tools.hashing().is_right(&stored, &pw) {
+            Ok(true) => print(writer, faults, b"yes\n", ExitStatus::Done),
+            Ok(false) => print(writer, faults, b"no\n", ExitStatus::No),
             Err(_) => failed(faults, ScriptFault::Memory),
         },
         Err(why) => refused(faults, why),
@@ -102,15 +100,12 @@ fn password_word(pw: Option<&str>) -> Result<Password, Refusal>
 }
 
 fn hash_line<T: Threads + Sync>(
-    resources: &Resources<'_, T>,
+    tools: &Tools<'_, T>,
     setting: &Setting,
     pw: &Password,
 ) -> Result<Vec<u8>, AllocError>
     ensures { IfOk result (λ line. line.items ≡ record_line (new_record setting.now pw.now)) }
 {
-    let stored = resources
-        .hashing()
-        .made(setting, pw)
-        .map_err(|_| AllocError)?;
-    record_line(resources.alloc, &stored)
+    let stored = tools.hashing().made(setting, pw).map_err(|_| AllocError)?;
+    record_line(tools.alloc, &stored)
 }

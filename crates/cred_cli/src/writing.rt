@@ -11,8 +11,8 @@ use std::io::Write;
 
 /// Writes all the bytes, in as many calls as the writer needs.
 ///
-/// Errors: `Write` where a call fails, an interrupted one included, or takes no byte; a proper
-/// prefix of the bytes is written then.
+/// Errors: `Write` if a call fails, an interrupted one included, or takes no byte; a proper prefix
+/// of the bytes is written then.
 pub fn write_whole<W: Write>(writer: &mut Watched<W>, bytes: &[u8]) -> Result<(), ScriptFault>
     ensures done { OnOk result
         (Appends (W.contents (inner_of writer.old)) (W.contents (inner_of writer.new)) bytes.now) }

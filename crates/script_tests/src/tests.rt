@@ -41,7 +41,7 @@ static PLACES: [(&str, &str); 7] = [
     ("{SCRYPT}", SCRYPT),
 ];
 
-/// The text with passwords, settings and records in the place of their names.
+/// The text with passwords, settings and records in place of their names.
 fn filled_in<R: Abort>(rt: &R, alloc: Global, text: &str) -> String {
     let mut text = text.to_string(alloc).expect(rt, "memory");
     for (place, value) in &PLACES {
@@ -66,7 +66,7 @@ type Shown<'a> = Result<Option<&'a str>, BookError>;
 
 /// Holds what was seen against what it is to be; `at` says in which row or step.
 ///
-/// The tests end here where they fail, so that none has an end of its own beside a book or a text.
+/// The tests end here if they fail, so that none has an end of its own beside a book or a text.
 fn hold_bytes<R: Abort>(rt: &R, at: usize, seen: &[u8], want: &str) {
     assert_eq!(rt; seen, want.as_bytes(), "at {at}");
 }

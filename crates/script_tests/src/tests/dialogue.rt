@@ -17,7 +17,7 @@ pub(super) struct Dialogue {
     pub(super) answers: String,
 }
 
-/// A worked script by its name: each line with its answer, behind `account a`.
+/// A worked script by its name: each line with its answer, after `account a`.
 pub(super) struct Case {
     pub(super) name: &'static str,
     pub(super) lines: &'static [Line<'static>],
@@ -86,7 +86,7 @@ impl Dialogue {
         dialogue.filled_in(rt, alloc)
     }
 
-    /// One of these lines, behind `account a`.
+    /// One of these lines, after `account a`.
     pub(super) fn behind_account<R: Abort>(
         rt: &R,
         alloc: Global,
@@ -98,7 +98,7 @@ impl Dialogue {
         dialogue.filled_in(rt, alloc)
     }
 
-    /// The same with each password, setting and record in the place of its name.
+    /// The same with each password, setting and record in place of its name.
     fn filled_in<R: Abort>(self, rt: &R, alloc: Global) -> Dialogue {
         Dialogue {
             name: self.name,

@@ -17,8 +17,8 @@ use std::sync::Wait;
 use std::thread::Threads;
 use test_samples::{A, B, SCRYPT};
 
-/// Keeps an account a book, in the order in which they came. It refuses one load and one commit for
-/// want of memory.
+/// Keeps an account a book, in the order in which they came. It refuses one load and one commit
+/// because memory ran out.
 #[derive(Drop)]
 pub(super) struct Shelf {
     alloc: Global,
@@ -26,7 +26,8 @@ pub(super) struct Shelf {
     loads_before_refusal: usize,
     commits_before_refusal: usize,
 
-    ghost one_each: { map.len (map.from_entries {R = name_cmp} (flat_map map.entries books.items)) ≡ length books.items },
+    ghost one_each: { map.len (map.from_entries {R = name_cmp} (flat_map map.entries books.items))
+        ≡ length books.items },
 }
 
 impl Shelf {
@@ -50,7 +51,8 @@ impl Keeper for Shelf {
     ghost use Rattle.std.specs.FinMap as map;
     ghost use Rattle.cred_book.specs.Names.{name_cmp};
 
-    ghost book = { λ shelf. map.from_entries {R = name_cmp} (flat_map map.entries shelf.books.items) };
+    ghost book = { λ shelf.
+        map.from_entries {R = name_cmp} (flat_map map.entries shelf.books.items) };
 
     fn admit<R: Wait>(&mut self, _rt: &R, name: Name) -> Result<(), BookError> {
         match place_of(&self.books, &name) {
@@ -124,9 +126,12 @@ fn one_account(alloc: Global, name: Name) -> Result<Book, BookError>
 /// The first book with the account.
 fn place_of(books: &[Book], name: &Name) -> Option<usize>
     ensures { MatchOption result
-        ((k : ℕ) → k < length books.now → map.contains_key (slice_index_or books.now k map.empty) name.now ≡ false)
-        (λ i. (i < length books.now) × (map.contains_key (slice_index_or books.now i map.empty) name.now ≡ true)
-        × ((k : ℕ) → k < i → map.contains_key (slice_index_or books.now k map.empty) name.now ≡ false)) }
+        ((k : ℕ) → k < length books.now
+        → map.contains_key (slice_index_or books.now k map.empty) name.now ≡ false)
+        (λ i. (i < length books.now)
+        × (map.contains_key (slice_index_or books.now i map.empty) name.now ≡ true)
+        × ((k : ℕ) → k < i
+        → map.contains_key (slice_index_or books.now k map.empty) name.now ≡ false)) }
 {
     for i in 0..books.len() {
         if books[i].show(name).is_ok() {

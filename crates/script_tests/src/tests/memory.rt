@@ -1,4 +1,4 @@
-//! What want of memory leaves. These tests hold whichever request is refused:
+//! What running out of memory leaves. These tests hold whichever request is refused:
 //! tools/refuse_memory.py refuses each in turn.
 use super::committers::run_on_committer;
 use super::keepers::Shelf;
@@ -12,11 +12,40 @@ use std::thread::Threads;
 use test_samples::{A, B};
 
 /// A script, and what it is answered.
-const SCRIPT: &str =
-    "account a\nload a $argon2id$v=19$m=256,t=2,p=1$c29tZXNhbHQ$nf65EOgLrQMR/uIPnA4rEsF5h7TKyQwu9U1bMCHGi/4\nshow a\naccount a\nbegin 0 look\nbegin 1 verify a cGFzc3dvcmQ\nbegin 2 upgrade a cGFzc3dvcmQ $argon2id$v=19$m=256,t=2,p=2$c29tZXNhbHQ\nbegin 2 verify a -\ncommit 2\nshow a\ncommit 1\ncommit 1\nbegin 3 remove a cGFzc3dvcmQ\ncommit 3\nshow a";
+const SCRIPT: &str = "\
+account a
+load a $argon2id$v=19$m=256,t=2,p=1$c29tZXNhbHQ$nf65EOgLrQMR/uIPnA4rEsF5h7TKyQwu9U1bMCHGi/4
+show a
+account a
+begin 0 look
+begin 1 verify a cGFzc3dvcmQ
+begin 2 upgrade a cGFzc3dvcmQ $argon2id$v=19$m=256,t=2,p=2$c29tZXNhbHQ
+begin 2 verify a -
+commit 2
+show a
+commit 1
+commit 1
+begin 3 remove a cGFzc3dvcmQ
+commit 3
+show a";
 
-const ANSWERS: &str =
-    "ok\nok\n$argon2id$v=19$m=256,t=2,p=1$c29tZXNhbHQ$nf65EOgLrQMR/uIPnA4rEsF5h7TKyQwu9U1bMCHGi/4\nbad 1 exists\nbad 11 line\nbegun\nbegun\nbad 14 busy\nupgraded\n$argon2id$v=19$m=256,t=2,p=2$c29tZXNhbHQ$bQk8UB/VmZZF4Oo79iDXuL5/0ttZwg2f/5U52iv1cDc\nchanged\nbad 15 idle\nbegun\nremoved\nnone\n";
+const ANSWERS: &str = "\
+ok
+ok
+$argon2id$v=19$m=256,t=2,p=1$c29tZXNhbHQ$nf65EOgLrQMR/uIPnA4rEsF5h7TKyQwu9U1bMCHGi/4
+bad 1 exists
+bad 11 line
+begun
+begun
+bad 14 busy
+upgraded
+$argon2id$v=19$m=256,t=2,p=2$c29tZXNhbHQ$bQk8UB/VmZZF4Oo79iDXuL5/0ttZwg2f/5U52iv1cDc
+changed
+bad 15 idle
+begun
+removed
+none
+";
 
 /// Holds whole answers from the front of those that the script has.
 fn hold_front<R: Abort>(rt: &R, whole: &str, written: &[u8]) {
@@ -35,7 +64,7 @@ fn shown_after(written: &[u8]) -> Shown<'static> {
     }
 }
 
-/// Holds the whole answers, or those that want of memory leaves; whether it was want of memory.
+/// Holds the whole answers, or those that running out of memory leaves; whether memory ran out.
 fn hold_answers<R: Abort>(rt: &R, end: Result<End, ScriptFault>, written: &[u8]) -> bool {
     if end == Ok(End { lines: 15 }) {
         hold_bytes(rt, 0, written, ANSWERS);
@@ -64,7 +93,7 @@ fn judge_into<K: Keeper, R: Threads + Wait + Sync + Abort>(
     }
 }
 
-/// The same, where there is room for the answers.
+/// The same, if there is room for the answers.
 fn judge_refused<K: Keeper, R: Threads + Wait + Sync + Abort>(
     rt: &R,
     alloc: Global,
@@ -132,7 +161,7 @@ fn judge_words_into<R: Threads + Wait + Sync + Abort>(
     hold_ended(rt, ended, &written, &faults, whole, status);
 }
 
-/// Runs the program on these words, where there is room for its output.
+/// Runs the program on these words, if there is room for its output.
 fn judge_words<R: Threads + Wait + Sync + Abort>(
     rt: &R,
     alloc: Global,

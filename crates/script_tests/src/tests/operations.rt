@@ -1,7 +1,7 @@
 //! Operations on an account, begun and committed, and their answers.
 use super::dialogue::{Case, judge_cases};
 
-/// Each behind `account a`, with settings that are cheap.
+/// Each after `account a`, with settings that are cheap.
 static OPERATIONS: [Case; 22] = [
     Case {
         name: "enrol",
@@ -144,7 +144,8 @@ static OPERATIONS: [Case; 22] = [
             ("commit 1", "upgraded"),
             (
                 "show a",
-                "$argon2i$v=19$m=256,t=2,p=1$c29tZXNhbHQ$iekCn0Y3spW+sCcFanM2xBT63UP2sghkUoHLIUpWRS8",
+                "$argon2i$v=19$m=256,t=2,p=1$c29tZXNhbHQ$\
+                    iekCn0Y3spW+sCcFanM2xBT63UP2sghkUoHLIUpWRS8",
             ),
         ],
     },
@@ -176,7 +177,8 @@ static OPERATIONS: [Case; 22] = [
             ("commit 1", "upgraded"),
             (
                 "show a",
-                "$argon2i$v=19$m=256,t=2,p=1$c29tZXNhbHQ$iekCn0Y3spW+sCcFanM2xBT63UP2sghkUoHLIUpWRS8",
+                "$argon2i$v=19$m=256,t=2,p=1$c29tZXNhbHQ$\
+                    iekCn0Y3spW+sCcFanM2xBT63UP2sghkUoHLIUpWRS8",
             ),
         ],
     },
@@ -185,7 +187,8 @@ static OPERATIONS: [Case; 22] = [
         name: "other_version_no",
         lines: &[
             (
-                "load a $argon2id$v=16$m=256,t=2,p=1$c29tZXNhbHQ$nf65EOgLrQMR/uIPnA4rEsF5h7TKyQwu9U1bMCHGi/4",
+                "load a $argon2id$v=16$m=256,t=2,p=1$c29tZXNhbHQ$\
+                    nf65EOgLrQMR/uIPnA4rEsF5h7TKyQwu9U1bMCHGi/4",
                 "ok",
             ),
             ("begin 1 verify a {PA}", "begun"),
@@ -294,13 +297,15 @@ static COSTLY: [Case; 4] = [
         lines: &[
             ("load a {A}", "ok"),
             (
-                "begin 1 change a {PA} ZGlmZmVyZW50cGFzc3dvcmQ $argon2id$v=19$m=65536,t=2,p=1$c29tZXNhbHQ",
+                "begin 1 change a {PA} ZGlmZmVyZW50cGFzc3dvcmQ \
+                    $argon2id$v=19$m=65536,t=2,p=1$c29tZXNhbHQ",
                 "begun",
             ),
             ("commit 1", "replaced"),
             (
                 "show a",
-                "$argon2id$v=19$m=65536,t=2,p=1$c29tZXNhbHQ$C4TWUs9rDEvq7w3+J4umqA32aWKB1+DSiRuBfYxFj94",
+                "$argon2id$v=19$m=65536,t=2,p=1$c29tZXNhbHQ$\
+                    C4TWUs9rDEvq7w3+J4umqA32aWKB1+DSiRuBfYxFj94",
             ),
         ],
     },

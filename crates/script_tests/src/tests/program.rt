@@ -59,7 +59,7 @@ fn judge_words<I: Read + Drop, R: Threads + Wait + Sync + Abort>(
     hold_told(rt, ran.status, &ran.output, &ran.faults, want);
 }
 
-/// The same, where what is written takes so many bytes.
+/// The same, if what is written takes so many bytes.
 fn judge_stingy<R: Threads + Wait + Sync + Abort>(
     rt: &R,
     alloc: Global,
@@ -250,24 +250,33 @@ fn single_writes_fail(rt: HostRuntime) {
 static UNREAD: [(&[&str], &str); 6] = [
     (
         &[],
-        "error: 'credbook' requires a subcommand but one was not provided\n  [subcommands: run, hash, check, help]\n\nUsage: credbook <COMMAND>\n\nFor more information, try '--help'.\n",
+        "error: 'credbook' requires a subcommand but one was not provided\n  \
+            [subcommands: run, hash, check, help]\n\n\
+            Usage: credbook <COMMAND>\n\nFor more information, try '--help'.\n",
     ),
     (&["--version"], "credbook 0.1.0\n"),
     (
         &["walk"],
-        "error: unrecognized subcommand 'walk'\n\nUsage: credbook <COMMAND>\n\nFor more information, try '--help'.\n",
+        "error: unrecognized subcommand 'walk'\n\n\
+            Usage: credbook <COMMAND>\n\nFor more information, try '--help'.\n",
     ),
     (
         &["run", "x"],
-        "error: unexpected argument 'x' found\n\nUsage: credbook run [OPTIONS]\n\nFor more information, try '--help'.\n",
+        "error: unexpected argument 'x' found\n\n\
+            Usage: credbook run [OPTIONS]\n\nFor more information, try '--help'.\n",
     ),
     (
         &["run", "--quiet"],
-        "error: unexpected argument '--quiet' found\n\nUsage: credbook run [OPTIONS]\n\nFor more information, try '--help'.\n",
+        "error: unexpected argument '--quiet' found\n\n\
+            Usage: credbook run [OPTIONS]\n\nFor more information, try '--help'.\n",
     ),
     (
         &["run", "--help"],
-        "Runs a script from standard input on an empty book, and answers each line on standard output\n\nUsage: credbook run [OPTIONS]\n\nOptions:\n      --workers <N>  How many threads may hash at once, from 1 to 64 [default: 1]\n  -h, --help         Print help\n",
+        "Runs a script from standard input on an empty book, \
+            and answers each line on standard output\n\n\
+            Usage: credbook run [OPTIONS]\n\nOptions:\n      \
+            --workers <N>  How many threads may hash at once, from 1 to 64 [default: 1]\n  \
+            -h, --help         Print help\n",
     ),
 ];
 

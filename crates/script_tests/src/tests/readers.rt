@@ -111,7 +111,7 @@ fn endless_reader(rt: HostRuntime) {
     hold_bytes(&rt, 0, &outcome.written, &answers);
 }
 
-/// Gives its bytes, so many a call. A call fails where not every whole line that it gave before has
+/// Gives its bytes, so many a call. A call fails if not every whole line that it gave before has
 /// its answer.
 #[derive(Drop)]
 struct Asking<'a> {

@@ -3,7 +3,7 @@ use super::dialogue::{Case, Dialogue, judge_cases};
 use std::alloc::Global;
 use std::process::Abort;
 
-/// Each behind `account a`.
+/// Each after `account a`.
 static REFUSALS: [Case; 4] = [
     Case {
         name: "operations_and_counts_come_before_fields",

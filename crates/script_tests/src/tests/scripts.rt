@@ -7,7 +7,7 @@ use std::alloc::Global;
 use std::process::Abort;
 use test_samples::A;
 
-/// Each behind `account a`.
+/// Each after `account a`.
 static LINES: [Case; 2] = [
     Case {
         name: "no_record",

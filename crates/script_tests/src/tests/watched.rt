@@ -7,8 +7,7 @@ use std::io::{Read, Write};
 use std::process::Abort;
 use std::{io, mem};
 
-/// What a call gave, none where it failed; how many calls there were then, and whether one has
-/// failed.
+/// What a call gave, none if it failed; how many calls there were then, and whether one has failed.
 type Seen = (Option<usize>, u64, bool);
 
 fn after_read<S: Read>(reader: &mut Watched<S>) -> Seen {

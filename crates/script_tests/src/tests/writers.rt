@@ -98,8 +98,8 @@ fn one_byte_a_call(rt: HostRuntime) {
     hold_bytes(&rt, 0, &ran.taken, answers);
 }
 
-/// How many lines are done where these bytes of the answers were taken: the line whose answer
-/// failed is done.
+/// How many lines are done if these bytes of the answers were taken: the line whose answer failed
+/// is done.
 fn done_lines(front: &str) -> usize {
     let done = front.lines().count();
     if front.is_empty() || front.ends_with('\n') {

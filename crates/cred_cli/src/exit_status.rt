@@ -5,7 +5,7 @@ ghost use Rattle.cred_cli.specs.Statuses.{status_number};
 
 /// How the program ended.
 #[derive(Clone, Copy)]
-pub(crate) enum Status {
+pub(crate) enum ExitStatus {
     /// All that was asked for was done; a record that was checked is the password's.
     Done,
     /// The words, or a setting, a record or a password among them, were refused.
@@ -18,17 +18,17 @@ pub(crate) enum Status {
     No,
 }
 
-impl Status {
+impl ExitStatus {
     /// The exit status: 0 to 4, in their order.
     pub(crate) fn number(self) -> u8
         ensures { result ≡ status_number self }
     {
         match self {
-            Status::Done => 0,
-            Status::Refused => 1,
-            Status::Failed => 2,
-            Status::OutOfMemory => 3,
-            Status::No => 4,
+            ExitStatus::Done => 0,
+            ExitStatus::Refused => 1,
+            ExitStatus::Failed => 2,
+            ExitStatus::OutOfMemory => 3,
+            ExitStatus::No => 4,
         }
     }
 }

@@ -1,0 +1,16 @@
+use Rattle.std.proofs.Common.{◌≡◌, ◌≤◌, ℕ, List, [], ◌++◌, length, Some}
+use Rattle.cred_cli.specs.Feeding.{IsAt, ScriptStart, standing}
+use Rattle.cred_cli.proofs.run.Run.read_all.Given as goal
+
+-- each call but the last gave a byte at least
+abbrev pub invariant-loop-call : goal.invariant-loop-call
+invariant-loop-call g l = record {
+  at : (script : ScriptStart) → g.R.Read.remaining l.fn.reader.inner ≡ Some script.bytes →
+      IsAt g.K.Keeper.capacity script [] (standing (g.W.Write.contents l.fn.writer.inner) (g.K.Keeper.book l.fn.keeper) l.fn.self) →
+      (front : List ℕ) × (rest : List ℕ) × (script.bytes ≡ front ++ rest) × (g.R.Read.remaining l.reader.inner ≡ Some rest)
+      × IsAt g.K.Keeper.capacity script front (standing (g.W.Write.contents l.writer.inner) (g.K.Keeper.book l.keeper) l.self);
+  limit : l.self.progress.limit ≡ l.fn.self.progress.limit;
+  calls : l.reader.calls ≡ l._call;
+  taken : l._call ≤ l.self.progress.taken;
+  size : length l.buffer ≡ 4096;
+}

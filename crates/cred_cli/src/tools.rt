@@ -1,0 +1,29 @@
+//! With what scripts are run and commands are done.
+
+ghost use Rattle.std.specs.Prelude.{◌≡◌};
+
+use cred_book::Hashing;
+use cred_pool::NoGate;
+use std::alloc::Global;
+
+/// The runtime, the allocator, and how many threads at most work one hash.
+#[derive(Drop)]
+pub struct Tools<'a, T> {
+    pub rt: &'a T,
+    pub alloc: Global,
+    pub workers: u8,
+}
+
+impl<'a, T> Tools<'a, T> {
+    /// Hashing with these, with no gate.
+    pub fn hashing(&self) -> Hashing<'a, T, NoGate>
+        ensures { result.workers ≡ self.now.workers }
+    {
+        Hashing {
+            rt: self.rt,
+            alloc: self.alloc,
+            workers: self.workers,
+            gate: &NoGate,
+        }
+    }
+}
