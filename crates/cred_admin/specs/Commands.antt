@@ -1,6 +1,6 @@
 -- What the commands on one account do.
 use Rattle.std.specs.Prelude.{◌≡◌, ◌⊎◌, ℕ, ◌≤◌, ◌<◌, List, [], length, Option, Some, None, IfSome}
-use Rattle.std.specs.Prelude.{Result, Ok, Err, Bool, true, false}
+use Rattle.std.specs.Prelude.{Result, Ok, Err, true, false}
 use Rattle.std.specs.FinMap as map
 use Rattle.std.specs.Io.KnownBytes.{Appends, Keeps}
 use Rattle.cred_phc.specs.Values.{RecordValue}
@@ -15,8 +15,9 @@ use Rattle.cred_admin.specs.declared.new_password.NewPassword.{NewPassword}
 use Rattle.cred_admin.specs.declared.new_password.EmptyPassword.TheVariants.{Refused}
 use Rattle.cred_admin.specs.declared.status.Hint.{Hint}
 use Rattle.cred_admin.specs.declared.status.Status.{Status}
-use Rattle.cred_admin.specs.Answers.{reply_line}
 use Rattle.cred_cli.specs.Outcome.{FrontWritten}
+use Rattle.cred_cli.specs.Texts.{reply_line}
+use Rattle.cred_cli.specs.Watched.{Writing}
 use Rattle.cred_admin.specs.Lines.{HasEmptyLine, IsAdmitted, ReadsLine, behind_line, line_before}
 use Rattle.cred_admin.specs.Seen.{Seen}
 use Rattle.cred_phc.specs.declared.password.TheConstants.{MAX_PASSWORD}
@@ -25,59 +26,57 @@ use Rattle.cred_admin.specs.Statuses.{hint_of, status_of}
 -- nothing was written, and the book is as it was
 pub record Stays (s : Seen) : Type 0 where
   pub book : s.new ≡ s.old
-  pub written : Keeps s.before s.now
+  pub written : Keeps s.writing.before s.writing.now
 
 -- the reply is written, the book is the one after the step, and the status says which it was
-pub record IsAnswered (step : Reply × Accounts) (hint : Option Hint) (new : Accounts)
-    (before now : Option (List ℕ)) (answer : Status) : Type 0 where
-  pub written : Appends before now (reply_line step.0)
+pub record IsAnswered (step : Reply × Accounts) (hint : Option Hint) (new : Accounts) (w : Writing)
+    (answer : Status) : Type 0 where
+  pub written : Appends w.before w.now (reply_line step.0)
   pub book : new ≡ step.1
   pub status : answer ≡ status_of step.0 hint
 
--- a call on the writer failed, a proper front of the reply is written, and the book is the one
+-- a call on the writer failed, a proper prefix of the reply is written, and the book is the one
 -- after the step
-pub record IsUnanswered (step : Reply × Accounts) (new : Accounts)
-    (before now : Option (List ℕ)) (failed : Bool) : Type 0 where
-  pub written : FrontWritten before now (reply_line step.0)
+pub record IsUnanswered (step : Reply × Accounts) (new : Accounts) (w : Writing) : Type 0 where
+  pub written : FrontWritten w.before w.now (reply_line step.0)
   pub book : new ≡ step.1
-  pub cause : failed ≡ true
+  pub cause : w.failed ≡ true
 
 -- the step was done and answered, or done and not answered, or not done
-abbrev pub Does : Reply × Accounts → Option Hint → Accounts → Accounts
-    → Option (List ℕ) → Option (List ℕ) → Bool → Result Status Fault → Type 0
-Does step hint old new before now failed (Ok status) = IsAnswered step hint new before now status
-Does step hint old new before now failed (Err fault.Write) =
-    IsUnanswered step new before now failed
-Does step hint old new before now failed (Err fault.Memory) = (new ≡ old) × Keeps before now
-Does step hint old new before now failed (Err _) = ⊥
+abbrev pub Does : Reply × Accounts → Option Hint → Accounts → Accounts → Writing
+    → Result Status Fault → Type 0
+Does step hint old new w (Ok status) = IsAnswered step hint new w status
+Does step hint old new w (Err fault.Write) = IsUnanswered step new w
+Does step hint old new w (Err fault.Memory) = (new ≡ old) × Keeps w.before w.now
+Does step hint old new w (Err _) = ⊥
 
 -- after this step, asked for with this password
 abbrev pub IsDone : Seen → List ℕ → Reply × Accounts → Status → Type 0
-IsDone s pw step status = IsAnswered step (hint_of pw) s.new s.before s.now status
+IsDone s pw step status = IsAnswered step (hint_of pw) s.new s.writing status
 
 abbrev pub IsDoneUntold : Seen → Reply × Accounts → Type 0
-IsDoneUntold s step = IsUnanswered step s.new s.before s.now s.writer_failed
+IsDoneUntold s step = IsUnanswered step s.new s.writing
 
 -- reading failed, and all is as it was
 abbrev pub FailsToRead : Seen → Type 0
-FailsToRead s = (s.reader_failed ≡ true) × Stays s
+FailsToRead s = (s.reading.failed ≡ true) × Stays s
 
 -- ---- the first line
 
 -- it is this, and what follows it is left
 abbrev pub TakesLine : Seen → List ℕ → Type 0
-TakesLine s pw = IfSome s.input (λ bytes. ReadsLine bytes s.left pw)
+TakesLine s pw = IfSome s.reading.input (λ bytes. ReadsLine bytes s.reading.left pw)
 
 -- there is none: the input ends before its first byte
 abbrev pub HasNoLine : Seen → Type 0
-HasNoLine s = IfSome s.input (λ bytes. bytes ≡ [])
+HasNoLine s = IfSome s.reading.input (λ bytes. bytes ≡ [])
 
 abbrev pub HasLongLine : Seen → Type 0
-HasLongLine s = IfSome s.input (λ bytes. MAX_PASSWORD < length (line_before bytes))
+HasLongLine s = IfSome s.reading.input (λ bytes. MAX_PASSWORD < length (line_before bytes))
 
 -- it is empty, and that wasn't asked for
 abbrev pub HasRefusedLine : NewPassword → Seen → Type 0
-HasRefusedLine new s = (new.empty ≡ Refused) × IfSome s.input HasEmptyLine
+HasRefusedLine new s = (new.empty ≡ Refused) × IfSome s.reading.input HasEmptyLine
 
 -- the password is the first line, and the step is that of a request with it; a fault in reading
 -- leaves all as it was
@@ -102,20 +101,21 @@ pub record ReadsLines (bytes : List ℕ) (left : Option (List ℕ)) (first secon
   pub second_is : ReadsLine (behind_line bytes) left second
 
 abbrev pub TakesLines : Seen → List ℕ → List ℕ → Type 0
-TakesLines s first second = IfSome s.input (λ bytes. ReadsLines bytes s.left first second)
+TakesLines s first second =
+    IfSome s.reading.input (λ bytes. ReadsLines bytes s.reading.left first second)
 
 -- the input ends before the second one's first byte
 abbrev pub HasNoSecondLine : Seen → Type 0
-HasNoSecondLine s = IfSome s.input (λ bytes. (0 < length bytes) × (behind_line bytes ≡ []))
+HasNoSecondLine s = IfSome s.reading.input (λ bytes. (0 < length bytes) × (behind_line bytes ≡ []))
 
 abbrev pub HasLongLines : Seen → Type 0
-HasLongLines s = IfSome s.input (λ bytes. (MAX_PASSWORD < length (line_before bytes))
+HasLongLines s = IfSome s.reading.input (λ bytes. (MAX_PASSWORD < length (line_before bytes))
     ⊎ (MAX_PASSWORD < length (line_before (behind_line bytes))))
 
 -- the second one is empty, and that wasn't asked for
 abbrev pub HasRefusedSecondLine : NewPassword → Seen → Type 0
 HasRefusedSecondLine new s =
-    (new.empty ≡ Refused) × IfSome s.input (λ bytes. HasEmptyLine (behind_line bytes))
+    (new.empty ≡ Refused) × IfSome s.reading.input (λ bytes. HasEmptyLine (behind_line bytes))
 
 -- the first line is the present password, and the second one the new one
 abbrev pub AsksTwice : NewPassword → (List ℕ → List ℕ → Request) → Seen → Result Status Fault
@@ -134,7 +134,7 @@ AsksTwice new request s (Err _) = ⊥
 
 -- ---- a record that is put there
 
--- the record is put where none stands, at an account that is added where it isn't there
+-- the record is put if there is none, at an account that is added if it isn't there
 abbrev pub enrolment_at : Accounts → List ℕ → RecordValue → Option (Option RecordValue)
     → Reply × Accounts
 enrolment_at book name stored None = (reply.Enrolled, map.insert book name (Some stored))
@@ -175,11 +175,12 @@ Enrols capacity old new name stored (Err _) = ⊥
 abbrev pub Adds : ℕ → List ℕ → NewPassword → Seen → Result Status Fault → Type 0
 Adds capacity name new s (Ok status) = (pw : List ℕ) × TakesLine s pw × IsAdmitted new.empty pw
     × IsDone s pw (enrolment s.old name (new_record new.setting pw)) status
-Adds capacity name new s (Err fault.Write) = (pw : List ℕ) × TakesLine s pw × IsAdmitted new.empty pw
-    × IsDoneUntold s (enrolment s.old name (new_record new.setting pw))
+Adds capacity name new s (Err fault.Write) = (pw : List ℕ) × TakesLine s pw
+    × IsAdmitted new.empty pw × IsDoneUntold s (enrolment s.old name (new_record new.setting pw))
 Adds capacity name new s (Err fault.Memory) = Stays s
 Adds capacity name new s (Err (fault.NoRecord made)) = (pw : List ℕ) × TakesLine s pw
-    × IsBare s.old s.new name (new_record new.setting pw) made × Keeps s.before s.now
+    × IsBare s.old s.new name (new_record new.setting pw) made
+    × Keeps s.writing.before s.writing.now
 Adds capacity name new s (Err fault.Full) = HasNoRoom capacity s.old name × Stays s
 Adds capacity name new s (Err fault.Read) = FailsToRead s
 Adds capacity name new s (Err fault.NoPassword) = HasNoLine s × Stays s

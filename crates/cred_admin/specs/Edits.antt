@@ -12,6 +12,7 @@ use Rattle.cred_admin.specs.declared.fault.Fault.TheVariants as fault
 use Rattle.cred_admin.specs.declared.status.Status.{Status}
 use Rattle.cred_admin.specs.declared.status.Status.TheVariants.{Done, No}
 use Rattle.cred_admin.specs.Listing.{Tells}
+use Rattle.cred_cli.specs.Watched.{Writing}
 
 -- ---- what is answered
 
@@ -73,13 +74,12 @@ renaming book name other =
 
 -- the step is done and answered, or done and not answered, or not done; a book in which a name is
 -- changed has to have room for one more
-abbrev pub Edits : ℕ → EditReply × Accounts → Accounts → Accounts → Option (List ℕ)
-    → Option (List ℕ) → Bool → Result Status Fault → Type 0
-Edits capacity step old new before now failed (Ok status) =
-    (new ≡ step.1) × Tells (told step.0) before now failed (Ok status)
-Edits capacity step old new before now failed (Err fault.Write) =
-    (new ≡ step.1) × Tells (told step.0) before now failed (Err fault.Write)
-Edits capacity step old new before now failed (Err fault.Memory) = (new ≡ old) × Keeps before now
-Edits capacity step old new before now failed (Err fault.Full) =
-    (step.0 ≡ reply.Renamed) × (capacity ≤ map.len old) × (new ≡ old) × Keeps before now
-Edits capacity step old new before now failed (Err _) = ⊥
+abbrev pub Edits : ℕ → EditReply × Accounts → Accounts → Accounts → Writing → Result Status Fault
+    → Type 0
+Edits capacity step old new w (Ok status) = (new ≡ step.1) × Tells (told step.0) w (Ok status)
+Edits capacity step old new w (Err fault.Write) =
+    (new ≡ step.1) × Tells (told step.0) w (Err fault.Write)
+Edits capacity step old new w (Err fault.Memory) = (new ≡ old) × Keeps w.before w.now
+Edits capacity step old new w (Err fault.Full) =
+    (step.0 ≡ reply.Renamed) × (capacity ≤ map.len old) × (new ≡ old) × Keeps w.before w.now
+Edits capacity step old new w (Err _) = ⊥

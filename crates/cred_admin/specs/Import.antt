@@ -41,13 +41,13 @@ abbrev pub without_return : List ℕ → List ℕ
 without_return line =
     if ends_with nat_eq line (13 ∷ []) then take (length line - 1) line else line
 
--- what stands behind a scheme in braces (bytes 123 and 125), as Dovecot writes one
+-- what stands after a scheme in braces (bytes 123 and 125), as Dovecot writes one
 abbrev pub behind_braces : List (List ℕ) → List ℕ → List ℕ
 behind_braces (scheme ∷ text ∷ []) whole =
     if starts_with nat_eq scheme (123 ∷ []) then text else whole
 behind_braces _ whole = whole
 
--- what stands behind Django's word for the scheme
+-- what stands after Django's word for the scheme
 abbrev pub behind_word : List ℕ → List ℕ
 behind_word text = if starts_with nat_eq text (codes "argon2") then drop 6 text else text
 
@@ -87,7 +87,7 @@ entry_of line = entry_at (pieces 58 (without_return line))
 abbrev pub is_empty : {X : Type 0} → List X → Bool
 is_empty xs = length xs == 0
 
--- nothing need stand behind the last line end
+-- nothing need come after the last line end
 unfoldable pub whole_lines : List (List ℕ) → List (List ℕ)
 whole_lines [] = []
 whole_lines (line ∷ lines) =

@@ -1,6 +1,5 @@
 -- Definitions that contracts cite: lines and passwords as they are read, what the commands do,
 -- what they write, and their exit statuses.
-pub mod Answers
 pub mod Commands
 pub mod Edits
 pub mod Import
@@ -10,6 +9,7 @@ pub mod Seen
 pub mod Settings
 pub mod Statuses
 pub use Rattle.cred_cli.specs.Outcome
+pub use Rattle.cred_cli.specs.Texts
 pub use Rattle.cred_cli.specs.Watched
 pub use Rattle.cred_book.specs.Accounts
 pub use Rattle.cred_book.specs.Names

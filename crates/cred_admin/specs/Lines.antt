@@ -50,7 +50,7 @@ abbrev pub NewReadFails : Bool → Fault → Type 0
 NewReadFails failed fault.Empty = ⊤
 NewReadFails failed e = ReadFails failed e
 
--- and as it is read behind the old one
+-- and as it is read after the old one
 abbrev pub SecondReadFails : Bool → Fault → Type 0
 SecondReadFails failed fault.NoNewPassword = ⊤
 SecondReadFails failed fault.NoPassword = ⊥

@@ -1,6 +1,6 @@
 -- What lists and exports write.
 use Rattle.std.specs.Prelude.{◌≡◌, ℕ, List, [], ◌∷◌, ◌++◌, Option, Some, None, Result, Ok, Err}
-use Rattle.std.specs.Prelude.{Bool, true, ◌⊎◌, ◌<◌, length, take}
+use Rattle.std.specs.Prelude.{true, ◌⊎◌, ◌<◌, length, take}
 use Rattle.std.specs.Io.KnownBytes.{Appends, Keeps}
 use Rattle.cred_phc.specs.Values.{RecordValue}
 use Rattle.cred_phc.specs.Text.{record_text, scheme_text}
@@ -13,9 +13,10 @@ use Rattle.cred_admin.specs.declared.fault.Fault.{Fault}
 use Rattle.cred_admin.specs.declared.fault.Fault.TheVariants as fault
 use Rattle.cred_admin.specs.declared.status.Status.{Status}
 use Rattle.cred_admin.specs.declared.status.Status.TheVariants.{Done}
-use Rattle.cred_admin.specs.Answers.{reply_line}
 use Rattle.cred_admin.specs.Statuses.{status_of}
 use Rattle.cred_cli.specs.Outcome.{FrontWritten}
+use Rattle.cred_cli.specs.Texts.{reply_line}
+use Rattle.cred_cli.specs.Watched.{Writing}
 
 -- a name, and the record that stands there, if one does
 abbrev pub Entry : Type 0
@@ -57,27 +58,24 @@ shown_at part (Some (Some v)) = (part_text part v ++ 10 ∷ [], Done)
 
 -- ---- what becomes of a text
 
--- it is written whole, and the status goes with it; or, if a call failed, a proper front of it; or
+-- it is written whole, and the status goes with it; or, if a call failed, a proper prefix of it; or
 -- nothing
-abbrev pub Tells : List ℕ × Status → Option (List ℕ) → Option (List ℕ) → Bool
-    → Result Status Fault → Type 0
-Tells told before now failed (Ok status) = Appends before now told.0 × (status ≡ told.1)
-Tells told before now failed (Err fault.Write) =
-    (failed ≡ true) × FrontWritten before now told.0
-Tells told before now failed (Err fault.Memory) = Keeps before now
-Tells told before now failed (Err _) = ⊥
+abbrev pub Tells : List ℕ × Status → Writing → Result Status Fault → Type 0
+Tells told w (Ok status) = Appends w.before w.now told.0 × (status ≡ told.1)
+Tells told w (Err fault.Write) = (w.failed ≡ true) × FrontWritten w.before w.now told.0
+Tells told w (Err fault.Memory) = Keeps w.before w.now
+Tells told w (Err _) = ⊥
 
--- a line of each entry is written; or, if a call failed, a proper front of their text; or, if there
--- was no memory for a line, the lines of the first n entries, which aren't all
-abbrev pub Prints : (Entry → List ℕ) → List Entry → Option (List ℕ) → Option (List ℕ) → Bool
-    → Result Status Fault → Type 0
-Prints line entries before now failed (Ok status) =
-    Appends before now (lines_text line entries) × (status ≡ Done)
-Prints line entries before now failed (Err fault.Write) =
-    (failed ≡ true) × FrontWritten before now (lines_text line entries)
-Prints line entries before now failed (Err fault.Memory) =
-    (n : ℕ) × (n < length entries) × Appends before now (lines_text line (take n entries))
-Prints line entries before now failed (Err _) = ⊥
+-- a line of each entry is written; or, if a call failed, a proper prefix of their text; or, if
+-- there was no memory for a line, the lines of the first n entries, which aren't all
+abbrev pub Prints : (Entry → List ℕ) → List Entry → Writing → Result Status Fault → Type 0
+Prints line entries w (Ok status) =
+    Appends w.before w.now (lines_text line entries) × (status ≡ Done)
+Prints line entries w (Err fault.Write) =
+    (w.failed ≡ true) × FrontWritten w.before w.now (lines_text line entries)
+Prints line entries w (Err fault.Memory) =
+    (n : ℕ) × (n < length entries) × Appends w.before w.now (lines_text line (take n entries))
+Prints line entries w (Err _) = ⊥
 
 -- what was kept is written, and nothing is kept any more; or it is kept on, and nothing is written
 abbrev pub IsPiece : Option (List ℕ) → Option (List ℕ) → List ℕ → List ℕ → Type 0

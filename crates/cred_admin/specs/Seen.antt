@@ -1,15 +1,13 @@
 -- What is seen of a command.
-use Rattle.std.specs.Prelude.{ℕ, Bool, List, Option}
 use Rattle.cred_book.specs.Accounts.{Accounts}
+use Rattle.cred_cli.specs.Watched.{Reading, Writing}
 
--- a reader, a writer and a book before and after: what the reader has and what is left of it, what
--- is written before and now, the old book and the new one, and whether a call failed
+-- its reader, its writer, and the book before and after
 pub record Seen : Type 0 where
-  pub input : Option (List ℕ)
-  pub left : Option (List ℕ)
-  pub before : Option (List ℕ)
-  pub now : Option (List ℕ)
+  pub reading : Reading
+  pub writing : Writing
   pub old : Accounts
   pub new : Accounts
-  pub reader_failed : Bool
-  pub writer_failed : Bool
+
+abbrev pub seen : Reading → Writing → Accounts → Accounts → Seen
+seen r w old new = record { reading = r; writing = w; old = old; new = new }

@@ -4,7 +4,7 @@ use Rattle.cred_phc.specs.Reading.{read_setting}
 use Rattle.cred_phc.specs.Values.{SettingValue, made_setting}
 use Rattle.cred_phc.specs.declared.error.PhcError.{PhcError}
 
--- as a field behind a text that has no salt: 8 bytes of zero in base64
+-- as a field after a text that has no salt: 8 bytes of zero in base64
 abbrev pub any_salt : List ℕ
 any_salt = codes "$AAAAAAAAAAA"
 
@@ -14,6 +14,6 @@ or_salted (Ok setting) behind salt = Ok setting
 or_salted (Err e) (Ok setting) salt = made_setting setting.scheme salt
 or_salted (Err e) (Err other) salt = Err e
 
--- the setting of the text; where only its salt is missing, it has this one
+-- the setting of the text; if only its salt is missing, it has this one
 abbrev pub setting_for : List ℕ → List ℕ → Result SettingValue PhcError
 setting_for text salt = or_salted (read_setting text) (read_setting (text ++ any_salt)) salt

@@ -6,20 +6,20 @@ ghost use Rattle.std.specs.FinMap as map;
 ghost use Rattle.cred_book.specs.Works.{is_for_current, new_record, seq};
 ghost use Rattle.cred_book.specs.declared.request.Request.TheVariants.{Change, Remove, Upgrade};
 ghost use Rattle.cred_book.specs.declared.request.Request.TheVariants.{Verify};
-ghost use Rattle.cred_cli.specs.Watched.{failed_of, inner_of};
+ghost use Rattle.cred_cli.specs.Watched.{reading, writing};
 ghost use Rattle.cred_admin.specs.Commands.{Adds, Asks, AsksTwice, Does, Enrols, Resets};
 ghost use Rattle.cred_admin.specs.Commands.{reset_step};
+ghost use Rattle.cred_admin.specs.Seen.{seen};
 
-use crate::answer::{reply_line, status_of};
+use crate::answer::status_of;
 use crate::fault::Fault;
 use crate::new_password::NewPassword;
 use crate::password::{read_new_password, read_password, read_second_password};
 use crate::printing::write_whole;
 use crate::setting::NewSetting;
 use crate::status::{Hint, Status, hint_of};
-use crate::tools::Tools;
 use cred_book::{BookError, Keeper, Name, Reply, Request};
-use cred_cli::Watched;
+use cred_cli::{Tools, Watched, reply_line};
 use cred_phc::{Password, Record};
 use cred_pool::NoGate;
 use std::io::{Read, Write};
@@ -40,16 +40,8 @@ pub fn add<T: Threads + Wait + Sync, K: Keeper, R: Read, W: Write>(
     reader: &mut Watched<R>,
     writer: &mut Watched<W>,
 ) -> Result<Status, Fault>
-    ensures { Adds K.capacity name.now new.now (record {
-      input = R.remaining (inner_of reader.old);
-      left = R.remaining (inner_of reader.new);
-      before = W.contents (inner_of writer.old);
-      now = W.contents (inner_of writer.new);
-      old = K.book keeper.old;
-      new = K.book keeper.new;
-      reader_failed = failed_of reader.new;
-      writer_failed = failed_of writer.new;
-    }) result }
+    ensures { Adds K.capacity name.now new.now (seen (reading R.remaining reader.old reader.new)
+        (writing W.contents writer.old writer.new) (K.book keeper.old) (K.book keeper.new)) result }
 {
     let pw = read_new_password(tools.alloc, new.empty, reader)?;
     let reply = enrol(tools, keeper, name, &new.setting, &pw)?;
@@ -70,16 +62,8 @@ pub fn reset<T: Threads + Wait + Sync, K: Keeper, R: Read, W: Write>(
     reader: &mut Watched<R>,
     writer: &mut Watched<W>,
 ) -> Result<Status, Fault>
-    ensures { Resets name.now new.now (record {
-      input = R.remaining (inner_of reader.old);
-      left = R.remaining (inner_of reader.new);
-      before = W.contents (inner_of writer.old);
-      now = W.contents (inner_of writer.new);
-      old = K.book keeper.old;
-      new = K.book keeper.new;
-      reader_failed = failed_of reader.new;
-      writer_failed = failed_of writer.new;
-    }) result }
+    ensures { Resets name.now new.now (seen (reading R.remaining reader.old reader.new)
+        (writing W.contents writer.old writer.new) (K.book keeper.old) (K.book keeper.new)) result }
 {
     let pw = read_new_password(tools.alloc, new.empty, reader)?;
     let reply = put_anew(tools, keeper, name, &new.setting, &pw)?;
@@ -98,16 +82,8 @@ pub fn check<T: Threads + Wait + Sync, K: Keeper, R: Read, W: Write>(
     reader: &mut Watched<R>,
     writer: &mut Watched<W>,
 ) -> Result<Status, Fault>
-    ensures { Asks (λ pw. Verify name.now pw) (record {
-      input = R.remaining (inner_of reader.old);
-      left = R.remaining (inner_of reader.new);
-      before = W.contents (inner_of writer.old);
-      now = W.contents (inner_of writer.new);
-      old = K.book keeper.old;
-      new = K.book keeper.new;
-      reader_failed = failed_of reader.new;
-      writer_failed = failed_of writer.new;
-    }) result }
+    ensures { Asks (λ pw. Verify name.now pw) (seen (reading R.remaining reader.old reader.new)
+        (writing W.contents writer.old writer.new) (K.book keeper.old) (K.book keeper.new)) result }
 {
     let pw = read_password(tools.alloc, reader)?;
     let hint = hint_of(&pw);
@@ -115,8 +91,8 @@ pub fn check<T: Threads + Wait + Sync, K: Keeper, R: Read, W: Write>(
     act(tools, keeper, request, hint, writer)
 }
 
-/// Puts the record of a new password in the place of that of the old one: the reader's first line
-/// is the old password, and the second the new one.
+/// Puts the record of a new password in place of that of the old one: the reader's first line is
+/// the old password, and the second the new one.
 ///
 /// It writes `replaced`, `wrong`, `absent` or `noaccount`. Errors: `Read`, `NoPassword`,
 /// `NoNewPassword`, `Password`, `Empty`, `Memory`, `Write`.
@@ -128,16 +104,9 @@ pub fn change<T: Threads + Wait + Sync, K: Keeper, R: Read, W: Write>(
     reader: &mut Watched<R>,
     writer: &mut Watched<W>,
 ) -> Result<Status, Fault>
-    ensures { AsksTwice new.now (λ pw new_pw. Change name.now pw new_pw new.now.setting) (record {
-      input = R.remaining (inner_of reader.old);
-      left = R.remaining (inner_of reader.new);
-      before = W.contents (inner_of writer.old);
-      now = W.contents (inner_of writer.new);
-      old = K.book keeper.old;
-      new = K.book keeper.new;
-      reader_failed = failed_of reader.new;
-      writer_failed = failed_of writer.new;
-    }) result }
+    ensures { AsksTwice new.now (λ pw new_pw. Change name.now pw new_pw new.now.setting)
+        (seen (reading R.remaining reader.old reader.new)
+        (writing W.contents writer.old writer.new) (K.book keeper.old) (K.book keeper.new)) result }
 {
     let pw = read_password(tools.alloc, reader)?;
     let hint = hint_of(&pw);
@@ -164,16 +133,9 @@ pub fn upgrade<T: Threads + Wait + Sync, K: Keeper, R: Read, W: Write>(
     reader: &mut Watched<R>,
     writer: &mut Watched<W>,
 ) -> Result<Status, Fault>
-    ensures { Asks (λ pw. Upgrade name.now pw setting.now) (record {
-      input = R.remaining (inner_of reader.old);
-      left = R.remaining (inner_of reader.new);
-      before = W.contents (inner_of writer.old);
-      now = W.contents (inner_of writer.new);
-      old = K.book keeper.old;
-      new = K.book keeper.new;
-      reader_failed = failed_of reader.new;
-      writer_failed = failed_of writer.new;
-    }) result }
+    ensures { Asks (λ pw. Upgrade name.now pw setting.now)
+        (seen (reading R.remaining reader.old reader.new)
+        (writing W.contents writer.old writer.new) (K.book keeper.old) (K.book keeper.new)) result }
 {
     let pw = read_password(tools.alloc, reader)?;
     let hint = hint_of(&pw);
@@ -196,16 +158,8 @@ pub fn remove<T: Threads + Wait + Sync, K: Keeper, R: Read, W: Write>(
     reader: &mut Watched<R>,
     writer: &mut Watched<W>,
 ) -> Result<Status, Fault>
-    ensures { Asks (λ pw. Remove name.now pw) (record {
-      input = R.remaining (inner_of reader.old);
-      left = R.remaining (inner_of reader.new);
-      before = W.contents (inner_of writer.old);
-      now = W.contents (inner_of writer.new);
-      old = K.book keeper.old;
-      new = K.book keeper.new;
-      reader_failed = failed_of reader.new;
-      writer_failed = failed_of writer.new;
-    }) result }
+    ensures { Asks (λ pw. Remove name.now pw) (seen (reading R.remaining reader.old reader.new)
+        (writing W.contents writer.old writer.new) (K.book keeper.old) (K.book keeper.new)) result }
 {
     let pw = read_password(tools.alloc, reader)?;
     let hint = hint_of(&pw);
@@ -223,8 +177,7 @@ fn act<T: Threads + Wait + Sync, K: Keeper, W: Write>(
 ) -> Result<Status, Fault>
     requires { is_for_current request ≡ true }
     ensures { Does (seq (K.book keeper.old) request) hint (K.book keeper.old) (K.book keeper.new)
-        (W.contents (inner_of writer.old)) (W.contents (inner_of writer.new))
-        (failed_of writer.new) result }
+        (writing W.contents writer.old writer.new) result }
 {
     let reply = settle(tools, keeper, request)?;
     write_whole(writer, reply_line(&reply))?;
@@ -255,7 +208,7 @@ fn settle<T: Threads + Wait + Sync, K: Keeper>(
     }
 }
 
-/// Makes the record, and puts it where there is none, at an account that is added if it is new.
+/// Makes the record, and puts it if there is none, at an account that is added if it is new.
 fn enrol<T: Threads + Wait + Sync, K: Keeper>(
     tools: &Tools<'_, T>,
     keeper: &mut K,

@@ -1,4 +1,4 @@
-//! A line of a passwd-file: `NAME:RECORD`, or `NAME:` where no record stands.
+//! A line of a passwd-file: `NAME:RECORD`, or `NAME:` if it has no record.
 //!
 //! What other programs write beside it is left away: a carriage return at the end, further fields,
 //! and in front of the record Dovecot's scheme in braces or Django's word `argon2`.
@@ -103,7 +103,7 @@ fn record_part(text: &[u8]) -> &[u8]
     behind_word(behind_braces(text))
 }
 
-/// What stands behind a scheme in braces, if the text begins with one.
+/// What stands after a scheme in braces, if the text begins with one.
 fn behind_braces(text: &[u8]) -> &[u8]
     ensures { result.now ≡ behind_braces (pieces 125 text.now) text.now }
 {
@@ -121,7 +121,7 @@ fn behind_braces(text: &[u8]) -> &[u8]
     }
 }
 
-/// What stands behind Django's word, if the text begins with it.
+/// What stands after Django's word, if the text begins with it.
 fn behind_word(text: &[u8]) -> &[u8]
     ensures { result.now ≡ behind_word text.now }
 {

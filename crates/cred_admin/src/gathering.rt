@@ -6,8 +6,8 @@ ghost use Rattle.std.specs.FinMap as map;
 ghost use Rattle.cred_book.specs.Accounts.{register_capacity};
 ghost use Rattle.cred_cli.specs.Watched.{failed_of, inner_of};
 ghost use Rattle.cred_admin.specs.Import.{GatherFails, entry_of, import_lines, nothing_yet, tally};
-ghost use Rattle.cred_admin.specs.Import.{tally_of, whole_lines, with_bad, with_entry, with_existing};
-ghost use Rattle.cred_admin.specs.Import.{with_line};
+ghost use Rattle.cred_admin.specs.Import.{tally_of, whole_lines, with_bad, with_entry};
+ghost use Rattle.cred_admin.specs.Import.{with_existing, with_line};
 
 use crate::entry::{LineFault, entry_of};
 use cred_book::{BookError, Name, Register};
@@ -117,7 +117,7 @@ fn gather_lines(
     }
 }
 
-/// The next line; nothing need stand behind the last line end.
+/// The next line; nothing need come after the last line end.
 #[tactic(auto, unfolding(crate::specs::Import::whole_lines))]
 fn next_line<'a>(lines: &mut Pieces<'a>) -> Option<&'a [u8]>
     ensures { MatchOption result (whole_lines lines.old ≡ [])

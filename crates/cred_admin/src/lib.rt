@@ -19,7 +19,6 @@ mod printing;
 mod setting;
 mod showing;
 mod status;
-mod tools;
 
 pub use account::{add, change, check, remove, reset, upgrade};
 pub use edit_reply::{EditReply, answer_edit};
@@ -31,4 +30,3 @@ pub use new_password::{EmptyPassword, NewPassword};
 pub use setting::{NewSetting, setting_of};
 pub use showing::{Part, show};
 pub use status::{Hint, Status};
-pub use tools::Tools;

@@ -4,7 +4,7 @@ ghost use Rattle.std.specs.Prelude.{◌≡◌, ◌++◌, ◌<◌, length, IfErr,
 ghost use Rattle.std.specs.FinMap as map;
 ghost use Rattle.cred_phc.specs.Values.{RecordValue};
 ghost use Rattle.cred_cli.specs.Outcome.{FrontWritten};
-ghost use Rattle.cred_cli.specs.Watched.{failed_of, inner_of};
+ghost use Rattle.cred_cli.specs.Watched.{failed_of, inner_of, writing};
 ghost use Rattle.cred_admin.specs.Listing.{IsPiece, Prints, line_text, name_line, passwd_line};
 
 use crate::fault::Fault;
@@ -37,15 +37,13 @@ pub fn list<W: Write>(
     writer: &mut Watched<W>,
 ) -> Result<Status, Fault>
     ensures { Prints name_line (map.entries book.now)
-        (W.contents (inner_of writer.old)) (W.contents (inner_of writer.new))
-        (failed_of writer.new) result }
+        (writing W.contents writer.old writer.new) result }
 {
     write_lines(alloc, book, Line::Name, writer)
 }
 
-/// Writes the accounts as a passwd-file has them, a line `NAME:RECORD` each, or `NAME:` where no
-/// record stands. `import` reads them. It keeps about 64 KiB of them at a time, however many there
-/// are.
+/// Writes the accounts as a passwd-file has them, a line `NAME:RECORD` each, or `NAME:` if it has
+/// no record. `import` reads them. It keeps about 64 KiB of them at a time, however many there are.
 ///
 /// Errors: `Memory`, and some first lines are written, perhaps none and never all; `Write`.
 pub fn export<W: Write>(
@@ -54,8 +52,7 @@ pub fn export<W: Write>(
     writer: &mut Watched<W>,
 ) -> Result<Status, Fault>
     ensures { Prints passwd_line (map.entries book.now)
-        (W.contents (inner_of writer.old)) (W.contents (inner_of writer.new))
-        (failed_of writer.new) result }
+        (writing W.contents writer.old writer.new) result }
 {
     write_lines(alloc, book, Line::Passwd, writer)
 }
@@ -68,8 +65,7 @@ fn write_lines<W: Write>(
     writer: &mut Watched<W>,
 ) -> Result<Status, Fault>
     ensures { Prints (line_text line) (map.entries book.now)
-        (W.contents (inner_of writer.old)) (W.contents (inner_of writer.new))
-        (failed_of writer.new) result }
+        (writing W.contents writer.old writer.new) result }
 {
     let mut text = Vec::new(alloc);
     for (name, slot) in book.iter() {

@@ -8,7 +8,7 @@ use cred_phc::{PhcError, Setting, parse_setting};
 use std::alloc::{AllocError, Global};
 use std::marker::Model;
 
-/// What a salt looks like behind a text that has none: 8 bytes of zero in base64.
+/// What a salt looks like after a text that has none: 8 bytes of zero in base64.
 const ANY_SALT: &[u8] = b"$AAAAAAAAAAA";
 
 /// A setting for new records: it isn't of version 0x10.
@@ -41,7 +41,7 @@ impl NewSetting {
     }
 }
 
-/// The setting that a text stands for. Where the text ends before its salt, as
+/// The setting that a text stands for. If the text ends before its salt, as
 /// `$argon2id$v=19$m=65536,t=3,p=4`, the setting has this salt.
 ///
 /// Errors: those of `parse_setting`; `Memory`.

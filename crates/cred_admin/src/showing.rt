@@ -5,17 +5,17 @@ ghost use Rattle.std.specs.Prelude.{length};
 ghost use Rattle.std.specs.FinMap as map;
 ghost use Rattle.cred_phc.specs.Base64.{base64};
 ghost use Rattle.cred_phc.specs.Text.{scheme_text};
-ghost use Rattle.cred_cli.specs.Watched.{failed_of, inner_of};
-ghost use Rattle.cred_admin.specs.Answers.{reply_line};
+ghost use Rattle.cred_cli.specs.Texts.{reply_line};
+ghost use Rattle.cred_cli.specs.Watched.{writing};
 ghost use Rattle.cred_admin.specs.Listing.{Tells, part_text, shown_at};
 ghost use Rattle.cred_admin.specs.Statuses.{status_of};
 
-use crate::answer::{reply_line, status_of};
+use crate::answer::status_of;
 use crate::fault::Fault;
 use crate::printing::write_whole;
 use crate::status::Status;
 use cred_book::{Keeper, Name, Reply};
-use cred_cli::Watched;
+use cred_cli::{Watched, reply_line};
 use cred_phc::{Record, Setting, write_record, write_setting};
 use std::alloc::Global;
 use std::io::Write;
@@ -41,8 +41,7 @@ pub fn show<K: Keeper, W: Write>(
     writer: &mut Watched<W>,
 ) -> Result<Status, Fault>
     ensures { Tells (shown_at part (map.get (K.book keeper.now) name.now))
-        (W.contents (inner_of writer.old)) (W.contents (inner_of writer.new))
-        (failed_of writer.new) result }
+        (writing W.contents writer.old writer.new) result }
 {
     match found(keeper, name) {
         None => answer(&Reply::NoAccount, writer),
@@ -68,8 +67,7 @@ fn found<K: Keeper>(keeper: &K, name: &Name) -> Option<Option<Record>>
 /// Writes a reply.
 fn answer<W: Write>(reply: &Reply, writer: &mut Watched<W>) -> Result<Status, Fault>
     ensures { Tells (reply_line reply.now, status_of reply.now None)
-        (W.contents (inner_of writer.old)) (W.contents (inner_of writer.new))
-        (failed_of writer.new) result }
+        (writing W.contents writer.old writer.new) result }
 {
     write_whole(writer, reply_line(reply))?;
     Ok(status_of(reply, None))

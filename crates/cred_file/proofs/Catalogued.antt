@@ -1,5 +1,5 @@
--- Trees that list the schema of a book list no other.
-use Rattle.std.proofs.Common.{◌≡◌, inl, inr, ℕ, zero, suc, ◌+◌, pos, List, [], ◌∷◌, filter, slice_get, Some, refl, sym, ap, subst, ◌∙◌, arith}
+-- Trees that list a schema of a book list no other.
+use Rattle.std.proofs.Common.{◌≡◌, ◌⊎◌, inl, inr, ℕ, zero, suc, ◌+◌, pos, List, [], ◌∷◌, filter, slice_get, Some, refl, sym, ap, subst, ◌∙◌, arith}
 use Rattle.std.specs.List.{AllZip}
 use Rattle.sqlite.specs.declared.types.Value.{Value}
 use Rattle.sqlite.specs.declared.types.Value.TheVariants.{Null, Int, Real, Text, Blob}
@@ -11,8 +11,8 @@ use Rattle.sqlite.specs.Compile.{table_defined_by}
 use Rattle.sqlite_rules.specs.Lists.{Has}
 use Rattle.sqlite_trees.specs.Objects.{catalog_tree}
 use Rattle.sqlite_schema.specs.declared.schema.Index.{Index}
-use Rattle.sqlite_catalog.specs.Listing.{IsSound, IsTableRow, IsIndexRow, IsViewRow, IsDefined, automatic, is_index_row}
-use Rattle.cred_file.specs.Schema.{account, account_schema, key_index}
+use Rattle.sqlite_catalog.specs.Listing.{IsSound, IsTableRow, IsIndexRow, IsViewRow, IsDefined, automatic, is_index_row, is_view_row}
+use Rattle.cred_file.specs.Schema.{AreBookTables, IsBookSchema, account, key_index, statistics}
 
 same_tree : (v : Value) (a b : ℕ) → v ≡ Int (pos (a + 1)) → v ≡ Int (pos (b + 1)) → a ≡ b
 same_tree v a b p q = let e = sym p ∙ q in let n : a + 1 ≡ b + 1 = cc in omega (arith, n)
@@ -45,14 +45,48 @@ one_defined (Text sql) i j tree h k =
     h.2 ∙ (λ x. record (made x) { tree = tree x; table = account.tree }) ∙ sym k.2
 one_defined (Blob b) i j tree h k = absurd h
 
-the_account : (t : Table) → Has (account ∷ []) t → t ≡ account
-the_account t (inl is) = is
-the_account t (inr none) = absurd none
+-- the table of an index is the book's: the statistics have none
+which : (tables : List Table) → AreBookTables tables → (t : Table) → Has tables t → (t ≡ account) ⊎ (t ≡ statistics)
+which tables (inl is) t has = elim (subst (λ ts. Has ts t) is has) [ inl it ↦ inl it | inr none ↦ absurd none ]
+which tables (inr is) t has = elim (subst (λ ts. Has ts t) is has) [
+  | inl it ↦ inl it
+  | inr more ↦ elim more [ inl it ↦ inr it | inr none ↦ absurd none ]
+]
 
-one_index : (row : Row) (i j : Index) → IsIndexRow (account ∷ []) row i → IsIndexRow (account ∷ []) row j → i ≡ j
-one_index row i j h k =
-    one_defined (column row 4) i j (same_tree _ i.tree j.tree h.described.id k.described.id)
-    (subst (λ t. IsDefined t i (column row 4)) (the_account h.table h.listed) h.defined) (subst (λ t. IsDefined t j (column row 4)) (the_account k.table k.listed) k.defined)
+no_key : (v : Value) → IsDefined statistics key_index v → ⊥
+no_key Null d = let none = d.2 in absurd cc
+no_key (Int n) d = d
+no_key (Real x) d = d
+no_key (Text sql) d =
+    let table : key_index.table ≡ statistics.tree = ap (λ (i : Index). i.table) d.2 in
+    absurd (omega (arith, table))
+no_key (Blob b) d = d
+
+key_of_account : (row : Row) (t : Table) → (t ≡ account) ⊎ (t ≡ statistics) → IsDefined t key_index (column row 4) → t ≡ account
+key_of_account row t (inl is) d = is
+key_of_account row t (inr is) d = absurd (no_key (column row 4) (subst (λ t. IsDefined t key_index (column row 4)) is d))
+
+same_owner : (v : Value) (t u : Table) → v ≡ Text t.name → v ≡ Text u.name → u ≡ account → (t ≡ account) ⊎ (t ≡ statistics) → t ≡ account
+same_owner v t u p q is (inl it) = it
+same_owner v t u p q is (inr it) =
+    let names = sym p ∙ q in
+    let same : t.name ≡ u.name = cc in
+    let other : statistics.name ≡ account.name = ap (λ (t : Table). t.name) (sym it) ∙ same ∙ ap (λ (t : Table). t.name) is in
+    absurd cc
+
+one_key : (tables : List Table) → AreBookTables tables → (row : Row) (i : Index) → IsIndexRow tables row i → IsIndexRow tables row key_index → i ≡ key_index
+one_key tables are row i h k =
+    let mine = key_of_account row k.table (which tables are k.table k.listed) k.defined in
+    let its = same_owner _ h.table k.table h.described.owner_is k.described.owner_is mine (which tables are h.table h.listed) in
+    one_defined (column row 4) i key_index (same_tree _ i.tree key_index.tree h.described.id k.described.id)
+    (subst (λ t. IsDefined t i (column row 4)) its h.defined) (subst (λ t. IsDefined t key_index (column row 4)) mine k.defined)
+
+the_key : (tables : List Table) → AreBookTables tables → (rows : List Row) (is : List Index) → AllZip (IsIndexRow tables) rows is → AllZip (IsIndexRow tables) rows (key_index ∷ []) → is ≡ key_index ∷ []
+the_key tables are [] is p q = absurd q
+the_key tables are (r ∷ []) [] p q = absurd p
+the_key tables are (r ∷ []) (i ∷ []) p q = ap (λ (i : Index). i ∷ []) (one_key tables are r i p.0 q.0)
+the_key tables are (r ∷ []) (i ∷ j ∷ is) p q = absurd p.1
+the_key tables are (r ∷ s ∷ rs) is p q = absurd q.1
 
 all_once : {A B : Type 0} (R : A → B → Type 0) → ((a : A) (b c : B) → R a b → R a c → b ≡ c) → (xs : List A) (ys zs : List B) → AllZip R xs ys → AllZip R xs zs → ys ≡ zs
 all_once R one [] [] [] p q = refl
@@ -67,12 +101,14 @@ none_more R [] [] p q = refl
 none_more R [] (z ∷ zs) p q = absurd q
 none_more R (x ∷ xs) zs p q = absurd p
 
-pub one_schema : (db : Trees) (s : Schema) → IsSound account_schema db → IsSound s db → s ≡ account_schema
-one_schema db s h k =
-    let mine = h.lists.listed in
+pub still_book : (db : Trees) (mine s : Schema) → IsBookSchema mine → IsSound mine db → IsSound s db → IsBookSchema s
+still_book db mine s is h k =
+    let first = h.lists.listed in
     let other = k.lists.listed in
-    let tables : s.tables ≡ account ∷ [] = all_once IsTableRow one_table _ s.tables (account ∷ []) other.tables mine.tables in
+    let tables : s.tables ≡ mine.tables = all_once IsTableRow one_table _ s.tables mine.tables other.tables first.tables in
     let rows = subst (λ ts. AllZip (IsIndexRow ts) (filter is_index_row (db catalog_tree)) s.indexes) tables other.indexes in
-    let indexes : s.indexes ≡ key_index ∷ [] = all_once (IsIndexRow (account ∷ [])) one_index _ s.indexes (key_index ∷ []) rows mine.indexes in
-    let views : s.views ≡ [] = none_more IsViewRow _ s.views mine.views other.views in
-    λ i. record { tables = tables i; indexes = indexes i; views = views i }
+    record {
+      tables = subst AreBookTables (sym tables) is.tables;
+      indexes = the_key mine.tables is.tables _ s.indexes rows (subst (AllZip (IsIndexRow mine.tables) (filter is_index_row (db catalog_tree))) is.indexes first.indexes);
+      views = none_more IsViewRow _ s.views (subst (AllZip IsViewRow (filter is_view_row (db catalog_tree))) is.views first.views) other.views;
+    }

@@ -9,8 +9,7 @@ use Rattle.sqlite.specs.State.{State, HasCleanDisk, Survives, CommitsBy, MayComm
 use Rattle.sqlite.specs.declared.run.Mode.{Mode}
 use Rattle.sqlite.specs.Tree.{Trees}
 use Rattle.sqlite.proofs.Callers.{runs_as}
-use Rattle.sqlite_catalog.specs.Listing.{IsSound}
-use Rattle.cred_file.specs.Schema.{account, account_schema, create_text, no_schema}
+use Rattle.cred_file.specs.Schema.{IsBookSchema, account, book_schema, create_text, no_schema}
 use Rattle.cred_file.specs.Table.{StandsFor}
 use Rattle.cred_file.specs.Keeps.{HoldsBook, IsTableOf}
 use Rattle.cred_file.proofs.Keeping.{IsSettled, holds, commits_as}
@@ -20,19 +19,23 @@ went : {B E R : Type 0} {b : B} {Stops : E → Type 0} → ((stop : E) × Stops 
 went (inl stopped) = absurd (let e = stopped.2 in cc)
 went (inr on) = on
 
+-- a table that was just made is a book's
+made_book : IsBookSchema (book_schema [])
+made_book = record { tables = inl refl; indexes = refl; views = refl }
+
 same_value : {B E : Type 0} {a b : B} → ◌≡◌ {A = Result B E} (Ok a) (Ok b) → a ≡ b
 same_value e = cc
 
 -- it makes the table, with no row
 does_create : (limit : Option ℕ) (mode : Mode) (db after : Database) (tally : Tally) → db.schema ≡ no_schema
-    → Does limit mode [] db create_text None CreateTable (Ok (tally, after)) → (after.schema ≡ account_schema) × StandsFor (after.trees 0) fin.empty
+    → Does limit mode [] db create_text None CreateTable (Ok (tally, after)) → (after.schema ≡ book_schema []) × StandsFor (after.trees 0) fin.empty
 does_create limit mode db after tally has does =
     let all = went does in
     let first = went all.1 in
     let made = first.1 in
     let both : Ok made.table ≡ Ok account = sym made.defined ∙ create_is.2 in
     let same : made.table ≡ account = cc in
-    let schema : first.0.schema ≡ account_schema = made.is ∙ ap (λ s. created s made.table) has ∙ ap (created no_schema) same ∙ created_is in
+    let schema : first.0.schema ≡ book_schema [] = made.is ∙ ap (λ s. created s made.table) has ∙ ap (created no_schema) same ∙ created_is in
     let plain : lacks_sequence first.0.schema ≡ false = ap lacks_sequence schema in
     let now : after ≡ first.0 = ap (λ (p : Tally × Database). p.1) (same_value all.2) ∙ same_value (rw plain at first.2) in
     let empty : after.trees 0 ≡ [] = ap (λ (d : Database). d.trees 0) now ∙ subst (λ s. first.0.trees (next_tree s) ≡ []) has made.empty in
@@ -44,11 +47,11 @@ creates old new count settled has autocommit h =
     let made = does_create old.step_limit (mode_of old) old.now new.now w.tally has w.changed in
     let committed : new.committed ≡ new.now = w.shown.committed_is ∙ ap (λ b. if b then old.committed else new.now) autocommit in
     record {
-      schema = made.0;
+      schema = subst IsBookSchema (sym made.0) made_book;
       stands = made.1;
-      sound = subst (λ x. IsSound x new.now.trees) made.0 w.sound;
+      sound = w.sound;
       autocommit = w.shown.mode ∙ autocommit;
-      left = λ db may. (fin.empty, refl, holds db fin.empty new.now made.0 w.sound made.1 (settled db w.shown.is_open may ∙ ap (λ (d : Database). d.trees) committed));
+      left = λ db may. (fin.empty, refl, holds db fin.empty new.now (subst IsBookSchema (sym made.0) made_book) w.sound made.1 (settled db w.shown.is_open may ∙ ap (λ (d : Database). d.trees) committed));
     }
 
 create_may : (s : State) (text : List ℕ) (db : Trees) → MayCommit s None CreateTable text [] db → MayWrite s None CreateTable text [] db
@@ -62,5 +65,5 @@ create_left old new clean has s db may = elim (s.crash clean db may) [
   | inr commits ↦
       let m = subst (λ t. MayWrite old None CreateTable t [] db) create_is.1 (create_may old _ db (commits_as create_text [] no_schema CreateTable create_is.0 create_plain old has db commits)) in
       let made = does_create old.step_limit (mode_of old) old.now m.2 m.1 has m.3 in
-      inr (holds db fin.empty m.2 made.0 m.4 made.1 m.5)
+      inr (holds db fin.empty m.2 (subst IsBookSchema (sym made.0) made_book) m.4 made.1 m.5)
 ]

@@ -26,7 +26,7 @@ use Rattle.std.proofs.Common.{nat_lt, ◌<◌, false, ◌||◌, OnOk, IfErr}
 use Rattle.std.proofs.lemmas.Bool.{lt-ltb, le-ltb}
 use Rattle.cred_book.specs.Accounts.{Accounts, register_capacity}
 use Rattle.sqlite_catalog.specs.Listing.{IsSound}
-use Rattle.cred_file.specs.Schema.{account_schema, insert_text, update_text, delete_text, rename_text}
+use Rattle.cred_file.specs.Schema.{IsBookSchema, statistics, insert_text, update_text, delete_text, rename_text}
 use Rattle.cred_file.specs.Table.{StandsFor, Tells}
 use Rattle.cred_file.specs.Edits.{after_edit, renamed, PutsEntry}
 use Rattle.cred_file.specs.Keeps.{HoldsBook, IsTableOf, IsRenamable, LeavesOnly, Keeps, IsOrWith}
@@ -38,7 +38,7 @@ use Rattle.cred_book.specs.Calls.{EntersWithin, Shows}
 use Rattle.cred_book.specs.Names.{is_name}
 use Rattle.cred_book.specs.declared.error.BookError.{BookError}
 use Rattle.cred_book.specs.declared.error.BookError.TheVariants as error
-use Rattle.cred_file.proofs.Texts.{insert_is, update_is, delete_is, rename_is, insert_plain, update_plain, delete_plain, rename_plain, matched, deleting, renaming, terms}
+use Rattle.cred_file.proofs.Texts.{of_book, insert_is, update_is, delete_is, rename_is, insert_plain, update_plain, delete_plain, rename_plain, matched, deleting, renaming, terms}
 use Rattle.cred_file.proofs.Changes.{does_insert, does_update, does_delete, does_rename}
 
 -- while the store is open, a crash leaves the last commit
@@ -46,9 +46,11 @@ abbrev pub IsSettled : State → Type 0
 IsSettled s = (db : Trees) → IsTrue s.is_open → s.may_leave db → db ≡ s.committed.trees
 
 -- the trees of a sound database
-pub holds : (db : Trees) (book : Accounts) (of : Database) → of.schema ≡ account_schema → IsSound of.schema of.trees → StandsFor (of.trees 0) book → db ≡ of.trees → HoldsBook db book
+pub holds : (db : Trees) (book : Accounts) (of : Database) → IsBookSchema of.schema → IsSound of.schema of.trees → StandsFor (of.trees 0) book → db ≡ of.trees → HoldsBook db book
 holds db book of schema sound stands is = record {
-  sound = subst₂ IsSound schema (sym is) sound;
+  schema = of.schema;
+  of_book = schema;
+  sound = subst (IsSound of.schema) (sym is) sound;
   stands = subst (λ (t : Trees). StandsFor (t 0) book) (sym is) stands;
 }
 
@@ -66,30 +68,29 @@ module _ (sql : List ℕ) (params : Row) (schema : Schema) (command : Command) (
       → (after.schema ≡ schema) × StandsFor (after.trees 0) to)
       (run : (old new : State) (text : List ℕ) (count : ℕ) → Runs old new None command text params count → Writes old new None command text params count)
       (may_write : (s : State) (text : List ℕ) (db : Trees) → MayCommit s None command text params db → MayWrite s None command text params db)
-      (same : schema ≡ account_schema) where
-    pub done : (old new : State) (count : ℕ) → IsSettled new → IsTableOf old from → Executes sql params old new (Ok count) → IsTableOf new to
-    done old new count settled was h =
-        let has = was.schema ∙ sym same in
+      (is_book : IsBookSchema schema) where
+    pub done : (old new : State) (count : ℕ) → IsSettled new → old.now.schema ≡ schema → IsTableOf old from → Executes sql params old new (Ok count) → IsTableOf new to
+    done old new count settled has was h =
+        let kept : (s : Schema) → s ≡ schema → IsBookSchema s = λ s is. subst IsBookSchema (sym is) is_book in
         let w = run old new _ count (runs_as sql params old new schema has command is plain count h) in
         let made = step old.step_limit (mode_of old) old.now new.now (statement_of sql (understood schema sql)) w.tally has was.stands w.changed in
         let committed : new.committed ≡ new.now = w.shown.committed_is ∙ ap (λ b. if b then old.committed else new.now) was.autocommit in
         record {
-          schema = made.0 ∙ same;
+          schema = kept new.now.schema made.0;
           stands = made.1;
-          sound = subst (λ x. IsSound x new.now.trees) (made.0 ∙ same) w.sound;
+          sound = w.sound;
           autocommit = w.shown.mode ∙ was.autocommit;
-          left = λ db may. (to, refl, holds db to new.now (made.0 ∙ same) w.sound made.1 (settled db w.shown.is_open may ∙ ap (λ (d : Database). d.trees) committed));
+          left = λ db may. (to, refl, holds db to new.now (kept new.now.schema made.0) w.sound made.1 (settled db w.shown.is_open may ∙ ap (λ (d : Database). d.trees) committed));
         }
 
-    pub crash : (old new : State) → HasCleanDisk new → Survives old new (CommitsBy sql params old) → IsTableOf old from → LeavesOnly new (λ b. (b ≡ from) ⊎ (b ≡ to))
-    crash old new clean s was db may =
-        let has = was.schema ∙ sym same in
+    pub crash : (old new : State) → HasCleanDisk new → Survives old new (CommitsBy sql params old) → old.now.schema ≡ schema → IsTableOf old from → LeavesOnly new (λ b. (b ≡ from) ⊎ (b ≡ to))
+    crash old new clean s has was db may =
         elim (s.crash clean db may) [
           | inl before ↦ let l = was.left db before in (l.0, inl l.1, l.2)
           | inr commits ↦
               let m = may_write old _ db (commits_as old has db commits) in
               let made = step old.step_limit (mode_of old) old.now m.2 (statement_of sql (understood schema sql)) m.1 has was.stands m.3 in
-              (to, inr refl, holds db to m.2 (made.0 ∙ same) m.4 made.1 m.5)
+              (to, inr refl, holds db to m.2 (subst IsBookSchema (sym made.0) is_book) m.4 made.1 m.5)
         ]
 
 -- a record that is written is told by its text
@@ -115,15 +116,18 @@ module _ (book : Accounts) (name : List ℕ) (named : IsTrue (is_name name)) (va
   insert_may s text db (inl h) = absurd (elim h.0 [ inl e ↦ cc | inr e ↦ let e = e.2 in cc ])
   insert_may s text db (inr h) = h
 
-  insert_does : (limit : Option ℕ) (mode : Mode) (db after : Database) (text : List ℕ) (tally : Tally) → db.schema ≡ account_schema → StandsFor (db.trees 0) book
-      → Does limit mode entry db text None inserting (Ok (tally, after)) → (after.schema ≡ account_schema) × StandsFor (after.trees 0) (fin.insert book name v)
-  insert_does limit mode db after text tally has stands d = does_insert limit mode name named value v db after text tally book tells has stands absent d
+  pub insert_does : (schema : Schema) → IsBookSchema schema → (limit : Option ℕ) (mode : Mode) (db after : Database) (text : List ℕ) (tally : Tally) → db.schema ≡ schema → StandsFor (db.trees 0) book
+      → Does limit mode entry db text None inserting (Ok (tally, after)) → (after.schema ≡ schema) × StandsFor (after.trees 0) (fin.insert book name v)
+  insert_does schema is limit mode db after text tally has stands d =
+      of_book (λ s. db.schema ≡ s → (after.schema ≡ s) × StandsFor (after.trees 0) (fin.insert book name v))
+      (λ has. does_insert [] (λ k d e. refl) limit mode name named value v db after text tally book tells has stands absent d)
+      (λ has. does_insert (statistics ∷ []) (λ k d e. refl) limit mode name named value v db after text tally book tells has stands absent d) schema is has
 
   pub inserted : (count : ℕ) → IsSettled new → IsTableOf old book → Executes insert_text entry old new (Ok count) → IsTableOf new (fin.insert book name v)
-  inserted = done insert_text entry account_schema inserting insert_is insert_plain book (fin.insert book name v) insert_does (λ o n t c h. h) insert_may refl old new
+  inserted count settled was = done insert_text entry old.now.schema inserting (insert_is _ was.schema) (insert_plain _ was.schema) book (fin.insert book name v) (insert_does _ was.schema) (λ o n t c h. h) insert_may was.schema old new count settled refl was
 
   pub insert_left : HasCleanDisk new → Survives old new (CommitsBy insert_text entry old) → IsTableOf old book → LeavesOnly new (λ b. (b ≡ book) ⊎ (b ≡ fin.insert book name v))
-  insert_left = crash insert_text entry account_schema inserting insert_is insert_plain book (fin.insert book name v) insert_does (λ o n t c h. h) insert_may refl old new
+  insert_left clean s was = crash insert_text entry old.now.schema inserting (insert_is _ was.schema) (insert_plain _ was.schema) book (fin.insert book name v) (insert_does _ was.schema) (λ o n t c h. h) insert_may was.schema old new clean s refl was
 
 module _ (book : Accounts) (name : List ℕ) (value : Value) (v : Option RecordValue) (tells : Tells value v) (there : fin.contains_key book name ≡ true) (old new : State) where
   abbrev given : Row
@@ -136,15 +140,18 @@ module _ (book : Accounts) (name : List ℕ) (value : Value) (v : Option RecordV
   update_may s text db (inl h) = absurd (elim h.0 [ inl e ↦ cc | inr e ↦ let e = e.2 in cc ])
   update_may s text db (inr h) = h
 
-  update_does : (limit : Option ℕ) (mode : Mode) (db after : Database) (text : List ℕ) (tally : Tally) → db.schema ≡ account_schema → StandsFor (db.trees 0) book
-      → Does limit mode given db text None command (Ok (tally, after)) → (after.schema ≡ account_schema) × StandsFor (after.trees 0) (fin.insert book name v)
-  update_does limit mode db after text tally has stands d = does_update limit mode name value v db after text tally book tells has stands there d
+  update_does : (schema : Schema) → IsBookSchema schema → (limit : Option ℕ) (mode : Mode) (db after : Database) (text : List ℕ) (tally : Tally) → db.schema ≡ schema → StandsFor (db.trees 0) book
+      → Does limit mode given db text None command (Ok (tally, after)) → (after.schema ≡ schema) × StandsFor (after.trees 0) (fin.insert book name v)
+  update_does schema is limit mode db after text tally has stands d =
+      of_book (λ s. db.schema ≡ s → (after.schema ≡ s) × StandsFor (after.trees 0) (fin.insert book name v))
+      (λ has. does_update [] (λ k d e. refl) limit mode name value v db after text tally book tells has stands there d)
+      (λ has. does_update (statistics ∷ []) (λ k d e. refl) limit mode name value v db after text tally book tells has stands there d) schema is has
 
   pub updated : (count : ℕ) → IsSettled new → IsTableOf old book → Executes update_text given old new (Ok count) → IsTableOf new (fin.insert book name v)
-  updated = done update_text given account_schema command update_is update_plain book (fin.insert book name v) update_does (λ o n t c h. h) update_may refl old new
+  updated count settled was = done update_text given old.now.schema command (update_is _ was.schema) (update_plain _ was.schema) book (fin.insert book name v) (update_does _ was.schema) (λ o n t c h. h) update_may was.schema old new count settled refl was
 
   pub update_left : HasCleanDisk new → Survives old new (CommitsBy update_text given old) → IsTableOf old book → LeavesOnly new (λ b. (b ≡ book) ⊎ (b ≡ fin.insert book name v))
-  update_left = crash update_text given account_schema command update_is update_plain book (fin.insert book name v) update_does (λ o n t c h. h) update_may refl old new
+  update_left clean s was = crash update_text given old.now.schema command (update_is _ was.schema) (update_plain _ was.schema) book (fin.insert book name v) (update_does _ was.schema) (λ o n t c h. h) update_may was.schema old new clean s refl was
 
 module _ (book : Accounts) (name : List ℕ) (there : fin.contains_key book name ≡ true) (old new : State) where
   abbrev removing : Command
@@ -154,15 +161,18 @@ module _ (book : Accounts) (name : List ℕ) (there : fin.contains_key book name
   delete_may s text db (inl h) = absurd (elim h.0 [ inl e ↦ cc | inr e ↦ let e = e.2 in cc ])
   delete_may s text db (inr h) = h
 
-  delete_does : (limit : Option ℕ) (mode : Mode) (db after : Database) (text : List ℕ) (tally : Tally) → db.schema ≡ account_schema → StandsFor (db.trees 0) book
-      → Does limit mode (Text name ∷ []) db text None removing (Ok (tally, after)) → (after.schema ≡ account_schema) × StandsFor (after.trees 0) (fin.remove book name)
-  delete_does limit mode db after text tally has stands d = does_delete limit mode name db after text tally book has stands there d
+  delete_does : (schema : Schema) → IsBookSchema schema → (limit : Option ℕ) (mode : Mode) (db after : Database) (text : List ℕ) (tally : Tally) → db.schema ≡ schema → StandsFor (db.trees 0) book
+      → Does limit mode (Text name ∷ []) db text None removing (Ok (tally, after)) → (after.schema ≡ schema) × StandsFor (after.trees 0) (fin.remove book name)
+  delete_does schema is limit mode db after text tally has stands d =
+      of_book (λ s. db.schema ≡ s → (after.schema ≡ s) × StandsFor (after.trees 0) (fin.remove book name))
+      (λ has. does_delete [] (λ k d e. refl) limit mode name db after text tally book has stands there d)
+      (λ has. does_delete (statistics ∷ []) (λ k d e. refl) limit mode name db after text tally book has stands there d) schema is has
 
   pub deleted : (count : ℕ) → IsSettled new → IsTableOf old book → Executes delete_text (Text name ∷ []) old new (Ok count) → IsTableOf new (fin.remove book name)
-  deleted = done delete_text (Text name ∷ []) account_schema removing delete_is delete_plain book (fin.remove book name) delete_does (λ o n t c h. h) delete_may refl old new
+  deleted count settled was = done delete_text (Text name ∷ []) old.now.schema removing (delete_is _ was.schema) (delete_plain _ was.schema) book (fin.remove book name) (delete_does _ was.schema) (λ o n t c h. h) delete_may was.schema old new count settled refl was
 
   pub delete_left : HasCleanDisk new → Survives old new (CommitsBy delete_text (Text name ∷ []) old) → IsTableOf old book → LeavesOnly new (λ b. (b ≡ book) ⊎ (b ≡ fin.remove book name))
-  delete_left = crash delete_text (Text name ∷ []) account_schema removing delete_is delete_plain book (fin.remove book name) delete_does (λ o n t c h. h) delete_may refl old new
+  delete_left clean s was = crash delete_text (Text name ∷ []) old.now.schema removing (delete_is _ was.schema) (delete_plain _ was.schema) book (fin.remove book name) (delete_does _ was.schema) (λ o n t c h. h) delete_may was.schema old new clean s refl was
 
 module _ (book : Accounts) (name other : List ℕ) (named : IsTrue (is_name other)) (fits : IsRenamable name other book) (old new : State) where
   abbrev params : Row
@@ -175,15 +185,18 @@ module _ (book : Accounts) (name other : List ℕ) (named : IsTrue (is_name othe
   rename_may s text db (inl h) = absurd (elim h.0 [ inl e ↦ cc | inr e ↦ let e = e.2 in cc ])
   rename_may s text db (inr h) = h
 
-  rename_does : (limit : Option ℕ) (mode : Mode) (db after : Database) (text : List ℕ) (tally : Tally) → db.schema ≡ account_schema → StandsFor (db.trees 0) book
-      → Does limit mode params db text None changing (Ok (tally, after)) → (after.schema ≡ account_schema) × StandsFor (after.trees 0) (renamed book name other)
-  rename_does limit mode db after text tally has stands d = does_rename limit mode name other named db after text tally book has stands fits.0 fits.1 d
+  rename_does : (schema : Schema) → IsBookSchema schema → (limit : Option ℕ) (mode : Mode) (db after : Database) (text : List ℕ) (tally : Tally) → db.schema ≡ schema → StandsFor (db.trees 0) book
+      → Does limit mode params db text None changing (Ok (tally, after)) → (after.schema ≡ schema) × StandsFor (after.trees 0) (renamed book name other)
+  rename_does schema is limit mode db after text tally has stands d =
+      of_book (λ s. db.schema ≡ s → (after.schema ≡ s) × StandsFor (after.trees 0) (renamed book name other))
+      (λ has. does_rename [] (λ k d e. refl) limit mode name other named db after text tally book has stands fits.0 fits.1 d)
+      (λ has. does_rename (statistics ∷ []) (λ k d e. refl) limit mode name other named db after text tally book has stands fits.0 fits.1 d) schema is has
 
   pub row_renamed : (count : ℕ) → IsSettled new → IsTableOf old book → Executes rename_text params old new (Ok count) → IsTableOf new (renamed book name other)
-  row_renamed = done rename_text params account_schema changing rename_is rename_plain book (renamed book name other) rename_does (λ o n t c h. h) rename_may refl old new
+  row_renamed count settled was = done rename_text params old.now.schema changing (rename_is _ was.schema) (rename_plain _ was.schema) book (renamed book name other) (rename_does _ was.schema) (λ o n t c h. h) rename_may was.schema old new count settled refl was
 
   pub rename_left : HasCleanDisk new → Survives old new (CommitsBy rename_text params old) → IsTableOf old book → LeavesOnly new (λ b. (b ≡ book) ⊎ (b ≡ renamed book name other))
-  rename_left = crash rename_text params account_schema changing rename_is rename_plain book (renamed book name other) rename_does (λ o n t c h. h) rename_may refl old new
+  rename_left clean s was = crash rename_text params old.now.schema changing (rename_is _ was.schema) (rename_plain _ was.schema) book (renamed book name other) (rename_does _ was.schema) (λ o n t c h. h) rename_may was.schema old new clean s refl was
 
 -- ---- what a book in a database keeps true
 

@@ -71,7 +71,7 @@ module _ (rows : List Row) (k : ℕ) (low : k < length rows) (row : Row) (is : g
   unread fault.NotEmpty h = h
   unread fault.NoBook h = h
   unread (fault.NoName id) h = here (λ r. has_rowid id r && is_no_name (column r 1)) (both _ _ (numbered row id h.0) h.1)
-  unread (fault.NoRecord id) h = here (λ r. has_rowid id r && is_no_record (column r 2)) (both _ _ (numbered row id h.0) h.1)
+  unread (fault.NoRecord id why) h = here (λ r. has_rowid id r && is_no_record why (column r 2)) (both _ _ (numbered row id h.0) h.1)
   unread (fault.Twice id) h = absurd h
   unread fault.TooMany h = absurd h
   unread fault.Memory h = absurd h
@@ -81,7 +81,7 @@ module _ (rows : List Row) (k : ℕ) (low : k < length rows) (row : Row) (is : g
   spare fault.NotEmpty h = h
   spare fault.NoBook h = h
   spare (fault.NoName id) h = absurd h
-  spare (fault.NoRecord id) h = absurd h
+  spare (fault.NoRecord id why) h = absurd h
   spare (fault.Twice id) h =
       let l = h.0 in
       let says = h.1 in

@@ -1,5 +1,5 @@
 -- Nothing is wrong with the rows of a table that stands for a book.
-use Rattle.std.proofs.Common.{◌≡◌, inl, inr, suc, ◌+◌, ◌≤◌, arith, List, [], ◌∷◌, length, map, cond, is_some, Bool, true, false, not, ◌&&◌, ◌||◌, Option, Some, None, is_err, refl, sym, ap, subst, ◌∙◌}
+use Rattle.std.proofs.Common.{◌≡◌, inl, inr, suc, ◌+◌, ◌≤◌, arith, List, [], ◌∷◌, length, map, cond, is_some, Bool, true, false, not, ◌&&◌, ◌||◌, Option, Some, None, refl, sym, ap, subst, ◌∙◌}
 use Rattle.std.proofs.lemmas.Bool.{true≢false}
 use Rattle.std.specs.FinMap as fin
 use Rattle.std.specs.FinMap.{same_map, get-insert, get-from_entries, len-empty, len-insert, slice_cmp-IsAntisymmetric, nat_cmp-IsAntisymmetric}
@@ -16,15 +16,16 @@ use Rattle.sqlite.specs.Effect.{IsDatabase}
 use Rattle.sqlite_trees.specs.Tree.{has_rowid}
 use Rattle.sqlite_value.proofs.OrderLemmas.{value_cmp_total, value_cmp-Text}
 use Rattle.cred_phc.specs.Values.{RecordValue}
+use Rattle.cred_phc.specs.declared.error.PhcError.{PhcError}
 use Rattle.cred_book.specs.Accounts.{Accounts, register_capacity}
 use Rattle.cred_file.specs.declared.fault.OpenFault.{OpenFault}
 use Rattle.cred_file.specs.declared.fault.OpenFault.TheVariants as fault
 use Rattle.cred_book.specs.Names.{name_cmp}
 use Rattle.cred_file.specs.Table.{Line, Says, Tells, entry_of, has_name, AreApart, StandsFor}
 use Rattle.cred_file.specs.Keeps.{HoldsBook}
-use Rattle.cred_file.specs.Opening.{agree, is_no_name, is_no_record, is_repeated, AreAtFault, IsUnopened, IsForWant}
+use Rattle.cred_file.specs.Opening.{agree, is_no_name, is_no_record, is_refused, is_repeated, AreAtFault, IsUnopened, IsForWant}
 use Rattle.cred_file.proofs.TableLemmas.{or_false, or_both, name_symm, any_names}
-use Rattle.cred_file.proofs.Catalogued.{one_schema}
+use Rattle.cred_file.proofs.Catalogued.{still_book}
 
 -- a test that no row passes
 none_pass : (test : Row → Bool) → ((row : Row) (l : Line) → Says row l → test row ≡ false) → (rows : List Row) (ls : List Line) → AllZip Says rows ls → list_any test rows ≡ false
@@ -37,13 +38,15 @@ and_false : (a b : Bool) → b ≡ false → (a && b) ≡ false
 and_false true b e = e
 and_false false b e = refl
 
-told : (v : Value) (stored : Option RecordValue) → Tells v stored → is_no_record v ≡ false
-told Null stored tells = refl
-told (Text t) None tells = absurd tells
-told (Text t) (Some v) tells = ap is_err tells
-told (Int n) stored tells = absurd tells
-told (Real x) stored tells = absurd tells
-told (Blob b) stored tells = absurd tells
+told : (why : Option PhcError) (v : Value) (stored : Option RecordValue) → Tells v stored → is_no_record why v ≡ false
+told None Null stored tells = refl
+told (Some e) Null stored tells = refl
+told why (Text t) None tells = absurd tells
+told None (Text t) (Some v) tells = refl
+told (Some e) (Text t) (Some v) tells = ap (is_refused e) tells
+told why (Int n) stored tells = absurd tells
+told why (Real x) stored tells = absurd tells
+told why (Blob b) stored tells = absurd tells
 
 -- ---- no name twice
 
@@ -138,8 +141,8 @@ no_fault rows book few s fault.NotEmpty h = absurd h
 no_fault rows book few s fault.NoBook h = absurd h
 no_fault rows book few s (fault.NoName id) h =
     never h (narrower (has_rowid id) (λ row. is_no_name (column row 1)) rows (none_pass (λ row. is_no_name (column row 1)) (λ row l says. ap is_no_name says.name ∙ ap not says.is_name) rows s.lines s.each))
-no_fault rows book few s (fault.NoRecord id) h =
-    never h (narrower (has_rowid id) (λ row. is_no_record (column row 2)) rows (none_pass (λ row. is_no_record (column row 2)) (λ row l says. told (column row 2) l.stored says.stored) rows s.lines s.each))
+no_fault rows book few s (fault.NoRecord id why) h =
+    never h (narrower (has_rowid id) (λ row. is_no_record why (column row 2)) rows (none_pass (λ row. is_no_record why (column row 2)) (λ row l says. told why (column row 2) l.stored says.stored) rows s.lines s.each))
 no_fault rows book few s (fault.Twice id) h = never h (narrower (has_rowid id) (is_repeated rows) rows (each_as_line rows s.lines s.each rows s.lines s.each ∙ none_repeated s.lines s.apart))
 no_fault rows book few s fault.TooMany h = absurd (omega (arith, h, as_many rows book s, few))
 no_fault rows book few s fault.Memory h = tt
@@ -147,6 +150,6 @@ no_fault rows book few s (fault.Database e) h = tt
 
 -- a sound database that a crash left of a book is refused for want alone
 pub for_want : (old new : State) (book : Accounts) → fin.len book ≤ register_capacity → HoldsBook old.now.trees book → IsDatabase old.now → (why : OpenFault) → IsUnopened old new why → IsForWant why
-for_want old new book few holds sound why (inl no_book) = absurd (no_book.1 (one_schema old.now.trees old.now.schema holds.sound sound))
+for_want old new book few holds sound why (inl no_book) = absurd (no_book.1 (still_book old.now.trees holds.schema old.now.schema holds.of_book holds.sound sound))
 for_want old new book few holds sound why (inr (inl rows)) = no_fault (old.now.trees 0) book few holds.stands why rows.0
 for_want old new book few holds sound why (inr (inr failed)) = subst IsForWant (sym failed.1) tt

@@ -3,7 +3,6 @@ use Rattle.std.proofs.Common.{◌≡◌, ap, subst, ◌∙◌}
 use Rattle.cred_book.specs.Accounts.{Accounts}
 use Rattle.cred_file.specs.Keeps.{HoldsBook}
 use Rattle.cred_file.specs.Opening.{IsFound}
-use Rattle.cred_file.specs.Schema.{account_schema}
 use Rattle.cred_file.specs.Table.{StandsFor}
 use Rattle.sqlite.specs.Files.{HoldsDatabase}
 use Rattle.sqlite.specs.Start.{FindsIn}
@@ -16,6 +15,8 @@ held image old new book opens live finds found db holds =
     let same : old.now.trees ≡ db = ap (λ d. d.trees) opens.clean ∙ finds.holds db holds in
     let sound : IsSound old.now.schema old.now.trees = (live opens.is_open).0 in
     record {
-      sound = subst (IsSound account_schema) same (subst (λ s. IsSound s old.now.trees) found.schema sound);
+      schema = old.now.schema;
+      of_book = found.schema;
+      sound = subst (IsSound old.now.schema) same sound;
       stands = subst (λ t. StandsFor (t 0) book) same found.stands;
     }

@@ -9,10 +9,8 @@ use Rattle.sqlite.specs.Program.{overlay}
 use Rattle.sqlite.specs.Effect.{Database, IsDatabase}
 use Rattle.sqlite.specs.State.{State, Shown, IsUnchanged, CommitsShowing, Survives}
 use Rattle.sqlite.proofs.Callers.{IsPlain, reads_as, never_commits}
-use Rattle.sqlite.specs.Listing.{understood}
 use Rattle.cred_book.specs.Accounts.{Accounts}
-use Rattle.sqlite_catalog.specs.Listing.{IsSound}
-use Rattle.cred_file.specs.Schema.{account_schema}
+use Rattle.cred_file.specs.Schema.{IsBookSchema}
 use Rattle.cred_file.specs.Table.{StandsFor}
 use Rattle.cred_file.specs.Keeps.{IsTableOf}
 use Rattle.cred_file.specs.Opening.{rows_text, IsAsBefore}
@@ -28,11 +26,11 @@ outputs : (rows : List Row) → map (λ (o : Output). o.1) (map (output all_rows
 outputs [] = refl
 outputs (r ∷ rs) = ap (λ es. shown r ∷ es) (outputs rs)
 
-module _ (old new : State) (has : old.now.schema ≡ account_schema) where
+module _ (old new : State) (has : IsBookSchema old.now.schema) where
   -- the table's rows, in some order
   pub selected : (rows : List Row) → Shown rows_text [] old new rows → IsPermutation rows (map shown (old.now.trees 0))
   selected rows h =
-      let it = reads_as rows_text [] old new account_schema has _ rows_is rows_plain rows_listed rows h in
+      let it = reads_as rows_text [] old new old.now.schema refl _ (rows_is _ has) (rows_plain _ has) (rows_listed _ has) rows h in
       let a : IsAnswer all_rows (overlay old.now.trees []) [] rows = it.answer Null in
       let staged : a.staged ≡ map (λ r. [] ∷ r ∷ []) (old.now.trees 0) = a.grouped ∙ each (old.now.trees 0) in
       let kept : map (λ (o : Output). o.1) a.kept ≡ map shown (old.now.trees 0) = ap (map (λ (o : Output). o.1)) (a.distinct ∙ ap (map (output all_rows)) staged) ∙ outputs (old.now.trees 0) in
@@ -44,8 +42,7 @@ module _ (old new : State) (has : old.now.schema ≡ account_schema) where
   pub unchanged : (rows : List Row) → Shown rows_text [] old new rows → IsUnchanged old new
   unfolding Shown
   unchanged rows h =
-      let known = sym h.1.is ∙ ap (λ s. understood s rows_text) has in
-      let bare = subst IsPlain (sym known) rows_plain in
+      let bare = subst IsPlain h.1.is (rows_plain _ has) in
       (rw bare.0 at h.2).3
 
   pub survived : Survives old new (CommitsShowing rows_text [] old) → Survives old new (λ _. ⊥)
@@ -57,7 +54,7 @@ module _ (old new : State) (has : old.now.schema ≡ account_schema) where
     closes = s.closes;
     crash = λ clean db may. elim (s.crash clean db may) [
       | inl before ↦ inl before
-      | inr commits ↦ absurd (never_commits rows_text [] old db (subst (λ k. IsPlain (understood k rows_text)) (sym has) rows_plain) commits)
+      | inr commits ↦ absurd (never_commits rows_text [] old db (rows_plain _ has) commits)
     ];
   }
 
@@ -74,12 +71,12 @@ pub survives_nothing : (s : State) → Survives s s (λ _. ⊥)
 survives_nothing s = record { clean = omega arith; shield = λ h. h; counts = omega arith; limit = refl; closes = λ clean h. inl h; crash = λ clean db may. inl may }
 
 -- a sound database at rest, whose table stands for the book
-pub is_table : (s : State) (book : Accounts) → IsSettled s → IsTrue s.is_open → s.in_transaction ≡ false → s.now ≡ s.committed → IsDatabase s.now → s.now.schema ≡ account_schema
+pub is_table : (s : State) (book : Accounts) → IsSettled s → IsTrue s.is_open → s.in_transaction ≡ false → s.now ≡ s.committed → IsDatabase s.now → IsBookSchema s.now.schema
     → StandsFor (s.now.trees 0) book → IsTableOf s book
 is_table s book settled is_open autocommit rest sound schema stands = record {
   schema = schema;
   stands = stands;
-  sound = subst (λ x. IsSound x s.now.trees) schema sound;
+  sound = sound;
   autocommit = autocommit;
   left = λ db may. (book, refl, holds db book s.now schema sound stands (settled db is_open may ∙ ap (λ (d : Database). d.trees) (sym rest)));
 }

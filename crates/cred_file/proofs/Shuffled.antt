@@ -110,7 +110,7 @@ module _ (table answer : List Row) (p : IsPermutation answer (map shown table)) 
   fault_unshown fault.NotEmpty h = h
   fault_unshown fault.NoBook h = h
   fault_unshown (fault.NoName id) h = sym (any_unshown (λ row. has_rowid id row && is_no_name (column row 1))) ∙ h
-  fault_unshown (fault.NoRecord id) h = sym (any_unshown (λ row. has_rowid id row && is_no_record (column row 2))) ∙ h
+  fault_unshown (fault.NoRecord id why) h = sym (any_unshown (λ row. has_rowid id row && is_no_record why (column row 2))) ∙ h
   fault_unshown (fault.Twice id) h = sym (λ i. list_any (λ row. has_rowid id row && repeated row i) table) ∙ sym (any_unshown (λ row. has_rowid id row && is_repeated answer row)) ∙ h
   fault_unshown fault.TooMany h = omega (arith, length_permutation answer (map shown table) p, length-map table shown, h)
   fault_unshown fault.Memory h = tt

@@ -1,5 +1,5 @@
 -- What rows that are read one at a time say of the table.
-use Rattle.std.proofs.Common.{◌≡◌, ℕ, suc, ◌<◌, List, [], ◌∷◌, ◌++◌, length, take, get_or, codes, IsTrue, Ok, None, Some, inl, inr, ◌≤◌, refl, sym, ap, subst, ◌∙◌, arith, length-append}
+use Rattle.std.proofs.Common.{◌≡◌, ◌<◌, List, [], ◌∷◌, ◌++◌, length, take, get_or, Ok, None, inl, inr, ◌≤◌, refl, sym, ap, subst, ◌∙◌, arith, length-append}
 use Rattle.std.specs.List.Sorted.{IsPermutation}
 use Rattle.sqlite.specs.Order.{Row}
 use Rattle.sqlite.specs.Held.{Held, state}
@@ -16,7 +16,7 @@ use Rattle.sqlite.proofs.Callers.{EndsIn, IsPlain, begins_shown, command_of, giv
 use Rattle.sqlite.proofs.StreamLemmas.{fails_since}
 use Rattle.cred_book.specs.Accounts.{Accounts}
 use Rattle.cred_file.specs.declared.fault.OpenFault.{OpenFault}
-use Rattle.cred_file.specs.Schema.{account_schema}
+use Rattle.cred_file.specs.Schema.{IsBookSchema}
 use Rattle.cred_file.specs.Table.{StandsFor}
 use Rattle.cred_file.specs.Drafts.{IsDraftOf, IsNotAdded}
 use Rattle.cred_file.specs.Opening.{AreAtFault, rows_text}
@@ -45,20 +45,19 @@ left_out_among prior tail row book ids draft why h =
     (subst (λ rows. IsDraftOf rows book ids) (sym (take_front prior row tail)) draft) why h
 
 -- the query has no recursion
-ends : (s : State) → s.now.schema ≡ account_schema → (c : Compiled) (db : Database) → IsStatement s rows_text [] c → (params : Row) → EndsIn c.command db params
+ends : (s : State) → IsBookSchema s.now.schema → (c : Compiled) (db : Database) → IsStatement s rows_text [] c → (params : Row) → EndsIn c.command db params
 ends s has c db it params =
-    let known : command_of (understood account_schema rows_text) ≡ c.command = ap (λ k. command_of (understood k rows_text)) (sym has) ∙ ap command_of it.is in
-    subst (λ (k : Command). EndsIn k db params) (sym rows_is ∙ known) tt
+    subst (λ (k : Command). EndsIn k db params) (sym (rows_is _ has) ∙ ap command_of it.is) tt
 
 still : (a b : State) → IsUnchanged a b → IsUnchanged b b
 still a b same = (record { was_open = same.0.is_open; is_open = same.0.is_open; now_is = refl; committed_is = refl; mode = refl }, record { changes = refl; last_rowid = refl }, refl)
 
-module _ {S : Type 0} (g : Ghosts S) (old : State) (h : Held S) (has : old.now.schema ≡ account_schema) (same : IsUnchanged old (state g h)) where
+module _ {S : Type 0} (g : Ghosts S) (old : State) (h : Held S) (has : IsBookSchema old.now.schema) (same : IsUnchanged old (state g h)) where
   abbrev now : State
   now = state g h
 
-  has_now : now.now.schema ≡ account_schema
-  has_now = ap (λ (d : Database). d.schema) same.0.now_is ∙ has
+  has_now : IsBookSchema now.now.schema
+  has_now = subst (λ (d : Database). IsBookSchema d.schema) (sym same.0.now_is) has
 
   -- the rows so far are the first of the table's, in some order
   pub first_of : (given : List Row) → HasGiven g rows_text [] h given → (tail : List Row) × IsPermutation (given ++ tail) (map shown (old.now.trees 0))
@@ -80,7 +79,7 @@ module _ {S : Type 0} (g : Ghosts S) (old : State) (h : Held S) (has : old.now.s
       subst (λ (d : Database). StandsFor (d.trees 0) book) same.0.now_is (stands_unshown (now.now.trees 0) given book p stands)
 
 -- the query that failed after some rows had failed from the first on
-module _ (old mid new : State) (has : old.now.schema ≡ account_schema) (same : IsUnchanged old mid) (counts : old.faults ≤ mid.faults) (limit : mid.step_limit ≡ old.step_limit) where
+module _ (old mid new : State) (has : IsBookSchema old.now.schema) (same : IsUnchanged old mid) (counts : old.faults ≤ mid.faults) (limit : mid.step_limit ≡ old.step_limit) where
   abbrev since : (c : Compiled) → IsStatement mid rows_text [] c → IsStatement old rows_text [] c
   since c h = record { is = subst (λ (d : Database). understood d.schema rows_text ≡ Ok c) same.0.now_is h.is; whole = h.whole; given = h.given; now = h.now }
 
@@ -88,7 +87,7 @@ module _ (old mid new : State) (has : old.now.schema ≡ account_schema) (same :
   source_since db = subst (λ (d : Database). IsSourceOf (reads_listing d.schema rows_text) d db) same.0.now_is
 
   plain : (c : Compiled) → understood old.now.schema rows_text ≡ Ok c → c.returning ≡ None
-  plain c is = (subst IsPlain (ap (λ k. understood k rows_text) (sym has) ∙ is) rows_plain).0
+  plain c is = (subst IsPlain is (rows_plain _ has)).0
 
   pub fails_from_first : (e : Error) → FailsToQuery rows_text [] mid new e → FailsToQuery rows_text [] old new e
   unfolding FailsToQuery IsNotRun

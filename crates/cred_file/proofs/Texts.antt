@@ -1,5 +1,5 @@
 -- What the texts mean.
-use Rattle.std.proofs.Common.{◌≡◌, pos, negsuc, List, [], ◌∷◌, codes, false, None, Ok, refl}
+use Rattle.std.proofs.Common.{◌≡◌, inl, inr, pos, negsuc, List, [], ◌∷◌, codes, false, None, Ok, refl, sym, subst}
 use Rattle.sqlite.specs.Term.{Term, lit, col, op2}
 use Rattle.sqlite.specs.Command.TheVariants.{Insert, Select, CreateTable, Update, Delete}
 use Rattle.sqlite.specs.Compile.{table_defined_by}
@@ -13,14 +13,27 @@ use Rattle.sqlite_value.specs.declared.keys.Collation.TheVariants.{Binary}
 use Rattle.sqlite_sql.specs.declared.ops.BinaryOp.TheVariants.{Compare}
 use Rattle.sqlite_sql.specs.declared.ops.CompareOp.TheVariants.{Eq}
 use Rattle.sqlite.specs.Source.TheVariants.{Values}
-use Rattle.cred_file.specs.Schema.{account, account_schema, create_text, delete_text, insert_text, no_schema, rename_text, update_text}
+use Rattle.sqlite.specs.Schema.{Schema}
+use Rattle.cred_file.specs.Schema.{IsBookSchema, account, book_schema, create_text, delete_text, insert_text, no_schema, rename_text, statistics, statistics_text, update_text}
 use Rattle.cred_file.specs.Opening.{rows_text}
+
+-- what holds with and without the statistics
+pub of_book : (P : Schema → Type 0) → P (book_schema []) → P (book_schema (statistics ∷ [])) → (s : Schema) → IsBookSchema s → P s
+of_book P alone beside s is = elim is.tables [
+  | inl tables ↦ let whole : s ≡ book_schema [] = (λ i. record { tables = tables i; indexes = is.indexes i; views = is.views i }) in subst P (sym whole) alone
+  | inr tables ↦ let whole : s ≡ book_schema (statistics ∷ []) = (λ i. record { tables = tables i; indexes = is.indexes i; views = is.views i }) in subst P (sym whole) beside
+]
+
+-- the statistics are what SQLite's text defines, in the third tree
+pub statistics_is : table_defined_by statistics_text ≡ Ok (record statistics { tree = 0 })
+unfolding understood everything
+statistics_is = refl
 
 pub create_is : (command_of (understood no_schema create_text) ≡ CreateTable) × (statement_of create_text (understood no_schema create_text) ≡ create_text) × (table_defined_by create_text ≡ Ok account)
 unfolding understood everything
 create_is = (refl, refl, refl)
 
-pub created_is : created no_schema account ≡ account_schema
+pub created_is : created no_schema account ≡ book_schema []
 unfolding understood everything
 created_is = refl
 
@@ -37,20 +50,20 @@ matched = record {
   offset = lit (Int (pos 0));
 }
 
-pub update_is : command_of (understood account_schema update_text) ≡ Update 0 (record { lets = []; body = matched })
+pub update_is : (s : Schema) → IsBookSchema s → command_of (understood s update_text) ≡ Update 0 (record { lets = []; body = matched })
 unfolding understood everything
-update_is = refl
+update_is = of_book (λ s. command_of (understood s update_text) ≡ Update 0 (record { lets = []; body = matched })) refl refl
 
 abbrev pub terms : List Term
 terms = lit Null ∷ col 0 0 ∷ col 0 1 ∷ []
 
-pub insert_is : command_of (understood account_schema insert_text) ≡ Insert 0 (Values terms 3)
+pub insert_is : (s : Schema) → IsBookSchema s → command_of (understood s insert_text) ≡ Insert 0 (Values terms 3)
 unfolding understood everything
-insert_is = refl
+insert_is = of_book (λ s. command_of (understood s insert_text) ≡ Insert 0 (Values terms 3)) refl refl
 
-pub insert_plain : IsPlain (understood account_schema insert_text)
+pub insert_plain : (s : Schema) → IsBookSchema s → IsPlain (understood s insert_text)
 unfolding understood everything
-insert_plain = (refl, refl)
+insert_plain = of_book (λ s. IsPlain (understood s insert_text)) (refl, refl) (refl, refl)
 
 abbrev pub all_rows : Query
 all_rows = record {
@@ -65,25 +78,25 @@ all_rows = record {
   offset = lit (Int (pos 0));
 }
 
-pub rows_is : command_of (understood account_schema rows_text) ≡ Select (record { lets = []; body = all_rows }) (codes "rowid" ∷ codes "name" ∷ codes "record" ∷ [])
+pub rows_is : (s : Schema) → IsBookSchema s → command_of (understood s rows_text) ≡ Select (record { lets = []; body = all_rows }) (codes "rowid" ∷ codes "name" ∷ codes "record" ∷ [])
 unfolding understood everything
-rows_is = refl
+rows_is = of_book (λ s. command_of (understood s rows_text) ≡ Select (record { lets = []; body = all_rows }) (codes "rowid" ∷ codes "name" ∷ codes "record" ∷ [])) refl refl
 
-pub rows_listed : reads_listing account_schema rows_text ≡ false
+pub rows_listed : (s : Schema) → IsBookSchema s → reads_listing s rows_text ≡ false
 unfolding understood everything
-rows_listed = refl
+rows_listed = of_book (λ s. reads_listing s rows_text ≡ false) refl refl
 
-pub rows_plain : IsPlain (understood account_schema rows_text)
+pub rows_plain : (s : Schema) → IsBookSchema s → IsPlain (understood s rows_text)
 unfolding understood everything
-rows_plain = (refl, refl)
+rows_plain = of_book (λ s. IsPlain (understood s rows_text)) (refl, refl) (refl, refl)
 
 pub create_plain : IsPlain (understood no_schema create_text)
 unfolding understood everything
 create_plain = (refl, refl)
 
-pub update_plain : IsPlain (understood account_schema update_text)
+pub update_plain : (s : Schema) → IsBookSchema s → IsPlain (understood s update_text)
 unfolding understood everything
-update_plain = (refl, refl)
+update_plain = of_book (λ s. IsPlain (understood s update_text)) (refl, refl) (refl, refl)
 
 abbrev pub deleting : Query
 deleting = record {
@@ -98,13 +111,13 @@ deleting = record {
   offset = lit (Int (pos 0));
 }
 
-pub delete_is : command_of (understood account_schema delete_text) ≡ Delete 0 (record { lets = []; body = deleting })
+pub delete_is : (s : Schema) → IsBookSchema s → command_of (understood s delete_text) ≡ Delete 0 (record { lets = []; body = deleting })
 unfolding understood everything
-delete_is = refl
+delete_is = of_book (λ s. command_of (understood s delete_text) ≡ Delete 0 (record { lets = []; body = deleting })) refl refl
 
-pub delete_plain : IsPlain (understood account_schema delete_text)
+pub delete_plain : (s : Schema) → IsBookSchema s → IsPlain (understood s delete_text)
 unfolding understood everything
-delete_plain = (refl, refl)
+delete_plain = of_book (λ s. IsPlain (understood s delete_text)) (refl, refl) (refl, refl)
 
 abbrev pub renaming : Query
 renaming = record {
@@ -119,10 +132,10 @@ renaming = record {
   offset = lit (Int (pos 0));
 }
 
-pub rename_is : command_of (understood account_schema rename_text) ≡ Update 0 (record { lets = []; body = renaming })
+pub rename_is : (s : Schema) → IsBookSchema s → command_of (understood s rename_text) ≡ Update 0 (record { lets = []; body = renaming })
 unfolding understood everything
-rename_is = refl
+rename_is = of_book (λ s. command_of (understood s rename_text) ≡ Update 0 (record { lets = []; body = renaming })) refl refl
 
-pub rename_plain : IsPlain (understood account_schema rename_text)
+pub rename_plain : (s : Schema) → IsBookSchema s → IsPlain (understood s rename_text)
 unfolding understood everything
-rename_plain = (refl, refl)
+rename_plain = of_book (λ s. IsPlain (understood s rename_text)) (refl, refl) (refl, refl)

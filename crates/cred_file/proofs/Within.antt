@@ -1,5 +1,5 @@
 -- What happens to the table within a transaction, and as it is committed.
-use Rattle.std.proofs.Common.{◌≡◌, ◌⊎◌, inl, inr, ℕ, List, ◌∷◌, [], true, false, None, Option, OnOk, Ok, Err, Result, IsTrue, refl, sym, ap, subst, ◌∙◌}
+use Rattle.std.proofs.Common.{◌≡◌, ◌⊎◌, inl, inr, ℕ, List, ◌∷◌, [], true, false, Option, OnOk, Ok, Err, Result, IsTrue, refl, sym, ap, subst, ◌∙◌}
 use Rattle.std.specs.FinMap as fin
 use Rattle.sqlite.specs.declared.types.Value.{Value}
 use Rattle.sqlite.specs.declared.types.Value.TheVariants.{Text}
@@ -16,13 +16,12 @@ use Rattle.sqlite_catalog.specs.Listing.{IsSound}
 use Rattle.cred_phc.specs.Values.{RecordValue}
 use Rattle.cred_book.specs.Accounts.{Accounts}
 use Rattle.cred_book.specs.Names.{is_name}
-use Rattle.cred_file.specs.Schema.{account_schema, insert_text}
+use Rattle.cred_file.specs.Schema.{IsBookSchema, insert_text}
 use Rattle.cred_file.specs.Table.{StandsFor, Tells}
 use Rattle.cred_file.specs.Keeps.{IsTableOf, LeavesOnly}
 use Rattle.cred_file.specs.Together.{IsUnderWay}
 use Rattle.cred_file.proofs.Texts.{insert_is, insert_plain, terms}
-use Rattle.cred_file.proofs.Changes.{does_insert}
-use Rattle.cred_file.proofs.Keeping.{IsSettled, holds}
+use Rattle.cred_file.proofs.Keeping.{IsSettled, holds, insert_does}
 
 -- nothing is committed until the commit
 pub still : (old new : State) (P : Accounts → Type 0) → HasCleanDisk new → Survives old new (λ _. ⊥) → LeavesOnly old P → LeavesOnly new P
@@ -35,12 +34,12 @@ begun g conn book was = record { schema = was.schema; stands = was.stands; sound
 pub inserted_within : (book : Accounts) (name : List ℕ) (value : Value) (v : Option RecordValue) → Tells value v → (old new : State) (first : Accounts) (count : ℕ) → HasCleanDisk new → Survives old new (λ _. ⊥)
     → IsUnderWay old first book → IsTrue (is_name name) → fin.contains_key book name ≡ false → Executes insert_text (Text name ∷ value ∷ []) old new (Ok count) → IsUnderWay new first (fin.insert book name v)
 inserted_within book name value v tells old new first count clean s was named absent h =
-    let w = runs_as insert_text (Text name ∷ value ∷ []) old new account_schema was.schema (Insert 0 (Values terms 3)) insert_is insert_plain count h in
-    let made = does_insert old.step_limit (mode_of old) name named value v old.now new.now (statement_of insert_text (understood account_schema insert_text)) w.tally book tells was.schema was.stands absent w.changed in
+    let w = runs_as insert_text (Text name ∷ value ∷ []) old new old.now.schema refl (Insert 0 (Values terms 3)) (insert_is _ was.schema) (insert_plain _ was.schema) count h in
+    let made = insert_does book name named value v tells absent old new old.now.schema was.schema old.step_limit (mode_of old) old.now new.now (statement_of insert_text (understood old.now.schema insert_text)) w.tally refl was.stands w.changed in
     record {
-      schema = made.0;
+      schema = subst IsBookSchema (sym made.0) was.schema;
       stands = made.1;
-      sound = subst (λ x. IsSound x new.now.trees) made.0 w.sound;
+      sound = w.sound;
       inside = w.shown.mode ∙ was.inside;
       left = still old new _ clean s was.left;
     }
@@ -50,9 +49,9 @@ inserted_within book name value v tells old new first count clean s was named ab
 pub committed : (old new : State) (first book : Accounts) → IsSettled new → IsUnderWay old first book → Shows old new old.now old.now false → IsTableOf new book
 committed old new first book settled was shown =
     let trees : new.now.trees ≡ old.now.trees = ap (λ (d : Database). d.trees) shown.now_is in
-    let schema = ap (λ (d : Database). d.schema) shown.now_is ∙ was.schema in
+    let schema = subst IsBookSchema (sym (ap (λ (d : Database). d.schema) shown.now_is)) was.schema in
     let stands = subst (λ (t : Trees). StandsFor (t 0) book) (sym trees) was.stands in
-    let sound = subst (IsSound account_schema) (sym trees) was.sound in
+    let sound = subst (λ (d : Database). IsSound d.schema d.trees) (sym shown.now_is) was.sound in
     record {
       schema = schema;
       stands = stands;
@@ -61,7 +60,7 @@ committed old new first book settled was shown =
       left = λ db may. (
         book,
         refl,
-        holds db book new.now schema (subst (λ x. IsSound x new.now.trees) (sym schema) sound) stands
+        holds db book new.now schema sound stands
             (settled db shown.is_open may ∙ ap (λ (d : Database). d.trees) (shown.committed_is ∙ sym shown.now_is)),
       );
     }
@@ -69,7 +68,7 @@ committed old new first book settled was shown =
 pub commit_left : (old new : State) (first book : Accounts) → HasCleanDisk new → IsUnderWay old first book → Survives old new (λ db. db ≡ old.now.trees) → LeavesOnly new (λ b. (b ≡ first) ⊎ (b ≡ book))
 commit_left old new first book clean was s db may = elim (s.crash clean db may) [
   | inl before ↦ let l = was.left db before in (l.0, inl l.1, l.2)
-  | inr is ↦ (book, inr refl, record { sound = subst (IsSound account_schema) (sym is) was.sound; stands = subst (λ (t : Trees). StandsFor (t 0) book) (sym is) was.stands })
+  | inr is ↦ (book, inr refl, record { schema = old.now.schema; of_book = was.schema; sound = subst (IsSound old.now.schema) (sym is) was.sound; stands = subst (λ (t : Trees). StandsFor (t 0) book) (sym is) was.stands })
 ]
 
 -- of an answer that is Ok

@@ -41,7 +41,8 @@ abbrev pub IsUnread : Row → OpenFault → Type 0
 IsUnread row fault.NotEmpty = ⊥
 IsUnread row fault.NoBook = ⊥
 IsUnread row (fault.NoName id) = (column row 0 ≡ Int id) × (is_no_name (column row 1) ≡ true)
-IsUnread row (fault.NoRecord id) = (column row 0 ≡ Int id) × (is_no_record (column row 2) ≡ true)
+IsUnread row (fault.NoRecord id why) =
+    (column row 0 ≡ Int id) × (is_no_record why (column row 2) ≡ true)
 IsUnread row (fault.Twice id) = ⊥
 IsUnread row fault.TooMany = ⊥
 IsUnread row fault.Memory = ⊥
@@ -52,7 +53,7 @@ abbrev pub IsSpare : Row → Accounts → List ℤ → OpenFault → Type 0
 IsSpare row book ids fault.NotEmpty = ⊥
 IsSpare row book ids fault.NoBook = ⊥
 IsSpare row book ids (fault.NoName id) = ⊥
-IsSpare row book ids (fault.NoRecord id) = ⊥
+IsSpare row book ids (fault.NoRecord id why) = ⊥
 IsSpare row book ids (fault.Twice id) =
     (l : Line) × Says row l × (l.id ≡ id) × (knows ids id ≡ false)
     × (fin.contains_key book l.name ≡ true)

@@ -28,7 +28,7 @@ after_edit book (edit.Rename name other) = renamed book name other
 abbrev pub has_room_for : ℕ → Accounts → List ℕ → Bool
 has_room_for room book name = fin.contains_key book name || nat_lt (fin.len book) room
 
--- the entry stands from now on; memory is wanting only if it would have been put
+-- the entry stands from now on; memory runs out only if it would have been put
 abbrev pub PutsEntry : ℕ → Accounts → Accounts → List ℕ → Option RecordValue
     → Result (Unit {0}) BookError → Type 0
 PutsEntry room old new name stored (Ok _) =
@@ -41,7 +41,7 @@ PutsEntry room old new name stored (Err error.Name) = ⊥
 PutsEntry room old new name stored (Err error.Exists) = ⊥
 PutsEntry room old new name stored (Err error.NoAccount) = ⊥
 
--- the name is taken out; memory is wanting only if it is there
+-- the name is taken out; memory runs out only if it is there
 abbrev pub Deletes : Accounts → Accounts → List ℕ → Result (Unit {0}) BookError → Type 0
 Deletes old new name (Ok _) = (fin.contains_key old name ≡ true) × (new ≡ fin.remove old name)
 Deletes old new name (Err error.NoAccount) = (fin.contains_key old name ≡ false) × (new ≡ old)

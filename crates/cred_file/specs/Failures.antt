@@ -16,7 +16,7 @@ use Rattle.cred_file.specs.Schema.{create_text, delete_text, insert_text, no_sch
 use Rattle.cred_file.specs.Schema.{rename_text, update_text}
 use Rattle.cred_file.specs.Table.{Tells}
 
--- where the disk returns what was written, the statement was run and this was its error
+-- if the disk returns what was written, the statement was run and this was its error
 abbrev pub Refuses : {S : Type 0} → Ghosts S → Held S → Held S → List ℕ → Row → Error → Type 0
 Refuses g old new sql params e =
     HasCleanDisk (state g new) → Executes sql params (state g old) (state g new) (Err e)
@@ -27,7 +27,7 @@ abbrev pub IsUnbegun : {S : Type 0} → Ghosts S → Held S → Held S → OpenF
 IsUnbegun g old new fault.NotEmpty = ((state g old).now.schema ≢ no_schema) × (new ≡ old)
 IsUnbegun g old new fault.NoBook = ⊥
 IsUnbegun g old new (fault.NoName id) = ⊥
-IsUnbegun g old new (fault.NoRecord id) = ⊥
+IsUnbegun g old new (fault.NoRecord id why) = ⊥
 IsUnbegun g old new (fault.Twice id) = ⊥
 IsUnbegun g old new fault.TooMany = ⊥
 IsUnbegun g old new fault.Memory = ((state g old).now.schema ≡ no_schema) × (new ≡ old)

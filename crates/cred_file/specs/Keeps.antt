@@ -1,21 +1,23 @@
 -- When a connection keeps a book, and what a crash leaves of it.
 use Rattle.std.specs.Prelude.{◌≡◌, ◌⊎◌, ℕ, ◌≤◌, List, true, false, Option, Some, None}
 use Rattle.std.specs.FinMap as fin
+use Rattle.sqlite.specs.Schema.{Schema}
 use Rattle.sqlite.specs.Tree.{Trees}
 use Rattle.sqlite.specs.State.{State, HasCleanDisk}
 use Rattle.sqlite.specs.Held.{Held, state}
 use Rattle.sqlite.specs.Store.{Ghosts}
 use Rattle.sqlite_catalog.specs.Listing.{IsSound}
-use Rattle.cred_phc.specs.Values.{RecordValue}
 use Rattle.cred_book.specs.Accounts.{Accounts, register_capacity}
 use Rattle.cred_file.specs.declared.fault.Lost.{Lost}
 use Rattle.cred_file.specs.Edits.{after_edit}
-use Rattle.cred_file.specs.Schema.{account_schema}
+use Rattle.cred_file.specs.Schema.{IsBookSchema}
 use Rattle.cred_file.specs.Table.{StandsFor}
 
 -- a database with the one table, whose rows stand for the book
 pub record HoldsBook (db : Trees) (book : Accounts) : Type 0 where
-  pub sound : IsSound account_schema db
+  pub schema : Schema
+  pub of_book : IsBookSchema schema
+  pub sound : IsSound schema db
   pub stands : StandsFor (db 0) book
 
 -- whatever a crash leaves is a database of one of these books
@@ -25,13 +27,14 @@ LeavesOnly s P =
 
 -- the table stands for the book, outside a transaction, and so does what a crash leaves
 pub record IsTableOf (s : State) (book : Accounts) : Type 0 where
-  pub schema : s.now.schema ≡ account_schema
+  pub schema : IsBookSchema s.now.schema
   pub stands : StandsFor (s.now.trees 0) book
-  pub sound : IsSound account_schema s.now.trees
+  pub sound : IsSound s.now.schema s.now.trees
   pub autocommit : s.in_transaction ≡ false
   pub left : LeavesOnly s (λ b. b ≡ book)
 
--- whichever book of this kind the old table stands for, the new one stands for what this makes of it
+-- whichever book of this kind the old table stands for, the new one stands for what this makes of
+-- it
 abbrev pub Makes : State → State → (Accounts → Type 0) → (Accounts → Accounts) → Type 0
 Makes old new Fits after =
     (book : Accounts) → Fits book → IsTableOf old book → IsTableOf new (after book)
@@ -62,8 +65,8 @@ abbrev pub IsOrWith : Accounts → Option Lost → Accounts → Type 0
 IsOrWith book None b = b ≡ book
 IsOrWith book (Some l) b = (b ≡ book) ⊎ (b ≡ after_edit book l.edit)
 
--- Where the disk has returned what was written: the table is the book's until a change is lost, and
--- a crash leaves the book, or the book with the lost change. Neither has too many accounts.
+-- If the disk has returned what was written: the table is the book's until a change is lost, and a
+-- crash leaves the book, or the book with the lost change. Neither has too many accounts.
 pub record Keeps {S : Type 0} (g : Ghosts S) (conn : Held S) (book : Accounts)
     (lost : Option Lost) : Type 0 where
   pub table : HasCleanDisk (state g conn) → lost ≡ None → IsTableOf (state g conn) book

@@ -1,6 +1,6 @@
 -- When a database is opened as a book, and why it isn't.
-use Rattle.std.specs.Prelude.{◌≡◌, ◌≢◌, ◌⊎◌, ℕ, ℤ, ◌<◌, ◌≤◌, Bool, true, false, not, ◌&&◌, List, []}
-use Rattle.std.specs.Prelude.{length, codes, is_err, ⊤}
+use Rattle.std.specs.Prelude.{◌≡◌, ◌⊎◌, ℕ, ℤ, ◌<◌, ◌≤◌, ◌==◌, Bool, true, false, not, ◌&&◌, List}
+use Rattle.std.specs.Prelude.{[], length, codes, Option, Some, None, Result, Ok, Err, ⊤}
 use Rattle.std.specs.List.{filter, list_any}
 use Rattle.std.specs.Ordering.{is_eq}
 use Rattle.sqlite.specs.declared.types.Value.{Value}
@@ -12,12 +12,15 @@ use Rattle.sqlite.specs.Order.{Row, column, value_cmp}
 use Rattle.sqlite.specs.State.{State, FailsToQuery}
 use Rattle.sqlite_trees.specs.Tree.{has_rowid}
 use Rattle.sqlite_trees.specs.View.{is_int}
+use Rattle.cred_phc.specs.Errors.{error_number}
 use Rattle.cred_phc.specs.Reading.{read_record}
+use Rattle.cred_phc.specs.Values.{RecordValue}
+use Rattle.cred_phc.specs.declared.error.PhcError.{PhcError}
 use Rattle.cred_book.specs.Accounts.{Accounts, register_capacity}
 use Rattle.cred_book.specs.Names.{is_name}
 use Rattle.cred_file.specs.declared.fault.OpenFault.{OpenFault}
 use Rattle.cred_file.specs.declared.fault.OpenFault.TheVariants as fault
-use Rattle.cred_file.specs.Schema.{account_schema}
+use Rattle.cred_file.specs.Schema.{IsBookSchema}
 use Rattle.cred_file.specs.Table.{StandsFor}
 
 abbrev pub rows_text : List ℕ
@@ -31,13 +34,31 @@ is_no_name (Int n) = true
 is_no_name (Real x) = true
 is_no_name (Blob b) = true
 
--- anything but NULL or the text of a record
-abbrev pub is_no_record : Value → Bool
-is_no_record Null = false
-is_no_record (Text t) = is_err (read_record t)
-is_no_record (Int n) = true
-is_no_record (Real x) = true
-is_no_record (Blob b) = true
+-- it has this fault
+abbrev pub is_refused : PhcError → Result RecordValue PhcError → Bool
+is_refused why (Ok stored) = false
+is_refused why (Err e) = error_number e == error_number why
+
+-- a text that is refused as a record, with this fault
+abbrev pub is_bad_text : PhcError → Value → Bool
+is_bad_text why Null = false
+is_bad_text why (Text t) = is_refused why (read_record t)
+is_bad_text why (Int n) = false
+is_bad_text why (Real x) = false
+is_bad_text why (Blob b) = false
+
+-- neither NULL nor a text
+abbrev pub is_no_text : Value → Bool
+is_no_text Null = false
+is_no_text (Text t) = false
+is_no_text (Int n) = true
+is_no_text (Real x) = true
+is_no_text (Blob b) = true
+
+-- anything but NULL or the text of a record, and why it is no record
+abbrev pub is_no_record : Option PhcError → Value → Bool
+is_no_record None = is_no_text
+is_no_record (Some why) = is_bad_text why
 
 -- both rows have the same value in this column
 abbrev pub agree : ℕ → Row → Row → Bool
@@ -62,20 +83,20 @@ AreAtFault rows fault.NotEmpty = ⊥
 AreAtFault rows fault.NoBook = ⊥
 AreAtFault rows (fault.NoName id) =
     list_any (λ row. has_rowid id row && is_no_name (column row 1)) rows ≡ true
-AreAtFault rows (fault.NoRecord id) =
-    list_any (λ row. has_rowid id row && is_no_record (column row 2)) rows ≡ true
+AreAtFault rows (fault.NoRecord id why) =
+    list_any (λ row. has_rowid id row && is_no_record why (column row 2)) rows ≡ true
 AreAtFault rows (fault.Twice id) =
     list_any (λ row. has_rowid id row && is_repeated rows row) rows ≡ true
 AreAtFault rows fault.TooMany = register_capacity < length rows
 AreAtFault rows fault.Memory = ⊤
 AreAtFault rows (fault.Database e) = (e ≡ corrupt) × HasBadIds rows
 
--- memory was wanting, or the database failed: nothing is said against the tables and rows
+-- memory ran out, or the database failed: nothing is said against the tables and rows
 abbrev pub IsForWant : OpenFault → Type 0
 IsForWant fault.NotEmpty = ⊥
 IsForWant fault.NoBook = ⊥
 IsForWant (fault.NoName id) = ⊥
-IsForWant (fault.NoRecord id) = ⊥
+IsForWant (fault.NoRecord id why) = ⊥
 IsForWant (fault.Twice id) = ⊥
 IsForWant fault.TooMany = ⊥
 IsForWant fault.Memory = ⊤
@@ -90,7 +111,7 @@ pub record IsAsBefore (old new : State) : Type 0 where
 
 -- the book is the one that the rows stand for, and nothing has changed
 pub record IsFound (old new : State) (book : Accounts) : Type 0 where
-  pub schema : old.now.schema ≡ account_schema
+  pub schema : IsBookSchema old.now.schema
   pub stands : StandsFor (old.now.trees 0) book
   pub same : IsAsBefore old new
 
@@ -98,6 +119,6 @@ pub record IsFound (old new : State) (book : Accounts) : Type 0 where
 -- failed as it was asked for them.
 abbrev pub IsUnopened : State → State → OpenFault → Type 0
 IsUnopened old new why =
-    ((why ≡ fault.NoBook) × (old.now.schema ≢ account_schema) × IsAsBefore old new)
+    ((why ≡ fault.NoBook) × (IsBookSchema old.now.schema → ⊥) × IsAsBefore old new)
     ⊎ ((AreAtFault (old.now.trees 0) why × IsAsBefore old new)
     ⊎ ((e : Error) × (why ≡ fault.Database e) × FailsToQuery rows_text [] old new e))

@@ -1,10 +1,10 @@
--- The one table of a kept book.
-use Rattle.std.specs.Prelude.{◌≡◌, ℕ, List, [], ◌∷◌, None, codes, true, false}
+-- The one table of a kept book, and what may stand beside it.
+use Rattle.std.specs.Prelude.{◌≡◌, ◌⊎◌, ℕ, List, [], ◌∷◌, None, codes, true, false}
 use Rattle.sqlite.specs.Collation.TheVariants.{Binary}
 use Rattle.sqlite.specs.declared.types.Value.TheVariants.{Null}
 use Rattle.sqlite.specs.Table.{Table}
 use Rattle.sqlite.specs.Schema.{Schema}
-use Rattle.sqlite.specs.Kind.TheVariants.{Text}
+use Rattle.sqlite.specs.Kind.TheVariants.{Any, Text}
 use Rattle.sqlite_schema.specs.declared.schema.Column.{Column}
 use Rattle.sqlite_schema.specs.declared.schema.Index.{Index}
 
@@ -72,8 +72,49 @@ key_index = record {
   is_unique = true;
 }
 
-abbrev pub account_schema : Schema
-account_schema = record { tables = account ∷ []; indexes = key_index ∷ []; views = [] }
+-- ANALYZE notes here how many rows there are of a name. No command of a book reads or writes it.
+abbrev pub statistics_text : List ℕ
+statistics_text = codes "CREATE TABLE sqlite_stat1(tbl,idx,stat)"
+
+abbrev pub statistics_column : List ℕ → Column
+statistics_column name = record {
+  name = name;
+  kind = Any;
+  is_strict = false;
+  not_null = false;
+  default = Null;
+  collation = Binary;
+}
+
+abbrev pub statistics : Table
+statistics = record {
+  name = codes "sqlite_stat1";
+  tree = 2;
+  columns = statistics_column (codes "tbl") ∷ statistics_column (codes "idx")
+      ∷ statistics_column (codes "stat") ∷ [];
+  key = None;
+  primary = [];
+  uniques = [];
+  orders = [];
+  checks = [];
+  references = [];
+  computed = [];
+  stamps = record { places = []; terms = []; formats = [] };
+  is_counted = false;
+}
+
+-- the table of a book, and those beside it
+abbrev pub book_schema : List Table → Schema
+book_schema beside = record { tables = account ∷ beside; indexes = key_index ∷ []; views = [] }
+
+-- the table of a book, alone or with the statistics
+abbrev pub AreBookTables : List Table → Type 0
+AreBookTables tables = (tables ≡ account ∷ []) ⊎ (tables ≡ account ∷ statistics ∷ [])
+
+pub record IsBookSchema (s : Schema) : Type 0 where
+  pub tables : AreBookTables s.tables
+  pub indexes : s.indexes ≡ key_index ∷ []
+  pub views : s.views ≡ []
 
 abbrev pub no_schema : Schema
 no_schema = record { tables = []; indexes = []; views = [] }
@@ -91,6 +132,19 @@ pub record HasAccountKey (t : Table) : Type 0 where
   pub primary : t.primary ≡ 1 ∷ []
   pub uniques : t.uniques ≡ (1 ∷ []) ∷ []
   pub orders : t.orders ≡ record { digits = 0 } ∷ []
+
+pub record IsUntyped (c : Column) : Type 0 where
+  pub kind : c.kind ≡ Any
+  pub is_strict : c.is_strict ≡ false
+  pub not_null : c.not_null ≡ false
+  pub default : c.default ≡ Null
+  pub collation : c.collation ≡ Binary
+
+pub record HasNoKey (t : Table) : Type 0 where
+  pub key : t.key ≡ None
+  pub primary : t.primary ≡ []
+  pub uniques : t.uniques ≡ []
+  pub orders : t.orders ≡ []
 
 pub record HasNoRules (t : Table) : Type 0 where
   pub checks : t.checks ≡ []

@@ -5,15 +5,15 @@ use Rattle.sqlite.specs.State.{State}
 use Rattle.sqlite_catalog.specs.Listing.{IsSound}
 use Rattle.cred_phc.specs.Values.{RecordValue}
 use Rattle.cred_book.specs.Accounts.{Accounts}
-use Rattle.cred_file.specs.Schema.{account_schema}
+use Rattle.cred_file.specs.Schema.{IsBookSchema}
 use Rattle.cred_file.specs.Table.{StandsFor}
 use Rattle.cred_file.specs.Keeps.{LeavesOnly}
 
 -- within a transaction the table stands for this book, and a crash leaves the first one
 pub record IsUnderWay (s : State) (first book : Accounts) : Type 0 where
-  pub schema : s.now.schema ≡ account_schema
+  pub schema : IsBookSchema s.now.schema
   pub stands : StandsFor (s.now.trees 0) book
-  pub sound : IsSound account_schema s.now.trees
+  pub sound : IsSound s.now.schema s.now.trees
   pub inside : s.in_transaction ≡ true
   pub left : LeavesOnly s (λ b. b ≡ first)
 

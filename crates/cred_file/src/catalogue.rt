@@ -1,9 +1,10 @@
-//! Whether a database has the one table of a book.
+//! Whether a database has the one table of a book, alone or beside the statistics of ANALYZE.
 
 ghost use Rattle.std.specs.Prelude.{◌≡◌, ◌≢◌, [], ◌∷◌, IfOk, MatchBool};
-ghost use Rattle.cred_file.specs.Schema.{HasAccountKey, HasNoRules, IsPlainText};
-ghost use Rattle.cred_file.specs.Schema.{account, account_schema, key_index, name_column};
-ghost use Rattle.cred_file.specs.Schema.{record_column};
+ghost use Rattle.cred_file.specs.Schema.{AreBookTables, HasAccountKey, HasNoKey, HasNoRules};
+ghost use Rattle.cred_file.specs.Schema.{IsBookSchema, IsPlainText, IsUntyped, account, key_index};
+ghost use Rattle.cred_file.specs.Schema.{name_column, record_column, statistics};
+ghost use Rattle.cred_file.specs.Schema.{statistics_column};
 
 use sqlite_schema::code::Terms;
 use sqlite_schema::schema::{Column, Index, Kind, Schema, Table};
@@ -13,16 +14,76 @@ use std::alloc::{AllocError, Global};
 
 /// Whether the schema is that of a book.
 pub(crate) fn is_of_book(alloc: Global, schema: &Schema) -> Result<bool, AllocError>
-    ensures { IfOk result (λ b. MatchBool b (schema.now ≡ account_schema)
-        (schema.now ≢ account_schema)) }
+    ensures { IfOk result (λ b. MatchBool b (IsBookSchema schema.now)
+        (IsBookSchema schema.now → ⊥)) }
 {
-    match (schema.tables.as_slice(), schema.indexes.as_slice()) {
-        ([table], [index]) => {
-            let is_account = is_account(alloc, table)?;
-            Ok(is_account && is_key_index(index) && schema.views.is_empty())
-        }
+    let has_tables = are_book_tables(alloc, schema.tables.as_slice())?;
+    let has_index = match schema.indexes.as_slice() {
+        [index] => is_key_index(index),
+        _ => false,
+    };
+    Ok(has_tables && has_index && schema.views.is_empty())
+}
+
+fn are_book_tables(alloc: Global, tables: &[Table]) -> Result<bool, AllocError>
+    ensures { IfOk result (λ b. MatchBool b (AreBookTables tables.now)
+        (AreBookTables tables.now → ⊥)) }
+{
+    match tables {
+        [table] => is_account(alloc, table),
+        [table, beside] => Ok(is_account(alloc, table)? && is_statistics(alloc, beside)?),
         _ => Ok(false),
     }
+}
+
+fn is_statistics(alloc: Global, table: &Table) -> Result<bool, AllocError>
+    ensures { IfOk result (λ b. MatchBool b (table.now ≡ statistics) (table.now ≢ statistics)) }
+{
+    let has_no_rules = has_no_rules(alloc, table)?;
+    let has_no_key = has_no_key(table);
+    let has_columns = has_statistics_columns(table.columns.as_slice());
+    let is_third = table.name.as_slice() == "sqlite_stat1".as_bytes() && table.tree == 2;
+    Ok(has_no_rules && has_no_key && has_columns && is_third)
+}
+
+fn has_statistics_columns(columns: &[Column]) -> bool
+    ensures { MatchBool result (columns.now ≡ statistics.columns)
+        (columns.now ≢ statistics.columns) }
+{
+    match columns {
+        [table, index, numbers] => {
+            is_statistics_column(table, "tbl")
+                && is_statistics_column(index, "idx")
+                && is_statistics_column(numbers, "stat")
+        }
+        _ => false,
+    }
+}
+
+fn is_statistics_column(column: &Column, name: &str) -> bool
+    ensures { MatchBool result (column.now ≡ statistics_column name.now)
+        (column.now ≢ statistics_column name.now) }
+{
+    is_untyped(column) && column.name.as_slice() == name.as_bytes()
+}
+
+fn is_untyped(column: &Column) -> bool
+    ensures { MatchBool result (IsUntyped column.now) (IsUntyped column.now → ⊥) }
+{
+    matches!(column.kind, Kind::Any)
+        && !column.is_strict
+        && !column.not_null
+        && matches!(column.default, Value::Null)
+        && matches!(column.collation, Collation::Binary)
+}
+
+fn has_no_key(table: &Table) -> bool
+    ensures { MatchBool result (HasNoKey table.now) (HasNoKey table.now → ⊥) }
+{
+    table.key.is_none()
+        && table.primary.is_empty()
+        && table.uniques.is_empty()
+        && table.orders.is_empty()
 }
 
 fn is_account(alloc: Global, table: &Table) -> Result<bool, AllocError>

@@ -4,7 +4,7 @@ ghost use Rattle.std.specs.Prelude.{◌≡◌};
 ghost use Rattle.cred_file.specs.declared.fault.Edit.TheVariants as Edit;
 
 use cred_book::{Name, Register};
-use cred_phc::Record;
+use cred_phc::{PhcError, Record};
 use sqlite::Error;
 use std::fmt;
 
@@ -16,10 +16,11 @@ pub enum OpenFault {
     NotEmpty,
     /// The database holds no book: it hasn't the one table that a book has.
     NoBook,
-    /// In this row there is no name where one should be.
+    /// In this row there is no name, and one should be.
     NoName(i64),
-    /// In this row there is neither NULL nor a record's text where one should be.
-    NoRecord(i64),
+    /// In this row there is neither NULL nor a record's text, and one should be there: a text with
+    /// this fault, or no text.
+    NoRecord { row: i64, why: Option<PhcError> },
     /// This row has a name that another row has.
     Twice(i64),
     /// There are more than 2^24 rows.

@@ -166,7 +166,8 @@ fn is_empty(schema: &Schema) -> bool
 }
 
 impl<S: Alter> Keeper for FileBook<S> {
-    ghost use Rattle.std.specs.Prelude.{◌≡◌, OnOk, IfOk, IfSome, Some, None, is_ok, not, true, false};
+    ghost use Rattle.std.specs.Prelude.{◌≡◌, OnOk, IfOk, IfSome, Some, None, is_ok, not, true};
+    ghost use Rattle.std.specs.Prelude.{false};
     ghost use Rattle.cred_book.specs.Accounts.{register_capacity};
     ghost use Rattle.cred_book.specs.Calls.{AdmitsWithin, Loads};
     ghost use Rattle.cred_book.specs.Commits.{Commits, judgement};

@@ -1,5 +1,5 @@
-//! What holds of a book that is opened from files, and of one in which a name was changed. A law is a
-//! function that does nothing.
+//! What holds of a book that is opened from files, and of one in which a name was changed. A law is
+//! a function that does nothing.
 
 ghost use Rattle.std.specs.Prelude.{◌≡◌, false, List, true, ℕ};
 ghost use Rattle.std.specs.FinMap as fin;
@@ -15,9 +15,9 @@ ghost use Rattle.sqlite.specs.Tree.{Trees};
 
 use sqlite::Alter;
 
-/// Where files hold a database and `Connection::open_from` opens them, the book that
-/// `FileBook::open` then finds is the one of that database. The first three premises are clauses of
-/// the one, `opened` and `found`, and the fourth is the clause `found` of the other.
+/// If files hold a database and `Connection::open_from` opens them, the book that `FileBook::open`
+/// then finds is the one of that database. The first three premises are clauses of the one,
+/// `opened` and `found`, and the fourth is the clause `found` of the other.
 pub fn files_hold_the_book<S: Alter>()
     ensures { (image : _) (old new : Held S) (book : Accounts)
         → Opens (state S.Store old) → IsLive (state S.Store old)
@@ -26,7 +26,7 @@ pub fn files_hold_the_book<S: Alter>()
         → (db : Trees) → HoldsDatabase image db → HoldsBook db book }
 {}
 
-/// Where a name became another one there is no account any more: a ticket that was begun at it is
+/// If a name became another one there is no account any more: a ticket that was begun at it is
 /// answered `NoAccount`.
 pub fn a_renamed_name_is_gone()
     ensures { (book : Accounts) (name other : List ℕ) → fin.contains_key book name ≡ true

@@ -1,6 +1,7 @@
 //! The book that the rows of a table stand for.
 
 ghost use Rattle.std.specs.Prelude.{◌≡◌, ◌≤◌, [], true, IfErr, IfOk, IsTrue, MatchOption};
+ghost use Rattle.std.specs.Prelude.{MatchResult};
 ghost use Rattle.cred_book.specs.Accounts.{register_capacity};
 ghost use Rattle.cred_book.specs.Names.{is_name};
 ghost use Rattle.cred_file.specs.Drafts.{IsAdded, IsNotAdded, IsUnread};
@@ -13,7 +14,7 @@ ghost use Rattle.std.specs.FinMap as fin;
 
 use crate::fault::OpenFault;
 use cred_book::{Name, Register};
-use cred_phc::{Record, parse_record};
+use cred_phc::{PhcError, Record, parse_record};
 use sqlite::types::ValueRef;
 use sqlite::{Error, ErrorCode, Row};
 use std::alloc::Global;
@@ -90,10 +91,10 @@ fn read_entry(row: &Row) -> Result<Entry, OpenFault>
     let Some(name) = read_name(value_at(row, 1)) else {
         return Err(OpenFault::NoName(id));
     };
-    let Some(stored) = read_stored(value_at(row, 2)) else {
-        return Err(OpenFault::NoRecord(id));
-    };
-    Ok(Entry { id, name, stored })
+    match read_stored(value_at(row, 2)) {
+        Ok(stored) => Ok(Entry { id, name, stored }),
+        Err(why) => Err(OpenFault::NoRecord { row: id, why }),
+    }
 }
 
 /// A column's value; past the last one there is NULL.
@@ -122,18 +123,18 @@ fn read_name(value: ValueRef<'_>) -> Option<Name>
     }
 }
 
-/// NULL is no record, which is no fault.
-fn read_stored(value: ValueRef<'_>) -> Option<Option<Record>>
-    ensures { MatchOption result (is_no_record (owned value.entry) ≡ true)
-        (Tells (owned value.entry)) }
+/// NULL is no record, which is no fault. The fault is the text's; what is no text has none.
+fn read_stored(value: ValueRef<'_>) -> Result<Option<Record>, Option<PhcError>>
+    ensures { MatchResult result (Tells (owned value.entry))
+        (λ why. is_no_record why (owned value.entry) ≡ true) }
 {
     match value {
-        ValueRef::Null => Some(None),
+        ValueRef::Null => Ok(None),
         ValueRef::Text(text) => match parse_record(text) {
-            Ok(stored) => Some(Some(stored)),
-            Err(_) => None,
+            Ok(stored) => Ok(Some(stored)),
+            Err(fault) => Err(Some(fault)),
         },
-        _ => None,
+        _ => Err(None),
     }
 }
 

@@ -16,8 +16,8 @@ use std::alloc::Global;
 /// proved of a restart, and for tests. The book is then the one that was kept, or that with the
 /// lost change.
 ///
-/// None where the disk failed, or memory was refused, before the database stood again. After that
-/// the open is never refused for what the tables and rows are.
+/// None if the disk failed, or memory was refused, before the database stood again. After that the
+/// open is never refused for what the tables and rows are.
 pub fn crash_and_open<S: Alter + Reopen + Drop>(
     alloc: Global,
     book: FileBook<S>,

@@ -6,7 +6,7 @@ ghost use Rattle.cred_phc.specs.Values.{RecordValue};
 ghost use Rattle.cred_book.specs.Accounts.{register_capacity};
 ghost use Rattle.cred_file.specs.Edits.{renamed};
 ghost use Rattle.cred_file.specs.Failures.{FailsToDelete, FailsToPut, FailsToRename, Refuses};
-ghost use Rattle.cred_file.specs.Schema.{account_schema, create_text, no_schema};
+ghost use Rattle.cred_file.specs.Schema.{IsBookSchema, create_text, no_schema};
 ghost use Rattle.cred_file.specs.Keeps.{Has, IsRenamable, IsTableOf, Lacks, Makes, MayBegin};
 ghost use Rattle.cred_file.specs.Keeps.{MayMake};
 ghost use Rattle.cred_file.specs.Table.{StandsFor, Tells};
@@ -94,7 +94,7 @@ pub(crate) fn delete_row<S: Alter>(conn: &mut Connection<S>, name: &Name) -> Res
     Ok(())
 }
 
-/// Puts another name in the place of one that is there.
+/// Puts another name in place of one that is there.
 pub(crate) fn rename_row<S: Alter>(
     conn: &mut Connection<S>,
     name: &Name,
@@ -139,7 +139,7 @@ pub(crate) fn read_table<S: Alter>(
     alloc: Global,
     conn: &mut Connection<S>,
 ) -> Result<Register, OpenFault>
-    requires schema { (state S.Store conn.old).now.schema ≡ account_schema }
+    requires schema { IsBookSchema (state S.Store conn.old).now.schema }
     requires autocommit { conn.old.in_transaction ≡ false }
     ensures found { HasCleanDisk (state S.Store conn.new)
         → IfOk result (IsFound (state S.Store conn.old) (state S.Store conn.new)) }
@@ -158,7 +158,7 @@ pub(crate) fn read_table<S: Alter>(
 
 /// The rows are read one at a time, so that they take no memory beside the book.
 fn read_rows<S: Alter>(alloc: Global, conn: &mut Connection<S>) -> Result<Register, OpenFault>
-    requires { (state S.Store conn.old).now.schema ≡ account_schema }
+    requires { IsBookSchema (state S.Store conn.old).now.schema }
     ensures stands { HasCleanDisk (state S.Store conn.new)
         → IfOk result (StandsFor ((state S.Store conn.old).now.trees 0)) }
     ensures same { HasCleanDisk (state S.Store conn.new) → OnOk result

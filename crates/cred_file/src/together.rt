@@ -8,7 +8,7 @@ ghost use Rattle.cred_file.specs.Edits.{joined};
 ghost use Rattle.cred_file.specs.Keeps.{IsTableOf, Lacks, LeavesOnly};
 ghost use Rattle.cred_file.specs.Table.{Tells};
 ghost use Rattle.cred_file.specs.Together.{IsPartOf, MakesWithin};
-ghost use Rattle.sqlite.specs.State.{HasCleanDisk, Survives};
+ghost use Rattle.sqlite.specs.State.{HasCleanDisk, Shows, Survives};
 ghost use Rattle.sqlite.specs.Held.{state};
 ghost use Rattle.sqlite_value.specs.Value.{owned};
 ghost use Rattle.sqlite_trees.specs.View.{doubt};
@@ -42,6 +42,17 @@ pub(crate) fn enter_together<S: Alter>(
 {
     let mut tx = conn.transaction();
     enter_each(alloc, &mut tx, book, more)?;
+    finish(tx)
+}
+
+/// Commits what was done within the transaction.
+fn finish<S: Alter>(tx: Transaction<'_, S>) -> Result<(), Error>
+    ensures shown { HasCleanDisk (state S.Store tx.exit.0.now) → OnOk result
+        (Shows (state S.Store tx.entry.conn.now) (state S.Store tx.exit.0.now)
+        (state S.Store tx.entry.conn.now).now (state S.Store tx.entry.conn.now).now false) }
+    ensures survives { Survives (state S.Store tx.entry.conn.now) (state S.Store tx.exit.0.now)
+        (λ db. db ≡ (state S.Store tx.entry.conn.now).now.trees) }
+{
     tx.commit()
 }
 

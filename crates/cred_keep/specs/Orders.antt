@@ -97,11 +97,11 @@ status_of_open _ = Database
 
 -- all lines were answered, of at most so many bytes, or they met a fault
 abbrev pub RunsWithin : ℕ → Seen → Result End ScriptFault → Type 0
-RunsWithin longest s (Ok end) = IfSome s.input (λ bytes. (length bytes ≤ longest)
-    × IsAnswered register_capacity s.old bytes s.before s.now s.new end.lines)
-RunsWithin longest s (Err e) = HasCause s.reader_failed s.writer_failed e
-    × IfSome s.input (λ bytes. FailsWithin longest register_capacity s.old bytes s.left s.before
-    s.now s.new e)
+RunsWithin longest s (Ok end) = IfSome s.reading.input (λ bytes. (length bytes ≤ longest)
+    × IsAnswered register_capacity s.old bytes s.writing.before s.writing.now s.new end.lines)
+RunsWithin longest s (Err e) = HasCause s.reading.failed s.writing.failed e
+    × IfSome s.reading.input (λ bytes. FailsWithin longest register_capacity s.old bytes
+    s.reading.left s.writing.before s.writing.now s.new e)
 
 -- a command, of which this holds at its end, ends so
 abbrev pub Commands : (Result Status Fault → Type 0) → Result Status Failure → Type 0
@@ -110,13 +110,12 @@ Commands Holds ended = (r : Result Status Fault) × Holds r × (ended ≡ comman
 -- a line of each account is written, and the book stays as it is
 abbrev pub Lists : (Entry → List ℕ) → Seen → Result Status Failure → Type 0
 Lists line s ended =
-    Commands (Prints line (map.entries s.old) s.before s.now s.writer_failed) ended
-    × (s.new ≡ s.old)
+    Commands (Prints line (map.entries s.old) s.writing) ended × (s.new ≡ s.old)
 
 -- a change without a password
 abbrev pub Edited : EditReply × Accounts → Seen → Result Status Failure → Type 0
 Edited step s ended =
-    Commands (Edits register_capacity step s.old s.new s.before s.now s.writer_failed) ended
+    Commands (Edits register_capacity step s.old s.new s.writing) ended
 
 abbrev pub Performs : Order → Seen → Result Status Failure → Type 0
 Performs Run s ended =
@@ -135,13 +134,12 @@ Performs (Disable name) s ended = Edited (disabling s.old name) s ended
 Performs (Delete name) s ended = Edited (deletion s.old name) s ended
 Performs (Rename name other) s ended = Edited (renaming s.old name other) s ended
 Performs (Show name part) s ended =
-    Commands (Tells (shown_at part (map.get s.old name)) s.before s.now s.writer_failed) ended
-    × (s.new ≡ s.old)
+    Commands (Tells (shown_at part (map.get s.old name)) s.writing) ended × (s.new ≡ s.old)
 Performs Names s ended = Lists name_line s ended
 Performs Export s ended = Lists passwd_line s ended
 Performs (Import existing) s ended =
-    ((r : Result Status ImportFault) × Imports existing s.input s.reader_failed s.old s.new r
-    × (ended ≡ import_end r)) × Keeps s.before s.now
+    ((r : Result Status ImportFault) × Imports existing s.reading s.old s.new r
+    × (ended ≡ import_end r)) × Keeps s.writing.before s.writing.now
 
 -- as it ends for the shell: Ok means that no change is lost
 abbrev pub Ends : Order → Seen → Option Lost → Result Status Failure → Type 0

@@ -5,7 +5,7 @@ ghost use Rattle.std.specs.FinMap as map;
 ghost use Rattle.cred_book.specs.Accounts.{register_capacity};
 ghost use Rattle.cred_admin.specs.Edits.{Edits, deletion, disabling, renaming};
 ghost use Rattle.cred_admin.specs.declared.edit_reply.EditReply.TheVariants.{Renamed};
-ghost use Rattle.cred_cli.specs.Watched.{failed_of, inner_of};
+ghost use Rattle.cred_cli.specs.Watched.{writing};
 
 use cred_admin::{EditReply, Fault, Status, answer_edit};
 use cred_book::{BookError, Name};
@@ -24,8 +24,7 @@ pub(crate) fn disable<S: Alter, W: Write>(
     writer: &mut Watched<W>,
 ) -> Result<Status, Fault>
     ensures { Edits register_capacity (disabling book.old.0 name.now) book.old.0 book.new.0
-        (W.contents (inner_of writer.old)) (W.contents (inner_of writer.new))
-        (failed_of writer.new) result }
+        (writing W.contents writer.old writer.new) result }
 {
     let reply = take_record(book, name)?;
     answer_edit(reply, writer)
@@ -57,8 +56,7 @@ pub(crate) fn delete<S: Alter, W: Write>(
     writer: &mut Watched<W>,
 ) -> Result<Status, Fault>
     ensures { Edits register_capacity (deletion book.old.0 name.now) book.old.0 book.new.0
-        (W.contents (inner_of writer.old)) (W.contents (inner_of writer.new))
-        (failed_of writer.new) result }
+        (writing W.contents writer.old writer.new) result }
 {
     let reply = take_account(book, name)?;
     answer_edit(reply, writer)
@@ -87,8 +85,7 @@ pub(crate) fn rename<S: Alter, W: Write>(
     writer: &mut Watched<W>,
 ) -> Result<Status, Fault>
     ensures { Edits register_capacity (renaming book.old.0 name.now other.now) book.old.0
-        book.new.0 (W.contents (inner_of writer.old)) (W.contents (inner_of writer.new))
-        (failed_of writer.new) result }
+        book.new.0 (writing W.contents writer.old writer.new) result }
 {
     let reply = change_name(book, name, other)?;
     answer_edit(reply, writer)

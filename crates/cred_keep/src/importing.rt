@@ -1,7 +1,7 @@
 //! Taking in the lines of a passwd-file, all or none.
 
 ghost use Rattle.std.specs.Prelude.{◌≡◌};
-ghost use Rattle.cred_cli.specs.Watched.{failed_of, inner_of};
+ghost use Rattle.cred_cli.specs.Watched.{reading};
 ghost use Rattle.cred_keep.specs.Importing.{Imports, status_of_kept};
 
 use cred_admin::{Existing, Gathered, ImportFault, Status, gather};
@@ -13,8 +13,8 @@ use std::alloc::Global;
 use std::io::Read;
 
 /// Adds the accounts of the lines that the reader has, by one transaction of the database: a crash
-/// at any moment leaves the book without them, or with all of them. Nothing is changed before all
-/// lines are found good.
+/// leaves the book without them, or with all of them. Nothing is changed before all lines are found
+/// good.
 ///
 /// Errors: `Lines` with all that aren't good; `Full` if there would be over 2^24 accounts; `Read`;
 /// `Memory`. The book is as it was.
@@ -24,8 +24,8 @@ pub(crate) fn import<S: Alter, R: Read>(
     existing: Existing,
     reader: &mut Watched<R>,
 ) -> Result<Status, ImportFault>
-    ensures { Imports existing (R.remaining (inner_of reader.old)) (failed_of reader.new)
-        book.old.0 book.new.0 result }
+    ensures { Imports existing (reading R.remaining reader.old reader.new) book.old.0
+        book.new.0 result }
 {
     let Gathered {
         accounts,

@@ -1,4 +1,6 @@
-//! What people do with a book that is kept in a database: the orders of the program `credkeep`.
+//! What the orders of the program `credkeep` do with a book that is open. The program itself, with
+//! its words, its file and its terminal, is the crate `credkeep`, and the book in its database is
+//! `cred_file`'s.
 #![tactic(auto)]
 
 mod editing;
@@ -12,5 +14,5 @@ mod script;
 pub use failure::Failure;
 pub use order::Order;
 pub use performing::{perform, serve};
-pub use report::refuse;
+pub use report::{NAME_RULE, refuse};
 pub use script::{run_on_file, serve_on_file};

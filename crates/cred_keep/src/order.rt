@@ -14,7 +14,7 @@ pub enum Order {
     Add { name: Name, new: NewPassword },
     /// Asks whether a password is the account's.
     Check { name: Name },
-    /// Puts the record of a new password in the place of the old one's.
+    /// Puts the record of a new password in place of the old one's.
     Change { name: Name, new: NewPassword },
     /// Puts the record of a new password at an account, without the old one.
     Reset { name: Name, new: NewPassword },

@@ -2,7 +2,8 @@
 
 ghost use Rattle.std.specs.Prelude.{◌≡◌, None, OnOk, true};
 ghost use Rattle.cred_cli.specs.Outcome.{longest_script, longest_service};
-ghost use Rattle.cred_cli.specs.Watched.{IsNew, failed_of, inner_of};
+ghost use Rattle.cred_cli.specs.Watched.{IsNew, reading, writing};
+ghost use Rattle.cred_admin.specs.Seen.{seen};
 ghost use Rattle.cred_file.specs.Keeps.{IsOrWith, IsTableOf, LeavesOnly};
 ghost use Rattle.cred_keep.specs.Orders.{Ends, Performs, RunsWithin, is_unread};
 ghost use Rattle.cred_keep.specs.Orders.{status_of_end};
@@ -15,8 +16,8 @@ use crate::importing::import;
 use crate::order::Order;
 use crate::report::{advise, explain};
 use crate::script::{run_on_file, serve_on_file};
-use cred_admin::{Status, Tools, add, change, check, export, list, remove, reset, show, upgrade};
-use cred_cli::{End, ScriptFault, Watched};
+use cred_admin::{Status, add, change, check, export, list, remove, reset, show, upgrade};
+use cred_cli::{End, ScriptFault, Tools, Watched};
 use cred_file::FileBook;
 use sqlite::Alter;
 use std::io::{Read, Write};
@@ -36,16 +37,9 @@ pub fn serve<T: Threads + Wait + Sync, S: Alter, R: Read, W: Write, F: Write>(
 ) -> Status
     requires new_reader { IsNew reader.old }
     requires new_writer { IsNew writer.old }
-    ensures done { (ended : _) × Ends order.now (record {
-      input = R.remaining (inner_of reader.old);
-      left = R.remaining (inner_of reader.new);
-      before = W.contents (inner_of writer.old);
-      now = W.contents (inner_of writer.new);
-      old = book.old.0;
-      new = book.new.0;
-      reader_failed = failed_of reader.new;
-      writer_failed = failed_of writer.new;
-    }) book.new.1.0 ended × (result ≡ status_of_end ended) }
+    ensures done { (ended : _) × Ends order.now (seen (reading R.remaining reader.old reader.new)
+        (writing W.contents writer.old writer.new) book.old.0 book.new.0) book.new.1.0 ended
+        × (result ≡ status_of_end ended) }
     ensures unread { is_unread order.now ≡ true → reader.new ≡ reader.old }
     ensures table { HasCleanDisk (state S.Store book.new.1.1) → book.new.1.0 ≡ None
         → IsTableOf (state S.Store book.new.1.1) book.new.0 }
@@ -67,7 +61,7 @@ pub fn serve<T: Threads + Wait + Sync, S: Alter, R: Read, W: Write, F: Write>(
 /// Does what is asked of a book that is kept. No call was made on the reader or the writer before.
 ///
 /// Ok is the status that the shell sees, and then the table stands for the book, and a crash leaves
-/// it. Errors: what ended the order; `Database` where the database failed, whatever came of it.
+/// it. Errors: what ended the order; `Database` if the database failed, whatever came of it.
 pub fn perform<T: Threads + Wait + Sync, S: Alter, R: Read, W: Write>(
     tools: &Tools<'_, T>,
     book: &mut FileBook<S>,
@@ -77,16 +71,8 @@ pub fn perform<T: Threads + Wait + Sync, S: Alter, R: Read, W: Write>(
 ) -> Result<Status, Failure>
     requires new_reader { IsNew reader.old }
     requires new_writer { IsNew writer.old }
-    ensures done { Ends order.now (record {
-      input = R.remaining (inner_of reader.old);
-      left = R.remaining (inner_of reader.new);
-      before = W.contents (inner_of writer.old);
-      now = W.contents (inner_of writer.new);
-      old = book.old.0;
-      new = book.new.0;
-      reader_failed = failed_of reader.new;
-      writer_failed = failed_of writer.new;
-    }) book.new.1.0 result }
+    ensures done { Ends order.now (seen (reading R.remaining reader.old reader.new)
+        (writing W.contents writer.old writer.new) book.old.0 book.new.0) book.new.1.0 result }
     ensures unread { is_unread order.now ≡ true → reader.new ≡ reader.old }
     ensures kept { OnOk result (HasCleanDisk (state S.Store book.new.1.1)
         → IsTableOf (state S.Store book.new.1.1) book.new.0) }
@@ -112,16 +98,8 @@ fn obey<T: Threads + Wait + Sync, S: Alter, R: Read, W: Write>(
 ) -> Result<Status, Failure>
     requires new_reader { IsNew reader.old }
     requires new_writer { IsNew writer.old }
-    ensures done { Performs order.now (record {
-      input = R.remaining (inner_of reader.old);
-      left = R.remaining (inner_of reader.new);
-      before = W.contents (inner_of writer.old);
-      now = W.contents (inner_of writer.new);
-      old = book.old.0;
-      new = book.new.0;
-      reader_failed = failed_of reader.new;
-      writer_failed = failed_of writer.new;
-    }) result }
+    ensures done { Performs order.now (seen (reading R.remaining reader.old reader.new)
+        (writing W.contents writer.old writer.new) book.old.0 book.new.0) result }
     ensures unread { is_unread order.now ≡ true → reader.new ≡ reader.old }
 {
     match order {
@@ -155,16 +133,8 @@ fn run<T: Threads + Wait + Sync, S: Alter, R: Read, W: Write>(
 ) -> Result<End, ScriptFault>
     requires new_reader { IsNew reader.old }
     requires new_writer { IsNew writer.old }
-    ensures { RunsWithin longest_script (record {
-      input = R.remaining (inner_of reader.old);
-      left = R.remaining (inner_of reader.new);
-      before = W.contents (inner_of writer.old);
-      now = W.contents (inner_of writer.new);
-      old = book.old.0;
-      new = book.new.0;
-      reader_failed = failed_of reader.new;
-      writer_failed = failed_of writer.new;
-    }) result }
+    ensures { RunsWithin longest_script (seen (reading R.remaining reader.old reader.new)
+        (writing W.contents writer.old writer.new) book.old.0 book.new.0) result }
 {
     run_on_file(tools.rt, tools.alloc, tools.workers, book, reader, writer)
 }
@@ -177,16 +147,8 @@ fn serve_lines<T: Threads + Wait + Sync, S: Alter, R: Read, W: Write>(
 ) -> Result<End, ScriptFault>
     requires new_reader { IsNew reader.old }
     requires new_writer { IsNew writer.old }
-    ensures { RunsWithin longest_service (record {
-      input = R.remaining (inner_of reader.old);
-      left = R.remaining (inner_of reader.new);
-      before = W.contents (inner_of writer.old);
-      now = W.contents (inner_of writer.new);
-      old = book.old.0;
-      new = book.new.0;
-      reader_failed = failed_of reader.new;
-      writer_failed = failed_of writer.new;
-    }) result }
+    ensures { RunsWithin longest_service (seen (reading R.remaining reader.old reader.new)
+        (writing W.contents writer.old writer.new) book.old.0 book.new.0) result }
 {
     serve_on_file(tools.rt, tools.alloc, tools.workers, book, reader, writer)
 }

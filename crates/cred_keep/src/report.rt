@@ -5,10 +5,15 @@ ghost use Rattle.cred_keep.specs.Orders.{status_of_open};
 
 use crate::failure::Failure;
 use cred_admin::{BadLine, Fault, Hint, ImportFault, LineFault, Status};
+use cred_book::BookError;
 use cred_file::{Edit, Lost, OpenFault};
+use cred_phc::PhcError;
 use sqlite::{Error, ErrorCode};
 use std::io;
 use std::io::Write;
+
+/// What a name is, as faults say it.
+pub const NAME_RULE: &str = "names are a-z, 0-9, '.', '_', '-', 1 to 32 of them";
 
 /// Says what the status has beside its number: why a password may be wrong, if the book says no to
 /// it, and how many lines of an import named accounts that stay. Whether `faults` takes its text
@@ -105,17 +110,32 @@ pub fn refuse<F: Write>(faults: &mut F, why: &OpenFault) -> Status
     ensures { result ≡ status_of_open why.now }
 {
     let _ = match why {
-        OpenFault::NoName(row) => {
-            writeln!(faults, "credkeep: row {row}: the text there is no name")
-        }
-        OpenFault::NoRecord(row) => {
-            writeln!(faults, "credkeep: row {row}: the text there is no record")
-        }
+        OpenFault::NoName(row) => tell_no_name(faults, *row),
+        OpenFault::NoRecord { row, why } => tell_no_record(faults, *row, *why),
         OpenFault::Twice(row) => writeln!(faults, "credkeep: row {row}: another has its name"),
         OpenFault::Database(error) => tell_database(faults, *error),
         _ => writeln!(faults, "credkeep: {}", words_of(why)),
     };
     status_of_open(why)
+}
+
+fn tell_no_name<F: Write>(faults: &mut F, row: i64) -> io::Result<()> {
+    let (number, word) = (BookError::Name.number(), BookError::Name.word());
+    writeln!(
+        faults,
+        "credkeep: row {row}: there is no name; {NAME_RULE} ({number} {word})"
+    )
+}
+
+fn tell_no_record<F: Write>(faults: &mut F, row: i64, why: Option<PhcError>) -> io::Result<()> {
+    let Some(fault) = why else {
+        return writeln!(faults, "credkeep: row {row}: its record is no text");
+    };
+    let (number, word) = (fault.number(), fault.word());
+    writeln!(
+        faults,
+        "credkeep: row {row}: the text there is no record: {fault} ({number} {word})"
+    )
 }
 
 fn tell_database<F: Write>(faults: &mut F, error: Error) -> io::Result<()> {

@@ -19,7 +19,7 @@ use std::thread::Threads;
 
 /// Runs a script on a kept book, as `run_script` does.
 ///
-/// A crash behind it leaves the book after the lines that were done, perhaps with the change that
+/// A crash after it leaves the book after the lines that were done, perhaps with the change that
 /// was under way as the database failed.
 pub fn run_on_file<T: Threads + Wait + Sync, S: Alter, R: Read, W: Write>(
     rt: &T,

@@ -3,7 +3,7 @@
 use clap::{Arg, ArgAction, Command};
 use std::alloc::{AllocError, Global};
 
-const ABOUT: &str = "Keeps the password records of accounts in a database file, proved";
+const ABOUT: &str = "Keeps the password records of accounts in a database file";
 
 const AFTER_HELP: &str = "\
 A password is the bytes of one line of standard input, without its line end; no line at all is
@@ -34,7 +34,7 @@ Exit statuses:
      account too many
 
 If the database failed in a change, that change is named, and may be kept or not; every one that
-was answered before is kept. The manual page credkeep(1) and docs/ERRORS.md have all texts.";
+was answered before is kept. docs/ERRORS.md says what to do about each text.";
 
 const NAME_HELP: &str = "The account: 1 to 32 bytes out of a-z, 0-9, '.', '_' and '-'";
 
@@ -181,9 +181,9 @@ static COMMANDS: [HelpText; 16] = [
     },
     HelpText {
         word: "import",
-        about: "Adds the accounts of such lines, or of lines of htpasswd, of Dovecot's passwd-file \
-            or with Django's records: all of them, or none if a line is bad, and then each bad \
-            line is named",
+        about: "Adds the accounts of such lines, or of lines in the form of htpasswd's, Dovecot's \
+            or Django's, if the record is one of Argon2 or scrypt: all of them, or none if a line \
+            is bad, and then each bad line is named",
         usage: "credkeep <FILE> import [OPTIONS]",
         words: &[Word::SkipExisting],
     },

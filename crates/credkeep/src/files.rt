@@ -11,7 +11,7 @@ use std::thread::sleep;
 use std::time::Duration;
 use std::{fmt, fs, io};
 
-/// A connection to a file, of which nothing is supposed but that it was synced where it said so.
+/// A connection to a file, of which nothing is supposed but that it was synced when it said so.
 pub(crate) type Database = Connection<FileStore<FileFrom<Wary>>>;
 
 /// The file may be read and written by its owner alone. Its log gets the same mode.

@@ -7,6 +7,7 @@ use clap::Error;
 use clap::error::ErrorKind as WordsKind;
 use cred_admin::Status;
 use cred_book::BookError;
+use cred_keep::NAME_RULE;
 use std::io::Write;
 
 /// What is longer isn't a name.
@@ -49,8 +50,7 @@ fn refuse_name(host: &HostRuntime, text: &str, why: BookError) -> Status {
     let shown = if is_plain(text) { text } else { "..." };
     let _ = writeln!(
         host.stderr(),
-        "credkeep: the name '{shown}': {cause}; names are a-z, 0-9, '.', '_', '-', 1 to 32 of them \
-         ({number} {word})"
+        "credkeep: the name '{shown}': {cause}; {NAME_RULE} ({number} {word})"
     );
     Status::Usage
 }

@@ -22,9 +22,9 @@ use sqlite::types::ValueRef;
 impl<S: Alter> FileBook<S> {
     /// Puts a record, or none, at a name, which is added if it isn't there.
     ///
-    /// Errors: `Full` if the name isn't there and there are 2^24 others; `Memory` if there is none,
+    /// Errors: `Full` if the name isn't there and there are 2^24 others; `Memory` if it runs out,
     /// if the database fails, and if a change is lost.
-    #[tactic(auto, using(crate::proofs::Keeping::put_entered, crate::proofs::Keeping::put_replaced))]
+    #[tactic(auto, using(crate::proofs::Keeping::put_replaced))]
     pub fn put(&mut self, name: &Name, stored: Option<Record>) -> Result<(), BookError>
         ensures done { PutsEntry register_capacity self.old.0 self.new.0 name.now stored result }
         ensures written { OnOk result ((self.old.1.0 ≡ None) × (self.new.1.0 ≡ None)) }
@@ -71,10 +71,10 @@ impl<S: Alter> FileBook<S> {
         }
     }
 
-    /// Puts another name in the place of one, whose record it has from then on.
+    /// Puts another name in place of one, whose record it has from then on.
     ///
     /// Errors: `NoAccount` if the name isn't there; `Exists` if the other one is; `Full` if there
-    /// are 2^24 names, since both are in memory for a moment; `Memory` if there is none, if the
+    /// are 2^24 names, since both are in memory for a moment; `Memory` if it runs out, if the
     /// database fails, and if a change is lost.
     #[tactic(auto, using(crate::proofs::Keeping::not_entered, crate::proofs::Keeping::shown_there, crate::proofs::Keeping::shown_absent))]
     pub fn rename(&mut self, name: &Name, other: &Name) -> Result<(), BookError>

@@ -15,11 +15,11 @@ use sqlite::Alter;
 const CAPACITY: usize = 16_777_216;
 
 impl<S: Alter> FileBook<S> {
-    /// Adds all these accounts, or none, by one transaction of the database: so a crash at any
-    /// moment leaves the book without them, or with all of them.
+    /// Adds all these accounts, or none, by one transaction of the database: so a crash leaves
+    /// the book without them, or with all of them.
     ///
     /// Errors: `Exists` if the book has one of the names; `Full` if there would be over 2^24
-    /// accounts; `Memory` if there is none, if the database fails, and if a change is lost.
+    /// accounts; `Memory` if it runs out, if the database fails, and if a change is lost.
     pub fn enter_all(&mut self, more: Register) -> Result<(), BookError>
         ensures done { EntersAll register_capacity self.old.0 self.new.0 more result }
         ensures written { OnOk result ((self.old.1.0 ≡ None) × (self.new.1.0 ≡ None)) }

@@ -1,8 +1,7 @@
-use Rattle.std.proofs.Common.{rules, ◌≡◌, [], ◌∷◌, ◌++◌, Some, None, inl, inr, IfErr, refl, sym, ap, subst, ◌∙◌, arith}
+use Rattle.std.proofs.Common.{rules, ◌≡◌, [], inl, inr, refl, sym, subst, ◌∙◌, arith}
 use Rattle.sqlite.specs.Held.{state}
-use Rattle.sqlite.specs.Listing.{understood}
-use Rattle.sqlite.specs.State.{CommitsShowing, HasCleanDisk, IsUnchanged, Survives}
-use Rattle.sqlite.proofs.Callers.{IsPlain, begun_plain, unchanged_then}
+use Rattle.sqlite.specs.State.{CommitsShowing, HasCleanDisk, Survives}
+use Rattle.sqlite.proofs.Callers.{begun_plain, unchanged_then}
 use Rattle.sqlite.proofs.StateLemmas.{survives_then}
 use Rattle.cred_file.specs.Opening.{IsUnopened, rows_text}
 use Rattle.cred_file.specs.Table.{StandsFor}
@@ -27,7 +26,7 @@ rows-init g c =
       refl,
       survived old (state g.S.Store c.in-Ok.rows.conn.now) c.requires made.survives,
       λ clean.
-          let begun = begun_plain g.S.Store rows_text [] c.args.conn.now c.in-Ok.rows.conn.now (subst (λ k. IsPlain (understood k rows_text)) (sym c.requires) rows_plain) (made.begun clean) in
+          let begun = begun_plain g.S.Store rows_text [] c.args.conn.now c.in-Ok.rows.conn.now (rows_plain _ c.requires) (made.begun clean) in
           (begun.1, ([], begun.0, no_rows c.new-draft.result.book c.new-draft.result.ids.keys c.new-draft.ensures.0 c.new-draft.ensures.1)),
     )
 

@@ -1,6 +1,7 @@
 use Rattle.std.proofs.Common.{◌≡◌, IsTrue, false, not, refl, sym, ap, subst, ◌∙◌}
 use Rattle.sqlite.specs.Effect.{Database}
 use Rattle.sqlite.specs.Held.{state}
+use Rattle.cred_file.specs.Schema.{IsBookSchema}
 use Rattle.cred_file.specs.Table.{StandsFor}
 use Rattle.cred_file.proofs.Selected.{as_before, is_table}
 use Rattle.cred_file.proofs.statements.read_table.Goals as goal
@@ -23,4 +24,4 @@ returns-clause-table g c clean =
     let autocommit : new.in_transaction ≡ false = same.0.mode ∙ c.requires.autocommit in
     let rests : IsTrue c.is_autocommit-at_rest.result = subst IsTrue (sym (c.is_autocommit-at_rest.ensures.value ∙ ap not autocommit)) refl in
     is_table new book (g.met.S.Store.settled c.read_rows.new.conn.store) same.0.is_open autocommit (c.is_autocommit-at_rest.ensures.settled rests same.0.is_open)
-    (c.schema-sound.ensures.live same.0.is_open).0 (ap (λ (d : Database). d.schema) same.0.now_is ∙ c.requires.schema) (subst (λ (d : Database). StandsFor (d.trees 0) book) (sym same.0.now_is) (c.in_ok-book.ensures.stands clean))
+    (c.schema-sound.ensures.live same.0.is_open).0 (subst (λ (d : Database). IsBookSchema d.schema) (sym same.0.now_is) c.requires.schema) (subst (λ (d : Database). StandsFor (d.trees 0) book) (sym same.0.now_is) (c.in_ok-book.ensures.stands clean))

@@ -1,9 +1,7 @@
-use Rattle.std.proofs.Common.{◌≡◌, ◌∙◌, ap, arith, length, rules, subst, sym}
-use Rattle.std.specs.FinMap as fin
+use Rattle.std.proofs.Common.{◌∙◌, ap, arith, length, rules, subst, sym}
 use Rattle.sqlite.specs.Held.{state}
 use Rattle.sqlite.specs.State.{HasCleanDisk}
 use Rattle.sqlite.proofs.StateLemmas.{survives_then}
-use Rattle.cred_book.specs.Accounts.{Accounts}
 use Rattle.cred_file.specs.Edits.{joined}
 use Rattle.cred_file.specs.Together.{IsUnderWay}
 use Rattle.cred_file.proofs.Joined.{AreEntered, all_entered, none_entered, one_entered}

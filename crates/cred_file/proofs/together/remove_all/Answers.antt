@@ -1,5 +1,5 @@
 use Rattle.std.proofs.Common.{ap, length}
-use Rattle.cred_file.proofs.Joined.{all_removed, none_removed, one_removed}
+use Rattle.cred_file.proofs.Joined.{all_removed, one_removed}
 use Rattle.cred_file.proofs.together.remove_all.Goals as goal
 
 pub loop-name-preserved : goal.loop-name-preserved

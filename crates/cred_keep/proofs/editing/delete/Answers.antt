@@ -1,0 +1,6 @@
+-- Written out, since a search for this takes long.
+use Rattle.cred_keep.proofs.Edited.{edited}
+use Rattle.cred_keep.proofs.editing.delete.Goals as goal
+
+pub returns : goal.returns
+returns g c = edited _ _ _ _ _ _ _ c.in_ok-reply.ensures.done c.answer_edit.ensures.told c.answer_edit.ensures.fault
