@@ -59,7 +59,7 @@ def packages(version: str) -> list[Package]:
             "librigzumal1",
             "libs",
             "${shlibs}",
-            "Argon2, scrypt and records of passwords, proved",
+            "Argon2, scrypt and records of passwords, with a proved core",
             " Hashes passwords by Argon2 and scrypt, and reads and writes the strings of\n"
             " their records, by code that is proved. A libargon2.so.1 over it lies in\n"
             f" /{LIBRARIES}/rigzumal, for LD_LIBRARY_PATH.\n",
@@ -72,7 +72,7 @@ def packages(version: str) -> list[Package]:
             "librigzumal-dev",
             "libdevel",
             f"librigzumal1 (= {version})",
-            "Argon2, scrypt and records of passwords, proved (development files)",
+            "Argon2, scrypt and records of passwords, with a proved core (development files)",
             " The header, the static library, the manual page and the file for pkg-config\n"
             " of librigzumal1.\n",
             {
@@ -85,7 +85,7 @@ def packages(version: str) -> list[Package]:
             "python3-rigzumal",
             "python",
             f"librigzumal1 (>= {version}), python3 (>= 3.9)",
-            "Argon2, scrypt and records of passwords, proved (Python 3)",
+            "Argon2, scrypt and records of passwords, with a proved core (Python 3)",
             " Hashers of passwords in the manner of argon2-cffi, over librigzumal1.\n",
             python,
             "foreign",

@@ -1,5 +1,6 @@
 /* What the crate cred_c exports, in each of its builds, and the choice between them. The contracts
- * stand in the crate. */
+ * stand in the crate; rigzumal_argon2 and rigzumal_parts are its structures Argon2Numbers and
+ * Parts. */
 #ifndef BUILDS_H
 #define BUILDS_H
 
@@ -14,11 +15,10 @@ typedef const uint8_t *bytes;
 
 /* The exports of a build, whose names begin with the build's. */
 #define EXPORTS(build)                                                                             \
-    uint8_t build##_cred_argon2(uint32_t kind, uint32_t version, uint32_t memory, uint32_t passes, \
-                                uint32_t lanes, bytes password, size_t password_size, bytes salt,  \
-                                size_t salt_size, bytes secret, size_t secret_size,                \
-                                bytes associated, size_t associated_size, uint8_t *tag,            \
-                                size_t tag_size);                                                  \
+    uint8_t build##_cred_argon2(const struct rigzumal_argon2 *numbers, bytes password,             \
+                                size_t password_size, bytes salt, size_t salt_size, bytes secret,  \
+                                size_t secret_size, bytes associated, size_t associated_size,      \
+                                uint8_t *tag, size_t tag_size);                                    \
     uint8_t build##_cred_scrypt(uint32_t ln, uint32_t r, uint32_t p, bytes password,               \
                                 size_t password_size, bytes salt, size_t salt_size, uint8_t *key,  \
                                 size_t key_size);                                                  \
@@ -37,9 +37,8 @@ EXPORTS(v2);
 EXPORTS(v3);
 
 /* What gains nothing by wider vectors is called in the one build that every processor runs. */
-uint8_t v1_cred_write(uint32_t kind, uint32_t version, uint32_t memory, uint32_t passes,
-                      uint32_t lanes, bytes salt, size_t salt_size, bytes tag, size_t tag_size,
-                      uint8_t *text, size_t text_size, size_t *written);
+uint8_t v1_cred_write(const struct rigzumal_argon2 *numbers, bytes salt, size_t salt_size,
+                      bytes tag, size_t tag_size, uint8_t *text, size_t text_size, size_t *written);
 uint8_t v1_cred_setting_fault(bytes text, size_t text_size);
 uint8_t v1_cred_record_fault(bytes text, size_t text_size);
 uint8_t v1_cred_record_parts(bytes text, size_t text_size, struct rigzumal_parts *parts);

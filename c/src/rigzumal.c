@@ -20,8 +20,7 @@ int rigzumal_argon2(void *tag, size_t tag_size, const struct rigzumal_argon2 *nu
                     const void *password, size_t password_size, const void *salt, size_t salt_size,
                     const void *secret, size_t secret_size, const void *associated,
                     size_t associated_size) {
-    return cleared(CALL(cred_argon2, numbers->kind, numbers->version, numbers->memory,
-                        numbers->passes, numbers->lanes, BYTES(password, password_size),
+    return cleared(CALL(cred_argon2, numbers, BYTES(password, password_size),
                         BYTES(salt, salt_size), BYTES(secret, secret_size),
                         BYTES(associated, associated_size), tag_size == 0 ? NOTHING : tag,
                         tag_size));
@@ -81,9 +80,8 @@ int rigzumal_step(char *text, size_t text_size, uint32_t *reply, uint32_t operat
 int rigzumal_argon2_write(char *text, size_t text_size, const struct rigzumal_argon2 *numbers,
                           const void *salt, size_t salt_size, const void *tag, size_t tag_size) {
     size_t written = 0;
-    uint8_t answer = v1_cred_write(numbers->kind, numbers->version, numbers->memory,
-                                   numbers->passes, numbers->lanes, BYTES(salt, salt_size),
-                                   BYTES(tag, tag_size), ROOM(text, text_size), &written);
+    uint8_t answer = v1_cred_write(numbers, BYTES(salt, salt_size), BYTES(tag, tag_size),
+                                   ROOM(text, text_size), &written);
     return ended(answer, text, written);
 }
 

@@ -335,6 +335,25 @@ def compare_memory_beyond_ours(ours):
             sys.exit(f"{text}: {answer}, and not {wanted}")
 
 
+def compare_long_sizes(comparison):
+    """Sizes of over 32 bits, off which nothing may be cut: the bytes aren't there to be read."""
+    long = 2**32 + 8
+    for password, salt, tag in ((long, 8, 32), (8, long, 32), (8, 8, long), (long, long, long)):
+        for encoded in (None, ctypes.create_string_buffer(600)):
+            room = (None if encoded is None else ctypes.addressof(encoded), 600)
+            given = (b"password", password, b"somesalt", salt, None, tag, *room)
+            comparison.same(
+                f"argon2_hash of sizes {password}, {salt}, {tag}",
+                lambda lib: lib.argon2_hash(1, 8, 1, *given, 2, 0x13),
+            )
+    record = b"$argon2id$v=19$m=256,t=2,p=1$c29tZXNhbHQ$nf65EOgLrQMR/uIPnA4rEsF5h7TKyQwu9U1bMCHGi/4"
+    for text in (record, record + b"$", b"", None):
+        comparison.same(
+            f"argon2_verify of {text} and a size of {long}",
+            lambda lib: lib.argon2_verify(text, b"password", long, 2),
+        )
+
+
 def main():
     ours, theirs = map(library, sys.argv[1:3])
     draw = random.Random(int(sys.argv[3]))
@@ -353,6 +372,7 @@ def main():
         comparison.same(f"{call} of null", lambda lib: getattr(lib, call)(None, b"x"))
     comparison.same("argon2_verify of null", lambda lib: lib.argon2_verify(None, b"", 0, 1))
     compare_memory_beyond_ours(ours)
+    compare_long_sizes(comparison)
     for _ in range(TURNS):
         compare(draw, comparison)
     numbers = sorted(it for it in comparison.answers if isinstance(it, int) and it <= 0)

@@ -4,6 +4,7 @@
 #include "rigzumal.h"
 
 #include <errno.h>
+#include <stdbool.h>
 #include <sys/types.h>
 
 /* RFC 9106, section 5: the inputs of all three, and the tags of 5.1, 5.2 and 5.3. */
@@ -313,6 +314,19 @@ static void test_drawn_salts(void) {
     CHECK(is_all(text, 0x5a, sizeof text));
 }
 
+/* A record of which any letter of the tag is another one is of another password, or no record if it
+ * is the last and has bits that stand for nothing. */
+static void check_each_letter(char *record, size_t tag_size) {
+    for (char *letter = strrchr(record, '$') + 1; *letter != '\0'; letter++) {
+        char kept = *letter;
+        *letter = kept == 'A' ? 'B' : 'A';
+        int answer = rigzumal_check_with_secret(record, "password", 8, "a secret", 8);
+        bool is_last = letter[1] == '\0' && tag_size % 3 != 0;
+        CHECK(answer == RIGZUMAL_MISMATCH || (is_last && answer == RIGZUMAL_TAG));
+        *letter = kept;
+    }
+}
+
 /* A record whose tag has a secret: RFC 9106's K, so its tag is that of rigzumal_argon2 with it. */
 static void test_secrets(void) {
     unsigned char salt[48], tag[64];
@@ -340,6 +354,8 @@ static void test_secrets(void) {
             CHECK_NUMBER(rigzumal_check_with_secret(text, "Password", 8, "a secret", 8),
                          RIGZUMAL_MISMATCH);
             CHECK_NUMBER(rigzumal_check(text, "password", 8), RIGZUMAL_MISMATCH);
+            if (size < 12)
+                check_each_letter(text, tag_size);
         }
     /* without a secret it is the record of old, of both versions */
     for (int i = 0; i < 3; i++)
@@ -409,6 +425,118 @@ static void test_long_inputs(void) {
     }
 }
 
+/* Costs and salts that are too long for any text, of which nothing may be written. */
+static void test_long_costs(void) {
+    char text[RIGZUMAL_TEXT_SIZE], costs[1100];
+    unsigned char salt[600];
+    memset(salt, 1, sizeof salt);
+    memset(text, 0x5a, sizeof text);
+    for (size_t size = 1; size < sizeof costs; size++) {
+        memset(costs, '0', size);
+        memcpy(costs, "$argon2id$v=19$m=16,t=1,p=2", size < 27 ? size : 27);
+        costs[size] = '\0';
+        for (size_t salt_size = 8; salt_size <= sizeof salt; salt_size += 148) {
+            int fault = rigzumal_record(text, sizeof text, 32, costs, salt, salt_size, "x", 1);
+            if (size == 27 && salt_size == 8)
+                CHECK_NUMBER(fault, RIGZUMAL_OK);
+            else if (size + 1 + (salt_size * 4 + 2) / 3 > 512)
+                CHECK_NUMBER(fault, RIGZUMAL_TOO_LONG);
+            else
+                CHECK(fault != RIGZUMAL_OK && fault != RIGZUMAL_TOO_LONG);
+            if (fault == RIGZUMAL_OK)
+                memset(text, 0x5a, sizeof text);
+            CHECK(is_all(text, 0x5a, sizeof text));
+        }
+    }
+}
+
+/* Each operation at each copy: the reply, and the record that is to stand afterwards. */
+static void test_steps(void) {
+    static const char costs[] = "$argon2id$v=19$m=256,t=2,p=1$c29tZXNhbHQ";
+    static const char other_costs[] = "$argon2id$v=19$m=8,t=1,p=1$c29tZXNhbHQ";
+    char upgraded[RIGZUMAL_TEXT_SIZE], changed[RIGZUMAL_TEXT_SIZE];
+    CHECK_NUMBER(
+        rigzumal_record(upgraded, sizeof upgraded, 32, other_costs, NULL, 0, "password", 8),
+        RIGZUMAL_OK);
+    CHECK_NUMBER(rigzumal_record(changed, sizeof changed, 32, costs, NULL, 0, "new", 3),
+                 RIGZUMAL_OK);
+    const struct {
+        uint32_t operation;
+        const char *copy, *password, *setting;
+        uint32_t reply;
+        const char *after; /* empty where nothing changes, and where none is to stand */
+    } steps[] = {
+        {RIGZUMAL_ENROL, NULL, "password", costs, RIGZUMAL_REPLY_ENROLLED, records[0]},
+        {RIGZUMAL_ENROL, records[0], "password", costs, RIGZUMAL_REPLY_EXISTS, ""},
+        {RIGZUMAL_VERIFY, records[0], "password", NULL, RIGZUMAL_REPLY_YES, ""},
+        {RIGZUMAL_VERIFY, records[0], "Password", NULL, RIGZUMAL_REPLY_NO, ""},
+        {RIGZUMAL_VERIFY, NULL, "password", NULL, RIGZUMAL_REPLY_ABSENT, ""},
+        {RIGZUMAL_CHANGE, records[0], "password", costs, RIGZUMAL_REPLY_REPLACED, changed},
+        {RIGZUMAL_CHANGE, records[0], "Password", costs, RIGZUMAL_REPLY_WRONG, ""},
+        {RIGZUMAL_CHANGE, NULL, "password", costs, RIGZUMAL_REPLY_ABSENT, ""},
+        {RIGZUMAL_UPGRADE, records[0], "password", other_costs, RIGZUMAL_REPLY_UPGRADED, upgraded},
+        {RIGZUMAL_UPGRADE, records[0], "password", costs, RIGZUMAL_REPLY_KEPT, ""},
+        {RIGZUMAL_UPGRADE, records[0], "Password", costs, RIGZUMAL_REPLY_WRONG, ""},
+        {RIGZUMAL_UPGRADE, NULL, "password", costs, RIGZUMAL_REPLY_ABSENT, ""},
+        {RIGZUMAL_REMOVE, records[0], "password", NULL, RIGZUMAL_REPLY_REMOVED, ""},
+        {RIGZUMAL_REMOVE, records[0], "Password", NULL, RIGZUMAL_REPLY_WRONG, ""},
+        {RIGZUMAL_REMOVE, NULL, "password", NULL, RIGZUMAL_REPLY_ABSENT, ""},
+    };
+    for (size_t i = 0; i < sizeof steps / sizeof steps[0]; i++) {
+        char text[RIGZUMAL_TEXT_SIZE];
+        memset(text, 0x5a, sizeof text);
+        uint32_t reply = 99;
+        CHECK_NUMBER(rigzumal_step(text, sizeof text, &reply, steps[i].operation, steps[i].copy,
+                                   steps[i].password, strlen(steps[i].password), "new", 3,
+                                   steps[i].setting),
+                     RIGZUMAL_OK);
+        CHECK_NUMBER((int)reply, (int)steps[i].reply);
+        CHECK(strcmp(text, steps[i].after) == 0);
+        size_t end = strlen(text) + 1;
+        CHECK(is_all(text + end, 0x5a, sizeof text - end));
+    }
+}
+
+static void test_faults_of_steps(void) {
+    static const char costs[] = "$argon2id$v=19$m=256,t=2,p=1$c29tZXNhbHQ";
+    static const char password[257] = {0};
+    static const struct {
+        uint32_t operation;
+        const char *copy;
+        size_t size, new_size;
+        const char *setting;
+        size_t text_size;
+        int fault;
+    } bad[] = {
+        {0, "$", 257, 257, "", 513, RIGZUMAL_NO_OPERATION},
+        {6, "$", 257, 257, "", 513, RIGZUMAL_NO_OPERATION},
+        {RIGZUMAL_VERIFY, "$", 257, 257, "", 513, RIGZUMAL_COPY},
+        {RIGZUMAL_ENROL, "", 8, 8, costs, 513, RIGZUMAL_COPY},
+        {RIGZUMAL_VERIFY, "", 8, 8, NULL, 513, RIGZUMAL_COPY},
+        {RIGZUMAL_ENROL, NULL, 257, 8, costs, 513, RIGZUMAL_LONG_PASSWORD},
+        {RIGZUMAL_CHANGE, NULL, 8, 257, costs, 513, RIGZUMAL_LONG_PASSWORD},
+        {RIGZUMAL_ENROL, NULL, 8, 8, NULL, 513, RIGZUMAL_SHAPE},
+        {RIGZUMAL_ENROL, NULL, 8, 8, "$argon2id$v=19$m=7,t=2,p=1$c29tZXNhbHQ", 513, RIGZUMAL_RANGE},
+        {RIGZUMAL_ENROL, NULL, 8, 8, costs, 84, RIGZUMAL_NO_ROOM},
+        {RIGZUMAL_ENROL, NULL, 8, 8, costs, 0, RIGZUMAL_NO_ROOM},
+    };
+    for (size_t i = 0; i < sizeof bad / sizeof bad[0]; i++) {
+        char text[RIGZUMAL_TEXT_SIZE];
+        memset(text, 0x5a, sizeof text);
+        uint32_t reply = 99;
+        CHECK_NUMBER(rigzumal_step(text, bad[i].text_size, &reply, bad[i].operation, bad[i].copy,
+                                   password, bad[i].size, password, bad[i].new_size,
+                                   bad[i].setting),
+                     bad[i].fault);
+        CHECK(reply == 99 && is_all(text, 0x5a, sizeof text));
+    }
+    uint32_t reply = 99; /* what writes no text needs no room */
+    CHECK_NUMBER(
+        rigzumal_step(NULL, 0, &reply, RIGZUMAL_VERIFY, records[0], "password", 8, NULL, 0, NULL),
+        RIGZUMAL_OK);
+    CHECK(reply == RIGZUMAL_REPLY_YES);
+}
+
 static void test_version(void) {
     CHECK(strcmp(rigzumal_version(), RIGZUMAL_LIBRARY_VERSION) == 0);
 }
@@ -418,6 +546,9 @@ int main(void) {
     test_secrets();
     test_faults_with_secrets();
     test_long_inputs();
+    test_long_costs();
+    test_steps();
+    test_faults_of_steps();
     test_version();
     test_argon2_vectors();
     test_scrypt_vectors();

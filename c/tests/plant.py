@@ -62,7 +62,8 @@ def verdict(name, tests, edits):
                 text=True,
                 env={**os.environ, "TEST_WARNINGS": "-w"},
             )
-            if f"{test}: FAILED" in done.stdout and "error:" not in done.stdout:
+            unbuilt = re.search(r"(?<!runtime) error: ", done.stdout)
+            if f"{test}: FAILED" in done.stdout and not unbuilt:
                 return test
         return None
     finally:

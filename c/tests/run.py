@@ -173,6 +173,11 @@ def test_processors():
         chosen = run("qemu-x86_64", "-cpu", name, program).split()[-1]
         if chosen != build:
             raise Failed(f"{name}: {chosen}, and not {build}")
+    for kept in (1, 3, 5):  # the bits of x87, SSE and AVX: not both of the last two
+        system = [f'-DREAD_KEPT_REGISTERS="mov ${kept}, %0; mov $0, %1"', "-O2", "-static"]
+        chosen = run("qemu-x86_64", "-cpu", "Haswell", built("processor", system, ["src/processor.c"])).split()[-1]
+        if chosen != "v2":
+            raise Failed(f"a system that keeps the registers {kept}: {chosen}, and not v2")
     return f"{len(wanted)} processors"
 
 
@@ -283,6 +288,13 @@ def test_cleared_memory():
             run(built("cleared", flags, linked))
 
 
+def test_registers():
+    """No vector register holds anything after a call, whichever build it chose."""
+    run(built("registers", ["-O2"], ["src/secrets.c", "src/processor.c"]))
+    for build in ("V1", "V2"):
+        run(built("registers", ["-O2", f"-DGIVEN=BUILD_{build}"], ["src/secrets.c", "tests/given_build.c"]))
+
+
 def test_depth_of_calls():
     """What is cleared of the stack is twice what any call uses."""
     lazy = ["-O2", "-Wl,-z,lazy", "tests/jobs.c", *LIBARGON2]
@@ -333,12 +345,39 @@ def test_header_in_cpp():
     run(ROOM / "header")
 
 
+INSTALLED = [
+    "include/rigzumal.h",
+    "lib/librigzumal.a",
+    "lib/librigzumal.so",
+    "lib/librigzumal.so.1",
+    "lib/pkgconfig/rigzumal.pc",
+    "lib/rigzumal/libargon2.so.1",
+    "share/man/man3/rigzumal.3",
+    *(f"lib/python3/dist-packages/{it.relative_to(TOP / 'python')}" for it in TOP.glob("python/rigzumal/**/*.py")),
+]
+
+
+def library_version():
+    return re.search(r'LIBRARY_VERSION "(.+)"', (TOP / "include/rigzumal.h").read_text())[1]
+
+
+def check_pkg_config(env):
+    """pkg-config says the header's version and the library's name."""
+    said = [run("pkg-config", word, "rigzumal", env=env).split() for word in ("--modversion", "--libs")]
+    if said[0] != [library_version()] or "-lrigzumal" not in said[1]:
+        raise Failed(str(said))
+
+
 def test_installed():
     """A program built by pkg-config, and Python, over what `make install` put there."""
     need("pkg-config")
     prefix = ROOM / "installed"
     run("make", "install", f"PREFIX={prefix}")
+    for name in INSTALLED:
+        if not (prefix / name).exists():
+            raise Failed(f"{name} isn't installed")
     env = {"PKG_CONFIG_PATH": str(prefix / "lib/pkgconfig"), "LD_LIBRARY_PATH": str(prefix / "lib")}
+    check_pkg_config(env)
     flags = run("pkg-config", "--cflags", "--libs", "rigzumal", env=env).split()
     run(compiler(), "tests/threads.c", "-pthread", *flags, "-o", ROOM / "of-installed")
     run(ROOM / "of-installed", env=env)
@@ -443,6 +482,8 @@ def test_wheel():
     """A virtual environment with the wheel alone imports and hashes, from nothing."""
     run("make", "wheel")
     (wheel,) = OUT.glob("*.whl")
+    if not wheel.name.endswith("-py3-none-linux_x86_64.whl"):
+        raise Failed(wheel.name)
     room = ROOM / "venv"
     try:
         run(sys.executable, "-m", "venv", room)
@@ -474,15 +515,22 @@ def test_missing_library():
 
 def test_debs():
     """Debian's packages: what lintian says of them, and a program over what they hold."""
-    need("dpkg-deb", "lintian")
+    need("dpkg-deb", "lintian", "pkg-config")
     run("make", "deb")
     debs = sorted(OUT.glob("*.deb"))
     if len(debs) != 3:
         raise Failed(str(debs))
     said = run("lintian", "--fail-on", "error", *debs)
+    for deb, wanted in zip(debs, (f"librigzumal1 (= {library_version()})", "libc6 (>= ", "librigzumal1 (>= ")):
+        depends = run("dpkg-deb", "-f", deb, "Depends")
+        if wanted not in depends:
+            raise Failed(f"{deb.name} depends on {depends}")
     room = ROOM / "debs"
     for deb in debs:
         run("dpkg-deb", "-x", deb, room)
+    for path in (TOP / "python/rigzumal").rglob("*.py"):
+        if not (room / "usr/lib/python3/dist-packages" / path.relative_to(TOP / "python")).exists():
+            raise Failed(f"{path.name} is in no package")
     libraries = room / "usr/lib/x86_64-linux-gnu"
     clean = {"PYTHONPATH": str(room / "usr/lib/python3/dist-packages"), "LD_LIBRARY_PATH": str(libraries)}
     script = "import rigzumal; h = rigzumal.PasswordHasher(1, 64, 1)"
@@ -490,6 +538,7 @@ def test_debs():
     found = run("/usr/bin/python3", "-c", script, env=clean, at=ROOM)
     if not found.startswith("True ") or str(room) not in found:
         raise Failed(found)
+    check_pkg_config({"PKG_CONFIG_PATH": str(libraries / "pkgconfig")})
     program = ROOM / "of-debs"
     folders = (f"-I{room / 'usr/include'}", f"-L{libraries}")
     run(compiler(), "tests/threads.c", "-pthread", *folders, "-lrigzumal", "-o", program)

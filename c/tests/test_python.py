@@ -14,6 +14,7 @@ import unittest
 
 import rigzumal
 from rigzumal import PasswordHasher, ScryptHasher, Type
+from rigzumal.__main__ import _memory
 
 # Of the reference library's own tests, and one of passlib.
 ARGON2 = "$argon2id$v=19$m=256,t=2,p=1$c29tZXNhbHQ$nf65EOgLrQMR/uIPnA4rEsF5h7TKyQwu9U1bMCHGi/4"
@@ -386,6 +387,13 @@ class Shell(unittest.TestCase):
         self.assertTrue(times and all(float(ms) <= 40 and unit == "ms" for ms, unit in times))
         least = run(["calibrate", "--target-ms", "0.001", "--memory", "1M", "--lanes", "2"], b"")
         self.assertEqual(least.stdout, b"$argon2id$v=19$m=16,t=1,p=2\n")
+        for memory in ("16", "16K", "16k"):
+            done = run(["calibrate", "--target-ms", "0.001", "--memory", memory, "--lanes", "1"], b"")
+            self.assertEqual(done.stdout, b"$argon2id$v=19$m=8,t=1,p=1\n")
+            self.assertIn(b"$argon2id$v=19$m=16,t=1,p=1: ", done.stderr)
+        refused = run(["calibrate", "--memory", "1M", "--lanes", "0"], b"")
+        self.assertEqual((refused.returncode, b"Traceback" in refused.stderr), (2, False))
+        self.assertEqual(_memory("2G"), 2 * 1024 * 1024)
         self.assertEqual(run(["calibrate", "--memory", "4X"], b"").returncode, 2)
         more = run(["calibrate", "--target-ms", "1", "--memory", "4M", "--threads", "2"], b"")
         self.assertIn(b",p=4", more.stdout)

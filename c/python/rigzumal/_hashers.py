@@ -169,7 +169,7 @@ class ScryptHasher(_Hasher):
     """Makes and verifies records by scrypt (RFC 7914).
 
     Attributes:
-        log2_n: the cost N as a power of two, 1 to 24.
+        log2_n: the cost N as a power of two, 1 to 23.
         block_size: r, 1 to 255. The table has 128 * r * N bytes, 2 GiB at most.
         parallelism: p, 1 to 255; all is worked on the caller's thread.
         hash_len: bytes of the key, 4 to 64.

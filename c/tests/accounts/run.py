@@ -1,6 +1,6 @@
 """Runs the tests of accounts, after `make -C c`.
 
-    c/tests/accounts/run.py [--quick] [NAME..]
+    python3 c/tests/accounts/run.py [--quick] [NAME..]
 
 Histories on real servers take some six minutes; --quick leaves them out. What the
 machine doesn't have is named and skipped. Debian's packages for all of it: postgresql,

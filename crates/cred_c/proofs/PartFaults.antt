@@ -1,6 +1,6 @@
 -- The first that is wrong with a tag's numbers is what reading them answers.
-use Rattle.std.proofs.Common.{◌≡◌, ◌≤◌, ℕ, Result, Ok, Err, inl, inr, arith}
-use Rattle.cred_argon.specs.Faults.{IsFaultUpTo, IsFirstRawFault}
+use Rattle.std.proofs.Common.{◌≡◌, ℕ, Result, Err, inl, inr, arith}
+use Rattle.cred_argon.specs.Faults.{IsFirstRawFault}
 use Rattle.cred_argon.specs.Numbers.{kind_number, version_number}
 use Rattle.cred_argon.specs.Parameters.{Parameters}
 use Rattle.cred_argon.specs.declared.error.ArgonError.{ArgonError}

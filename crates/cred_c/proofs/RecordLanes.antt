@@ -1,12 +1,12 @@
 -- Records whose tags are worked in parts: what is made of the last slice, and what is answered of it.
-use Rattle.std.proofs.Common.{◌≡◌, ◌<◌, ◌^◌, ◌∙◌, ◌⊎◌, ◌↔◌, ℕ, List, [], length, Option, Some, None, Result, Ok, Err, IfOk, IfErr, inl, inr, ap, refl, sym, arith}
+use Rattle.std.proofs.Common.{◌≡◌, ◌∙◌, ◌⊎◌, ◌↔◌, ℕ, List, [], length, Option, Some, None, Result, Ok, Err, IfOk, IfErr, inl, inr, ap, refl, sym, arith}
 use Rattle.cred_argon.specs.Argon.{argon}
 use Rattle.cred_argon.specs.Parameters.{Parameters, parameters}
 use Rattle.cred_phc.specs.Tags.{argon_kind, argon_parameters, scheme_tag, tag}
 use Rattle.cred_phc.specs.Text.{record_text}
 use Rattle.cred_phc.specs.Values.{RecordValue, SettingValue, record_of}
-use Rattle.cred_c.specs.Answers.{IsWritten}
-use Rattle.cred_c.specs.Lanes.{IsFilled, IsSlice, IsEndUnder, IsRecordEndUnder, part_fault_number}
+use Rattle.cred_c.specs.Answers.{IsWritten, Output, output}
+use Rattle.cred_c.specs.Lanes.{IsFilled, IsSlice, IsEndUnder, IsRecordEndUnder, part_fault_number, record_inputs}
 use Rattle.cred_c.specs.declared.part_fault.PartFault.{PartFault}
 use Rattle.cred_c.specs.declared.part_fault.PartFault.TheVariants.{Argon, Place, Scrypt as NoLanes}
 use Rattle.cred_argon.specs.declared.block.Block.{Block}
@@ -31,7 +31,7 @@ pub record IsMade (s : SettingValue) (n : ℕ) (p : Option Parameters) (last : L
   pub scheme : p ≡ None → made ≡ Err NoLanes
   pub place : (a : Parameters) → p ≡ Some a → (IsSlice a last → ⊥) → made ≡ Err Place
   pub memory : (a : Parameters) → p ≡ Some a → IsSlice a last → IfErr made (λ f. f ≡ Argon Memory)
-  pub tag_of : (a : Parameters) → p ≡ Some a → (pw : List ℕ) → IsFilled a pw s.salt [] [] last → IfOk made (λ t. t ≡ tag s n pw)
+  pub tag_of : (a : Parameters) → p ≡ Some a → (pw : List ℕ) → IsFilled a (record_inputs pw s.salt) last → IfOk made (λ t. t ≡ tag s n pw)
 
 -- the verdict on a tag that was made
 pub end_of_tag : (v : RecordValue) (p : Option Parameters) (last : List Block) (t : List ℕ) (answer : ℕ)
@@ -71,17 +71,17 @@ end_of_fault v (Some a) last f made = record {
     eight slice = ap part_fault_number (made.memory a refl slice)
 
 -- a record that was written of a tag that was made
-pub record_end_of_tag : (s : SettingValue) (n : ℕ) (p : Option Parameters) (last : List Block) (t : List ℕ) (answer : ℕ) (old new : List ℕ) (len : ℕ)
-    → IsMade s n p last (Ok t) → IsWritten (record_text (record_of s t)) answer old new len → IsRecordEndUnder s n p last answer old new len
-record_end_of_tag s n None last t answer old new len made written = let no = made.scheme refl in absurd cc
-record_end_of_tag s n (Some a) last t answer old new len made written = record {
+pub record_end_of_tag : (s : SettingValue) (n : ℕ) (p : Option Parameters) (last : List Block) (t : List ℕ) (o : Output)
+    → IsMade s n p last (Ok t) → IsWritten (record_text (record_of s t)) o → IsRecordEndUnder s n p last o
+record_end_of_tag s n None last t o made written = let no = made.scheme refl in absurd cc
+record_end_of_tag s n (Some a) last t o made written = record {
   place = λ no. let other = made.place a refl no in absurd cc;
   one_of = λ _. written.one_of;
   written = λ _ pw filled. rw (← made.tag_of a refl pw filled) written;
 }
 
 pub record_end_of_fault : (s : SettingValue) (n : ℕ) (p : Option Parameters) (last : List Block) (f : PartFault) (old new : List ℕ) (len : ℕ)
-    → IsMade s n p last (Err f) → IsRecordEndUnder s n p last (part_fault_number f) old new len
+    → IsMade s n p last (Err f) → IsRecordEndUnder s n p last (output (part_fault_number f) old new len)
 record_end_of_fault s n None last f old new len made = let same : f ≡ NoLanes = (let e = made.scheme refl in cc) in ap part_fault_number same
 record_end_of_fault s n (Some a) last f old new len made = record {
   place = λ no. let same : f ≡ Place = (let e = made.place a refl no in cc) in ap part_fault_number same;

@@ -10,10 +10,10 @@ use Rattle.cred_scrypt.specs.declared.error.ScryptError.TheVariants.{Memory as S
 use Rattle.cred_phc.specs.Tags.{tag}
 use Rattle.cred_phc.specs.Values.{RecordValue}
 
--- 1 to 9 are the faults of texts, and 8 is want of memory everywhere; 10 is another password, 11
--- too little room, 12 no kind and 13 no version; 23 is no operation, 24 a copy that isn't a record,
--- 25 a password of over 256 bytes, and 27 blocks that aren't those of the numbers; 26 is answered
--- in C alone
+-- 1 to 9 are the faults of texts, and 8 is out of memory everywhere; 10 is another password, 11 too
+-- little room, 12 no kind and 13 no version; 23 is no operation, 24 a copy that isn't a record, 25
+-- a password of over 256 bytes, and 27 blocks that aren't those of the numbers; 26 is answered in C
+-- alone
 abbrev pub argon_number : ArgonError → ℕ
 argon_number Lanes = 14
 argon_number Cost = 15
@@ -40,8 +40,19 @@ pub record IsVerdict (v : RecordValue) (pw : List ℕ) (answer : ℕ) : Type 0 w
   pub right : answer ≡ 0 → IsRight v pw
   pub wrong : answer ≡ 10 → IsRight v pw → ⊥
 
--- what is answered where a text is to be written over the front of a buffer, and left there
-pub record IsWritten (text : List ℕ) (answer : ℕ) (old new : List ℕ) (len : ℕ) : Type 0 where
-  pub one_of : (answer ≡ 0) ⊎ (answer ≡ 8) ⊎ (answer ≡ 11)
-  pub written : answer ≡ 0 → (len ≡ length text) × (take len new ≡ text)
-  pub room : answer ≡ 11 → length old < length text
+-- what a call answers that may write a text, and leaves: a buffer before and after it, and the
+-- length of the text at the front
+pub record Output : Type 0 where
+  pub answer : ℕ
+  pub old : List ℕ
+  pub new : List ℕ
+  pub len : ℕ
+
+abbrev pub output : ℕ → List ℕ → List ℕ → ℕ → Output
+output answer old new len = record { answer = answer; old = old; new = new; len = len }
+
+-- the text is to be written over the front of the buffer
+pub record IsWritten (text : List ℕ) (o : Output) : Type 0 where
+  pub one_of : (o.answer ≡ 0) ⊎ (o.answer ≡ 8) ⊎ (o.answer ≡ 11)
+  pub written : o.answer ≡ 0 → (o.len ≡ length text) × (take o.len o.new ≡ text)
+  pub room : o.answer ≡ 11 → length o.old < length text

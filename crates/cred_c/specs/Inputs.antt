@@ -1,7 +1,14 @@
 -- What numbers stand for.
 use Rattle.std.specs.Prelude.{◌≡◌, ℕ, ◌≤◌, ◌⊎◌, List, Result, Ok, Err}
+use Rattle.cred_argon.specs.Numbers.{kind_number, version_number}
+use Rattle.cred_argon.specs.Parameters.{Parameters, parameters}
+use Rattle.cred_argon.specs.declared.kind.Kind.{Kind}
+use Rattle.cred_argon.specs.declared.kind.Version.{Version}
+use Rattle.cred_c.specs.declared.tag_numbers.Argon2Numbers.{Argon2Numbers}
 use Rattle.cred_phc.specs.declared.error.PhcError.{PhcError}
 use Rattle.cred_phc.specs.declared.scheme.Scheme.{Scheme}
+use Rattle.cred_phc.specs.declared.scheme.Scheme.TheVariants.{Argon2}
+use Rattle.cred_phc.specs.declared.scheme.Variant.{Variant}
 use Rattle.cred_phc.specs.Values.{RecordValue, SettingValue, made_setting, made_record}
 
 -- a kind of Argon2
@@ -15,6 +22,18 @@ IsVersion version = (version ≡ 16) ⊎ (version ≡ 19)
 -- at least one, and no more than a byte holds
 abbrev pub IsPositiveByte : ℕ → Type 0
 IsPositiveByte n = (1 ≤ n) × (n ≤ 255)
+
+-- the numbers name this kind and this version
+abbrev pub AreOf : Argon2Numbers → Kind → Version → Type 0
+AreOf n kind version = (n.kind ≡ kind_number kind) × (n.version ≡ version_number version)
+
+-- the numbers as parameters of a tag, whether they are in their ranges or not
+abbrev pub tag_parameters : Argon2Numbers → Kind → Version → ℕ → Parameters
+tag_parameters n kind version tag_len = parameters version kind n.memory n.passes n.lanes tag_len
+
+-- the numbers as a record's scheme
+abbrev pub record_scheme : Argon2Numbers → Variant → Version → Scheme
+record_scheme n variant version = Argon2 version variant n.memory n.passes n.lanes
 
 abbrev pub record_in : Result SettingValue PhcError → List ℕ → Result RecordValue PhcError
 record_in (Err e) tag = Err e

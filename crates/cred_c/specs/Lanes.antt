@@ -1,17 +1,18 @@
 -- Argon2 worked in parts over memory of the caller's: what numbers stand for, what is wrong with
 -- what a part is given, and what the parts make.
-use Rattle.std.specs.Prelude.{◌≡◌, ℕ, ◌+◌, ◌-◌, ◌*◌, ◌^◌, ◌<◌, ◌≤◌, ◌⊎◌, List, [], length}
+use Rattle.std.specs.Prelude.{◌≡◌, ℕ, ◌-◌, ◌*◌, ◌^◌, ◌<◌, ◌⊎◌, List, [], length}
 use Rattle.std.specs.Prelude.{Option, Some, None}
-use Rattle.cred_argon.specs.Argon.{argon, first_hash}
+use Rattle.cred_argon.specs.Argon.{first_hash}
 use Rattle.cred_argon.specs.Faults.{IsFirstRawFault}
-use Rattle.cred_argon.specs.Lanes.{HoldsBlocks, HoldsFirstBlocks, WorksSegment}
+use Rattle.cred_argon.specs.Lanes.{HoldsBlocks, HoldsFirstBlocks}
 use Rattle.cred_argon.specs.Numbers.{kind_number, version_number}
 use Rattle.cred_argon.specs.Parameters.{Parameters, parameters, segment_len, IsRaw}
+use Rattle.cred_argon.specs.Tags.{IsAnyTooLong}
 use Rattle.cred_argon.specs.declared.block.Block.{Block}
 use Rattle.cred_argon.specs.declared.kind.Kind.TheVariants.{Id}
 use Rattle.cred_argon.specs.declared.kind.Version.TheVariants.{V13}
 use Rattle.cred_argon.specs.declared.lanes.SegmentIndex.{SegmentIndex}
-use Rattle.cred_c.specs.Answers.{IsVerdict, IsWritten, argon_number}
+use Rattle.cred_c.specs.Answers.{IsVerdict, IsWritten, Output, argon_number}
 use Rattle.cred_c.specs.Inputs.{IsKind, IsVersion}
 use Rattle.cred_c.specs.declared.part_fault.PartFault.{PartFault}
 use Rattle.cred_c.specs.declared.part_fault.PartFault.TheVariants.{NoKind, NoVersion, Argon, Place}
@@ -60,31 +61,56 @@ IsNumbersFault n Scrypt = ⊥
 abbrev pub IsSlice : Parameters → List Block → Type 0
 IsSlice a blocks = length blocks ≡ a.lanes * segment_len a
 
-abbrev pub IsAnyTooLong : List ℕ → List ℕ → List ℕ → List ℕ → Type 0
-IsAnyTooLong pw salt secret assoc =
-    (2 ^ 32 ≤ length pw) ⊎ (2 ^ 32 ≤ length salt) ⊎ (2 ^ 32 ≤ length secret)
-    ⊎ (2 ^ 32 ≤ length assoc)
+-- the inputs of a tag
+pub record TagInputs : Type 0 where
+  pub pw : List ℕ
+  pub salt : List ℕ
+  pub secret : List ℕ
+  pub assoc : List ℕ
+
+abbrev pub inputs : List ℕ → List ℕ → List ℕ → List ℕ → TagInputs
+inputs pw salt secret assoc = record { pw = pw; salt = salt; secret = secret; assoc = assoc }
+
+-- those of a record's tag
+abbrev pub record_inputs : List ℕ → List ℕ → TagInputs
+record_inputs pw salt = inputs pw salt [] []
+
+-- H0 of them
+abbrev pub hash_of : Parameters → TagInputs → List ℕ
+hash_of a i = first_hash a i.pw i.salt i.secret i.assoc
+
+abbrev pub HasLongInput : TagInputs → Type 0
+HasLongInput i = IsAnyTooLong i.pw i.salt i.secret i.assoc
 
 -- the first blocks of each lane are written into the first slice
-pub record IsBegun (a : Parameters) (pw salt secret assoc : List ℕ) (answer : ℕ)
-    (old new : List Block) : Type 0 where
+pub record IsBegun (a : Parameters) (i : TagInputs) (answer : ℕ) (old new : List Block)
+    : Type 0 where
   pub place : (IsSlice a old → ⊥) → answer ≡ 27
-  pub long : IsSlice a old → IsAnyTooLong pw salt secret assoc → answer ≡ 18
-  pub begun : IsSlice a old → (IsAnyTooLong pw salt secret assoc → ⊥) → (answer ≡ 0)
-      × HoldsFirstBlocks a (first_hash a pw salt secret assoc) a.lanes new
+  pub long : IsSlice a old → HasLongInput i → answer ≡ 18
+  pub begun : IsSlice a old → (HasLongInput i → ⊥) → (answer ≡ 0)
+      × HoldsFirstBlocks a (hash_of a i) a.lanes new
   pub kept : (answer ≡ 0 → ⊥) → new ≡ old
 
+-- the slices before that of a segment: three, two and one back
+pub record SlicesBefore : Type 0 where
+  pub oldest : List Block
+  pub middle : List Block
+  pub newest : List Block
+
+abbrev pub slices_before : List Block → List Block → List Block → SlicesBefore
+slices_before oldest middle newest =
+    record { oldest = oldest; middle = middle; newest = newest }
+
 -- there is such a segment, and the blocks are those of three slices and of a segment
-pub record IsSegment (a : Parameters) (i : SegmentIndex)
-    (oldest middle newest own : List Block) : Type 0 where
+pub record IsSegment (a : Parameters) (i : SegmentIndex) (s : SlicesBefore) (own : List Block)
+    : Type 0 where
   pub inside : (i.slice < 4) × (i.lane < a.lanes)
-  pub earlier : IsSlice a oldest × IsSlice a middle × IsSlice a newest
+  pub earlier : IsSlice a s.oldest × IsSlice a s.middle × IsSlice a s.newest
   pub blocks : length own ≡ segment_len a
 
 -- the blocks hold every cell of the memory's last slice, for these inputs
-abbrev pub IsFilled : Parameters → List ℕ → List ℕ → List ℕ → List ℕ → List Block → Type 0
-IsFilled a pw salt secret assoc last =
-    HoldsBlocks a (first_hash a pw salt secret assoc) (4 * a.passes - 1) last
+abbrev pub IsFilled : Parameters → TagInputs → List Block → Type 0
+IsFilled a i last = HoldsBlocks a (hash_of a i) (4 * a.passes - 1) last
 
 -- ---- records
 
@@ -98,10 +124,9 @@ AreNumbers None answer n = answer ≡ 2
 AreNumbers (Some a) answer n = (answer ≡ 0) × StandFor n a
 
 -- the first blocks of each lane are written, unless it is a text of scrypt
-abbrev pub IsBegunUnder : Option Parameters → List ℕ → List ℕ → ℕ → List Block → List Block
-    → Type 0
-IsBegunUnder None pw salt answer old new = (answer ≡ 2) × (new ≡ old)
-IsBegunUnder (Some a) pw salt answer old new = IsBegun a pw salt [] [] answer old new
+abbrev pub IsBegunUnder : Option Parameters → TagInputs → ℕ → List Block → List Block → Type 0
+IsBegunUnder None i answer old new = (answer ≡ 2) × (new ≡ old)
+IsBegunUnder (Some a) i answer old new = IsBegun a i answer old new
 
 -- what is answered of a record and the last slice of a password's memory
 pub record IsEnd (v : RecordValue) (a : Parameters) (last : List Block) (answer : ℕ)
@@ -109,23 +134,21 @@ pub record IsEnd (v : RecordValue) (a : Parameters) (last : List Block) (answer 
   pub place : (IsSlice a last → ⊥) → answer ≡ 27
   pub one_of : IsSlice a last → (answer ≡ 0) ⊎ (answer ≡ 8) ⊎ (answer ≡ 10)
   pub verdict : IsSlice a last → (pw : List ℕ) → length pw < 2 ^ 32
-      → IsFilled a pw v.setting.salt [] [] last → IsVerdict v pw answer
+      → IsFilled a (record_inputs pw v.setting.salt) last → IsVerdict v pw answer
 
 abbrev pub IsEndUnder : RecordValue → Option Parameters → List Block → ℕ → Type 0
 IsEndUnder v None last answer = answer ≡ 2
 IsEndUnder v (Some a) last answer = IsEnd v a last answer
 
--- what is answered where a record is to be made from the last slice of a password's memory, with its
+-- what is answered if a record is to be made from the last slice of a password's memory, with its
 -- text over the front of a buffer
 pub record IsRecordEnd (s : SettingValue) (tag_len : ℕ) (a : Parameters) (last : List Block)
-    (answer : ℕ) (old new : List ℕ) (len : ℕ) : Type 0 where
-  pub place : (IsSlice a last → ⊥) → answer ≡ 27
-  pub one_of : IsSlice a last → (answer ≡ 0) ⊎ (answer ≡ 8) ⊎ (answer ≡ 11)
-  pub written : IsSlice a last → (pw : List ℕ) → IsFilled a pw s.salt [] [] last
-      → IsWritten (record_text (record_of s (tag s tag_len pw))) answer old new len
+    (o : Output) : Type 0 where
+  pub place : (IsSlice a last → ⊥) → o.answer ≡ 27
+  pub one_of : IsSlice a last → (o.answer ≡ 0) ⊎ (o.answer ≡ 8) ⊎ (o.answer ≡ 11)
+  pub written : IsSlice a last → (pw : List ℕ) → IsFilled a (record_inputs pw s.salt) last
+      → IsWritten (record_text (record_of s (tag s tag_len pw))) o
 
-abbrev pub IsRecordEndUnder : SettingValue → ℕ → Option Parameters → List Block → ℕ → List ℕ
-    → List ℕ → ℕ → Type 0
-IsRecordEndUnder s tag_len None last answer old new len = answer ≡ 2
-IsRecordEndUnder s tag_len (Some a) last answer old new len =
-    IsRecordEnd s tag_len a last answer old new len
+abbrev pub IsRecordEndUnder : SettingValue → ℕ → Option Parameters → List Block → Output → Type 0
+IsRecordEndUnder s tag_len None last o = o.answer ≡ 2
+IsRecordEndUnder s tag_len (Some a) last o = IsRecordEnd s tag_len a last o

@@ -1,5 +1,5 @@
 -- A step: one whole operation, worked at a copy of an account's record, for a store that puts the
--- record after in the place of the copy where that still stands.
+-- record after in place of the copy if that is still there.
 use Rattle.std.specs.Prelude.{◌≡◌, ◌⊎◌, ℕ, ◌==◌, if◌then◌else◌, List, [], length}
 use Rattle.std.specs.Prelude.{Option, Some, None}
 use Rattle.std.specs.Option.{option_map}
@@ -12,7 +12,7 @@ use Rattle.cred_book.specs.declared.reply.Reply.{Reply}
 use Rattle.cred_book.specs.declared.reply.Reply.TheVariants as reply
 use Rattle.cred_book.specs.declared.request.Request.{Request}
 use Rattle.cred_book.specs.declared.request.Request.TheVariants as request
-use Rattle.cred_c.specs.Answers.{IsWritten}
+use Rattle.cred_c.specs.Answers.{IsWritten, Output}
 use Rattle.cred_c.specs.declared.operation.Operation.{Operation}
 use Rattle.cred_c.specs.declared.operation.Operation.TheVariants.{Enrol, Verify, Change, Upgrade}
 use Rattle.cred_c.specs.declared.operation.Operation.TheVariants.{Remove}
@@ -43,7 +43,7 @@ AsksFor operation pw new text (request.Upgrade name p setting) =
     (operation ≡ Upgrade) × (p ≡ pw) × IsSetting setting × IsSettingText text setting
 AsksFor operation pw new text (request.Remove name p) = (operation ≡ Remove) × (p ≡ pw)
 
--- the record that a copy's text stands for: none where the text is empty
+-- the record that a copy's text stands for: none if the text is empty
 abbrev pub IsCopy : List ℕ → Option RecordValue → Type 0
 IsCopy text None = text ≡ []
 IsCopy text (Some stored) = IsRecord stored × IsRecordText text stored
@@ -78,7 +78,8 @@ request_fault Upgrade pw new text = first (password_fault pw) (new_setting_fault
 request_fault Remove pw new text = password_fault pw
 
 abbrev pub step_fault : Operation → List ℕ → List ℕ → List ℕ → List ℕ → Option StepFault
-step_fault operation copy pw new text = first (copy_fault copy) (request_fault operation pw new text)
+step_fault operation copy pw new text =
+    first (copy_fault copy) (request_fault operation pw new text)
 
 -- ---- what is answered
 
@@ -97,13 +98,12 @@ reply_number reply.Removed = 10
 reply_number (reply.Changed now) = 11
 reply_number reply.NoAccount = 12
 
--- the text that is to stand in the place of the copy: empty where nothing changes, and where no
--- record is to stand
+-- the text that is to stand in place of the copy: empty if nothing changes, or if no record is to
+-- stand
 abbrev pub text_after : Reply × Option RecordValue → List ℕ
 text_after (r, None) = []
 text_after (r, Some stored) = if makes_change r then record_text stored else []
 
-pub record IsStep (outcome : Reply × Option RecordValue) (answer reply : ℕ) (old new : List ℕ)
-    (len : ℕ) : Type 0 where
-  pub text : IsWritten (text_after outcome) answer old new len
-  pub reply_of : answer ≡ 0 → reply ≡ reply_number outcome.0
+pub record IsStep (outcome : Reply × Option RecordValue) (reply : ℕ) (o : Output) : Type 0 where
+  pub text : IsWritten (text_after outcome) o
+  pub reply_of : o.answer ≡ 0 → reply ≡ reply_number outcome.0

@@ -7,7 +7,8 @@ ghost use Rattle.cred_argon.specs.Argon.{argon};
 ghost use Rattle.cred_argon.specs.Lanes.{WorksSegment};
 ghost use Rattle.cred_argon.specs.Parameters.{Parameters, segment_len};
 ghost use Rattle.cred_c.specs.Lanes.{IsBegun, IsFilled, IsNumbersFault, IsSegment, IsSlice};
-ghost use Rattle.cred_c.specs.Lanes.{StandFor, part_fault_number};
+ghost use Rattle.cred_c.specs.Lanes.{StandFor, TagInputs, inputs, part_fault_number};
+ghost use Rattle.cred_c.specs.Lanes.{slices_before};
 ghost use Rattle.cred_c.specs.declared.part_fault.PartFault.{PartFault};
 
 use crate::numbers::{DONE, NO_PLACE, argon_number};
@@ -20,8 +21,8 @@ use std::alloc::Global;
 /// Writes into `segment` how many blocks a segment has. A slice has as many for each lane, and the
 /// memory has four slices.
 ///
-/// Answers 0; or 12 if there is no such kind, else 13 if there is no such version, else by the
-/// first that is wrong of `lanes` (14), `memory` (15), `passes` (16) and `tag_len` (17).
+/// Answers 0; or 12 if there is no such kind, otherwise 13 if there is no such version, otherwise
+/// by the first that is wrong of `lanes` (14), `memory` (15), `passes` (16) and `tag_len` (17).
 #[unsafe(no_mangle)]
 pub extern "C" fn cred_argon2_segment_len(numbers: &TagNumbers, segment: &mut u32) -> u8
     ensures len { (a : Parameters) → StandFor numbers.now a
@@ -42,8 +43,8 @@ pub extern "C" fn cred_argon2_segment_len(numbers: &TagNumbers, segment: &mut u3
 /// Writes the first two blocks of each lane into the first slice, whose other blocks may be
 /// anything.
 ///
-/// Answers 0; or 12 to 17 as above; else 27 if `first` isn't a slice, else 18 if an input has 2^32
-/// bytes or more.
+/// Answers 0; or 12 to 17 as above; otherwise 27 if `first` isn't a slice, otherwise 18 if an input
+/// has 2^32 bytes or more.
 #[unsafe(no_mangle)]
 pub extern "C" fn cred_argon2_begin(
     numbers: &TagNumbers,
@@ -54,7 +55,7 @@ pub extern "C" fn cred_argon2_begin(
     first: &mut [Block],
 ) -> u8
     ensures begun { (a : Parameters) → StandFor numbers.now a
-        → IsBegun a pw.now salt.now secret.now assoc.now result first.old first.new }
+        → IsBegun a (inputs pw.now salt.now secret.now assoc.now) result first.old first.new }
     ensures fault { (f : PartFault) → IsNumbersFault numbers.now f
         → result ≡ part_fault_number f }
     ensures kept { (result ≡ 0 → ⊥) → first.new ≡ first.old }
@@ -74,7 +75,8 @@ pub(crate) fn begin(
     assoc: &[u8],
     first: &mut [Block],
 ) -> u8
-    ensures { IsBegun params.now pw.now salt.now secret.now assoc.now result first.old first.new }
+    ensures { IsBegun params.now (inputs pw.now salt.now secret.now assoc.now) result
+        first.old first.new }
 {
     if !is_slice(params, first) {
         return NO_PLACE;
@@ -89,8 +91,8 @@ pub(crate) fn begin(
 /// two of a lane; later they are those of the pass before. `newest`, `middle` and `oldest` are the
 /// slices before it, one, two and three back; what hasn't been worked yet may be anything.
 ///
-/// Answers 0; or 12 to 17 as above; else 27 if there is no such slice or lane, or the blocks aren't
-/// those of three slices and a segment.
+/// Answers 0; or 12 to 17 as above; otherwise 27 if there is no such slice or lane, or the blocks
+/// aren't those of three slices and a segment.
 #[unsafe(no_mangle)]
 pub extern "C" fn cred_argon2_segment(
     numbers: &TagNumbers,
@@ -101,12 +103,13 @@ pub extern "C" fn cred_argon2_segment(
     own: &mut [Block],
 ) -> u8
     ensures worked { (a : Parameters) → StandFor numbers.now a
-        → IsSegment a index.now oldest.now middle.now newest.now own.old
+        → IsSegment a index.now (slices_before oldest.now middle.now newest.now) own.old
         → (result ≡ 0) × ((h : List ℕ)
         → WorksSegment a h (4 * index.now.pass + index.now.slice) index.now.lane
         oldest.now middle.now newest.now own.old own.new) }
     ensures place { (a : Parameters) → StandFor numbers.now a
-        → (IsSegment a index.now oldest.now middle.now newest.now own.old → ⊥) → result ≡ 27 }
+        → (IsSegment a index.now (slices_before oldest.now middle.now newest.now) own.old → ⊥)
+        → result ≡ 27 }
     ensures fault { (f : PartFault) → IsNumbersFault numbers.now f
         → result ≡ part_fault_number f }
     ensures kept { (result ≡ 0 → ⊥) → own.new ≡ own.old }
@@ -130,8 +133,8 @@ pub extern "C" fn cred_argon2_segment(
 
 /// Writes the tag over `out`, if `last` is the last slice and has been worked on the last pass.
 ///
-/// Answers 0; or 12 to 17 as above; else 27 if `last` isn't a slice or `out` hasn't the tag's
-/// length, else 8 if there is too little memory.
+/// Answers 0; or 12 to 17 as above; otherwise 27 if `last` isn't a slice or `out` hasn't the tag's
+/// length, otherwise 8 if there is too little memory.
 #[unsafe(no_mangle)]
 pub extern "C" fn cred_argon2_end(
     alloc: Global,
@@ -141,8 +144,8 @@ pub extern "C" fn cred_argon2_end(
 ) -> u8
     ensures made { (a : Parameters) → StandFor numbers.now a
         → IsSlice a last.now → length out.old ≡ a.tag_len → result ≡ 0
-        → (pw salt secret assoc : List ℕ) → IsFilled a pw salt secret assoc last.now
-        → out.new ≡ argon a pw salt secret assoc }
+        → (i : TagInputs) → IsFilled a i last.now
+        → out.new ≡ argon a i.pw i.salt i.secret i.assoc }
     ensures one_of { (a : Parameters) → StandFor numbers.now a
         → IsSlice a last.now → length out.old ≡ a.tag_len → (result ≡ 0) ⊎ (result ≡ 8) }
     ensures place { (a : Parameters) → StandFor numbers.now a
@@ -182,8 +185,9 @@ fn is_segment(
     earlier: &EarlierSlices<'_>,
     own: &[Block],
 ) -> bool
-    ensures { IsTrue result ↔ IsSegment params.now index.now earlier.now.oldest.now
-        earlier.now.middle.now earlier.now.newest.now own.now }
+    ensures { IsTrue result ↔ IsSegment params.now index.now
+        (slices_before earlier.now.oldest.now earlier.now.middle.now earlier.now.newest.now)
+        own.now }
 {
     index.slice < 4
         && index.lane < params.lanes()

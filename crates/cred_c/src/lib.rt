@@ -2,8 +2,8 @@
 //! the clauses of the call that it makes.
 //!
 //! An export answers 0, or the number of what it refused: one table for all of them, which
-//! `specs/Answers.antt` has. All the work is done on the caller's thread. A buffer is written where
-//! 0 is answered alone.
+//! `specs/Answers.antt` has. All the work is done on the caller's thread. A buffer is written only
+//! if 0 is answered.
 #![tactic(auto)]
 
 mod lanes;

@@ -30,7 +30,7 @@ pub(crate) const NO_PLACE: u8 = 27;
 /// The number names no operation.
 pub(crate) const NO_OPERATION: u8 = 23;
 
-/// The number of an error of Argon2: 14 to 18, and 8 for want of memory.
+/// The number of an error of Argon2: 14 to 18, and 8 if memory runs out.
 pub(crate) fn argon_number(error: ArgonError) -> u8
     ensures { result ≡ argon_number error }
 {
@@ -44,7 +44,7 @@ pub(crate) fn argon_number(error: ArgonError) -> u8
     }
 }
 
-/// The number of an error of scrypt: 19 to 22, and 8 for want of memory.
+/// The number of an error of scrypt: 19 to 22, and 8 if memory runs out.
 pub(crate) fn scrypt_number(error: ScryptError) -> u8
     ensures { result ≡ scrypt_number error }
 {

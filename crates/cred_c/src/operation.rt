@@ -80,7 +80,8 @@ pub(crate) fn request_of(
     new_pw: &[u8],
     setting: &[u8],
 ) -> Result<Request, StepFault>
-    ensures asked { IfOk result (λ request. AsksFor operation pw.now new_pw.now setting.now request) }
+    ensures asked { IfOk result (λ request.
+        AsksFor operation pw.now new_pw.now setting.now request) }
     ensures fault { IfErr result (λ fault.
         request_fault operation pw.now new_pw.now setting.now ≡ Some fault) }
     ensures none { OnOk result (request_fault operation pw.now new_pw.now setting.now ≡ None) }

@@ -28,7 +28,7 @@ pub struct Parts {
     pub tag_len: u32,
 }
 
-/// The number of the first fault of a setting's text, or 0 where it stands for one.
+/// The number of the first fault of a setting's text, or 0 if it stands for one.
 #[unsafe(no_mangle)]
 pub extern "C" fn cred_setting_fault(text: &[u8]) -> u8
     ensures fault { (e : PhcError) → setting_fault text.now ≡ Some e → result ≡ error_number e }
@@ -40,7 +40,7 @@ pub extern "C" fn cred_setting_fault(text: &[u8]) -> u8
     }
 }
 
-/// The number of the first fault of a record's text, or 0 where it stands for one.
+/// The number of the first fault of a record's text, or 0 if it stands for one.
 #[unsafe(no_mangle)]
 pub extern "C" fn cred_record_fault(text: &[u8]) -> u8
     ensures fault { (e : PhcError) → record_fault text.now ≡ Some e → result ≡ error_number e }

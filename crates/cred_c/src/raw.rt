@@ -2,74 +2,80 @@
 ghost use Rattle.std.specs.Prelude.{◌≡◌, ◌<◌, ◌≤◌, ◌^◌, ◌⊎◌, ◌↔◌, IfOk, length};
 ghost use Rattle.cred_argon.specs.Argon.{argon};
 ghost use Rattle.cred_argon.specs.Faults.{IsFirstRawFault};
-ghost use Rattle.cred_argon.specs.Numbers.{kind_number, version_number};
-ghost use Rattle.cred_argon.specs.Parameters.{IsRaw, parameters};
+ghost use Rattle.cred_argon.specs.Parameters.{IsRaw};
+ghost use Rattle.cred_argon.specs.Tags.{IsAnyTooLong};
 ghost use Rattle.cred_argon.specs.declared.error.ArgonError.{ArgonError};
 ghost use Rattle.cred_argon.specs.declared.kind.Kind.{Kind};
 ghost use Rattle.cred_argon.specs.declared.kind.Version.{Version};
 ghost use Rattle.cred_c.specs.Answers.{argon_number};
-ghost use Rattle.cred_c.specs.Inputs.{IsKind, IsPositiveByte, IsVersion};
+ghost use Rattle.cred_c.specs.Inputs.{AreOf, IsKind, IsPositiveByte, IsVersion, tag_parameters};
 ghost use Rattle.cred_scrypt.specs.Params.{IsCostly};
 ghost use Rattle.cred_scrypt.specs.Scrypt.{scrypt};
 
 use crate::numbers::{
     DONE, NO_KIND, NO_VERSION, argon_number, byte_of, kind_of, scrypt_number, version_of,
 };
+use crate::tag_numbers::Argon2Numbers;
 use cred_argon::{ArgonError, Params, argon2_alone};
 use cred_pool::NoGate;
 use cred_scrypt::{ScryptError, ScryptParams, scrypt_alone};
 use std::alloc::Global;
 
 /// Writes the Argon2 tag (RFC 9106) of the inputs over `out`, which says the tag's length: 4 bytes
-/// or more. `kind` is 0, 1 or 2 for d, i and id; `version` is 16 or 19; `memory` is in KiB.
+/// or more.
 ///
-/// Answers 0, or 12 where there is no such kind, else 13 where there is no such version, else 17
-/// where `out` has 2^32 bytes or more, else by the first that is wrong of `lanes` (14), `memory`
-/// (15), `passes` (16) and the length of `out` (17); else 18 where an input has 2^32 bytes or more;
-/// else 8 where memory is short.
+/// Answers 0, or 12 if there is no such kind, otherwise 13 if there is no such version, otherwise
+/// 17 if `out` has 2^32 bytes or more, otherwise by the first that is wrong of the lanes (14), the
+/// memory (15), the passes (16) and the length of `out` (17); otherwise 18 if an input has 2^32
+/// bytes or more; otherwise 8 if memory is short.
 #[unsafe(no_mangle)]
 pub extern "C" fn cred_argon2(
     alloc: Global,
-    kind: u32,
-    version: u32,
-    memory: u32,
-    passes: u32,
-    lanes: u32,
+    numbers: &Argon2Numbers,
     pw: &[u8],
     salt: &[u8],
     secret: &[u8],
     assoc: &[u8],
     out: &mut [u8],
 ) -> u8
-    ensures made { (k : Kind) (v : Version) → kind ≡ kind_number k → version ≡ version_number v
-        → result ≡ 0 → out.new ≡ argon (parameters v k memory passes lanes (length out.old))
+    ensures made { (k : Kind) (v : Version) → AreOf numbers.now k v → result ≡ 0 → out.new
+        ≡ argon (tag_parameters numbers.now k v (length out.old))
         pw.now salt.now secret.now assoc.now }
     ensures kept { (result ≡ 0 → ⊥) → out.new ≡ out.old }
-    ensures kind { (result ≡ 12) ↔ (2 < kind) }
-    ensures version { (result ≡ 13) ↔ (IsKind kind × (IsVersion version → ⊥)) }
-    ensures long { IsKind kind → IsVersion version → 2 ^ 32 ≤ length out.old → result ≡ 17 }
-    ensures params { (k : Kind) (v : Version) (e : ArgonError)
-        → kind ≡ kind_number k → version ≡ version_number v → length out.old < 2 ^ 32
-        → IsFirstRawFault (parameters v k memory passes lanes (length out.old)) e
+    ensures kind { (result ≡ 12) ↔ (2 < numbers.now.kind) }
+    ensures version { (result ≡ 13)
+        ↔ (IsKind numbers.now.kind × (IsVersion numbers.now.version → ⊥)) }
+    ensures long { IsKind numbers.now.kind → IsVersion numbers.now.version
+        → 2 ^ 32 ≤ length out.old → result ≡ 17 }
+    ensures params { (k : Kind) (v : Version) (e : ArgonError) → AreOf numbers.now k v
+        → length out.old < 2 ^ 32
+        → IsFirstRawFault (tag_parameters numbers.now k v (length out.old)) e
         → result ≡ argon_number e }
-    ensures inputs { (k : Kind) (v : Version) → kind ≡ kind_number k → version ≡ version_number v
-        → IsRaw (parameters v k memory passes lanes (length out.old))
-        → (result ≡ 18) ↔ ((2 ^ 32 ≤ length pw.now) ⊎ (2 ^ 32 ≤ length salt.now)
-        ⊎ (2 ^ 32 ≤ length secret.now) ⊎ (2 ^ 32 ≤ length assoc.now)) }
-    ensures fine { (k : Kind) (v : Version) → kind ≡ kind_number k → version ≡ version_number v
-        → IsRaw (parameters v k memory passes lanes (length out.old))
+    ensures inputs { (k : Kind) (v : Version) → AreOf numbers.now k v
+        → IsRaw (tag_parameters numbers.now k v (length out.old))
+        → (result ≡ 18) ↔ IsAnyTooLong pw.now salt.now secret.now assoc.now }
+    ensures fine { (k : Kind) (v : Version) → AreOf numbers.now k v
+        → IsRaw (tag_parameters numbers.now k v (length out.old))
         → (result ≡ 0) ⊎ (result ≡ 8) ⊎ (result ≡ 18) }
 {
-    let Some(kind) = kind_of(kind) else {
+    let Some(kind) = kind_of(numbers.kind) else {
         return NO_KIND;
     };
-    let Some(version) = version_of(version) else {
+    let Some(version) = version_of(numbers.version) else {
         return NO_VERSION;
     };
     let Ok(len) = u32::try_from(out.len()) else {
         return argon_number(ArgonError::TagLen);
     };
-    match Params::raw(version, kind, memory, passes, lanes, len) {
+    let params = Params::raw(
+        version,
+        kind,
+        numbers.memory,
+        numbers.passes,
+        numbers.lanes,
+        len,
+    );
+    match params {
         Ok(params) => match argon2_alone(alloc, &NoGate, &params, pw, salt, secret, assoc) {
             Ok(tag) => {
                 out.copy_from_slice(&tag);
@@ -84,9 +90,9 @@ pub extern "C" fn cred_argon2(
 /// Writes the scrypt key (RFC 7914) of the inputs over `out`, which says the key's length: 1 byte
 /// or more. N is 2 to the power of `ln`.
 ///
-/// Answers 0, or 22 where `out` has 2^32 bytes or more, else 20 where `r` isn't 1 to 255, else 21
-/// where `p` isn't, else 19 where the cost is out of its range or too high for `r` or for 2 GiB,
-/// else 22 where `out` is empty; else 8 where memory is short.
+/// Answers 0, or 22 if `out` has 2^32 bytes or more, otherwise 20 if `r` isn't 1 to 255, otherwise
+/// 21 if `p` isn't, otherwise 19 if the cost is out of its range or too high for `r` or for 2 GiB,
+/// otherwise 22 if `out` is empty; otherwise 8 if memory is short.
 #[unsafe(no_mangle)]
 pub extern "C" fn cred_scrypt(
     alloc: Global,

@@ -1,11 +1,12 @@
 //! Records of Argon2 whose tags are worked in parts: checked against a password, and made under a
 //! setting. Begin and end are of the record; between them segments are worked as for any tag.
-ghost use Rattle.std.specs.Prelude.{◌≡◌, ℕ, ◌<◌, ◌≤◌, ◌⊎◌, ◌↔◌, List, [], IfErr, IfOk, None, Some};
+ghost use Rattle.std.specs.Prelude.{◌≡◌, ℕ, ◌<◌, ◌≤◌, ◌⊎◌, ◌↔◌, List, IfErr, IfOk, None, Some};
 ghost use Rattle.std.specs.Prelude.{drop, length};
 ghost use Rattle.cred_argon.specs.Parameters.{Parameters};
-ghost use Rattle.cred_c.specs.Answers.{IsWritten};
+ghost use Rattle.cred_c.specs.Answers.{output};
 ghost use Rattle.cred_c.specs.Lanes.{AreNumbers, IsBegunUnder, IsEndUnder, IsFilled, IsSlice};
-ghost use Rattle.cred_c.specs.Lanes.{IsRecordEndUnder, part_fault_number, record_parameters};
+ghost use Rattle.cred_c.specs.Lanes.{IsRecordEndUnder, part_fault_number, record_inputs};
+ghost use Rattle.cred_c.specs.Lanes.{record_parameters};
 ghost use Rattle.cred_phc.specs.Errors.{error_number};
 ghost use Rattle.cred_phc.specs.Faults.{record_fault, setting_fault};
 ghost use Rattle.cred_phc.specs.Tags.{argon_parameters, tag};
@@ -41,14 +42,15 @@ pub extern "C" fn cred_check_numbers(text: &[u8], numbers: &mut TagNumbers) -> u
 /// Writes the first two blocks of each lane into the first slice, for a check of a password against
 /// a record.
 ///
-/// Answers 0; or the number of the text's fault, 1 to 9; or 2 if it is a record of scrypt; else 27
-/// if `first` isn't a slice, else 18 if the password has 2^32 bytes or more.
+/// Answers 0; or the number of the text's fault, 1 to 9; or 2 if it is a record of scrypt;
+/// otherwise 27 if `first` isn't a slice, otherwise 18 if the password has 2^32 bytes or more.
 #[unsafe(no_mangle)]
 pub extern "C" fn cred_check_begin(text: &[u8], pw: &[u8], first: &mut [Block]) -> u8
     ensures fault { (e : PhcError) → record_fault text.now ≡ Some e → result ≡ error_number e }
     ensures begun { record_fault text.now ≡ None → (v : RecordValue) × IsRecord v
         × IsRecordText text.now v
-        × IsBegunUnder (record_parameters v) pw.now v.setting.salt result first.old first.new }
+        × IsBegunUnder (record_parameters v) (record_inputs pw.now v.setting.salt) result
+        first.old first.new }
     ensures kept { (result ≡ 0 → ⊥) → first.new ≡ first.old }
 {
     match parse_record(text) {
@@ -57,11 +59,12 @@ pub extern "C" fn cred_check_begin(text: &[u8], pw: &[u8], first: &mut [Block]) 
     }
 }
 
-/// Tells from the last slice, worked on the last pass, whether the password that the memory was begun
-/// with is that of the record.
+/// Tells from the last slice, worked on the last pass, whether the password that the memory was
+/// begun with is that of the record.
 ///
-/// Answers 0 if it is and 10 if it isn't; or the number of the text's fault, 1 to 9; or 2 if it is a
-/// record of scrypt; else 27 if `last` isn't a slice, else 8 if there is too little memory.
+/// Answers 0 if it is and 10 if it isn't; or the number of the text's fault, 1 to 9; or 2 if it is
+/// a record of scrypt; otherwise 27 if `last` isn't a slice, otherwise 8 if there is too little
+/// memory.
 #[unsafe(no_mangle)]
 pub extern "C" fn cred_check_end(alloc: Global, text: &[u8], last: &[Block]) -> u8
     ensures fault { (e : PhcError) → record_fault text.now ≡ Some e → result ≡ error_number e }
@@ -95,8 +98,8 @@ fn verdict(made: Tag, kept: Tag) -> u8
 /// Writes the numbers of the tag that a setting's text asks for into `numbers`, with a tag of
 /// `tag_len` bytes, 4 to 64.
 ///
-/// Answers 0; or the number of the text's fault, 1 to 9; else 7 if `tag_len` is outside its range,
-/// else 2 if it is a setting of scrypt.
+/// Answers 0; or the number of the text's fault, 1 to 9; otherwise 7 if `tag_len` is outside its
+/// range, otherwise 2 if it is a setting of scrypt.
 #[unsafe(no_mangle)]
 pub extern "C" fn cred_hash_numbers(text: &[u8], tag_len: u32, numbers: &mut TagNumbers) -> u8
     ensures fault { (e : PhcError) → setting_fault text.now ≡ Some e → result ≡ error_number e }
@@ -115,16 +118,16 @@ pub extern "C" fn cred_hash_numbers(text: &[u8], tag_len: u32, numbers: &mut Tag
 
 /// Writes the first two blocks of each lane into the first slice, for a record of the password.
 ///
-/// Answers 0; or the number of the text's fault, 1 to 9; else 7 if `tag_len` is outside its range,
-/// else 2 if it is a setting of scrypt, else 27 if `first` isn't a slice, else 18 if the password
-/// has 2^32 bytes or more.
+/// Answers 0; or the number of the text's fault, 1 to 9; otherwise 7 if `tag_len` is outside its
+/// range, otherwise 2 if it is a setting of scrypt, otherwise 27 if `first` isn't a slice,
+/// otherwise 18 if the password has 2^32 bytes or more.
 #[unsafe(no_mangle)]
 pub extern "C" fn cred_hash_begin(text: &[u8], tag_len: u32, pw: &[u8], first: &mut [Block]) -> u8
     ensures fault { (e : PhcError) → setting_fault text.now ≡ Some e → result ≡ error_number e }
     ensures tag { setting_fault text.now ≡ None → (tag_len < 4) ⊎ (64 < tag_len) → result ≡ 7 }
     ensures begun { setting_fault text.now ≡ None → 4 ≤ tag_len → tag_len ≤ 64
         → (s : SettingValue) × IsSetting s × IsSettingText text.now s
-        × IsBegunUnder (argon_parameters s.scheme tag_len) pw.now s.salt result
+        × IsBegunUnder (argon_parameters s.scheme tag_len) (record_inputs pw.now s.salt) result
         first.old first.new }
     ensures kept { (result ≡ 0 → ⊥) → first.new ≡ first.old }
 {
@@ -138,9 +141,9 @@ pub extern "C" fn cred_hash_begin(text: &[u8], tag_len: u32, pw: &[u8], first: &
 /// Writes the text of the record over the front of `out` and its length into `len`, if `last` is
 /// the last slice and has been worked on the last pass.
 ///
-/// Answers 0; or the number of the text's fault, 1 to 9; else 7 if `tag_len` is outside its range,
-/// else 2 if it is a setting of scrypt, else 27 if `last` isn't a slice, else 8 if there is too
-/// little memory or 11 if `out` has too little room.
+/// Answers 0; or the number of the text's fault, 1 to 9; otherwise 7 if `tag_len` is outside its
+/// range, otherwise 2 if it is a setting of scrypt, otherwise 27 if `last` isn't a slice, otherwise
+/// 8 if there is too little memory or 11 if `out` has too little room.
 #[unsafe(no_mangle)]
 pub extern "C" fn cred_hash_end(
     alloc: Global,
@@ -155,7 +158,7 @@ pub extern "C" fn cred_hash_end(
     ensures made { setting_fault text.now ≡ None → 4 ≤ tag_len → tag_len ≤ 64
         → (s : SettingValue) × IsSetting s × IsSettingText text.now s
         × IsRecordEndUnder s tag_len (argon_parameters s.scheme tag_len) last.now
-        result out.old out.new len.new }
+        (output result out.old out.new len.new) }
     ensures kept { (result ≡ 0 → ⊥) → (len.new ≡ 0) × (out.new ≡ out.old) }
     ensures rest { drop len.new out.new ≡ drop len.new out.old }
 {
@@ -180,7 +183,8 @@ fn hash_end(
     requires high { tag_len ≤ 64 }
     requires empty { len.old ≡ 0 }
     ensures made { IsRecordEndUnder setting.now tag_len
-        (argon_parameters setting.now.scheme tag_len) last.now result out.old out.new len.new }
+        (argon_parameters setting.now.scheme tag_len) last.now
+        (output result out.old out.new len.new) }
     ensures kept { (result ≡ 0 → ⊥) → (len.new ≡ 0) × (out.new ≡ out.old) }
     ensures rest { drop len.new out.new ≡ drop len.new out.old }
 {
@@ -219,8 +223,8 @@ fn put_numbers(setting: &Setting, tag_len: u8, numbers: &mut TagNumbers) -> u8
 fn begin_under(setting: &Setting, tag_len: u8, pw: &[u8], first: &mut [Block]) -> u8
     requires low { 4 ≤ tag_len }
     requires high { tag_len ≤ 64 }
-    ensures begun { IsBegunUnder (argon_parameters setting.now.scheme tag_len) pw.now
-        setting.now.salt result first.old first.new }
+    ensures begun { IsBegunUnder (argon_parameters setting.now.scheme tag_len)
+        (record_inputs pw.now setting.now.salt) result first.old first.new }
     ensures kept { (result ≡ 0 → ⊥) → first.new ≡ first.old }
 {
     match argon2_params(setting, tag_len) {
@@ -234,7 +238,7 @@ fn tag_from(alloc: Global, setting: &Setting, tag_len: u8, last: &[Block]) -> Re
     requires low { 4 ≤ tag_len }
     requires high { tag_len ≤ 64 }
     ensures made { (a : Parameters) → argon_parameters setting.now.scheme tag_len ≡ Some a
-        → (pw : List ℕ) → IsFilled a pw setting.now.salt [] [] last.now
+        → (pw : List ℕ) → IsFilled a (record_inputs pw setting.now.salt) last.now
         → IfOk result (λ t. t ≡ tag setting.now tag_len pw) }
     ensures scheme { argon_parameters setting.now.scheme tag_len ≡ None
         → result ≡ Err PartFault.Scrypt }

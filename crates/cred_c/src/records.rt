@@ -1,6 +1,6 @@
 //! Records: checked against a password, and made under a setting.
 ghost use Rattle.std.specs.Prelude.{◌≡◌, ◌<◌, ◌≤◌, ◌^◌, ◌⊎◌, ◌↔◌, None, Some, drop, length};
-ghost use Rattle.cred_c.specs.Answers.{IsRight, IsVerdict, IsWritten};
+ghost use Rattle.cred_c.specs.Answers.{IsRight, IsVerdict, IsWritten, output};
 ghost use Rattle.cred_phc.specs.Errors.{error_number};
 ghost use Rattle.cred_phc.specs.Faults.{record_fault, setting_fault};
 ghost use Rattle.cred_phc.specs.Tags.{tag};
@@ -17,8 +17,8 @@ use std::alloc::Global;
 
 /// Checks a password against a record's text.
 ///
-/// Answers 0 where it is the record's and 10 where it isn't; else the number of the text's fault, 1
-/// to 9; else 18 where the password has 2^32 bytes or more, or 8 where memory is short.
+/// Answers 0 if it is the record's and 10 if it isn't; otherwise the number of the text's fault, 1
+/// to 9; otherwise 18 if the password has 2^32 bytes or more, or 8 if memory is short.
 #[unsafe(no_mangle)]
 pub extern "C" fn cred_check(alloc: Global, text: &[u8], pw: &[u8]) -> u8
     ensures fault { (e : PhcError) → record_fault text.now ≡ Some e → result ≡ error_number e }
@@ -56,9 +56,9 @@ fn check(alloc: Global, stored: &Record, pw: &[u8]) -> u8
 /// Makes a record of the password under the setting that a text stands for, with a tag of `tag_len`
 /// bytes, 4 to 64, and writes its text over the front of `out` and its length into `len`.
 ///
-/// Answers 0; or the number of the text's fault, 1 to 9; else 7 where `tag_len` is outside its
-/// range, else 18 where the password has 2^32 bytes or more, else 8 where memory is short or 11
-/// where `out` has too little room.
+/// Answers 0; or the number of the text's fault, 1 to 9; otherwise 7 if `tag_len` is outside its
+/// range, otherwise 18 if the password has 2^32 bytes or more, otherwise 8 if memory is short or 11
+/// if `out` has too little room.
 #[unsafe(no_mangle)]
 pub extern "C" fn cred_hash(
     alloc: Global,
@@ -76,7 +76,7 @@ pub extern "C" fn cred_hash(
     ensures made { setting_fault text.now ≡ None → 4 ≤ tag_len → tag_len ≤ 64
         → length pw.now < 2 ^ 32 → (s : SettingValue) × IsSetting s × IsSettingText text.now s
         × IsWritten (record_text (record_of s (tag s tag_len pw.now)))
-        result out.old out.new len.new }
+        (output result out.old out.new len.new) }
     ensures kept { (result ≡ 0 → ⊥) → (len.new ≡ 0) × (out.new ≡ out.old) }
     ensures rest { drop len.new out.new ≡ drop len.new out.old }
 {
@@ -101,7 +101,7 @@ fn hash(
     ensures long { 4 ≤ tag_len → tag_len ≤ 64 → (result ≡ 18) ↔ (2 ^ 32 ≤ length pw.now) }
     ensures made { 4 ≤ tag_len → tag_len ≤ 64 → length pw.now < 2 ^ 32
         → IsWritten (record_text (record_of setting.now (tag setting.now tag_len pw.now)))
-        result out.old out.new len.new }
+        (output result out.old out.new len.new) }
     ensures kept { (result ≡ 0 → ⊥) → (len.new ≡ 0) × (out.new ≡ out.old) }
     ensures rest { drop len.new out.new ≡ drop len.new out.old }
 {

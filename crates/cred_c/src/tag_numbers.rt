@@ -1,4 +1,4 @@
-//! The numbers of a tag that is worked in parts.
+//! The numbers of a tag: those of Argon2, and with its length if it is worked in parts.
 ghost use Rattle.std.specs.Prelude.{◌≡◌, ◌↔◌, Ok, Err};
 ghost use Rattle.cred_argon.specs.Parameters.{Parameters, IsRaw};
 ghost use Rattle.cred_c.specs.Lanes.{IsNumbersFault, StandFor};
@@ -7,6 +7,20 @@ ghost use Rattle.cred_c.specs.declared.part_fault.PartFault.{PartFault};
 use crate::numbers::{kind_of, version_of};
 use crate::part_fault::PartFault;
 use cred_argon::Params;
+
+/// The numbers of Argon2 (RFC 9106, section 3.1), as they stand in a record.
+#[repr(C)]
+#[derive(Clone, Copy, Debug, PartialEq, Eq)]
+pub struct Argon2Numbers {
+    /// 0, 1 or 2 for d, i and id.
+    pub kind: u32,
+    /// 16 or 19.
+    pub version: u32,
+    /// In KiB.
+    pub memory: u32,
+    pub passes: u32,
+    pub lanes: u32,
+}
 
 /// The numbers of an Argon2 tag (RFC 9106, section 3.1).
 #[repr(C)]

@@ -10,6 +10,7 @@ mod steps;
 use crate::parts::{Parts, cred_record_fault, cred_record_parts, cred_setting_fault};
 use crate::raw::{cred_argon2, cred_scrypt};
 use crate::records::{cred_check, cred_hash};
+use crate::tag_numbers::Argon2Numbers;
 use crate::texts::cred_write;
 use std::alloc::Global;
 
@@ -79,9 +80,14 @@ const LONG_KEY: [u8; 100] = [
 /// What Argon2 answers at the inputs of RFC 9106, section 5.
 fn standard(alloc: Global, kind: u32, version: u32, out: &mut [u8]) -> u8 {
     let (pw, salt, secret, assoc) = ([1; 32], [2; 16], [3; 8], [4; 12]);
-    cred_argon2(
-        alloc, kind, version, 32, 3, 4, &pw, &salt, &secret, &assoc, out,
-    )
+    let numbers = Argon2Numbers {
+        kind,
+        version,
+        memory: 32,
+        passes: 3,
+        lanes: 4,
+    };
+    cred_argon2(alloc, &numbers, &pw, &salt, &secret, &assoc, out)
 }
 
 #[test]
@@ -143,18 +149,14 @@ fn records_made(rt: HostRuntime) {
 #[test]
 fn records_written(rt: HostRuntime) {
     let (mut out, mut len) = ([b'.'; 84], 0);
-    let answer = cred_write(
-        rt.alloc(),
-        2,
-        19,
-        256,
-        2,
-        1,
-        b"somesalt",
-        &TAG,
-        &mut out,
-        &mut len,
-    );
+    let numbers = Argon2Numbers {
+        kind: 2,
+        version: 19,
+        memory: 256,
+        passes: 2,
+        lanes: 1,
+    };
+    let answer = cred_write(rt.alloc(), &numbers, b"somesalt", &TAG, &mut out, &mut len);
     assert_eq!(rt; (answer, len), (0, 84));
     assert_eq!(rt; &out[..] == RECORD, true);
 }

@@ -1,67 +1,63 @@
 //! The texts of records, written into buffers of the caller's.
 ghost use Rattle.std.specs.Prelude.{◌≡◌, ◌<◌, ◌↔◌, None, Some, drop};
-ghost use Rattle.cred_argon.specs.Numbers.{kind_number, version_number};
+ghost use Rattle.cred_argon.specs.Numbers.{kind_number};
 ghost use Rattle.cred_argon.specs.declared.kind.Version.{Version};
-ghost use Rattle.cred_c.specs.Answers.{IsWritten};
-ghost use Rattle.cred_c.specs.Inputs.{IsKind, IsVersion, record_of_parts};
+ghost use Rattle.cred_c.specs.Answers.{IsWritten, output};
+ghost use Rattle.cred_c.specs.Inputs.{AreOf, IsKind, IsVersion, record_of_parts, record_scheme};
 ghost use Rattle.cred_phc.specs.Errors.{error_number};
 ghost use Rattle.cred_phc.specs.Tags.{argon_kind};
 ghost use Rattle.cred_phc.specs.Text.{record_text};
 ghost use Rattle.cred_phc.specs.Values.{RecordValue};
 ghost use Rattle.cred_phc.specs.declared.error.PhcError.{PhcError};
-ghost use Rattle.cred_phc.specs.declared.scheme.Scheme.TheVariants.{Argon2};
 ghost use Rattle.cred_phc.specs.declared.scheme.Variant.{Variant};
 
 use crate::numbers::{DONE, NO_KIND, NO_ROOM, NO_VERSION, byte_of, version_of};
+use crate::tag_numbers::Argon2Numbers;
 use cred_phc::{PhcError, Record, Scheme, Setting, Variant, write_record};
 use std::alloc::Global;
 
 /// Writes the text of an Argon2 record of these parts over the front of `out`, and its length into
-/// `len`. `kind` is 0, 1 or 2 for d, i and id; `version` is 16 or 19; `memory` is in KiB; the salt
-/// has 8 to 48 bytes and the tag 4 to 64. Nothing is hashed.
+/// `len`. The salt has 8 to 48 bytes and the tag 4 to 64. Nothing is hashed.
 ///
-/// Answers 0; or 12 where there is no such kind, else 13 where there is no such version, else 5
-/// where another number is outside its range, else 6 where the salt is and 7 where the tag is; else
-/// 8 where memory is short or 11 where `out` has too little room.
+/// Answers 0; or 12 if there is no such kind, otherwise 13 if there is no such version, otherwise 5
+/// if another number is outside its range, otherwise 6 if the salt is and 7 if the tag is;
+/// otherwise 8 if memory is short or 11 if `out` has too little room.
 #[unsafe(no_mangle)]
 pub extern "C" fn cred_write(
     alloc: Global,
-    kind: u32,
-    version: u32,
-    memory: u32,
-    passes: u32,
-    lanes: u32,
+    numbers: &Argon2Numbers,
     salt: &[u8],
     tag: &[u8],
     out: &mut [u8],
     len: &mut usize,
 ) -> u8
-    ensures kind { (result ≡ 12) ↔ (2 < kind) }
-    ensures version { (result ≡ 13) ↔ (IsKind kind × (IsVersion version → ⊥)) }
+    ensures kind { (result ≡ 12) ↔ (2 < numbers.now.kind) }
+    ensures version { (result ≡ 13)
+        ↔ (IsKind numbers.now.kind × (IsVersion numbers.now.version → ⊥)) }
     ensures fault { (x : Variant) (v : Version) (e : PhcError)
-        → kind ≡ kind_number (argon_kind x) → version ≡ version_number v
-        → record_of_parts (Argon2 v x memory passes lanes) salt.now tag.now ≡ Err e
+        → AreOf numbers.now (argon_kind x) v
+        → record_of_parts (record_scheme numbers.now x v) salt.now tag.now ≡ Err e
         → result ≡ error_number e }
     ensures written { (x : Variant) (v : Version) (r : RecordValue)
-        → kind ≡ kind_number (argon_kind x) → version ≡ version_number v
-        → record_of_parts (Argon2 v x memory passes lanes) salt.now tag.now ≡ Ok r
-        → IsWritten (record_text r) result out.old out.new len.new }
+        → AreOf numbers.now (argon_kind x) v
+        → record_of_parts (record_scheme numbers.now x v) salt.now tag.now ≡ Ok r
+        → IsWritten (record_text r) (output result out.old out.new len.new) }
     ensures kept { (result ≡ 0 → ⊥) → (len.new ≡ 0) × (out.new ≡ out.old) }
     ensures rest { drop len.new out.new ≡ drop len.new out.old }
 {
     *len = 0;
-    let Some(variant) = variant_of(kind) else {
+    let Some(variant) = variant_of(numbers.kind) else {
         return NO_KIND;
     };
-    let Some(version) = version_of(version) else {
+    let Some(version) = version_of(numbers.version) else {
         return NO_VERSION;
     };
     let scheme = Scheme::Argon2 {
         version,
         variant,
-        m: memory,
-        t: passes,
-        p: byte_of(lanes),
+        m: numbers.memory,
+        t: numbers.passes,
+        p: byte_of(numbers.lanes),
     };
     match record_of_parts(scheme, salt, tag) {
         Ok(made) => put_record(alloc, &made, out, len),
@@ -92,7 +88,8 @@ fn record_of_parts(scheme: Scheme, salt: &[u8], tag: &[u8]) -> Result<Record, Ph
 /// Writes the text of a record over the front of `out`, and its length into `len`.
 pub(crate) fn put_record(alloc: Global, stored: &Record, out: &mut [u8], len: &mut usize) -> u8
     requires { len.old ≡ 0 }
-    ensures written { IsWritten (record_text stored.now) result out.old out.new len.new }
+    ensures written { IsWritten (record_text stored.now)
+        (output result out.old out.new len.new) }
     ensures kept { (result ≡ 0 → ⊥) → (len.new ≡ 0) × (out.new ≡ out.old) }
     ensures rest { drop len.new out.new ≡ drop len.new out.old }
 {
@@ -105,7 +102,7 @@ pub(crate) fn put_record(alloc: Global, stored: &Record, out: &mut [u8], len: &m
 /// Writes a text over the front of `out`, and its length into `len`.
 fn put(text: &[u8], out: &mut [u8], len: &mut usize) -> u8
     requires { len.old ≡ 0 }
-    ensures written { IsWritten text.now result out.old out.new len.new }
+    ensures written { IsWritten text.now (output result out.old out.new len.new) }
     ensures kept { (result ≡ 0 → ⊥) → (len.new ≡ 0) × (out.new ≡ out.old) }
     ensures rest { drop len.new out.new ≡ drop len.new out.old }
 {

@@ -1,4 +1,4 @@
-use Rattle.std.proofs.Common.{◌≡◌, length, sym}
+use Rattle.std.proofs.Common.{length}
 use Rattle.cred_c.specs.Lanes.{record_parameters}
 use Rattle.cred_c.proofs.RecordLanes.{IsMade, end_of_tag, end_of_fault}
 use Rattle.cred_c.proofs.record_lanes.check_end.Goals as goal

@@ -1,4 +1,4 @@
-use Rattle.std.proofs.Common.{◌≡◌, Ok, Err, ap, refl, sym}
+use Rattle.std.proofs.Common.{◌≡◌, Err, ap, refl, sym}
 use Rattle.cred_argon.specs.Parameters.{parameters}
 use Rattle.cred_c.specs.Lanes.{ranged}
 use Rattle.cred_c.specs.declared.part_fault.PartFault.TheVariants.{Argon}
