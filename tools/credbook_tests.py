@@ -5,7 +5,7 @@
 
 PROGRAM is by default crates/credbook/out/credbook, which `rt ci`, and `rt run` in crates/credbook, build. No contract says what the
 process gives to its shell: that its `main` hands on the status, and the faults to standard error alone. A line for each test that
-failed; the last line is `N passed, M failed`, and the status is 1 where one failed. It needs the toolchain alone.
+failed; the last line is `N passed, M failed`, and the status is 1 if one failed. It needs only the toolchain.
 """
 
 import os
@@ -88,7 +88,7 @@ def of_streams(program):
 
 
 def of_memory(program):
-    """Each request for memory refused in turn: status 3 with a front of the answers, or the whole run where it can do without."""
+    """Each request for memory refused in turn: status 3 with a front of the answers, or the whole run if it can do without."""
     with tempfile.TemporaryDirectory(prefix="credbook-") as room:
         shim = refusing_shim(room)
         for words, given, written in [(["run"], SCRIPT, ANSWERS), (["check", RECORD, PASSWORD], b"", b"yes\n")]:

@@ -4,8 +4,8 @@
     /usr/bin/python3 tools/credkeep_large_tests.py [--kills N] [PROGRAM]
 
 PROGRAM is by default crates/credkeep/out/credkeep. The book has 100,000 accounts, or RIGZUMAL_ACCOUNTS of them. With 100 kills they
-take some ten minutes, so no gate runs them. They want root, for the full disk. The last line is `N passed, M failed`, and the status
-is 1 where one failed.
+take some ten minutes, so no gate runs them. They need root, for the full disk. The last line is `N passed, M failed`, and the status
+is 1 if one failed.
 """
 
 import os
@@ -58,6 +58,21 @@ def as_it_is(room: Room) -> None:
     ended = keep("serve", given=b"account new\nshow new\nload new " + RECORD.encode() + b"\nshow new\n")
     same((ended.status, ended.written), (0, b"ok\nnone\nok\n" + RECORD.encode() + b"\n"))
     same(exported(keep), accounts | {"new": RECORD})
+    keep.is_sound()
+
+
+def analyzed(room: Room) -> None:
+    """ANALYZE adds statistics, which change nothing."""
+    keep, accounts = large(room)
+    by_sqlite3(keep.path, "ANALYZE")
+    statistics = by_sqlite3(keep.path, "SELECT * FROM sqlite_stat1")
+    same(statistics, f"account|sqlite_autoindex_account_1|{ACCOUNTS} 1\n")
+    same(exported(keep), accounts)
+    name = next(iter(accounts))
+    ended = keep("serve", given=f"account new\nload {name} {OTHER}\n".encode())
+    same((ended.status, ended.written), (0, b"ok\nok\n"))
+    same(exported(keep), accounts | {"new": "", name: OTHER})
+    same(by_sqlite3(keep.path, "SELECT * FROM sqlite_stat1"), statistics)
     keep.is_sound()
 
 
@@ -153,16 +168,25 @@ def full_disk(room: Room) -> None:
 
 
 def bad_rows(room: Room) -> None:
-    """A row that is no account is named by its number, wherever it stands."""
+    """A row that is no account is named by its number, wherever it is."""
     keep, accounts = large(room)
     hurt = room.keep("hurt.db")
     for row in (1, ACCOUNTS // 2, ACCOUNTS):
-        for change, text in (("record = 'x'", "record"), ("name = 'Ann'", "name")):
+        for change, why in (
+            (
+                "record = 'x'",
+                "the text there is no record: a field is missing, or there is one too many (1 shape)",
+            ),
+            (
+                "name = 'Ann'",
+                "there is no name; names are a-z, 0-9, '.', '_', '-', 1 to 32 of them (3 name)",
+            ),
+        ):
             shutil.copy(keep.path, hurt.path)
             by_sqlite3(hurt.path, f"UPDATE account SET {change} WHERE rowid = {row}")
             ended = hurt("serve", given=b"show ann\n")
             same((ended.status, ended.written), (5, b""))
-            same(ended.faults, f"credkeep: row {row}: the text there is no {text}\n".encode())
+            same(ended.faults, f"credkeep: row {row}: {why}\n".encode())
     same(exported(keep), accounts)
 
 
@@ -222,7 +246,7 @@ def requests(room: Room, keep: Keep, shim: str) -> int:
 
 
 def refused_once(room: Room, whole: Keep, shim: str, nth: int) -> int | None:
-    """The status of a service whose request of this number is refused, or none where there is no such."""
+    """The status of a service whose request of this number is refused, or none if there is no such."""
     folder = room.folder / str(nth)
     folder.mkdir()
     keep = Keep(room.program, folder / "users.db")
@@ -240,7 +264,7 @@ def refused_once(room: Room, whole: Keep, shim: str, nth: int) -> int | None:
     return done.returncode if b"REFUSED" in done.stderr else None
 
 
-TESTS: list[Callable[[Room], None]] = [as_it_is, kills, full_disk, bad_rows, damaged, refused_memory]
+TESTS: list[Callable[[Room], None]] = [as_it_is, analyzed, kills, full_disk, bad_rows, damaged, refused_memory]
 
 
 if __name__ == "__main__":

@@ -3,8 +3,8 @@
 
     /usr/bin/python3 tools/credkeep_serve_tests.py [--alone] [--kills N] [PROGRAM]
 
-PROGRAM is by default crates/credkeep/out/credkeep. With `--alone` the tests run that need the toolchain alone; the others want socat and
-systemd-socket-activate. What is missing counts as a failure. The last line is `N passed, M failed`, and the status is 1 where one failed.
+PROGRAM is by default crates/credkeep/out/credkeep. With `--alone` only the tests run that need nothing but the toolchain; the others need socat
+and systemd-socket-activate. What is missing counts as a failure. The last line is `N passed, M failed`, and the status is 1 if one failed.
 """
 
 import os

@@ -3,10 +3,10 @@
 
     /usr/bin/python3 tools/credkeep_tests.py [--alone] [--kills N] [PROGRAM]
 
-PROGRAM is by default crates/credkeep/out/credkeep, which `rt ci`, and `rt run` in crates/credkeep, build. With `--alone` the tests run
-that need the toolchain alone, behind the gate; sqlite3 looks at their files where it is there. The others want the programs sqlite3 and
-strace, the modules argon2 and passlib for records that are not ours, and, for the full disk and the files of another owner, root. What
-is missing is named and counts as a failure. The last line is `N passed, M failed`, and the status is 1 where one failed.
+PROGRAM is by default crates/credkeep/out/credkeep, which `rt ci`, and `rt run` in crates/credkeep, build. With `--alone` only the
+tests run that need nothing but the toolchain, as after the gate; sqlite3 looks at their files if it is there. The others need the programs
+sqlite3 and strace, the modules argon2 and passlib for records that are not ours, and root for the full disk and the files of another owner.
+What is missing is named and counts as a failure. The last line is `N passed, M failed`, and the status is 1 if one failed.
 """
 
 import argparse
@@ -51,7 +51,7 @@ class Ended(NamedTuple):
 
 
 class Failed(Exception):
-    """A test found something else than it should have."""
+    """A test found another thing than it should have."""
 
 
 class Keep:
@@ -101,7 +101,7 @@ def same(found: object, wanted: object) -> None:
 
 
 def holds(fact: bool, what: str) -> None:
-    """Fails where a fact doesn't hold."""
+    """Fails if a fact doesn't hold."""
     if not fact:
         raise Failed(what)
 
@@ -201,7 +201,7 @@ def empty_passwords(room: Room) -> None:
 
 
 def carriage_returns(room: Room) -> None:
-    """A password that ends in a carriage return has its hint where the book says no to it."""
+    """A password that ends in a carriage return has its hint if the book says no to it."""
     keep = begun(room)
     keep.add("ann", b"first\n")
     keep.add("bob", b"first\r\n")
@@ -452,59 +452,50 @@ def closed_files(room: Room) -> None:
 
 
 def workers(room: Room) -> None:
-    """As many threads hash as were asked for."""
+    """As many threads hash as were asked for: the caller's waits for them, or is one of them."""
     keep = begun(room)
-    setting = "$argon2id$v=19$m=262144,t=4,p=4$c29tZXNhbHQ"
+    shim = counter(room, "threads", THREAD_COUNTER)
+    setting = "$argon2id$v=19$m=1024,t=4,p=4$c29tZXNhbHQ"
     same(keep("run", given=b"account a1\naccount a4\n").status, 0)
     for count in (1, 4):
         # An account of its own: a record that is there would be answered without a hash.
         lines = f"begin 1 enrol a{count} cGFzc3dvcmQ {setting}\ncommit 1\n".encode()
         command = [str(keep.program), str(keep.path), "run", "--workers", str(count)]
-        with subprocess.Popen(command, stdin=subprocess.PIPE, stdout=subprocess.PIPE) as run:
-            assert run.stdin
-            run.stdin.write(lines)
-            run.stdin.close()
-            most = 0
-            while run.poll() is None:
-                try:
-                    most = max(most, len(os.listdir(f"/proc/{run.pid}/task")))
-                except OSError:
-                    break
-                time.sleep(0.002)
-        # The caller's thread may be one of the workers, or wait for them.
-        holds(most == 1 if count == 1 else count <= most <= count + 1, f"{most} threads for {count}")
+        most, answers = counted(shim, "THREADS", command, lines)
+        same(answers.split()[-1], b"enrolled")
+        holds(most == 0 if count == 1 else most in (count - 1, count), f"{most} threads started for {count}")
 
 
 def syncs(room: Room) -> None:
     """A change is answered after two syncs at least: of the log, and of what says that it is whole."""
-    shim = sync_counter(room)
+    shim = counter(room, "syncs", SYNC_COUNTER)
     counts = []
     for changes in (10, 30):
         for file in room.folder.iterdir():
             file.unlink()
         keep = begun(room)
         lines = b"".join(b"account n%d\n" % at for at in range(changes))
-        count, answers = syncs_of(shim, [str(keep.program), str(keep.path), "run"], lines)
+        count, answers = counted(shim, "SYNCS", [str(keep.program), str(keep.path), "run"], lines)
         same(answers.count(b"ok\n"), changes)
         counts.append(count)
     holds(counts[1] - counts[0] >= 40, f"{counts} syncs for 10 and 30 changes")
 
 
-def sync_counter(room: Room) -> pathlib.Path:
-    """A library before the C library's that counts syncs."""
-    shim = room.folder.parent / "syncs.so"
-    source = room.folder.parent / "syncs.c"
-    source.write_text(SYNC_COUNTER)
+def counter(room: Room, name: str, text: str) -> pathlib.Path:
+    """A library before the C library's that counts some of its calls."""
+    shim = room.folder.parent / f"{name}.so"
+    source = room.folder.parent / f"{name}.c"
+    source.write_text(text)
     subprocess.run([*compiler(), "-shared", "-fPIC", "-O2", "-o", str(shim), str(source)], check=True)
     return shim
 
 
-def syncs_of(shim: pathlib.Path, command: list[str], given: bytes) -> tuple[int, bytes]:
-    """How often a run that is done syncs, and what it writes."""
+def counted(shim: pathlib.Path, word: str, command: list[str], given: bytes) -> tuple[int, bytes]:
+    """What the library counted in a run that is done, and what the run writes."""
     env = {**os.environ, "LD_PRELOAD": str(shim)}
     done = subprocess.run(command, input=given, capture_output=True, timeout=60, env=env)
     same(done.returncode, 0)
-    return int(done.stderr.split(b"SYNCS ")[1].split()[0]), done.stdout
+    return int(done.stderr.split(f"{word} ".encode())[1].split()[0]), done.stdout
 
 
 SYNC_COUNTER = """
@@ -535,6 +526,53 @@ int fdatasync(int fd)
 void _exit(int code)
 {
     dprintf(2, "SYNCS %d\\n", count);
+    for (;;)
+        syscall(EXIT_GROUP, code);
+}
+"""
+
+# The most threads that were started and not yet joined. A list of /proc's may name one that has ended.
+THREAD_COUNTER = """
+#ifdef __aarch64__
+enum { EXIT_GROUP = 94 };
+#else
+enum { EXIT_GROUP = 231 };
+#endif
+
+extern long syscall(long number, ...);
+extern int dprintf(int fd, const char *form, ...);
+extern void *dlsym(void *handle, const char *name);
+
+static int live, most;
+
+int pthread_create(unsigned long *thread, const void *attributes, void *(*start)(void *), void *argument)
+{
+    int (*create)(unsigned long *, const void *, void *(*)(void *), void *) = dlsym((void *)-1, "pthread_create");
+    int now = __atomic_add_fetch(&live, 1, __ATOMIC_SEQ_CST);
+    int seen = __atomic_load_n(&most, __ATOMIC_SEQ_CST);
+    int fault = create(thread, attributes, start, argument);
+
+    while (now > seen && !__atomic_compare_exchange_n(&most, &seen, now, 0, __ATOMIC_SEQ_CST, __ATOMIC_SEQ_CST))
+        ;
+    if (fault)
+        __atomic_sub_fetch(&live, 1, __ATOMIC_SEQ_CST);
+    return fault;
+}
+
+int pthread_join(unsigned long thread, void **value)
+{
+    int (*join)(unsigned long, void **) = dlsym((void *)-1, "pthread_join");
+    int fault = join(thread, value);
+
+    if (!fault)
+        __atomic_sub_fetch(&live, 1, __ATOMIC_SEQ_CST);
+    return fault;
+}
+
+/* The program ends by this, and runs no destructors. */
+void _exit(int code)
+{
+    dprintf(2, "THREADS %d\\n", most);
     for (;;)
         syscall(EXIT_GROUP, code);
 }
@@ -663,7 +701,7 @@ def edits(room: Room) -> None:
     keep.is_sound()
 
 
-# A book, an order, and the book behind it.
+# A book, an order, and the book after it.
 EDITS: list[tuple[dict[str, str], list[str], dict[str, str]]] = [
     ({"ann": "R", "cat": ""}, ["rename", "ann", "bob"], {"bob": "R", "cat": ""}),
     ({"ann": "R", "cat": ""}, ["disable", "ann"], {"ann": "", "cat": ""}),
@@ -692,7 +730,9 @@ def before_edit(room: Room, book: dict[str, str]) -> Keep:
 def seconds_of_edit(room: Room, book: dict[str, str], words: list[str]) -> float:
     """How long an order takes that isn't killed."""
     keep, start = before_edit(room, book), time.monotonic()
-    subprocess.run([str(keep.program), str(keep.path), *words], stdin=subprocess.DEVNULL, stdout=subprocess.DEVNULL, check=True)
+    subprocess.run(
+        [str(keep.program), str(keep.path), *words], stdin=subprocess.DEVNULL, stdout=subprocess.DEVNULL, check=True
+    )
     return time.monotonic() - start
 
 
@@ -761,7 +801,9 @@ def refused_edits(room: Room) -> None:
             for nth in range(1, 100):
                 keep, trace = before_edit(room, book), room.folder / "trace"
                 strace = ["strace", "-f", "-o", str(trace), "-e", f"inject={call}:error=EIO:when={nth}"]
-                done = subprocess.run([*strace, str(keep.program), str(keep.path), *words], capture_output=True, timeout=60)
+                done = subprocess.run(
+                    [*strace, str(keep.program), str(keep.path), *words], capture_output=True, timeout=60
+                )
                 if "INJECTED" not in trace.read_text():
                     break
                 refused += 1
@@ -885,25 +927,22 @@ def killed_imports(room: Room) -> None:
     given = "".join(f"n{at}:{RECORD}\n" for at in range(LINES)).encode()
     keep = begun(room)
     keep.add("ann")
-    same(keep("import", given=given), Ended(0, b"", b""))
+    with given_import(keep, given) as run:
+        start = time.monotonic()
+        same(run.communicate(), (b"", b""))
+        took = time.monotonic() - start
+    same(run.returncode, 0)
     keep.is_sound()
     chance, counts = random.Random(), {0: 0, LINES: 0}
-    start = time.monotonic()
-    same(keep("list").status, 0)
-    empty = time.monotonic() - start
     for turn in range(room.kills):
         for file in room.folder.glob("users.db*"):
             file.unlink()
         same(keep("init").status, 0)
         keep.add("ann")
-        command = [str(keep.program), str(keep.path), "import"]
-        with subprocess.Popen(command, stdin=subprocess.PIPE, stdout=subprocess.PIPE, stderr=subprocess.PIPE) as run:
-            assert run.stdin
-            run.stdin.write(given)
-            run.stdin.close()
-            time.sleep(chance.random() * (empty + 0.4))
+        with given_import(keep, given) as run:
+            time.sleep(chance.random() * 1.5 * took)
             run.kill()
-            run.wait()
+            run.communicate()
         there = keep.names()
         holds(there[:1] == ["ann"] and len(there) - 1 in counts, f"turn {turn}: {len(there) - 1} of {LINES}")
         counts[len(there) - 1] += 1
@@ -912,16 +951,27 @@ def killed_imports(room: Room) -> None:
     print(f"      of {room.kills} kills {counts[0]} left none of {LINES} lines, and {counts[LINES]} all")
 
 
+def given_import(keep: Keep, given: bytes) -> "subprocess.Popen[bytes]":
+    """An import that has been given its lines."""
+    command = [str(keep.program), str(keep.path), "import"]
+    run = subprocess.Popen(command, stdin=subprocess.PIPE, stdout=subprocess.PIPE, stderr=subprocess.PIPE)
+    assert run.stdin
+    run.stdin.write(given)
+    run.stdin.close()
+    run.stdin = None
+    return run
+
+
 def few_syncs(room: Room) -> None:
     """An import syncs as often for a thousand lines as for ten."""
-    shim = sync_counter(room)
+    shim = counter(room, "syncs", SYNC_COUNTER)
     counts = []
     for lines in (10, 1000):
         for file in room.folder.iterdir():
             file.unlink()
         keep = begun(room)
         given = b"".join(b"n%d:\n" % at for at in range(lines))
-        counts.append(syncs_of(shim, [str(keep.program), str(keep.path), "import"], given)[0])
+        counts.append(counted(shim, "SYNCS", [str(keep.program), str(keep.path), "import"], given)[0])
     same(counts[0], counts[1])
 
 
@@ -962,7 +1012,7 @@ def import_without_memory(room: Room) -> None:
 
 
 def import_refused_once(room: Room, empty: Keep, shim: str, nth: int) -> int | None:
-    """The status of an import whose request of this number is refused, or none where there is no such."""
+    """The status of an import whose request of this number is refused, or none if there is no such."""
     folder = room.folder / str(nth)
     folder.mkdir()
     keep = Keep(room.program, folder / "users.db")
@@ -1018,6 +1068,26 @@ def sqlite3_reads(room: Room) -> None:
     same(by_sqlite3(keep.path, "SELECT record FROM account WHERE name = 'ann'"), record + "\n")
     by_sqlite3(keep.path, "INSERT INTO account (name) VALUES ('cat')")
     same(keep.names(), ["ann", "bob", "cat"])
+
+
+def analyzed(room: Room) -> None:
+    """The statistics of ANALYZE are beside the table, and nothing is done to them."""
+    keep = begun(room)
+    keep.add("ann")
+    keep.add("bob")
+    by_sqlite3(keep.path, "ANALYZE")
+    statistics = by_sqlite3(keep.path, "SELECT * FROM sqlite_stat1")
+    same(statistics, "account|sqlite_autoindex_account_1|2 1\n")
+    same(keep("check", "ann", given=PASSWORD).status, 0)
+    keep.add("cat")
+    same(keep("rename", "ann", "dan").status, 0)
+    same(keep("delete", "bob").status, 0)
+    same(keep("import", given=b"eve:\n").status, 0)
+    same(keep.names(), ["cat", "dan", "eve"])
+    keep.is_sound()
+    same(by_sqlite3(keep.path, "SELECT * FROM sqlite_stat1"), statistics)
+    by_sqlite3(keep.path, "DELETE FROM sqlite_stat1")
+    same(keep.names(), ["cat", "dan", "eve"])
 
 
 def modes(room: Room) -> None:
@@ -1085,6 +1155,9 @@ def files_that_hold_no_book(room: Room) -> None:
 
     table = "CREATE TABLE account (name TEXT NOT NULL PRIMARY KEY, record TEXT) STRICT;"
     other = b"the database holds no book"
+    no_record = b"row 1: the text there is no record: "
+    no_shape = b"a field is missing, or there is one too many (1 shape)"
+    no_scheme = b"the name is none of argon2d, argon2i, argon2id and scrypt (2 scheme)"
     for make, status, text in (
         (lambda path: path.touch(), 5, b"it is empty; init begins a book in it"),
         (lambda path: path.write_text("ann:x\n" * 1000), 5, b"it is no database"),
@@ -1095,8 +1168,13 @@ def files_that_hold_no_book(room: Room) -> None:
         (database(table + "CREATE TABLE t (a)"), 5, other),
         (database(table + "CREATE INDEX i ON account (record)"), 5, other),
         (database(table + "ALTER TABLE account ADD COLUMN mail TEXT"), 5, other),
-        (database(table + "INSERT INTO account VALUES ('ann', NULL), ('Bob', NULL)"), 5, b"row 2: "),
-        (database(table + "INSERT INTO account VALUES ('ann', 'abc')"), 5, b"row 1: "),
+        (
+            database(table + "INSERT INTO account VALUES ('ann', NULL), ('Bob', NULL)"),
+            5,
+            b"row 2: there is no name; names are",
+        ),
+        (database(table + "INSERT INTO account VALUES ('ann', 'abc')"), 5, no_record + no_shape),
+        (database(table + "INSERT INTO account VALUES ('ann', '$2y$10$abc')"), 5, no_record + no_scheme),
     ):
         for words in (["list"], ["check", "ann"], ["run"], ["import"], ["add", "ann"], ["reset", "ann"]):
             for file in room.folder.iterdir():
@@ -1376,7 +1454,7 @@ def refused_memory(room: Room) -> None:
 
 
 def refused_once(room: Room, empty: Keep, shim: str, nth: int) -> int | None:
-    """The status of a run whose request of this number is refused, or none where there is no such."""
+    """The status of a run whose request of this number is refused, or none if there is no such."""
     names, lines = ["a", "b"], b"account a\naccount b\n"
     folder = room.folder / str(nth)
     folder.mkdir()
@@ -1468,6 +1546,7 @@ TESTS: list[Callable[[Room], None]] = [
     default_records_of_argon2,
     others_records,
     sqlite3_reads,
+    analyzed,
     no_book,
     bad_rows,
     directories_and_links,

@@ -6,6 +6,8 @@
 - README.md says how many crates the gate proves, how many wrong bodies it tries and how many tests it runs: the tree's figures. A
   time in it that nobody filled in (`.._MINUTES`) fails.
 - docs/PLANTED.md names each wrong body that the gate has to try, with the file or the test that it stands in: each is there.
+- docs/PLANTED.md says how many bugs there are in how many lists: those of plants/. Each fits the code (tools/plant.py --fits).
+- docs/PLANTED_CALLS.md counts the bugs of calls, each in a file of its crate: it is there.
 - docs/PROMISES.md names calls, clauses, wrong bodies, tests and files (tools/promises.py).
 - Each link between pages leads to a file, and each picture has a text for those who can't see it.
 - Each library and program of crates.txt has a page, crates/NAME/README.md, and stands in docs/pictures/crates.svg.
@@ -19,6 +21,7 @@ import re
 import sys
 import textwrap
 
+import plant
 import promises
 
 TOP = pathlib.Path(__file__).resolve().parent.parent
@@ -60,6 +63,26 @@ def planted():
         places = re.findall(r"`([^`]+)`", where)
         lost = [it for it in places if not stands(it)]
         yield f"docs/PLANTED.md: {name}: {', '.join(lost) or 'no place'} isn't there" if lost or not places else None
+
+
+def bugs():
+    """The bugs of plants/: their number, and each that doesn't fit the code."""
+    there = sum(len(plant.list_of(it)) for it in plant.lists()), len(plant.lists())
+    said = re.findall(r"(\d+) bugs in (\d+) lists", (TOP / "docs/PLANTED.md").read_text())
+    is_said = said == [(str(there[0]), str(there[1]))]
+    yield None if is_said else "docs/PLANTED.md: there are {} bugs in {} lists".format(*there)
+    for name in plant.lists():
+        yield from [*plant.misfits(name)] or [None]
+
+
+def bugs_by_call():
+    """The rows of docs/PLANTED_CALLS.md, `CRATE | FILE | CALL | ..`."""
+    for row in re.findall(r"^\| `.*$", (TOP / "docs/PLANTED_CALLS.md").read_text(), re.M):
+        crate, file, call = [it.strip(" `") for it in row.split("|")[1:4]]
+        source = CRATES / crate / "src" / file
+        name = call.split("::")[-1]
+        is_there = source.is_file() and re.search(rf"\bfn {name}\b", source.read_text())
+        yield None if is_there else f"docs/PLANTED_CALLS.md: {crate}: {file} has no `{call}`"
 
 
 def anchors(page):
@@ -104,7 +127,7 @@ def rooms():
 
 
 def main():
-    found = [*figures(), *planted(), *rooms()]
+    found = [*figures(), *planted(), *bugs(), *bugs_by_call(), *rooms()]
     for page in PAGES:
         found += [*links(page), *callers(page)]
     passed, failures = promises.check()

@@ -65,7 +65,7 @@ def sequence(name):
 
 
 def steps(name):
-    """Steps in their order, `WORDS | WHAT A CRASH LEAVES`: those that leave the same stand beside one band."""
+    """Steps in their order, `WORDS | WHAT A CRASH LEAVES`: those that leave the same are in one band."""
     title, heads, *rows = [[it.strip() for it in line.split("|")] for line in lines_of(name)]
     width, row = 900, 36
     parts = [text(56, 30, heads[0], weight="bold"), text(600, 30, heads[1], weight="bold")]
@@ -87,7 +87,7 @@ def steps(name):
 
 
 def crates():
-    """Each crate of crates.txt but tests and benches, with what it stands on directly."""
+    """Each crate of crates.txt but tests and benches, with the crates that it uses directly."""
     listed = [it.split("#")[0].partition(":") for it in (TOP / "crates.txt").read_text().splitlines()]
     below = {head.split()[0]: rest.split() for head, _, rest in listed if head.strip()}
     shown = {it for it in below if not re.search(r"_tests$|^test_|^bench_|^example_|^hello_", it)}

@@ -2,12 +2,16 @@
 """Tries the bugs of plants/NAME.txt and says which of them the contracts of crates/NAME refuse.
 
     python3 tools/plant.py NAME [--only WORD] [--jobs N]
+    python3 tools/plant.py --fits [NAME]
+
+With --fits it asks no prover: it says which bugs of a list, or of every list, can't be planted, since the code has changed. The
+last line is `N bugs in M lists, K of them can't be planted`, and the status is 1 if K isn't 0.
 
 A file of bugs is a list of paragraphs. `call:` names the public call whose meaning the next bugs turn, and `fn:` the function
-that they stand in, as `module::Type::function`; each holds until the next such line. `const:` names a constant in the place of a
+that they stand in, as `module::Type::function`; each holds until the next such line. `const:` names a constant instead of a
 function, as `module::NAME`. A bug is pairs of lines `old:`, a text that stands once in that function or constant, and `new:`, the
-text in its place; or one line `body:`, the whole body in its place. A line `passes:` in it says why the contract rightly lets it
-through, and which test refuses it.
+text in its place; a pair is read after those above it have changed the text. Or a bug is one line `body:`, the whole body in its
+place. A line `passes:` in it says why the contract rightly lets it through, and which test refuses it.
 
 One bug stands in each of many functions at a time: `rt check --allow-holes` tries the goals of every function, by the contracts of
 those that it calls. A bug that no goal refuses there is planted once more by itself, and so is one in a constant, which stands in
@@ -24,6 +28,10 @@ TOP = pathlib.Path(__file__).resolve().parent.parent
 
 # What a proof says that names what a bug took away: it says little of the contract.
 GONE = re.compile(r"has no field|is not in scope|has no `|was not admitted")
+
+
+class Misfit(Exception):
+    """Why a bug can't be planted."""
 
 
 class Bug:
@@ -68,11 +76,12 @@ def file_of(crate, path):
         file = crate / "src" / ("/".join(above[:n]) + ".rt")
         if file.is_file():
             return file, above[n:], name
-    sys.exit(f"{path}: no file of this module")
+    raise Misfit(f"{path} stands in no file")
 
 
 def place_of(crate, bug):
-    """The file of a bug's function or constant, and its first and last line there."""
+    """The file of a bug's function or constant, and its first and last line there. If a trait of the type has a function of this
+    name too, the type's own is meant."""
     file, owner, name = file_of(crate, bug.function)
     lines, found, holder = file.read_text().split("\n"), [], ""
     for i, line in enumerate(lines):
@@ -85,27 +94,62 @@ def place_of(crate, bug):
         else:
             is_it = re.match(rf"\s*(pub(\([a-z]+\))? )?(const )?(extern .C. )?fn {re.escape(name)}\b", line)
         if is_it and bool(owner) == bool(holder) and all(re.search(rf"\b{re.escape(it)}\b", holder) for it in owner):
-            found.append(i)
+            found.append((" for " in holder, i))
+    found = [i for is_of_trait, i in found if not is_of_trait] or [i for _, i in found]
     if len(found) != 1:
-        sys.exit(f"{bug.function}: stands {len(found)} times in {file}")
-    indent = re.match(r"\s*", lines[found[0]]).group()
-    if bug.is_constant:
-        return file, found[0], next(i for i in range(found[0], len(lines)) if lines[i].endswith(";"))
-    return file, found[0], next(i for i in range(found[0], len(lines)) if lines[i] == indent + "}")
+        raise Misfit(f"{bug.function} stands {len(found)} times in {file.relative_to(crate)}")
+    first, indent = found[0], re.match(r"\s*", lines[found[0]]).group()
+    for last, line in enumerate(lines[first:], first):
+        if line.endswith(";") if bug.is_constant else line == indent + "}":
+            return file, first, last
+    raise Misfit(f"{bug.function} has no end in {file.relative_to(crate)}")
 
 
-def plant(crate, bug):
+def text_with(crate, bug):
+    """The file of a bug's function or constant, and the file's text with the bug in it."""
     file, first, last = place_of(crate, bug)
     lines = file.read_text().split("\n")
-    text = "\n".join(lines[first:last + 1])
+    text = right = "\n".join(lines[first:last + 1])
     if bug.body is not None:
         opening = re.search(r"(?m)\{$(?!\n\s*(ensures|requires))", text).end()
         text = f"{text[:opening]}\n{bug.body}\n{lines[last]}"
     for old, new in bug.changes:
         if text.count(old) != 1 or new is None:
-            sys.exit(f"{bug}: `{old}` stands {text.count(old)} times")
+            raise Misfit(f"`{old}` stands {text.count(old)} times in {bug.function}")
         text = text.replace(old, new)
-    file.write_text("\n".join(lines[:first] + [text] + lines[last + 1:]))
+    if text == right:
+        raise Misfit(f"it changes nothing in {bug.function}")
+    return file, "\n".join(lines[:first] + [text] + lines[last + 1:])
+
+
+def plant(crate, bug):
+    file, text = text_with(crate, bug)
+    file.write_text(text)
+
+
+def lists():
+    """The crates that have a list of bugs."""
+    return sorted(it.stem for it in (TOP / "plants").glob("*.txt"))
+
+
+def list_of(name):
+    return bugs_of(TOP / "plants" / f"{name}.txt")
+
+
+def misfits(name):
+    """Why a bug of a list can't be planted in the crate as it stands, for each that can't."""
+    for bug in list_of(name):
+        try:
+            text_with(TOP / "crates" / name, bug)
+        except Misfit as why:
+            yield f"plants/{name}.txt:{bug.line}: {why}"
+
+
+def say_what_fits(names):
+    lost = [why for name in names for why in misfits(name)]
+    bugs = sum(len(list_of(name)) for name in names)
+    print("\n".join([*lost, f"{bugs} bugs in {len(names)} lists, {len(lost)} of them can't be planted"]))
+    return 1 if lost else 0
 
 
 class Copy:
@@ -147,22 +191,28 @@ class Copy:
 
 
 def is_of(path, name, function):
-    """Whether this is the function's path, its closures' among them: an impl of a trait has both names in one."""
+    """Whether this is the function's path, or that of a closure in it. A function of a type has the path of the type, also if its
+    impl stands in a module below the type's."""
     *above, last = function.split("::")
     above = above[1:] if above[:1] in (["lib"], ["main"]) else above
     module, owner = (above[:-1], above[-1]) if above and above[-1][:1].isupper() else (above, "")
-    start = "::".join([name, *module]) + "::"
-    if not path.startswith(start):
+    modules = [module[:n] for n in range(len(module) + 1)] if owner else [module]
+    return any(is_in(path, "::".join([name, *it]) + "::", owner, last) for it in modules)
+
+
+def is_in(path, module, owner, last):
+    """Whether a path is that of a function, of a type or of none, in this module: an impl of a trait has both names in one."""
+    if not path.startswith(module):
         return False
-    rest = path[len(start):].replace("+", "").split("::")
+    rest = path[len(module):].replace("+", "").split("::")
     if owner:
         return rest[0].startswith(owner) and (rest[1:2] == [last] or rest[1:3] == ["fn", last])
     return rest[:1] == [last] or rest[:2] == ["fn", last]
 
 
 def verdict_of(bug, name, said):
-    """refused; by its proof, where a written proof names what the bug took away and no goal is open; not covered, where the
-    borrow checker leaves no goals to judge it by; not reached, where it leaves none of a function that it calls; or none."""
+    """refused; by its proof, if a written proof names what the bug took away and no goal is open; not covered, if the
+    borrow checker leaves no goals to judge it by; not reached, if it leaves none of a function that it calls; or none."""
     verdict = None
     for path, what in re.findall(r"(?m)^(?:fn|closure) (\S+): (.*)$", said):
         if not is_of(path, name, bug.function):
@@ -237,17 +287,20 @@ def blame(copy, said, bugs):
 
 
 def main():
-    asked = argparse.ArgumentParser()
-    asked.add_argument("name")
-    asked.add_argument("--only", default="", help="the bugs whose call or function has this in its path")
-    asked.add_argument("--jobs", type=int, default=1)
-    asked = asked.parse_args()
-    bugs = [it for it in bugs_of(TOP / "plants" / f"{asked.name}.txt") if asked.only in f"{it.call} {it.function}"]
+    words = argparse.ArgumentParser()
+    words.add_argument("name", nargs="?")
+    words.add_argument("--fits", action="store_true", help="ask no prover, and say which bugs can't be planted")
+    words.add_argument("--only", default="", help="the bugs whose call or function has this in its path")
+    words.add_argument("--jobs", type=int, default=1)
+    asked = words.parse_args()
+    if asked.fits:
+        return say_what_fits([asked.name] if asked.name else lists())
+    if not asked.name:
+        words.error("the name of a list is missing")
+    if lost := [*misfits(asked.name)]:
+        sys.exit("\n".join(lost))
+    bugs = [it for it in list_of(asked.name) if asked.only in f"{it.call} {it.function}"]
     copy = Copy(asked.name, asked.jobs)
-    for bug in bugs:
-        plant(copy.crate, bug)
-        shutil.rmtree(copy.crate / "src")
-        shutil.copytree(copy.kept / "src", copy.crate / "src")
     said = copy.check()
     if "logic=proved" not in said:
         sys.exit(f"{asked.name} isn't proved as it stands:\n{said[-2000:]}")
@@ -259,6 +312,7 @@ def main():
         elif bug.passes and bug.verdict != "let through":
             print(f"refused, though it is said to pass: {bug}")
     table(bugs)
+    return 0
 
 
 def table(bugs):
@@ -270,4 +324,4 @@ def table(bugs):
 
 
 if __name__ == "__main__":
-    main()
+    sys.exit(main())

@@ -62,7 +62,7 @@ def contracts(path):
 
 
 def calls(text):
-    """What is wrong with each call that a text names, and with the clauses in brackets behind it."""
+    """What is wrong with each call that a text names, and with the clauses in brackets after it."""
     for path, clauses in re.findall(r"`(\w+(?:::\w+)+)`(?:\s*\(((?:`\w+`(?:,\s*)?)+)\))?", text):
         crate, *middle = path.split("::")
         if crate not in listed():

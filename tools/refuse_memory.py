@@ -22,7 +22,7 @@ TOP = pathlib.Path(__file__).resolve().parent.parent
 # Tests of a library none of whose calls takes memory.
 TAKES_NO_MEMORY = {"log_tests"}
 
-# Stands before the C library's own calls, and says so where it refuses. It declares what it calls, since the toolchain has no headers.
+# Stands before the C library's own calls, and says so if it refuses. It declares what it calls, since the toolchain has no headers.
 SHIM = r"""
 typedef __SIZE_TYPE__ size_t;
 char *getenv(const char *);

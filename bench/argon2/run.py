@@ -7,7 +7,7 @@ It proves and builds the crate bench_hashes with `rt`, in its own folder, and ch
 Then it runs the two in turn on all settings, N times over, and prints the best wall time of each and their ratio, the ratio
 of the least processor times, the part of our processor time that the system took (for fresh memory), and how far the greatest
 resident memory lies over that of the parameters, the program's own (a run at 8 KiB) not counted. The reference program always
-has as many threads as lanes. A second table is of what whoever runs the program may choose: huge pages, by a setting of the C
+has as many threads as lanes. A second table is of what you may choose: huge pages, by a setting of the C
 library, and a build for newer processors.
 """
 import argparse

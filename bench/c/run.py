@@ -1,23 +1,26 @@
 #!/usr/bin/python3
 """Times the C library beside libargon2, libsodium and OpenSSL's scrypt, in one run on the same settings.
 
-    make -C c && /usr/bin/python3 bench/c/run.py [--times N]
+    make -C c && /usr/bin/python3 bench/c/run.py [--times N] [--other LIBRARY]
 
 All are called from this one process in turn, N times over; the best wall time of each is printed, and the least processor
 time where libargon2 has threads. libargon2 gets as many threads as lanes; libsodium has one lane only; ours works on the
 caller's thread, and threads.py times it with threads. All give the same tags, which is looked at. What isn't installed has no
-column's values. Ours clears its memory as it gives it back, and its stack.
+column's values. Ours clears its memory as it gives it back, and its stack. --other names another librigzumal.so.1, as one that was
+built before a change: what ours takes over it, by the best times and by the median of the turns' ratios.
 """
 import argparse
 import ctypes
 import hashlib
 import os
 import pathlib
+import random
+import statistics
 import sys
 import time
 
 TOP = pathlib.Path(__file__).resolve().parent.parent.parent
-sys.path.insert(0, str(TOP / "c/python"))
+OURS = TOP / "c/out/librigzumal.so.1"
 ORIGINAL = "/usr/lib/x86_64-linux-gnu/libargon2.so.1"
 SODIUM = "libsodium.so.23"
 PASSWORD, SALT = b"password", b"sixteen of salt."
@@ -28,18 +31,34 @@ ARGON2 = [(65536, 3, 1), (65536, 3, 4), (65536, 3, 16), (102400, 2, 8), (19456, 
 SCRYPT = [(14, 8, 1), (17, 8, 1), (14, 8, 4)]
 
 
+DATA = [ctypes.c_char_p, ctypes.c_size_t]
+
+
+class Numbers(ctypes.Structure):
+    """struct rigzumal_argon2, and the first three of struct rigzumal_scrypt."""
+
+    _fields_ = [(f"number{i}", ctypes.c_uint32) for i in range(5)]
+
+
 def library(path):
     try:
-        return ctypes.CDLL(path)
+        return ctypes.CDLL(str(path))
     except OSError:
         print(f"{path} is not there", file=sys.stderr)
         return None
 
 
-def ours_argon2(memory, passes, lanes):
-    import rigzumal
+def rigzumal_argon2(ours):
+    call = ours.rigzumal_argon2
+    call.argtypes = [*DATA, ctypes.POINTER(Numbers), *DATA * 4]
 
-    return rigzumal.argon2(PASSWORD, SALT, time_cost=passes, memory_cost=memory, parallelism=lanes)
+    def hashed(memory, passes, lanes):
+        tag, numbers = ctypes.create_string_buffer(32), Numbers(2, 0x13, memory, passes, lanes)
+        if call(tag, 32, ctypes.byref(numbers), PASSWORD, len(PASSWORD), SALT, len(SALT), None, 0, None, 0) != 0:
+            sys.exit("rigzumal refuses")
+        return tag.raw
+
+    return hashed
 
 
 def original_argon2(original):
@@ -70,10 +89,17 @@ def sodium_argon2(sodium):
     return hashed
 
 
-def ours_scrypt(ln, r, p):
-    import rigzumal
+def rigzumal_scrypt(ours):
+    call = ours.rigzumal_scrypt
+    call.argtypes = [*DATA, ctypes.POINTER(Numbers), *DATA * 2]
 
-    return rigzumal.scrypt(PASSWORD, SALT, log2_n=ln, r=r, p=p)
+    def hashed(ln, r, p):
+        key, numbers = ctypes.create_string_buffer(32), Numbers(ln, r, p)
+        if call(key, 32, ctypes.byref(numbers), PASSWORD, len(PASSWORD), SALT, len(SALT)) != 0:
+            sys.exit("rigzumal refuses")
+        return key.raw
+
+    return hashed
 
 
 def openssl_scrypt(ln, r, p):
@@ -94,84 +120,106 @@ def sodium_scrypt(sodium):
     return hashed
 
 
-def best_times(ways, settings, times):
-    """The least wall and processor time in milliseconds of each way at each setting; the settings take turns."""
-    best = {}
+def times_of(ways, settings, times):
+    """Wall and processor time in milliseconds of each way at each setting, turn by turn; the settings take turns, and the ways in any order."""
+    found = {}
     for turn in range(times + 1):
         for setting in settings:
             tags = set()
-            for name, (way, fits) in ways.items():
+            for name in random.sample(sorted(ways), len(ways)):
+                way, fits = ways[name]
                 if not fits(setting):
                     continue
                 wall, cpu = time.perf_counter(), time.process_time()
                 tags.add(way(*setting))
                 taken = (1000 * (time.perf_counter() - wall), 1000 * (time.process_time() - cpu))
                 if turn > 0:  # the first turn loads and warms up
-                    old = best.get((setting, name), taken)
-                    best[setting, name] = tuple(map(min, old, taken))
+                    found.setdefault((setting, name), []).append(taken)
             if len(tags) != 1:
                 sys.exit(f"the tags differ at {setting}")
-    return best
+    return found
 
 
-def ratio(best, setting, name, part=0):
-    if (setting, name) not in best:
+def best(found, setting, name, part=0):
+    return min(it[part] for it in found[setting, name])
+
+
+def ratio(found, setting, name, part=0):
+    if (setting, name) not in found:
         return ""
-    return f"{best[setting, 'ours'][part] / best[setting, name][part]:.2f}"
+    return f"{best(found, setting, 'ours', part) / best(found, setting, name, part):.2f}"
 
 
-def wall(best, setting, name):
-    return f"{best[setting, name][0]:.1f}" if (setting, name) in best else ""
+def wall(found, setting, name):
+    return f"{best(found, setting, name):.1f}" if (setting, name) in found else ""
 
 
-def argon2_table(times):
-    ways = {"ours": (ours_argon2, lambda setting: True)}
+def over_other(found, setting):
+    """Ours over another build of it, by the best times and by the median of the turns' ratios; none where there is no other."""
+    if (setting, "other") not in found:
+        return []
+    pairs = zip(found[setting, "ours"], found[setting, "other"])
+    median = statistics.median(ours[0] / other[0] for ours, other in pairs)
+    by_best = best(found, setting, "ours") / best(found, setting, "other")
+    return [wall(found, setting, "other"), f"{by_best:.3f}; {median:.3f}"]
+
+
+def print_head(names, has_other):
+    names = names + ["Other, ms", "Ours over other: best; median"] * has_other
+    print("| " + " | ".join(names) + " |")
+    print("|---" * len(names) + "|")
+
+
+def argon2_table(times, other):
+    always = lambda setting: True
+    ways = {"ours": (rigzumal_argon2(library(OURS)), always)}
     original, sodium = library(ORIGINAL), library(SODIUM)
     if original is not None:
-        ways["original"] = (original_argon2(original), lambda setting: True)
+        ways["original"] = (original_argon2(original), always)
     if sodium is not None:
         # it has one lane
         ways["sodium"] = (sodium_argon2(sodium), lambda setting: setting[2] == 1)
-    best = best_times(ways, ARGON2, times)
-    print("| m (KiB), t, p | Ours, ms | libargon2, ms | libsodium, ms | Ours over libargon2 | of processor time | Ours over libsodium |")
-    print("|---|---|---|---|---|---|---|")
+    if other is not None:
+        ways["other"] = (rigzumal_argon2(other), always)
+    found = times_of(ways, ARGON2, times)
+    names = "m (KiB), t, p|Ours, ms|libargon2, ms|libsodium, ms|Ours over libargon2|of processor time|Ours over libsodium"
+    print_head(names.split("|"), other is not None)
     for setting in ARGON2:
-        cells = [
-            ", ".join(map(str, setting)),
-            wall(best, setting, "ours"),
-            wall(best, setting, "original"),
-            wall(best, setting, "sodium"),
-            ratio(best, setting, "original"),
-            ratio(best, setting, "original", 1),
-            ratio(best, setting, "sodium"),
-        ]
-        print("| " + " | ".join(cells) + " |")
+        cells = [", ".join(map(str, setting))]
+        cells += [wall(found, setting, name) for name in ("ours", "original", "sodium")]
+        cells += [ratio(found, setting, "original"), ratio(found, setting, "original", 1), ratio(found, setting, "sodium")]
+        print("| " + " | ".join(cells + over_other(found, setting)) + " |")
 
 
-def scrypt_table(times):
-    ways = {"ours": (ours_scrypt, lambda setting: True), "openssl": (openssl_scrypt, lambda setting: True)}
+def scrypt_table(times, other):
+    always = lambda setting: True
+    ways = {"ours": (rigzumal_scrypt(library(OURS)), always), "openssl": (openssl_scrypt, always)}
     sodium = library(SODIUM)
     if sodium is not None:
-        ways["sodium"] = (sodium_scrypt(sodium), lambda setting: True)
-    best = best_times(ways, SCRYPT, times)
-    print("| N, r, p | Ours, ms | OpenSSL, ms | libsodium, ms | Ours over OpenSSL | Ours over libsodium |")
-    print("|---|---|---|---|---|---|")
+        ways["sodium"] = (sodium_scrypt(sodium), always)
+    if other is not None:
+        ways["other"] = (rigzumal_scrypt(other), always)
+    found = times_of(ways, SCRYPT, times)
+    names = "N, r, p|Ours, ms|OpenSSL, ms|libsodium, ms|Ours over OpenSSL|Ours over libsodium"
+    print_head(names.split("|"), other is not None)
     for ln, r, p in SCRYPT:
         setting = (ln, r, p)
         cells = [f"{1 << ln}, {r}, {p}"]
-        cells += [wall(best, setting, name) for name in ("ours", "openssl", "sodium")]
-        cells += [ratio(best, setting, name) for name in ("openssl", "sodium")]
-        print("| " + " | ".join(cells) + " |")
+        cells += [wall(found, setting, name) for name in ("ours", "openssl", "sodium")]
+        cells += [ratio(found, setting, name) for name in ("openssl", "sodium")]
+        print("| " + " | ".join(cells + over_other(found, setting)) + " |")
 
 
 def main():
     words = argparse.ArgumentParser(description=__doc__.splitlines()[0])
     words.add_argument("--times", type=int, default=15, help="runs of each")
-    times = words.parse_args().times
+    words.add_argument("--other", help="another librigzumal.so.1, to be compared with")
+    given = words.parse_args()
+    other = None if given.other is None else ctypes.CDLL(given.other)
     before = os.getloadavg()[0]
-    argon2_table(times)
+    argon2_table(given.times, other)
     print()
-    scrypt_table(times)
+    scrypt_table(given.times, other)
     print(f"\nThe machine's load was {before:.1f} before and {os.getloadavg()[0]:.1f} after, on {os.cpu_count()} processors.")
 
 

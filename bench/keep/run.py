@@ -1,7 +1,7 @@
 #!/usr/bin/python3
 """Times `credkeep` on books of many accounts, beside Python's sqlite3 on the same file and `htpasswd -B`.
 
-    bench/keep/run.py [--turns N] [--accounts N [N ..]] [PROGRAM]
+    bench/keep/run.py [--turns N] [--accounts N [N ..]] [--program PROGRAM]
 
 PROGRAM is the built credkeep, by default crates/credkeep/out/credkeep; htpasswd is that of Debian's apache2-utils. Names come in random
 order. The hashes are as cheap as each takes (Argon2id with 8 KiB and one pass, bcrypt with cost 4), so that what is timed is the
@@ -21,46 +21,47 @@ import tempfile
 import threading
 import time
 from collections.abc import Callable, Iterable
-from typing import NamedTuple
+from typing import IO
 
 TOP = pathlib.Path(__file__).resolve().parent.parent.parent
 CHEAP = "$argon2id$v=19$m=8,t=1,p=1"
 PASSWORD = "secret"
 PASSWORD_WORD = "c2VjcmV0"
+READ_ALL = (
+    "import sqlite3, sys\n" "rows = dict(sqlite3.connect(sys.argv[1]).execute('SELECT name, record FROM account'))"
+)
 TABLE = "CREATE TABLE account (name TEXT NOT NULL PRIMARY KEY, record TEXT) STRICT"
 # How many lines of a kind are timed at once.
 LINES = 1000
-SHOWN = 20000
+SHOWN = 200_000
 
 
-class Ended(NamedTuple):
-    """How long a process took, and the most memory that it held."""
-
-    seconds: float
-    peak_mb: float
-
-
-def run(*words: str | pathlib.Path, given: pathlib.Path | str | None = None, status: int = 0) -> Ended:
-    """Runs a program, which has to end with this status, on a file or a text."""
+def run(*words: str | pathlib.Path, given: pathlib.Path | str | None = None, status: int = 0) -> float:
+    """The seconds of a program on a file or a text. It has to end with this status."""
     with tempfile.TemporaryFile() as text, open(os.devnull, "rb") as nothing:
         if isinstance(given, str):
             text.write(given.encode())
             text.seek(0)
         source = open(given, "rb") if isinstance(given, pathlib.Path) else text if given else nothing
         start = time.perf_counter()
-        child = subprocess.Popen([str(word) for word in words], stdin=source, stdout=subprocess.DEVNULL, stderr=-3)
-        _, ended, usage = os.wait4(child.pid, 0)
+        ended = subprocess.run(words, stdin=source, stdout=subprocess.DEVNULL, stderr=subprocess.DEVNULL)
         seconds = time.perf_counter() - start
-        child.returncode = os.waitstatus_to_exitcode(ended)
-    if child.returncode != status:
-        sys.exit(f"{words}: status {child.returncode}")
-    return Ended(seconds, usage.ru_maxrss / 1024)
+    if ended.returncode != status:
+        sys.exit(f"{words}: status {ended.returncode}")
+    return seconds
 
 
-def best(turns: int, work: Callable[[], Ended]) -> Ended:
-    """The least time of a call, and the most memory."""
-    ended = [work() for _ in range(turns)]
-    return Ended(min(each.seconds for each in ended), max(each.peak_mb for each in ended))
+def best(turns: int, work: Callable[[], float]) -> float:
+    """The least time of a call."""
+    return min(work() for _ in range(turns))
+
+
+def peak_mb(process: int) -> float:
+    """The most memory that a process held since it began its program: what wait4 says counts its parent's too."""
+    for line in pathlib.Path(f"/proc/{process}/status").read_text().splitlines():
+        if line.startswith("VmHWM:"):
+            return int(line.split()[1]) / 1024
+    sys.exit(f"no peak of process {process}")
 
 
 class Service:
@@ -84,13 +85,19 @@ class Service:
 
     def ask_at_once(self, lines: list[str]) -> float:
         """The seconds of lines that don't wait for answers."""
-        assert self.process.stdin and self.process.stdout
+        asked, answers = self.process.stdin, self.process.stdout
+        if not asked or not answers:
+            sys.exit("the service has no pipes")
         text = "".join(line + "\n" for line in lines).encode()
-        writer = threading.Thread(target=lambda: (self.process.stdin.write(text), self.process.stdin.flush()))
+        writer = threading.Thread(target=send, args=(asked, text))
+        left = len(lines)
         start = time.perf_counter()
         writer.start()
-        for _ in lines:
-            self.process.stdout.readline()
+        while left > 0:
+            piece = os.read(answers.fileno(), 1 << 16)
+            if not piece:
+                sys.exit("the service ended")
+            left -= piece.count(b"\n")
         seconds = time.perf_counter() - start
         writer.join()
         return seconds
@@ -98,11 +105,17 @@ class Service:
     def end(self) -> float:
         """Ends it, and gives the most memory that it held in MB."""
         assert self.process.stdin and self.process.stdout
+        peak = peak_mb(self.process.pid)
         self.process.stdin.close()
         self.process.stdout.close()
-        _, ended, usage = os.wait4(self.process.pid, 0)
-        self.process.returncode = os.waitstatus_to_exitcode(ended)
-        return usage.ru_maxrss / 1024
+        self.process.wait()
+        return peak
+
+
+def send(pipe: IO[bytes], text: bytes) -> None:
+    """Writes it all."""
+    pipe.write(text)
+    pipe.flush()
 
 
 class Sample:
@@ -175,18 +188,18 @@ def ours(sample: Sample, turns: int) -> dict[str, str]:
     check = best(turns, lambda: run(program, book, "check", one, given=PASSWORD))
     listed = best(turns, lambda: run(program, book, "export"))
     return {
-        "open, ms": f"{opened.seconds * 1e3:.1f}",
-        "of it sqlite's, ms": f"{refused.seconds * 1e3:.1f}",
-        "of it reading rows, us a row": f"{(opened.seconds - refused.seconds) * 1e6 / sample.count:.2f}",
-        "blank line, us": f"{blank_s * 1e6:.1f}",
-        "`show`, us a line": f"{show_s * 1e6:.1f}",
+        "open, ms": f"{opened * 1e3:.1f}",
+        "of it sqlite's, ms": f"{refused * 1e3:.1f}",
+        "of it reading rows, us a row": f"{(opened - refused) * 1e6 / sample.count:.2f}",
+        "a line that asks nothing, us": f"{blank_s * 1e6:.2f}",
+        "`show`, us a line": f"{show_s * 1e6:.2f}",
         "verify, two lines, us": f"{verify_s * 1e6:.0f}",
         "change with its sync, us": f"{change_s * 1e6:.0f}",
         "new name with its sync, us": f"{new_s * 1e6:.0f}",
         "import, lines a second": imported(sample),
-        "export, ms": f"{listed.seconds * 1e3:.1f}",
-        "one change by a process, ms": f"{change.seconds * 1e3:.1f}",
-        "one check by a process, ms": f"{check.seconds * 1e3:.1f}",
+        "export, ms": f"{listed * 1e3:.1f}",
+        "one change by a process, ms": f"{change * 1e3:.1f}",
+        "one check by a process, ms": f"{check * 1e3:.1f}",
         "peak memory of a service, MB": f"{peak:.0f}",
     }
 
@@ -198,14 +211,14 @@ def imported(sample: Sample) -> str:
     ended = run(sample.program, fresh, "import", given=sample.lines)
     for path in fresh.parent.glob("fresh.db*"):
         path.unlink()
-    return f"{sample.count / ended.seconds:.0f}"
+    return f"{sample.count / ended:.0f}"
 
 
 def theirs(sample: Sample, turns: int) -> dict[str, str]:
     """The figures of Python's sqlite3 on the same file, and of htpasswd."""
-    text = "import sqlite3, sys\n" "dict(sqlite3.connect(sys.argv[1]).execute('SELECT name, record FROM account'))\n"
-    read = best(turns, lambda: run(sys.executable, "-c", text, sample.book))
-    empty = best(turns, lambda: run(sys.executable, "-c", "import sqlite3, sys"))
+    # The difference of two starts of Python: of a few rows one turn shows nothing.
+    read = best(turns + 2, lambda: run(sys.executable, "-c", READ_ALL, sample.book))
+    empty = best(turns + 2, lambda: run(sys.executable, "-c", "import sqlite3, sys"))
     connection = sqlite3.connect(sample.book, isolation_level=None)
     connection.execute("PRAGMA journal_mode = WAL")
     connection.execute("PRAGMA synchronous = FULL")
@@ -222,15 +235,25 @@ def theirs(sample: Sample, turns: int) -> dict[str, str]:
     change = best(turns, lambda: run(*words))
     check = best(turns, lambda: run("htpasswd", "-v", "-b", sample.users, one, PASSWORD))
     return {
-        "sqlite3: read all rows, ms": f"{(read.seconds - empty.seconds) * 1e3:.1f}",
+        "sqlite3: read all rows, ms": f"{(read - empty) * 1e3:.1f}",
         "sqlite3: SELECT of one, us": f"{show_s * 1e6:.1f}",
         "sqlite3: UPDATE with its sync, us": f"{change_s * 1e6:.0f}",
         "sqlite3: INSERT with its sync, us": f"{new_s * 1e6:.0f}",
         "sqlite3: INSERTs in one transaction, a second": filled(sample),
-        "sqlite3: peak memory with all rows, MB": f"{read.peak_mb:.0f}",
-        "htpasswd: one change by a process, ms": f"{change.seconds * 1e3:.1f}",
-        "htpasswd: one check by a process, ms": f"{check.seconds * 1e3:.1f}",
+        "sqlite3: peak memory with all rows, MB": peak_of_all_rows(sample),
+        "htpasswd: one change by a process, ms": f"{change * 1e3:.1f}",
+        "htpasswd: one check by a process, ms": f"{check * 1e3:.1f}",
     }
+
+
+def peak_of_all_rows(sample: Sample) -> str:
+    """The most memory of a Python that has all rows in a dict, in MB."""
+    text = READ_ALL + "\nprint(); sys.stdin.read()"
+    command = [sys.executable, "-c", text, str(sample.book)]
+    with subprocess.Popen(command, stdin=subprocess.PIPE, stdout=subprocess.PIPE) as reader:
+        assert reader.stdout
+        reader.stdout.readline()
+        return f"{peak_mb(reader.pid):.0f}"
 
 
 def timed(work: Callable[[str], object], names: list[str]) -> float:
@@ -259,7 +282,7 @@ def main() -> None:
     parser = argparse.ArgumentParser(description="Times credkeep beside Python's sqlite3 and htpasswd -B.")
     parser.add_argument("--turns", type=int, default=3)
     parser.add_argument("--accounts", type=int, nargs="+", default=[1000, 10000, 100000])
-    parser.add_argument("program", nargs="?", type=pathlib.Path, default=TOP / "crates/credkeep/out/credkeep")
+    parser.add_argument("--program", type=pathlib.Path, default=TOP / "crates/credkeep/out/credkeep")
     words = parser.parse_args()
     if not shutil.which("htpasswd"):
         sys.exit("htpasswd isn't installed (Debian's apache2-utils)")
