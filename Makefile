@@ -1,7 +1,7 @@
 # Rigzumal as a whole. What each part needs says docs/BUILDING.md.
 #
 #     make build                    the programs, the library for C and Python, and libargon2
-#     make test                     the gate and the tests behind it, and the library's tests
+#     make test                     the gate and the tests after it, and the library's tests
 #     make bench                    the library beside libargon2, libsodium and OpenSSL
 #     make interop                  other programs' strings, both ways
 #     make install PREFIX=/usr/local [DESTDIR=..]
@@ -9,6 +9,8 @@
 
 PREFIX ?= /usr/local
 DESTDIR ?=
+BASH_DIR := $(PREFIX)/share/bash-completion/completions
+ZSH_DIR := $(PREFIX)/share/zsh/site-functions
 RT ?= rt
 PYTHON ?= /usr/bin/python3
 
@@ -47,10 +49,16 @@ interop: crates/credbook/out/credbook
 install: build
 	$(MAKE) -C c install PREFIX='$(PREFIX)' DESTDIR='$(DESTDIR)' RT='$(RT)'
 	install -d $(DESTDIR)$(PREFIX)/bin $(DESTDIR)$(PREFIX)/share/man/man1
-	install -m 755 $(BUILT) $(DESTDIR)$(PREFIX)/bin
+	install -m 755 $(BUILT) bin/credkeep-ask $(DESTDIR)$(PREFIX)/bin
 	install -m 644 $(PROGRAMS:%=man/%.1) $(DESTDIR)$(PREFIX)/share/man/man1
+	install -d $(DESTDIR)$(BASH_DIR) $(DESTDIR)$(ZSH_DIR)
+	for name in $(PROGRAMS); do \
+		install -m 644 completions/$$name.bash $(DESTDIR)$(BASH_DIR)/$$name && \
+		install -m 644 completions/_$$name $(DESTDIR)$(ZSH_DIR) || exit 1; \
+	done
 
 uninstall:
 	$(MAKE) -C c uninstall PREFIX='$(PREFIX)' DESTDIR='$(DESTDIR)'
-	rm -f $(PROGRAMS:%=$(DESTDIR)$(PREFIX)/bin/%)
+	rm -f $(PROGRAMS:%=$(DESTDIR)$(PREFIX)/bin/%) $(DESTDIR)$(PREFIX)/bin/credkeep-ask
+	rm -f $(PROGRAMS:%=$(DESTDIR)$(BASH_DIR)/%) $(PROGRAMS:%=$(DESTDIR)$(ZSH_DIR)/_%)
 	rm -f $(PROGRAMS:%=$(DESTDIR)$(PREFIX)/share/man/man1/%.1)
