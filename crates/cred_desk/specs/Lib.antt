@@ -1,5 +1,5 @@
 -- The definitions that the contracts of the desk cite.
-pub mod Additions
+pub mod Changes
 pub mod Commits
 pub mod Histories
 pub mod Naming

@@ -1,13 +1,11 @@
 -- What a clause sees of a session, and what its calls do.
-use Rattle.std.specs.Prelude.{◌≡◌, ◌≢◌, ◌+◌, ◌<◌, ℕ, List, [], length, Some, None, Result, Ok, Err}
-use mathlib.Core.List.{IsPrefix}
+use Rattle.std.specs.Prelude.{◌≡◌, ◌≢◌, ◌<◌, ℕ, List, [], length, Some, None, Result, Ok, Err}
 use Rattle.std.specs.FinMap as map
 use Rattle.cred_book.specs.Accounts.{Accounts}
 use Rattle.cred_book.specs.Works.{Task, name_of}
 use Rattle.cred_book.specs.declared.reply.Reply.{Reply}
 use Rattle.cred_book.specs.declared.request.Request.{Request}
-use Rattle.cred_desk.specs.Commits.{entry_of, list_after, reply_of, weight}
-use Rattle.cred_desk.specs.Histories.{IsLegal, after}
+use Rattle.cred_desk.specs.Commits.{reply_of}
 use Rattle.cred_desk.specs.declared.entry.Entry.{Entry}
 use Rattle.cred_desk.specs.declared.error.DeskError.{DeskError}
 use Rattle.cred_desk.specs.declared.error.DeskError.TheVariants as error
@@ -53,28 +51,6 @@ ClosesAt book old new work (Err (back, error.Memory)) = ⊥
 ClosesAt book old new work (Err (back, error.Sessions)) = ⊥
 ClosesAt book old new work (Err (back, error.Session)) = ⊥
 ClosesAt book old new work (Err (back, error.NoAccount)) = ⊥
-
--- a settle is a commit at a legal list that begins with the known one, and is counted if it is a
--- change. If a change that was due there found no memory, the session knows that list, and nothing
--- is counted
-abbrev pub Settles : Accounts → Standing → Standing → Task
-    → Result (Reply × List Entry) (Task × DeskError) → Type 0
-Settles opening old new work (Ok (answer, told)) =
-    (list : List Entry) × IsLegal opening list × IsPrefix old.known list
-    × (answer ≡ reply_of (after opening list) work)
-    × (told ≡ list_after list (entry_of (after opening list) work))
-    × (new.known ≡ told)
-    × (new.count ≡ old.count + weight (entry_of (after opening list) work))
-    × (new.additions ≡ old.additions)
-Settles opening old new work (Err (back, error.Memory)) =
-    (back ≡ work) × IsPrefix old.known new.known × IsLegal opening new.known
-    × (entry_of (after opening new.known) work ≢ None)
-    × IsUncounted old new
-Settles opening old new work (Err (back, error.Sessions)) = ⊥
-Settles opening old new work (Err (back, error.Session)) = ⊥
-Settles opening old new work (Err (back, error.Reader)) = ⊥
-Settles opening old new work (Err (back, error.NoAccount)) = ⊥
-Settles opening old new work (Err (back, error.Older)) = ⊥
 
 -- why a desk isn't closed, by how many sessions it has and those handed in: some are missing
 abbrev pub IsMissed : ℕ → List Standing → DeskError → Type 0

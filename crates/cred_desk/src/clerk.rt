@@ -5,7 +5,7 @@ ghost use Rattle.std.specs.Prelude.{◌≡◌, ◌≢◌, ◌+◌, ◌++◌, ◌
 ghost use Rattle.std.specs.Prelude.{MatchResult, None, length, true, vec_capacity};
 ghost use mathlib.Core.List.{IsPrefix};
 ghost use Rattle.cred_book.specs.declared.error.BookError.TheVariants.{Memory as memory};
-ghost use Rattle.cred_desk.specs.Additions.{refusal_of};
+ghost use Rattle.cred_desk.specs.Changes.{refusal_of};
 ghost use Rattle.cred_desk.specs.Commits.{entry_of, list_after, reply_of, weight};
 ghost use Rattle.cred_desk.specs.Histories.{IsListed, after};
 ghost use Rattle.cred_desk.specs.Standing.{IsMissed, IsUncounted};
@@ -116,15 +116,17 @@ impl<J: Naming, W: EntryWriter> Clerk<J, W> {
         ensures error { IfErr result (λ e. refusal_of e.1 ≡ memory) }
     {
         self.publisher.covers(session.known());
-        let before = self.publisher.front().len();
-        let settled = self.publisher.commit(rt, work, &mut self.recorder);
-        let changes = self.publisher.front().len() - before;
-        session.count_changes(&mut self.total, changes);
-        let told = self.publisher.told();
-        session.learn(&told);
-        match settled {
-            Ok(reply) => Ok((reply, told)),
-            Err((work, error)) => Err((work, refusal(error))),
+        match self.publisher.commit(rt, work, &mut self.recorder) {
+            Ok((reply, entry)) => {
+                if entry.is_some() {
+                    session.count_change(&mut self.total);
+                }
+                Ok((reply, self.tell(session)))
+            }
+            Err((work, error)) => {
+                self.tell(session);
+                Err((work, refusal(error)))
+            }
         }
     }
 

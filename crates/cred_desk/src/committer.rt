@@ -110,7 +110,7 @@ impl<J: Naming> Committer<J> {
         ensures plain { entry_of (after J.opening self.old) work ≡ None → IsOk result }
     {
         match self.publisher.commit(rt, work, &mut Unkept) {
-            Ok(reply) => Ok((reply, self.publisher.told())),
+            Ok((reply, _entry)) => Ok((reply, self.publisher.told())),
             Err((work, _)) => Err((work, DeskError::Memory)),
         }
     }
@@ -190,8 +190,9 @@ impl<J: Naming> Keeper for Committer<J> {
         ensures lawful { IsLawful J.opening self.new }
         ensures legal { IsLegal J.opening self.old → IsLegal J.opening self.new }
     {
-        self.publisher
-            .commit(rt, worked, &mut Unkept)
-            .map_err(|(worked, _)| (worked, BookError::Memory))
+        match self.publisher.commit(rt, worked, &mut Unkept) {
+            Ok((reply, _entry)) => Ok(reply),
+            Err((worked, _)) => Err((worked, BookError::Memory)),
+        }
     }
 }

@@ -1,34 +1,34 @@
 //! A desk: sessions settle their work behind its lock, and read its book with no lock.
 
-ghost use Rattle.std.specs.Prelude.{◌≡◌, ◌&&◌, [], All, IfErr, IfOk, MatchResult, false, length};
+ghost use Rattle.std.specs.Prelude.{◌≡◌, ◌&&◌, All, IfErr, IfOk, MatchResult, false, length};
 ghost use Rattle.std.specs.Prelude.{map, nat_le, sum, true, vec_len};
 ghost use mathlib.Core.List.{IsPrefix};
+ghost use Rattle.cred_desk.specs.Changes.{Settles};
 ghost use Rattle.cred_desk.specs.Histories.{IsLegal, after};
 ghost use Rattle.cred_desk.specs.Naming.{IsNamed, StartsAt};
 ghost use Rattle.cred_desk.specs.Refusals.{IsRefusedToMake};
-ghost use Rattle.cred_desk.specs.Standing.{IsMissed, IsNew, Settles};
+ghost use Rattle.cred_desk.specs.Standing.{IsMissed, IsNew};
+ghost use Rattle.cred_desk.specs.declared.error.DeskError.TheVariants as error;
 
-use crate::clerk::Clerk;
 use crate::closed::{Closed, Kept, Remains};
-use crate::entry::Entry;
 use crate::error::DeskError;
-use crate::making::{MOST_SESSIONS, Made, make};
+use crate::kept_desk::KeptDesk;
 use crate::naming::{Naming, Opened};
-use crate::recorder::Recorder;
 use crate::session::Session;
-use crate::tally::Tallies;
 use crate::told::Told;
 use crate::writer::Unkept;
 use cred_book::{Book, Reply, Worked};
 use std::alloc::Global;
 use std::fmt;
 use std::marker::Model;
-use std::sync::{Mutex, MutexGuard, Wait};
+use std::sync::Wait;
 
 /// Keeps a book that sessions read while they change it, and a journal of all changes. It isn't
 /// `Drop`: end it by `close` or `end`.
+///
+/// It is a kept desk whose writer keeps nothing, and whose naming allows no additions.
 pub struct Desk<J: Naming> {
-    clerk: Mutex<Clerk<J, Unkept>>,
+    desk: KeptDesk<J, Unkept>,
 }
 
 impl<J: Naming> Model for Desk<J> {
@@ -69,19 +69,10 @@ impl<J: Naming> Desk<J> {
         ensures refused { IfErr result
             (IsRefusedToMake (nat_le 1 sessions && nat_le sessions 128)) }
     {
-        if sessions == 0 || sessions > MOST_SESSIONS {
-            return Err(DeskError::Sessions);
+        match KeptDesk::new(rt, alloc, opened, book, sessions, Unkept) {
+            Ok((desk, seats)) => Ok((Desk { desk }, seats)),
+            Err((_unkept, error)) => Err(error),
         }
-        let tallies = Tallies::with_room(alloc, sessions)?;
-        let Made {
-            publisher,
-            sessions: seats,
-            total,
-            spare,
-        } = make(rt, alloc, opened, book, sessions)?;
-        let recorder = Recorder::new(alloc, publisher.front(), Unkept);
-        let clerk = Mutex::new(Clerk::new(publisher, recorder, total, spare, sessions, tallies));
-        Ok((Desk { clerk }, seats))
     }
 
     /// Waits for the lock, and does the whole operation, if the record is the one that was copied,
@@ -91,23 +82,19 @@ impl<J: Naming> Desk<J> {
     ///
     /// Errors: `Memory` if it runs out for a change. Nothing changes then but that the session
     /// knows the list at which the change was due, and the work comes back.
-    #[tactic(auto, using(crate::proofs::Lists::legal_if))]
     pub fn settle<R: Wait>(
         &self,
         rt: &R,
         session: &mut Session<J>,
         work: Worked,
     ) -> Result<(Reply, Told<J>), (Worked, DeskError)>
-        ensures done { Settles J.opening session.old session.new work result }
+        ensures done { Settles false J.opening session.old session.new work result }
+        ensures back { IfErr result (λ e. (e.0 ≡ work) × (e.1 ≡ error.Memory)) }
         ensures known { IsPrefix session.old.known session.new.known }
     {
-        let mut clerk = self.clerk.lock(rt);
-        let settled = clerk.settle(rt, session, work);
-        // Its drop would ask that a clerk be `Drop`.
-        MutexGuard::unlock(clerk);
-        match settled {
+        match self.desk.settle(rt, session, work) {
             Ok(done) => Ok(done),
-            Err((work, _)) => Err((work, DeskError::Memory)),
+            Err(unsettled) => Err((unsettled.into_parts().0, DeskError::Memory)),
         }
     }
 
@@ -133,21 +120,16 @@ impl<J: Naming> Desk<J> {
             (λ e. IsMissed J.parts sessions.items e.2) }
         ensures back { IfErr result (λ e. e.1.items ≡ sessions.items) }
     {
-        let Desk { clerk } = self;
-        let mut clerk = clerk.into_inner();
-        match clerk.look(&sessions) {
-            Ok(()) => {
-                let Kept {
+        let Desk { desk } = self;
+        match desk.close(rt, sessions) {
+            Ok(
+                Kept {
                     closed,
                     additions: _,
                     writer: _,
-                } = clerk.close(rt, sessions);
-                Ok(closed)
-            }
-            Err(error) => {
-                let clerk = Mutex::new(clerk);
-                Err((Desk { clerk }, sessions, error))
-            }
+                },
+            ) => Ok(closed),
+            Err((desk, sessions, error)) => Err((Desk { desk }, sessions, error)),
         }
     }
 
@@ -163,16 +145,14 @@ impl<J: Naming> Desk<J> {
         ensures book { result.book ≡ after J.opening result.journal.items }
         ensures known { All (λ s. IsPrefix s.known result.journal.items) sessions.now }
     {
-        let Desk { clerk } = self;
-        let mut clerk = clerk.into_inner();
-        clerk.cover(sessions);
-        let (remains, _unkept) = clerk.give_up(rt);
+        let Desk { desk } = self;
+        let (remains, _unkept) = desk.give_up(rt, sessions);
         remains
     }
 
     /// Lets the sessions in to no book from now on. It waits for those that read it.
     pub fn end<R: Wait>(self, rt: &R) {
-        let Desk { clerk } = self;
-        let _unkept = clerk.into_inner().end(rt);
+        let Desk { desk } = self;
+        let _unkept = desk.end(rt);
     }
 }

@@ -6,8 +6,7 @@ ghost use Rattle.std.specs.Prelude.{List, vec_len};
 ghost use mathlib.Core.List.{IsPrefix};
 ghost use Rattle.cred_book.specs.Calls.{Admits, Loads};
 ghost use Rattle.cred_book.specs.declared.error.BookError.TheVariants.{Memory as memory};
-ghost use Rattle.cred_desk.specs.Additions.{IsAdded, IsAt, IsSettled, IsUnsettled, RefusesDeletion};
-ghost use Rattle.cred_desk.specs.Additions.{refusal_of};
+ghost use Rattle.cred_desk.specs.Changes.{Adds, IsAt, RefusesDeletion, Settles, refusal_of};
 ghost use Rattle.cred_desk.specs.Histories.{IsAdmitted, IsDeleted, IsListed, IsLoaded, after};
 ghost use Rattle.cred_desk.specs.Histories.{deletion, entry};
 ghost use Rattle.cred_desk.specs.Naming.{IsNamed, StartsAt};
@@ -17,7 +16,6 @@ ghost use Rattle.cred_desk.specs.declared.entry.Entry.{Entry as DeskEntry};
 
 use crate::clerk::Clerk;
 use crate::closed::{Checkpoint, Finished, Kept, Remains};
-use crate::entry::Entry;
 use crate::error::DeskError;
 use crate::making::{MOST_SESSIONS, Made, make};
 use crate::naming::{Naming, Opened};
@@ -107,11 +105,8 @@ impl<J: Naming, W: EntryWriter> KeptDesk<J, W> {
         session: &mut Session<J>,
         work: Worked,
     ) -> Result<(Reply, Told<J>), Unsettled<W::Error>>
-        ensures done { MatchResult result
-            (IsSettled J.loads J.opening session.old session.new work)
-            (λ e. (e.work ≡ work)
-            × IsUnsettled J.loads J.opening session.old session.new work) }
-        ensures error { IfErr result (λ e. refusal_of e.error ≡ memory) }
+        ensures done { Settles J.loads J.opening session.old session.new work result }
+        ensures back { IfErr result (λ e. (e.work ≡ work) × (refusal_of e.error ≡ memory)) }
         ensures known { IsPrefix session.old.known session.new.known }
     {
         let mut clerk = self.clerk.lock(rt);
@@ -137,12 +132,8 @@ impl<J: Naming, W: EntryWriter> KeptDesk<J, W> {
         name: Name,
     ) -> Result<Told<J>, KeepError<W::Error>>
         requires loads { J.loads ≡ true }
-        ensures done { IfOk result (IsAdded J.loads J.opening session.old session.new
-            IsAdmitted (entry name None)) }
-        ensures refused { IfErr result (λ e. IsAt J.loads J.opening session.old session.new
-            × Admits (after J.opening session.new.known) (after J.opening session.new.known) name
-            (Err (refusal_of e))
-            × IsUncounted session.old session.new) }
+        ensures done { Adds J.loads J.opening session.old session.new IsAdmitted
+            (λ book e. Admits book book name (Err e)) (entry name None) result }
         ensures known { IsPrefix session.old.known session.new.known }
     {
         let mut clerk = self.clerk.lock(rt);
@@ -165,12 +156,8 @@ impl<J: Naming, W: EntryWriter> KeptDesk<J, W> {
         stored: Record,
     ) -> Result<Told<J>, KeepError<W::Error>>
         requires loads { J.loads ≡ true }
-        ensures done { IfOk result (IsAdded J.loads J.opening session.old session.new
-            IsLoaded (entry name (Some stored))) }
-        ensures refused { IfErr result (λ e. IsAt J.loads J.opening session.old session.new
-            × Loads (after J.opening session.new.known) (after J.opening session.new.known) name
-            stored (Err (refusal_of e))
-            × IsUncounted session.old session.new) }
+        ensures done { Adds J.loads J.opening session.old session.new IsLoaded
+            (λ book e. Loads book book name stored (Err e)) (entry name (Some stored)) result }
         ensures known { IsPrefix session.old.known session.new.known }
     {
         let mut clerk = self.clerk.lock(rt);
@@ -196,11 +183,8 @@ impl<J: Naming, W: EntryWriter> KeptDesk<J, W> {
         name: Name,
     ) -> Result<Told<J>, KeepError<W::Error>>
         requires loads { J.loads ≡ true }
-        ensures done { IfOk result (IsAdded J.loads J.opening session.old session.new
-            IsDeleted (deletion name)) }
-        ensures refused { IfErr result (λ e. IsAt J.loads J.opening session.old session.new
-            × RefusesDeletion (after J.opening session.new.known) name (refusal_of e)
-            × IsUncounted session.old session.new) }
+        ensures done { Adds J.loads J.opening session.old session.new IsDeleted
+            (λ book e. RefusesDeletion book name e) (deletion name) result }
         ensures known { IsPrefix session.old.known session.new.known }
     {
         let mut clerk = self.clerk.lock(rt);

@@ -83,8 +83,8 @@ fn open_writer<J: Naming, R: Wait>(
 {
     let first = Shown::of(book, front)?;
     let second = Shown::of(book, front)?;
-    // What the maker makes of its second copy, its contract doesn't say.
-    let unsaid = Shown::of(book, front)?;
+    // What becomes of the second value that a writer is made of, its contract doesn't say.
+    let unsaid = Shown::empty(alloc, front)?;
     let readers = usize::from(sessions.max(1));
     let mut writer = BookWriter::<J>::new(alloc, first, unsaid, readers)?;
     show_copy(&mut writer, rt, second);

@@ -13,7 +13,8 @@ use crossbeam_utils::rule::{Outcome, Protocol};
 use left_right::Absorb;
 use left_right::reader::Reader;
 use left_right::writer::Writer;
-use std::alloc::AllocError;
+use std::alloc::{AllocError, Global};
+use std::convert::Infallible;
 use std::marker::PhantomData;
 use std::sync::Wait;
 
@@ -32,6 +33,14 @@ impl<J: Naming> Shown<J> {
     {
         Ok(Shown {
             book: book.copy().map_err(|_| AllocError)?,
+            front: front.again(),
+        })
+    }
+
+    /// No account, beside a list.
+    pub(crate) fn empty(alloc: Global, front: &Front<J>) -> Result<Shown<J>, AllocError> {
+        Ok(Shown {
+            book: Book::new(alloc).map_err(|_| AllocError)?,
             front: front.again(),
         })
     }
@@ -72,19 +81,21 @@ fn apply(book: &mut Book, change: &Entry)
     }
 }
 
-/// The writer's own operations, which take memory, stay unused: the copies are changed where they
-/// lie.
-impl<J: Naming> Absorb<()> for Shown<J> {
+/// There is no operation to take in, since a log of them would take memory: the copies are changed
+/// where they lie.
+impl<J: Naming> Absorb<Infallible> for Shown<J> {
     type State = ();
 
     ghost state = { λ s. tt };
 
-    ghost applied = { λ s step. s };
+    ghost applied = { λ s operation. s };
 
-    ghost never_fails = { Unit {0} };
-
-    fn absorb_first(&mut self, _operation: &(), _other: &Shown<J>) -> Result<(), AllocError> {
-        Ok(())
+    fn absorb_first(
+        &mut self,
+        operation: &Infallible,
+        _other: &Shown<J>,
+    ) -> Result<(), AllocError> {
+        match *operation {}
     }
 }
 
@@ -116,7 +127,7 @@ impl<J: Naming> Outcome<Shown<J>, ()> for Sees<J> {
 
 pub(crate) type BookReader<J> = Reader<Shown<J>, (), Published<J>>;
 
-pub(crate) type BookWriter<J> = Writer<Shown<J>, (), (), Published<J>>;
+pub(crate) type BookWriter<J> = Writer<Shown<J>, Infallible, (), Published<J>>;
 
 /// Shows readers the book with the step's entry, and its list. It waits for those that still read
 /// the copy from before, and takes no memory.

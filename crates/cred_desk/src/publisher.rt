@@ -1,8 +1,9 @@
 //! The one who changes the published book.
 
-ghost use Rattle.std.specs.Prelude.{◌≡◌, ◌++◌, ◌∷◌, [], None, IfErr, IfOk, IsOk, MatchResult};
+ghost use Rattle.std.specs.Prelude.{◌≡◌, ◌<◌, ◌^◌, ◌++◌, ◌∷◌, [], None, IfErr, IfOk, IfSome, IsOk};
+ghost use Rattle.std.specs.Prelude.{MatchResult, length};
 ghost use mathlib.Core.List.{IsPrefix};
-ghost use Rattle.cred_desk.specs.Additions.{IsRefusedBy};
+ghost use Rattle.cred_desk.specs.Changes.{IsRefusedBy};
 ghost use Rattle.cred_desk.specs.Commits.{entry_of, list_after, reply_of};
 ghost use Rattle.cred_desk.specs.Histories.{IsAllowed, IsLegal, IsListed, IsMade, after};
 
@@ -15,13 +16,14 @@ use crate::told::Told;
 use crate::writer::{EntryWriter, Unrecorded};
 use cred_book::{Book, Reply, Worked};
 use left_right::Absorb;
+use std::convert::Infallible;
 use std::marker::Model;
 use std::sync::Wait;
 
 /// Contracts see it as its list.
 pub(crate) struct Publisher<J: Naming>
 where
-    Shown<J>: Absorb<(), State = ()>,
+    Shown<J>: Absorb<Infallible, State = ()>,
 {
     writer: BookWriter<J>,
     /// The entry that the spare copy lacks.
@@ -31,7 +33,7 @@ where
 
 impl<J: Naming> Model for Publisher<J>
 where
-    Shown<J>: Absorb<(), State = ()>,
+    Shown<J>: Absorb<Infallible, State = ()>,
 {
     ghost use Rattle.std.specs.Prelude.{◌≡◌, List};
     ghost use Rattle.cred_desk.specs.declared.entry.Entry.{Entry};
@@ -86,6 +88,7 @@ impl<J: Naming> Publisher<J> {
     pub(crate) fn covers(&mut self, known: &Front<J>)
         ensures begins { IsPrefix known.now self.new }
         ensures same { self.new ≡ self.old }
+        ensures listed { IsListed J.loads J.opening self.new }
     {
         self.history.covers(known);
     }
@@ -112,6 +115,7 @@ impl<J: Naming> Publisher<J> {
         requires { IsAllowed J.loads (after J.opening self.old) entry }
         ensures done { MatchResult result (λ _. self.new ≡ self.old ++ entry ∷ [])
             (λ _. self.new ≡ self.old) }
+        ensures fits { IfOk result (λ _. length self.new < 2 ^ 64) }
         ensures asked { IfErr result (IsRefusedBy writer.old writer.new) }
         ensures kept { W.keeps writer.old self.old → W.keeps writer.new self.new }
         ensures legal { IsMade (after J.opening self.old) entry → IsLegal J.opening self.old
@@ -134,7 +138,8 @@ impl<J: Naming> Publisher<J> {
         Ok(())
     }
 
-    /// Does the whole operation, if the record is the one that was copied, and otherwise nothing.
+    /// Does the whole operation, if the record is the one that was copied, and otherwise nothing,
+    /// and gives the entry that it made.
     ///
     /// Errors: those of `publish`, if a change is due. Nothing changes then, and the work comes
     /// back.
@@ -143,10 +148,11 @@ impl<J: Naming> Publisher<J> {
         rt: &R,
         work: Worked,
         writer: &mut W,
-    ) -> Result<Reply, (Worked, Unrecorded<W::Error>)>
-        ensures reply { IfOk result (λ reply. reply ≡ reply_of (after J.opening self.old) work) }
-        ensures list { IfOk result (λ _.
-            self.new ≡ list_after self.old (entry_of (after J.opening self.old) work)) }
+    ) -> Result<(Reply, Option<Entry>), (Worked, Unrecorded<W::Error>)>
+        ensures reply { IfOk result (λ done. done.0 ≡ reply_of (after J.opening self.old) work) }
+        ensures entry { IfOk result (λ done. done.1 ≡ entry_of (after J.opening self.old) work) }
+        ensures list { IfOk result (λ done. self.new ≡ list_after self.old done.1) }
+        ensures fits { IfOk result (λ done. IfSome done.1 (λ _. length self.new < 2 ^ 64)) }
         ensures refused { IfErr result (λ e. (e.0 ≡ work) × (self.new ≡ self.old)) }
         ensures asked { IfErr result (λ e. IsRefusedBy writer.old writer.new e.1) }
         ensures plain { entry_of (after J.opening self.old) work ≡ None → IsOk result }
@@ -155,12 +161,12 @@ impl<J: Naming> Publisher<J> {
         ensures listed { IsListed J.loads J.opening self.new }
     {
         let (reply, entry) = judge(self.book(), &work);
-        if let Some(entry) = entry {
-            if let Err(error) = self.publish(rt, entry, writer) {
+        if let Some(change) = &entry {
+            if let Err(error) = self.publish(rt, *change, writer) {
                 return Err((work, error));
             }
         }
-        Ok(reply)
+        Ok((reply, entry))
     }
 
     /// Lets nobody in to the book from now on, waits for those that read it, and gives the book.

@@ -2,7 +2,7 @@
 
 ghost use Rattle.std.specs.Prelude.{◌≡◌, ◌≢◌, ◌++◌, ◌∷◌, List, [], IfErr, IfOk, IfSome, MatchBool};
 ghost use Rattle.std.specs.Prelude.{MatchResult, false, true};
-ghost use Rattle.cred_desk.specs.Additions.{IsRefusedBy};
+ghost use Rattle.cred_desk.specs.Changes.{IsRefusedBy};
 ghost use Rattle.cred_desk.specs.declared.entry.Entry.{Entry as LogEntry};
 
 use crate::entry::Entry;

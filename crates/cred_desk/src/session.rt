@@ -94,31 +94,31 @@ impl<J: Naming> Session<J> {
         &self.known
     }
 
-    /// Counts so many changes that it made.
-    pub(crate) fn count_changes(&mut self, total: &mut Total<J>, changes: u64)
-        requires { total.old.total + changes < 2 ^ 64 }
-        ensures total { total.new.total ≡ total.old.total + changes }
-        ensures count { self.new.count ≡ self.old.count + changes }
+    /// Counts a change that it made.
+    pub(crate) fn count_change(&mut self, total: &mut Total<J>)
+        requires { total.old.total + 1 < 2 ^ 64 }
+        ensures total { total.new.total ≡ total.old.total + 1 }
+        ensures count { self.new.count ≡ self.old.count + 1 }
         ensures additions { self.new.additions ≡ self.old.additions }
         ensures known { self.new.known ≡ self.old.known }
     {
-        total.add(&mut self.share, changes);
+        total.add(&mut self.share, 1);
         total.audit(&mut self.share);
-        self.settled += changes;
+        self.settled += 1;
     }
 
-    /// Counts so many entries that it added.
-    pub(crate) fn count_additions(&mut self, total: &mut Total<J>, additions: u64)
-        requires room { total.old.total + additions < 2 ^ 64 }
+    /// Counts an entry that it added.
+    pub(crate) fn count_addition(&mut self, total: &mut Total<J>)
+        requires room { total.old.total + 1 < 2 ^ 64 }
         requires loads { J.loads ≡ true }
-        ensures total { total.new.total ≡ total.old.total + additions }
+        ensures total { total.new.total ≡ total.old.total + 1 }
         ensures count { self.new.count ≡ self.old.count }
-        ensures additions { self.new.additions ≡ self.old.additions + additions }
+        ensures additions { self.new.additions ≡ self.old.additions + 1 }
         ensures known { self.new.known ≡ self.old.known }
     {
-        total.add(&mut self.share, additions);
+        total.add(&mut self.share, 1);
         total.audit(&mut self.share);
-        self.added += additions;
+        self.added += 1;
     }
 
     /// How many changes its settles made.

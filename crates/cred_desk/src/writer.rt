@@ -2,7 +2,7 @@
 
 ghost use Rattle.std.specs.Prelude.{◌≡◌};
 ghost use Rattle.cred_book.specs.declared.error.BookError.TheVariants.{Memory as memory};
-ghost use Rattle.cred_desk.specs.Additions.{refusal_of};
+ghost use Rattle.cred_desk.specs.Changes.{refusal_of};
 
 use crate::entry::Entry;
 use cred_book::{BookError, Worked};

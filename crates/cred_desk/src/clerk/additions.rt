@@ -1,11 +1,10 @@
 //! What a clerk adds for those who keep the book: names, records and deletions.
 
-ghost use Rattle.std.specs.Prelude.{◌≡◌, ◌+◌, ◌++◌, ◌∷◌, [], Err, IfErr, IfOk, MatchResult, None};
-ghost use Rattle.std.specs.Prelude.{Some, true};
+ghost use Rattle.std.specs.Prelude.{◌≡◌, ◌+◌, ◌++◌, ◌∷◌, [], Err, MatchResult, None, Some, true};
 ghost use mathlib.Core.List.{IsPrefix};
 ghost use Rattle.cred_book.specs.Calls.{Admits, Loads};
 ghost use Rattle.cred_book.specs.declared.error.BookError.TheVariants.{Memory as memory};
-ghost use Rattle.cred_desk.specs.Additions.{IsAdded, IsAt, RefusesDeletion, refusal_of};
+ghost use Rattle.cred_desk.specs.Changes.{Adds, RefusesDeletion, refusal_of};
 ghost use Rattle.cred_desk.specs.Histories.{IsAdmitted, IsAllowed, IsDeleted, IsListed, IsLoaded};
 ghost use Rattle.cred_desk.specs.Histories.{after, deletion, entry};
 ghost use Rattle.cred_desk.specs.Standing.{IsUncounted};
@@ -33,14 +32,10 @@ impl<J: Naming, W: EntryWriter> Clerk<J, W> {
         name: Name,
     ) -> Result<Told<J>, KeepError<W::Error>>
         requires { J.loads ≡ true }
-        ensures done { IfOk result (IsAdded J.loads J.opening session.old session.new
-            IsAdmitted (entry name None)) }
+        ensures done { Adds J.loads J.opening session.old session.new IsAdmitted
+            (λ book e. Admits book book name (Err e)) (entry name None) result }
         ensures list { MatchResult result (λ _. self.new ≡ self.old ++ entry name None ∷ [])
             (λ _. self.new ≡ self.old) }
-        ensures refused { IfErr result (λ e. IsAt J.loads J.opening session.old session.new
-            × Admits (after J.opening session.new.known) (after J.opening session.new.known) name
-            (Err (refusal_of e))
-            × IsUncounted session.old session.new) }
         ensures known { IsPrefix session.old.known session.new.known }
     {
         if self.publisher.book().show(&name).is_ok() {
@@ -66,14 +61,10 @@ impl<J: Naming, W: EntryWriter> Clerk<J, W> {
         stored: Record,
     ) -> Result<Told<J>, KeepError<W::Error>>
         requires { J.loads ≡ true }
-        ensures done { IfOk result (IsAdded J.loads J.opening session.old session.new
-            IsLoaded (entry name (Some stored))) }
+        ensures done { Adds J.loads J.opening session.old session.new IsLoaded
+            (λ book e. Loads book book name stored (Err e)) (entry name (Some stored)) result }
         ensures list { MatchResult result
             (λ _. self.new ≡ self.old ++ entry name (Some stored) ∷ []) (λ _. self.new ≡ self.old) }
-        ensures refused { IfErr result (λ e. IsAt J.loads J.opening session.old session.new
-            × Loads (after J.opening session.new.known) (after J.opening session.new.known) name
-            stored (Err (refusal_of e))
-            × IsUncounted session.old session.new) }
         ensures known { IsPrefix session.old.known session.new.known }
     {
         if self.publisher.book().show(&name).is_err() {
@@ -95,13 +86,10 @@ impl<J: Naming, W: EntryWriter> Clerk<J, W> {
         name: Name,
     ) -> Result<Told<J>, KeepError<W::Error>>
         requires { J.loads ≡ true }
-        ensures done { IfOk result (IsAdded J.loads J.opening session.old session.new
-            IsDeleted (deletion name)) }
+        ensures done { Adds J.loads J.opening session.old session.new IsDeleted
+            (λ book e. RefusesDeletion book name e) (deletion name) result }
         ensures list { MatchResult result (λ _. self.new ≡ self.old ++ deletion name ∷ [])
             (λ _. self.new ≡ self.old) }
-        ensures refused { IfErr result (λ e. IsAt J.loads J.opening session.old session.new
-            × RefusesDeletion (after J.opening session.new.known) name (refusal_of e)
-            × IsUncounted session.old session.new) }
         ensures known { IsPrefix session.old.known session.new.known }
     {
         if self.publisher.book().show(&name).is_err() {
@@ -136,17 +124,16 @@ impl<J: Naming, W: EntryWriter> Clerk<J, W> {
             (λ _. session.new.additions ≡ session.old.additions + 1)
             (λ _. session.new.additions ≡ session.old.additions) }
     {
-        let known = session.known();
-        self.publisher.covers(known);
-        let before = self.publisher.front().len();
-        let added = self.publisher.publish(rt, entry, &mut self.recorder);
-        let additions = self.publisher.front().len() - before;
-        session.count_additions(&mut self.total, additions);
-        let told = self.publisher.told();
-        session.learn(&told);
-        match added {
-            Ok(()) => Ok(told),
-            Err(error) => Err(refusal(error)),
+        self.publisher.covers(session.known());
+        match self.publisher.publish(rt, entry, &mut self.recorder) {
+            Ok(()) => {
+                session.count_addition(&mut self.total);
+                Ok(self.tell(session))
+            }
+            Err(error) => {
+                self.tell(session);
+                Err(refusal(error))
+            }
         }
     }
 

@@ -1,6 +1,7 @@
--- What a desk does for sessions that add entries of their own: admissions, loads and deletions; and
--- what it answers if a writer may refuse an entry.
+-- What a desk does for a session that settles work or adds an entry of its own (an admission, a load
+-- or a deletion), and what it answers if a writer may refuse the entry.
 use Rattle.std.specs.Prelude.{◌≡◌, ◌≢◌, ◌+◌, ℕ, Bool, true, false, List, ◌∷◌, [], ◌++◌, None}
+use Rattle.std.specs.Prelude.{Result, Ok, Err}
 use mathlib.Core.List.{IsPrefix}
 use Rattle.std.specs.FinMap as map
 use Rattle.cred_book.specs.Accounts.{Accounts}
@@ -31,33 +32,37 @@ IsRefusedBy old new (unrecorded.Writer e) = Unit {0}
 abbrev pub IsAt : Bool → Accounts → Standing → Standing → Type 0
 IsAt loads opening old new = IsListed loads opening new.known × IsPrefix old.known new.known
 
--- a settle is a commit at a list that begins with the known one, and is counted if it is a change
-abbrev pub IsSettled : Bool → Accounts → Standing → Standing → Task → Reply × List Entry → Type 0
-IsSettled loads opening old new work answer =
+-- a settle is a commit at a list that begins with the known one, and is counted if it is a change.
+-- If a change that was due there is refused, the session knows that list, and nothing is counted
+abbrev pub Settles : {E : Type 0} → Bool → Accounts → Standing → Standing → Task
+    → Result (Reply × List Entry) E → Type 0
+Settles loads opening old new work (Ok answer) =
     (list : List Entry) × IsListed loads opening list × IsPrefix old.known list
     × (answer.0 ≡ reply_of (after opening list) work)
     × (answer.1 ≡ list_after list (entry_of (after opening list) work))
     × (new.known ≡ answer.1)
     × (new.count ≡ old.count + weight (entry_of (after opening list) work))
     × (new.additions ≡ old.additions)
-
--- a change was due at the list that the session knows now
-abbrev pub IsUnsettled : Bool → Accounts → Standing → Standing → Task → Type 0
-IsUnsettled loads opening old new work =
+Settles loads opening old new work (Err e) =
     IsAt loads opening old new × (entry_of (after opening new.known) work ≢ None)
     × IsUncounted old new
 
--- an entry was added, at a list that begins with the known one and at which it may be, and no other
--- one: the session counts one
-abbrev pub IsAdded : Bool → Accounts → Standing → Standing → (Accounts → Entry → Type 0) → Entry
-    → List Entry → Type 0
-IsAdded loads opening old new may entry told =
+-- an entry is added at a list that begins with the known one, if it may be there, and no other one:
+-- the session counts one. If it is refused, for what may be said of the book then, the session
+-- knows that list, and nothing is counted
+abbrev pub Adds : {E : Type 0} → Bool → Accounts → Standing → Standing
+    → (Accounts → Entry → Type 0) → (Accounts → BookError → Type 0) → Entry
+    → Result (List Entry) (KeepError E) → Type 0
+Adds loads opening old new may refuses entry (Ok told) =
     (list : List Entry) × IsListed loads opening list × IsPrefix old.known list
     × may (after opening list) entry
     × (told ≡ list ++ entry ∷ [])
     × (new.known ≡ told)
     × (new.count ≡ old.count)
     × (new.additions ≡ old.additions + 1)
+Adds loads opening old new may refuses entry (Err e) =
+    IsAt loads opening old new × refuses (after opening new.known) (refusal_of e)
+    × IsUncounted old new
 
 -- why a name isn't taken away: it isn't there; memory runs out only if it is
 abbrev pub RefusesDeletion : Accounts → List ℕ → BookError → Type 0

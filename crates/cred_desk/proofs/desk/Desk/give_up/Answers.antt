@@ -1,7 +1,0 @@
-use Rattle.std.proofs.Common.{List, get_or, subst, sym}
-use mathlib.Core.List.{IsPrefix}
-use Rattle.cred_desk.specs.declared.entry.Entry.{Entry}
-use Rattle.cred_desk.proofs.desk.Desk.give_up.Goals as goal
-
-pub returns-clause-known : goal.returns-clause-known
-returns-clause-known g c = λ k s lt. subst (λ (l : List Entry). IsPrefix (get_or c.args.sessions.now k s).known l) (sym c.give_up-remains.ensures.journal) (c.cover.ensures.known k s lt)
