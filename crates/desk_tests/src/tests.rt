@@ -8,6 +8,7 @@ mod kept;
 mod lasting;
 mod lost;
 mod refused;
+mod refused_names;
 mod scene;
 mod settling;
 mod threads;
