@@ -14,7 +14,6 @@ use left_right::Absorb;
 use left_right::reader::Reader;
 use left_right::writer::Writer;
 use std::alloc::{AllocError, Global};
-use std::convert::Infallible;
 use std::marker::PhantomData;
 use std::sync::Wait;
 
@@ -81,21 +80,20 @@ fn apply(book: &mut Book, change: &Entry)
     }
 }
 
-/// There is no operation to take in, since a log of them would take memory: the copies are changed
-/// where they lie.
-impl<J: Naming> Absorb<Infallible> for Shown<J> {
+/// Takes in an entry. The writer's log of entries would take memory, so it stays empty: the copies
+/// are changed where they lie.
+impl<J: Naming> Absorb<Entry> for Shown<J> {
     type State = ();
 
     ghost state = { λ s. tt };
 
-    ghost applied = { λ s operation. s };
+    ghost applied = { λ s change. s };
 
-    fn absorb_first(
-        &mut self,
-        operation: &Infallible,
-        _other: &Shown<J>,
-    ) -> Result<(), AllocError> {
-        match *operation {}
+    ghost never_fails = { Unit {0} };
+
+    fn absorb_first(&mut self, change: &Entry, _other: &Shown<J>) -> Result<(), AllocError> {
+        apply(&mut self.book, change);
+        Ok(())
     }
 }
 
@@ -127,7 +125,7 @@ impl<J: Naming> Outcome<Shown<J>, ()> for Sees<J> {
 
 pub(crate) type BookReader<J> = Reader<Shown<J>, (), Published<J>>;
 
-pub(crate) type BookWriter<J> = Writer<Shown<J>, Infallible, (), Published<J>>;
+pub(crate) type BookWriter<J> = Writer<Shown<J>, Entry, (), Published<J>>;
 
 /// Shows readers the book with the step's entry, and its list. It waits for those that still read
 /// the copy from before, and takes no memory.

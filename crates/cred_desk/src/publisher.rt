@@ -16,14 +16,13 @@ use crate::told::Told;
 use crate::writer::{EntryWriter, Unrecorded};
 use cred_book::{Book, Reply, Worked};
 use left_right::Absorb;
-use std::convert::Infallible;
 use std::marker::Model;
 use std::sync::Wait;
 
 /// Contracts see it as its list.
 pub(crate) struct Publisher<J: Naming>
 where
-    Shown<J>: Absorb<Infallible, State = ()>,
+    Shown<J>: Absorb<Entry, State = ()>,
 {
     writer: BookWriter<J>,
     /// The entry that the spare copy lacks.
@@ -33,7 +32,7 @@ where
 
 impl<J: Naming> Model for Publisher<J>
 where
-    Shown<J>: Absorb<Infallible, State = ()>,
+    Shown<J>: Absorb<Entry, State = ()>,
 {
     ghost use Rattle.std.specs.Prelude.{◌≡◌, List};
     ghost use Rattle.cred_desk.specs.declared.entry.Entry.{Entry};
