@@ -5,6 +5,7 @@ mod closing;
 mod committing;
 mod deleting;
 mod kept;
+mod kept_scene;
 mod lasting;
 mod lost;
 mod refused;

@@ -1,24 +1,16 @@
 //! A kept desk at which names are taken away, beside all other kinds of change, and the desk that
 //! is opened on what it kept.
-ghost use Rattle.std.specs.Prelude.{◌≡◌, [], true};
-ghost use Rattle.cred_desk.specs.Naming.{IsNamed, StartsAt};
 
-use super::kept::{Log, LogFull};
-use super::scene::{Answer, begin, close, worked};
+use super::kept_scene::{DONE, FULL, LOG_FULL, Log, NO_ACCOUNT, Step, judge, replied, serve};
+use super::scene::Answer;
 use super::{
     NONE_STANDS, ONE_STANDS, book_of, change, deletion, enrol, entry, name, remove, stored,
     upgrade, verify,
 };
-use cred_book::{Book, BookError, Name, Reply, Request, Ticket};
-use cred_desk::{
-    AccountState, DeskError, Entry, KeepError, Kept, KeptDesk, Naming, Opened, Session,
-};
-use cred_phc::Record;
+use cred_book::{Book, Reply};
+use cred_desk::{AccountState, DeskError};
 use std::alloc::Global;
-use std::marker::Brand;
 use std::process::Abort;
-use std::sync::Wait;
-use std::thread::Threads;
 use test_samples::{A, A_SETTING, B, B_SETTING};
 
 /// The record of `drowssap` under `A_SETTING`, by the reference program of Argon2.
@@ -27,157 +19,6 @@ const C: &str =
 
 /// How many names a book has room for.
 const MOST_ACCOUNTS: usize = 4096;
-
-/// What the session does.
-#[derive(Clone, Copy)]
-enum Step {
-    Admit(Name),
-    Load(Name, Record),
-    Delete(Name),
-    /// Begins a request, and holds the ticket.
-    Begin(Request),
-    /// Works the ticket and settles it.
-    Settle,
-    /// Works the ticket and closes it, as a verify.
-    Close,
-}
-
-/// What it is answered.
-type Outcome = Result<Answer, KeepError<LogFull>>;
-
-/// A step, and what is to be answered.
-type Line = (Step, Outcome);
-
-/// The place of a line that was answered otherwise, and how.
-type Slip = (usize, Outcome);
-
-const DONE: Outcome = Ok(Answer::Done);
-
-const NO_ACCOUNT: Outcome = Err(KeepError::Book(BookError::NoAccount));
-
-const FULL: Outcome = Err(KeepError::Book(BookError::Full));
-
-fn replied(reply: Reply) -> Outcome {
-    Ok(Answer::Replied(reply))
-}
-
-fn take<J: Naming, R: Threads + Wait + Sync>(
-    rt: &R,
-    alloc: Global,
-    desk: &KeptDesk<J, Log>,
-    session: &mut Session<J>,
-    open: &mut Option<Ticket>,
-    step: Step,
-) -> Outcome
-    requires { J.loads ≡ true }
-{
-    match step {
-        Step::Admit(name) => desk.admit(rt, session, name).map(|_| Answer::Done),
-        Step::Load(name, record) => desk.load(rt, session, name, record).map(|_| Answer::Done),
-        Step::Delete(name) => desk.delete(rt, session, name).map(|_| Answer::Done),
-        Step::Begin(request) => Ok(begin(session, open, request)),
-        Step::Settle => settle(rt, alloc, desk, session, open),
-        Step::Close => match worked(rt, alloc, open) {
-            Some(work) => Ok(close(session, work)),
-            None => Ok(Answer::Failed),
-        },
-    }
-}
-
-fn settle<J: Naming, R: Threads + Wait + Sync>(
-    rt: &R,
-    alloc: Global,
-    desk: &KeptDesk<J, Log>,
-    session: &mut Session<J>,
-    open: &mut Option<Ticket>,
-) -> Outcome {
-    let Some(work) = worked(rt, alloc, open) else {
-        return Ok(Answer::Failed);
-    };
-    match desk.settle(rt, session, work) {
-        Ok((reply, _told)) => Ok(Answer::Replied(reply)),
-        Err(unsettled) => {
-            let (_work, error) = unsettled.into_parts();
-            Err(error)
-        }
-    }
-}
-
-/// Takes the steps, up to one that is answered otherwise.
-fn take_all<J: Naming, R: Threads + Wait + Sync>(
-    rt: &R,
-    alloc: Global,
-    desk: &KeptDesk<J, Log>,
-    session: &mut Session<J>,
-    lines: &[Line],
-) -> Option<Slip>
-    requires { J.loads ≡ true }
-{
-    let mut open = None;
-    for (line, (step, want)) in lines.iter().enumerate() {
-        let outcome = take(rt, alloc, desk, session, &mut open, *step);
-        if outcome != *want {
-            return Some((line, outcome));
-        }
-    }
-    None
-}
-
-/// A desk with one session, which takes the steps and is closed.
-fn serve_named<J: Naming, R: Threads + Wait + Sync>(
-    rt: &R,
-    alloc: Global,
-    opened: Opened,
-    book: &Book,
-    log: Log,
-    lines: &[Line],
-) -> Option<(Kept<Log>, Option<Slip>)>
-    requires name { IsNamed J.Naming opened }
-    requires opening { StartsAt J.Naming book.now 1 }
-    requires loads { J.loads ≡ true }
-    requires empty { log.entries.items ≡ [] }
-{
-    let made = KeptDesk::<J, Log>::new(rt, alloc, opened, book, 1, log);
-    let (desk, mut sessions) = made.ok()?;
-    let slip = match sessions.first_mut() {
-        Some(session) => take_all(rt, alloc, &desk, session, lines),
-        None => None,
-    };
-    match desk.close(rt, sessions) {
-        Ok(kept) => Some((kept, slip)),
-        Err((desk, back, _)) => {
-            let _remains = desk.give_up(rt, &back);
-            None
-        }
-    }
-}
-
-/// What is left of a desk on this book, whose log has room for so many entries. All steps are
-/// answered as they are to be.
-fn serve<R: Threads + Wait + Abort + Sync>(
-    rt: &R,
-    alloc: Global,
-    book: &Book,
-    room: usize,
-    lines: &[Line],
-) -> Kept<Log> {
-    let log = Log {
-        entries: Vec::new(alloc),
-        room,
-    };
-    let served = serve_named::<Brand, R>(rt, alloc, Opened::new(1), book, log, lines);
-    let (kept, slip) = served.expect(rt, "a desk");
-    assert_eq!(rt; slip, None);
-    kept
-}
-
-/// The desk left this journal, which its log keeps, and counted so many changes and additions.
-fn judge<R: Abort>(rt: &R, kept: &Kept<Log>, journal: &[Entry], changes: u64, additions: u64) {
-    assert_eq!(rt; kept.closed.journal.as_slice(), journal);
-    assert_eq!(rt; kept.writer.entries.as_slice(), journal);
-    assert_eq!(rt; kept.closed.counts.as_slice(), [changes].as_slice());
-    assert_eq!(rt; kept.additions.as_slice(), [additions].as_slice());
-}
 
 /// The book with all entries that a log keeps.
 fn replayed<R: Abort>(rt: &R, book: &Book, log: &Log) -> Book {
@@ -301,10 +142,7 @@ fn tickets_of_a_deleted_name(rt: HostRuntime) {
 fn deletion_in_a_full_log(rt: HostRuntime) {
     let book = book_of(&rt, rt.alloc(), ONE_STANDS).expect(&rt, "a book");
     let lines = [
-        (
-            Step::Delete(name(&rt, "a")),
-            Err(KeepError::Writer(LogFull)),
-        ),
+        (Step::Delete(name(&rt, "a")), LOG_FULL),
         (Step::Delete(name(&rt, "c")), NO_ACCOUNT),
         (Step::Begin(verify(&rt, "a")), DONE),
         (Step::Close, replied(Reply::Yes)),

@@ -3,7 +3,7 @@
 ghost use Rattle.std.specs.Prelude.{◌≡◌, [], true};
 ghost use Rattle.cred_desk.specs.Naming.{IsNamed, StartsAt};
 
-use super::kept::Log;
+use super::kept_scene::Log;
 use super::{NONE_STANDS, book_of, deletion, entry, name, stored};
 use cred_book::{Book, Name};
 use cred_desk::{Kept, KeptDesk, Naming, Opened, Session};
