@@ -21,6 +21,8 @@ SOURCES := $(shell find crates -name out -prune -o \( -name '*.rt' -o -name '*.a
 
 .PHONY: build library test bench interop install uninstall
 .DELETE_ON_ERROR:
+# Each of these works on crates side by side, and no two may work on the same ones.
+.NOTPARALLEL:
 
 build: $(BUILT) library
 
@@ -28,7 +30,7 @@ build: $(BUILT) library
 define PROGRAM_RULE
 crates/$(1)/out/$(1): $$(SOURCES)
 	rm -f $$@
-	-cd crates/$(1) && $$(RT) run -- --help > /dev/null
+	-RT='$$(RT)' $$(PYTHON) tools/build.py $(1) -- --help > /dev/null
 	test -x $$@
 endef
 $(foreach name,$(PROGRAMS),$(eval $(call PROGRAM_RULE,$(name))))

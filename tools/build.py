@@ -6,7 +6,7 @@
 It prints a line on standard error for each library below the program, with the seconds that it took; what the program prints is all
 that comes on standard output, and its status is the script's. A library that is built already is taken as it is, if its sources are
 unchanged. `rt run` alone does the same in more time: one rt at a time may work above a library, so libraries that don't use
-each other are worked here in two copies of the sources, and what was proved is copied back.
+each other are worked here in two copies of the sources, and what was proved is copied back. RT names another rt.
 """
 
 import concurrent.futures
@@ -21,6 +21,7 @@ import time
 
 TOP = pathlib.Path(__file__).resolve().parent.parent
 AT_ONCE = 2
+RT = os.environ.get("RT", "rt")
 
 
 def crates():
@@ -77,7 +78,7 @@ def build(name, below, copies, alone):
     try:
         for it in below:
             bring(it, TOP, copy)
-        words = ["rt", "lib"] if alone else ["rt", "lib", "--jobs", "2"]
+        words = [RT, "lib"] if alone else [RT, "lib", "--jobs", "2"]
         done = subprocess.run(words, cwd=copy / "crates" / name, capture_output=True, text=True)
         if done.returncode:
             raise SystemExit(f"{name}: not proved\n{(done.stdout + done.stderr)[-4000:]}")
@@ -116,7 +117,7 @@ def main():
         raise SystemExit(__doc__)
     build_all(libraries_below(program, named), named)
     os.chdir(TOP / "crates" / program)
-    os.execvp("rt", ["rt", "run", "--", *theirs])
+    os.execvp(RT, [RT, "run", "--", *theirs])
 
 
 if __name__ == "__main__":
