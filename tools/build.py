@@ -6,7 +6,7 @@
 It prints a line on standard error for each library below the program, with the seconds that it took; what the program prints is all
 that comes on standard output, and its status is the script's. A library that is built already is taken as it is, if its sources are
 unchanged. `rt run` alone does the same in more time: one rt at a time may work above a library, so libraries that don't use
-each other are worked here in two copies of the sources, and what was proved is copied back. RT names another rt.
+each other are worked here in two copies of the sources, and what was proved is copied back. The variable RT names another rt.
 """
 
 import concurrent.futures
