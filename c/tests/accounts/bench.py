@@ -1,13 +1,14 @@
 """Operations a second on private servers, beside a plain UPDATE with no comparison.
 
-    PYTHONPATH=c/python python3 c/tests/accounts/bench.py [sqlite] [postgres] [mariadb] [galera] [--seconds 3] [--processes 1,4,8,16]
+    PYTHONPATH=c/python python3 c/tests/accounts/bench.py [sqlite] [postgres] [mariadb] [galera] [--seconds 10] [--turns 10] [--processes 1,4,8,16]
 
-Prints the tables of docs/SCALE.md in Markdown, in some eight minutes for all engines:
+Prints the tables of docs/SCALE.md in Markdown, in some half an hour for all engines:
 operations a second under costs that are next to nothing (64 KiB), so that what is seen
 is the database; the statements of an operation, with the time of each; and the
 database's share of an operation under 64 MiB. A thousand accounts, a connection for
-each process. The rows of a table take turns, three times each, so that what else the
-machine does is in all of them.
+each process. The rows of a table take turns, ten times each, so that what else the
+machine does is in all of them. "change in a transaction" is a change as of an engine
+that has no statement for all of it.
 """
 
 import argparse
@@ -24,11 +25,11 @@ from rigzumal.accounts import Accounts, PerThread, _accounts
 from rigzumal.accounts.database import Database
 
 COUNT = 1000
-TURNS = 3
 CHEAP = PasswordHasher(time_cost=1, memory_cost=64, parallelism=1)
 DEAR = PasswordHasher(time_cost=3, memory_cost=65536, parallelism=1)
 CHANGE, PLAIN, BRACED = "change", "plain UPDATE", "plain UPDATE in BEGIN, COMMIT"
-ROWS = ("hash", "verify", "login 95, change 5", CHANGE, PLAIN, BRACED)
+SEVERAL = "change in a transaction"
+ROWS = ("hash", "verify", "login 95, change 5", CHANGE, SEVERAL, PLAIN, BRACED)
 
 
 def connect(url, number=0):
@@ -48,6 +49,9 @@ class Load:
         self.pool = PerThread(lambda: connect(url, number))
         self.dialect = Database(url).dialect("bench", "name", "record", str)
         self.accounts = Accounts(self.pool, self.dialect, CHEAP, patience=30, tries=50)
+        several = Database(url).dialect("bench", "name", "record", str)
+        several.at_once = ""
+        self.several = Accounts(self.pool, several, CHEAP, patience=30, tries=50)
         self.record = CHEAP.hash("pw")
         self.plain = self.dialect.update.partition(" AND ")[0]
 
@@ -61,6 +65,8 @@ class Load:
             self.accounts.verify(self.name(), "pw")
         elif row in (PLAIN, BRACED):
             self.update(self.name(), row == BRACED)
+        elif row == SEVERAL:
+            self.several.change(self.name(), "pw", "pw")
         elif row == CHANGE or self.rng.random() < 0.05:
             self.accounts.change(self.name(), "pw", "pw")
         else:
@@ -115,15 +121,15 @@ def measured(url, row, processes, seconds):
     return sum(map(float, found))
 
 
-def table(engine, url, counts, seconds):
+def table(engine, url, counts, seconds, turns):
     """The rows of an engine, and what a change has of a plain UPDATE's throughput."""
     print(f"\n| {engine} |", " | ".join(f"{it}" for it in counts), "|")
     print("|---|" + "---|" * len(counts))
     figures = {(row, count): [] for row in ROWS for count in counts}
     for count in counts:
-        for _ in range(TURNS):
+        for _ in range(turns):
             for row in ROWS:
-                found = measured(url, row, count, seconds / TURNS)
+                found = measured(url, row, count, seconds / turns)
                 figures[row, count].append(found)
     middle = {it: statistics.median(found) for it, found in figures.items()}
     for row in ROWS:
@@ -255,7 +261,8 @@ def url_of(engine):
 def main():
     words = argparse.ArgumentParser()
     words.add_argument("engines", nargs="*")
-    words.add_argument("--seconds", type=float, default=3.0)
+    words.add_argument("--seconds", type=float, default=10.0)
+    words.add_argument("--turns", type=int, default=10)
     words.add_argument("--processes", default="1,4,8,16")
     given = words.parse_args()
     counts = [int(it) for it in given.processes.split(",")]
@@ -267,7 +274,7 @@ def main():
             print(f"{engine} is skipped: {reason}", file=sys.stderr)
             continue
         fill(url)
-        table(engine, url, counts, given.seconds)
+        table(engine, url, counts, given.seconds, given.turns)
         ends.append(f"| {engine} | {statements(url)} | {share(url)} |")
     print("\n| Engine | Statements, with ms | The database's share under 64 MiB |")
     print("|---|---|---|", *ends, sep="\n")

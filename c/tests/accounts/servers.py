@@ -257,6 +257,7 @@ class MariaServer(Server):
     """One server of MariaDB, or one node of a Galera cluster."""
 
     user = "mysql"
+    has_binary_log = True
 
     def __init__(self, name, cluster=None):
         for program in ("mariadbd", "mariadb-install-db"):
@@ -270,8 +271,13 @@ class MariaServer(Server):
         ROOM.chmod(0o777)
         self.port = free_port(8)
         self.cluster = cluster
+        # Servers that are made at a time would take each other's files in /tmp.
+        self.temporary = ROOM / f"{name}.tmp"
+        self.temporary.mkdir()
+        self.temporary.chmod(0o777)
         self.run(
             *("mariadb-install-db", "--no-defaults", f"--datadir={self.folder}"),
+            f"--tmpdir={self.temporary}",
             *("--auth-root-authentication-method=normal", "--skip-test-db"),
         )
         self.file = ROOM / f"{name}.cnf"
@@ -284,6 +290,7 @@ class MariaServer(Server):
         lines = [
             "[mysqld]",
             f"datadir={self.folder}",
+            f"tmpdir={self.temporary}",
             f"socket={self.folder}.sock",
             f"pid-file={self.folder}.pid",
             f"port={self.port}",
@@ -295,6 +302,10 @@ class MariaServer(Server):
             "skip-name-resolve",
             "max_connections=100",
         ]
+        if self.has_binary_log and not self.cluster:
+            # What is read is on the disk then: docs/SCALE.md.
+            lines += ["log_bin=binlog", "sync_binlog=1", "server_id=1"]
+            lines += ["log_bin_trust_function_creators=1"]
         if self.cluster:
             base = self.port + 1
             nodes = ",".join(f"127.0.0.1:{it.port + 1}" for it in self.cluster)

@@ -64,11 +64,6 @@ def some_order(account):
     """Whether there is a legal order, by trying them all."""
     todo = [it for it in account.operations if it.reply not in ("failed", "changed")]
     todo = [it for it in todo if it.reply or it.attempts]
-    # What an attempt was to replace had been read, so it stood, if anybody put it.
-    attempts = [attempt for it in todo for attempt in it.attempts]
-    answered = [it for it in todo if it.reply]
-    put = {it.after for it in (account.seed, *answered, *attempts)}
-    looked = ({attempt.before for attempt in attempts} & put) - {None}
     seen = set()
 
     def go(state, stood, left):
@@ -77,8 +72,7 @@ def some_order(account):
         seen.add((state, stood, left))
         ops = [it for it in todo if it.id in left]
         if not any(it.reply for it in ops) and state[0] == account.end.before:
-            if looked <= stood:
-                return True
+            return True
         bound = min((it.answered for it in ops if it.reply), default=math.inf)
         for it in ops:
             if it.called > bound:
@@ -168,7 +162,7 @@ def bend(rng, account):
     op, other = rng.choice(account.operations), rng.choice(account.operations)
     records = [None, *(f"r{number}" for number in range(8))]
     put = {it.after for it in account.operations if it is not op} - {None}
-    how = rng.randrange(9)
+    how = rng.randrange(11)
     if how == 0:
         shift = rng.randint(-12, 12)
         op.called, op.answered = op.called + shift, op.answered + shift
@@ -182,7 +176,8 @@ def bend(rng, account):
         op.called, other.called = other.called, op.called
         op.answered, other.answered = other.answered, op.answered
     elif how == 5:
-        account.end.before = account.end.after = rng.choice(records)
+        tries = [it.attempts[-1].after for it in account.operations if it.attempts]
+        account.end.before = account.end.after = rng.choice(records + tries)
     elif how == 6:
         op.password = "one" if op.password == "two" else "two"
     elif how == 8:
@@ -194,10 +189,30 @@ def bend(rng, account):
         stood = None if kind == "enrol" else rng.choice(records)
         never.attempts = [Attempt(stood, put, reply)]
         account.operations.append(never)
+    elif how >= 9:
+        add_lost_ones(rng, account, rng.choice(records))
     elif how == 7 and op.makes_change and op.reply:
         record = rng.choice(records)
         if record not in tried(account, op):
             op.after = record
+
+
+def add_lost_ones(rng, account, record):
+    """Some without answers, one at what the one before was to put; a way out at times."""
+    for _ in range(rng.randint(1, 3)):
+        kind = rng.choice(["change", "change", "remove"])
+        word = rng.choice(["one", "one", "two"])
+        called = float(rng.randint(-9, 40))
+        lost = Operation(f"l{rng.random()}", kind, word, called, "one", 1)
+        put = lost.id if kind == "change" else None
+        reply = "replaced" if put else "removed"
+        lost.attempts = [Attempt(record, put, reply)]
+        account.operations.append(lost)
+        record = put or record
+    if rng.random() < 0.5:
+        last = rng.choice(account.operations)
+        if last.makes_change and last.reply == "removed":
+            account.operations.remove(last)
 
 
 def tried(account, op):
@@ -229,8 +244,8 @@ class Small(unittest.TestCase):
                         history.conflict(rest), f"history {number}: {shown}"
                     )
         self.assertGreater(found[True], HISTORIES // 4)
-        self.assertGreater(found[False], HISTORIES // 4)
-        self.assertGreater(found["part"], HISTORIES // 8)
+        self.assertGreater(found[False], HISTORIES // 5)
+        self.assertGreater(found["part"], HISTORIES // 10)
         print(dict(found))
 
     def test_a_part_is_refused_exactly_if_it_has_no_order(self):
@@ -305,6 +320,73 @@ class Said(unittest.TestCase):
                 self.assertEqual((op.reply, op.after), ("replaced", "second"))
             else:
                 self.refused(account)
+
+    def lost(self, name, kind, called, before, after):
+        op = operation(name, kind, called, math.inf, None, None, None, "one", "one")
+        reply = "replaced" if after else "removed"
+        op.attempts = [Attempt(before, after, reply)]
+        return op
+
+    def test_what_was_tried_is_no_evidence(self):
+        """A record that a crash has taken may have been read, and nobody was told."""
+        ops = [
+            self.lost("a", "change", 1, "x", "y"),
+            self.lost("b", "change", 2, "y", "z"),
+            operation("c", "change", 10, 11, "replaced", "x", "w", "one", "one"),
+        ]
+        history.check(Account(seed("x"), end("w"), ops))
+        self.assertEqual([it.found_out for it in ops], [False] * 3)
+        told = operation("d", "verify", 3, 4, "yes", "z", "z")
+        said = self.refused(Account(seed("x"), end("w"), [*ops, told]))
+        self.assertIn("both replaced x", str(said))
+
+    def test_what_was_told_of_wants_all_before_it(self):
+        ops = [
+            self.lost("a", "change", 1, "x", "y"),
+            self.lost("b", "change", 2, "y", "z"),
+            operation("c", "verify", 10, 11, "yes", "z", "z"),
+        ]
+        history.check(Account(seed("x"), end("z"), ops))
+        self.assertEqual([it.found_out for it in ops], [True, True, False])
+
+    def test_a_way_out_over_what_nobody_saw(self):
+        ops = [
+            self.lost("a", "change", 1, "x", "y"),
+            self.lost("b", "remove", 2, "y", None),
+            operation("c", "verify", 10, 11, "absent", None, None),
+        ]
+        history.check(Account(seed("x"), end(None), ops))
+        self.assertEqual([it.found_out for it in ops], [True, True, False])
+        said = self.refused(Account(seed("x"), end(None), ops[::2]))
+        self.assertIn("gone", str(said))
+
+    def test_of_several_ways_out_the_one_that_ends_first(self):
+        for late in (False, True):
+            ops = [
+                self.lost("a", "remove", 30, "x", None),
+                self.lost("b", "change", 1, "x", "y"),
+                self.lost("c", "remove", 30 if late else 2, "y", None),
+                operation("d", "enrol", 10, 11, "enrolled", None, "w"),
+            ]
+            account = Account(seed("x"), end("w"), ops)
+            if late:
+                self.refused(account)
+                continue
+            history.check(account)
+            self.assertEqual({it.id for it in ops if it.found_out}, {"b", "c"})
+        ops = [
+            self.lost("a", "remove", 20, "x", None),
+            self.lost("b", "change", 30, "x", "y"),
+            self.lost("c", "remove", 2, "y", None),
+            operation("d", "enrol", 22, 23, "enrolled", None, "w"),
+        ]
+        history.check(Account(seed("x"), end("w"), ops))
+        self.assertEqual({it.id for it in ops if it.found_out}, {"a"})
+
+    def test_no_way_out_by_a_wrong_password(self):
+        ops = [self.lost("a", "remove", 1, "x", None)]
+        ops[0].password = "two"
+        self.assertIn("gone", str(self.refused(Account(seed("x"), end(None), ops))))
 
     def test_a_moment_at_an_edge(self):
         """An answer and a call at one time may come in either order."""
@@ -464,10 +546,11 @@ class Logs(unittest.TestCase):
             with open(path, "w") as file:
                 file.write("\n".join(lines[:3]) + "\n")
             self.assertEqual(logs.main([path]), 1)
-            with open(path, "w") as file:
-                file.write("\n".join(lines[1:]) + "\n")
-            with self.assertRaises(ValueError):
-                logs.read([path])
+            for some in (lines[1:], lines[1:2], lines[:1]):
+                with open(path, "w") as file:
+                    file.write("\n".join(some) + "\n")
+                with self.assertRaises(ValueError):
+                    logs.read([path])
 
 
 if __name__ == "__main__":

@@ -3,15 +3,15 @@
 from __future__ import annotations
 
 import time
-from collections.abc import Iterable, Mapping
+from collections.abc import Callable, Iterable, Mapping
 from typing import Any, Optional, TypeVar
 
 from rigzumal._library import Secret
 from rigzumal.accounts._judgement import Foreign, Hasher, Judge
-from rigzumal.accounts._method import Method, OnConnection, Pause, Plan, Source, Step
-from rigzumal.accounts._method import Work
+from rigzumal.accounts._method import Method
+from rigzumal.accounts._plans import Pause, Plan, Source, Step, Work
 from rigzumal.accounts._values import Answer, Key, Kind, Reply, Request, Ticket, Worked
-from rigzumal.accounts._jobs import Job, Result, Statement
+from rigzumal.accounts._jobs import Ending, Job, Result, Statement
 from rigzumal.accounts.dialects import Dialect
 from rigzumal.accounts.pools import Pool
 
@@ -30,7 +30,10 @@ class Accounts:
     to stand or fall together takes the three parts: `begin`, `work` and `commit_in`.
 
     Args:
-        pool: called for a context manager of a connection to the primary.
+        pool: called for a context manager of a connection to the primary. After any
+            exception, an interrupt or a cancelled task too (BaseException), it closes
+            the connection or rolls it back before it gives it out again. What it raises
+            of its own on the way back is dropped, since the job has ended by then.
         dialect: of the database, with the names of the table and its columns.
         hasher: PasswordHasher or ScryptHasher: the costs of new records. Its tags have
             32 bytes, and it has no secret. An operation hashes on its own thread alone,
@@ -43,6 +46,10 @@ class Accounts:
             1 or more.
         patience: for how many seconds a lost connection is made anew, a busy server
             asked again, and a lost answer looked for; 0 or more.
+        confirm: an answer that makes no change, such as a verify's, is confirmed by
+            writing the record over itself: its COMMIT comes after what was read, to
+            the disk and to a standby. It is for servers that show a change before it is
+            safe (MariaDB without a binary log), and costs a login what a change costs.
 
     Raises:
         ValueError: a number or the hasher won't do.
@@ -72,10 +79,11 @@ class Accounts:
         upgrade_from: Iterable[str] = (),
         tries: int = 8,
         patience: float = 10.0,
+        confirm: bool = False,
     ) -> None:
         self._pools = {Source.PRIMARY: pool, Source.COPIES: replica or pool}
         self._judge = Judge(hasher, foreign, upgrade_from)
-        self._method = Method(dialect, tries, patience)
+        self._method = Method(dialect, tries, patience, confirm)
 
     def enrol(self, key: Key, password: Secret) -> Reply:
         """ENROLLED; EXISTS if the account has a record; NO_ACCOUNT."""
@@ -139,25 +147,33 @@ class Accounts:
         with a synchronous standby is a COMMIT without a warning. After CHANGED, and
         after any exception, the caller rolls back and tries again from its BEGIN. What
         makes no change is read with a lock, so that it stands until the end: a session
-        that is put beside it doesn't outlive a later change. SQLite's begins by BEGIN
-        IMMEDIATE.
+        that is put beside it doesn't outlive a later change that ends all sessions.
+
+        SQLite's transaction begins by BEGIN IMMEDIATE. PostgreSQL's is READ COMMITTED,
+        or SERIALIZABLE if all that touch these rows are. MariaDB's is of any level but
+        READ UNCOMMITTED.
 
         Raises:
-            StoreFault: no transaction is open on the connection, or the table won't do.
+            StoreFault: no transaction is open on the connection, it is of PostgreSQL's
+                REPEATABLE READ, or the table won't do.
             Exception: whatever the driver raises.
         """
-        self._method.dialect.check_key(worked.ticket.request.key)
-        self._method.dialect.within(conn)
-        return on_connection(conn, self._method.compare(worked))
+        return on_connection(conn, self._method.commit_in(conn, worked))
 
     def examine(self) -> list[str]:
         """What is wrong with the table and the server, in words; empty if nothing.
 
+        It puts a record into a row of its own, or if there can be none into one of the
+        table's, in a transaction that it rolls back.
+
         Raises:
+            StoreFault: the connection isn't in autocommit, or has a transaction open.
             Exception: whatever the driver raises.
         """
-        with self._pools[Source.PRIMARY]() as conn:
-            return on_connection(conn, self._method.dialect.examine())
+        return self._on(
+            Source.PRIMARY,
+            lambda conn: self._method.examine(conn, self._judge.sample),
+        )
 
     def _run(self, plan: Plan[T]) -> T:
         value: Any = None
@@ -179,15 +195,18 @@ class Accounts:
             return time.sleep(step.seconds)
         if isinstance(step, Work):
             return self._judge.work(step.ticket)
-        done: list[Any] = []
+        return self._on(step.source, step.job)
+
+    def _on(self, source: Source, job: Callable[[Any], Job[T]]) -> T:
+        ending: Ending[T] = Ending()
         try:
-            with self._pools[step.source]() as conn:
-                done.append(on_connection(conn, step.job(conn)))
+            with self._pools[source]() as conn, ending:
+                ending.value = on_connection(conn, job(conn))
         except Exception:
-            # What a pool raises after a job was done changes nothing of what was done.
-            if not done:
+            # What a pool raises after a job has ended changes nothing of how it ended.
+            if not ending.has_begun:
                 raise
-        return done[0]
+        return ending.answer()
 
 
 def on_connection(conn: Any, job: Job[T]) -> T:

@@ -3,16 +3,17 @@
 from __future__ import annotations
 
 import uuid
-from collections.abc import Callable
-from typing import TYPE_CHECKING, Any, Optional
+from collections.abc import Callable, Container
+from typing import TYPE_CHECKING, Any, Final, Optional
 
-from rigzumal.accounts._jobs import LONGEST_RECORD, Job, Statement
+from rigzumal.accounts._trial import folded_names
+from rigzumal.accounts._jobs import LONGEST_RECORD, Findings, Job, Statement
 
 if TYPE_CHECKING:
     from rigzumal.accounts.dialects import Dialect
 
 
-def sqlite(dialect: Dialect) -> Job[list[str]]:
+def sqlite(dialect: Dialect) -> Job[Findings]:
     schema, _, t = dialect.table_name.rpartition(".")
     of = (t, schema) if schema else (t,)
     marks = ", ".join("?" * len(of))
@@ -23,7 +24,7 @@ def sqlite(dialect: Dialect) -> Job[list[str]]:
     columns = {row[0]: row for row in found.rows}
     missing = _missing(dialect, columns, str.lower)
     if missing:
-        return missing
+        return Findings(missing, is_usable=False)
     k = dialect.key_name.lower()
     unique = [name for name, row in columns.items() if row[3]] == [k]
     faults = _sqlite_types(dialect, columns[k][1])
@@ -32,12 +33,11 @@ def sqlite(dialect: Dialect) -> Job[list[str]]:
     )
     for index, is_unique, partial in indexes.rows:
         found = yield Statement(
-            f"SELECT lower(name), coll FROM pragma_index_xinfo({marks}) WHERE key = 1",
+            f"SELECT lower(name) FROM pragma_index_xinfo({marks}) WHERE key = 1",
             (index, *of[1:]),
         )
-        if is_unique and not partial and [name for name, _ in found.rows] == [k]:
+        if is_unique and not partial and found.rows == [(k,)]:
             unique = True
-            faults += _collation_faults(dialect, found.rows[0][1], "BINARY")
     master = dialect.quoted(schema or "main")
     triggers = yield Statement(
         f"SELECT name FROM {master}.sqlite_master WHERE type = 'trigger'"
@@ -46,13 +46,27 @@ def sqlite(dialect: Dialect) -> Job[list[str]]:
     )
     nullable = not columns[dialect.record_name.lower()][2]
     faults += _table_faults(dialect, nullable, unique, triggers.rows)
-    if (yield Statement("PRAGMA synchronous")).rows[0][0] < 2:
-        faults.append(
-            "synchronous is below FULL: a power cut takes acknowledged changes"
-        )
-    if (yield Statement("PRAGMA busy_timeout")).rows[0][0] < 1000:
-        faults.append("the busy timeout is below a second")
-    return faults
+    for name, good, words in _PRAGMAS:
+        ((value,),) = (yield Statement(f"PRAGMA {name}")).rows
+        if value not in good:
+            faults.append(words)
+    return Findings(faults + (yield from folded_names(dialect)))
+
+
+_PRAGMAS: Final[tuple[tuple[str, Container[object], str], ...]] = (
+    (
+        "synchronous",
+        (2, 3),
+        "synchronous is below FULL: a power cut takes acknowledged changes",
+    ),
+    ("busy_timeout", range(1000, 2**31), "the busy timeout is below a second"),
+    ("journal_mode", ("wal",), "it isn't in WAL: logins fail while another writes"),
+    (
+        "read_uncommitted",
+        (0,),
+        "read_uncommitted is on: records are read that never stood",
+    ),
+)
 
 
 def _sqlite_types(dialect: Dialect, declared: str) -> list[str]:
@@ -71,19 +85,17 @@ def _sqlite_types(dialect: Dialect, declared: str) -> list[str]:
     )
 
 
-def postgres(dialect: Dialect) -> Job[list[str]]:
+def postgres(dialect: Dialect) -> Job[Findings]:
     t, k, r = dialect.table.replace("%%", "%"), dialect.key_name, dialect.record_name
     found = yield Statement(
-        "SELECT attname, format_type(atttypid, atttypmod), attnotnull,"
-        " (SELECT collname FROM pg_collation c WHERE c.oid = attcollation"
-        " AND NOT collisdeterministic) FROM pg_attribute"
+        "SELECT attname, format_type(atttypid, atttypmod), attnotnull FROM pg_attribute"
         " WHERE attrelid = to_regclass(%s) AND attnum > 0 AND NOT attisdropped",
         (t,),
     )
     columns = {name: more for name, *more in found.rows}
     missing = _missing(dialect, columns)
     if missing:
-        return missing
+        return Findings(missing, is_usable=False)
     unique = yield Statement(
         "SELECT 1 FROM pg_index i JOIN pg_attribute a ON a.attrelid = i.indrelid"
         " AND a.attnum = i.indkey[0] WHERE i.indrelid = to_regclass(%s)"
@@ -96,11 +108,9 @@ def postgres(dialect: Dialect) -> Job[list[str]]:
         " AND NOT tgisinternal",
         (t,),
     )
-    kind, bound, _ = columns[r]
+    kind, bound = columns[r]
     faults = _table_faults(dialect, not bound, bool(unique.rows), triggers.rows)
     faults += _postgres_types(dialect, columns[k][0], kind)
-    if columns[k][2] or columns[k][0] == "citext":
-        faults += _collation_faults(dialect, columns[k][2] or "citext")
     table = yield Statement(
         "SELECT relkind::text, relrowsecurity, relpersistence::text FROM pg_class"
         " WHERE oid = to_regclass(%s)",
@@ -121,7 +131,8 @@ def postgres(dialect: Dialect) -> Job[list[str]]:
         ((value,),) = (yield Statement(f"SHOW {name}")).rows
         if value not in good:
             faults.append(f"{name} is {value}: a crash takes acknowledged changes")
-    return faults
+    faults += yield from folded_names(dialect)
+    return Findings(faults, is_usable=relation in ("r", "p"))
 
 
 def _postgres_types(dialect: Dialect, key: str, record: str) -> list[str]:
@@ -142,13 +153,13 @@ def _postgres_types(dialect: Dialect, key: str, record: str) -> list[str]:
     return faults + _type_faults(dialect, key, key.startswith(kinds[dialect.key_type]))
 
 
-def mariadb(dialect: Dialect) -> Job[list[str]]:
+def mariadb(dialect: Dialect) -> Job[Findings]:
     schema, _, t = dialect.table_name.rpartition(".")
     k, r = dialect.key_name, dialect.record_name
     of = "table_schema = COALESCE(NULLIF(%s, ''), DATABASE()) AND table_name = %s"
     found = yield Statement(
         "SELECT column_name, data_type, character_maximum_length,"
-        " character_set_name, is_nullable, collation_name"
+        " character_set_name, is_nullable"
         " FROM information_schema.columns"
         f" WHERE {of}",
         (schema, t),
@@ -156,7 +167,7 @@ def mariadb(dialect: Dialect) -> Job[list[str]]:
     columns = {row[0]: row for row in found.rows}
     missing = _missing(dialect, columns)
     if missing:
-        return missing
+        return Findings(missing, is_usable=False)
     unique = yield Statement(
         "SELECT index_name FROM information_schema.statistics"
         f" WHERE {of} AND non_unique = 0 GROUP BY index_name HAVING COUNT(*) = 1"
@@ -172,18 +183,17 @@ def mariadb(dialect: Dialect) -> Job[list[str]]:
     nullable = columns[r][4] == "YES"
     faults = _table_faults(dialect, nullable, bool(unique.rows), triggers.rows)
     faults += _mariadb_types(dialect, columns[k][1], *columns[r][1:4])
-    collation = columns[k][5] or "binary"
-    if not collation.endswith(("bin", "binary")):
-        faults += _collation_faults(dialect, collation)
     table = yield Statement(
         f"SELECT engine FROM information_schema.tables WHERE {of}", (schema, t)
     )
-    if table.rows[0][0] != "InnoDB":
-        faults.append(f"{t} is of {table.rows[0][0]}, which has no transactions")
+    ((engine,),) = table.rows
+    if engine != "InnoDB":
+        faults.append(f"{t} is of {engine}, which has no transactions")
     seen = {
         name: value for name, value in (yield Statement("SHOW SESSION VARIABLES")).rows
     }
-    return faults + _server_faults(seen)
+    faults += _server_faults(seen) + (yield from folded_names(dialect))
+    return Findings(faults, engine == "InnoDB", _shown_early(seen))
 
 
 def _mariadb_types(
@@ -201,6 +211,13 @@ def _mariadb_types(
         bytes: ("binary", "varbinary", "blob"),
     }
     return faults + _type_faults(dialect, key, key in kinds[dialect.key_type])
+
+
+def _shown_early(seen: dict[str, str]) -> tuple[str, ...]:
+    """Without a binary log InnoDB shows a commit before its own log is on the disk."""
+    if seen.get("log_bin") == "ON" or seen.get("wsrep_on") == "ON":
+        return ()
+    return ("log_bin is OFF: a crash may take a change by which a login was answered",)
 
 
 def _server_faults(seen: dict[str, str]) -> list[str]:
@@ -237,20 +254,6 @@ def _type_faults(dialect: Dialect, kind: str, fits: bool) -> list[str]:
     if fits:
         return []
     return [f"{dialect.key_name} is {kind}, and keys are {dialect.key_type.__name__}"]
-
-
-def _collation_faults(dialect: Dialect, collation: str, exact: str = "") -> list[str]:
-    """Names that are one account under the key's collation, and differ elsewhere.
-
-    As in a service's own limit of tries. The record's collation is no matter, since its
-    bytes are compared.
-    """
-    if collation == exact or dialect.key_type is not str:
-        return []
-    return [
-        f"{dialect.key_name} is compared by {collation}: names that differ in case, say,"
-        " are one account"
-    ]
 
 
 def _table_faults(

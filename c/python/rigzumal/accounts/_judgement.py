@@ -63,6 +63,11 @@ class Judge:
                 "an upgrade would be from the hasher's costs to themselves"
             )
 
+    @property
+    def sample(self) -> str:
+        """A record of the hasher's costs that no password is right for."""
+        return self._dummy
+
     def work(self, ticket: Ticket) -> Worked:
         """What the whole operation does at the ticket's copy.
 

@@ -73,7 +73,7 @@ class Request:
 
     Attributes:
         kind: which.
-        key: the account's name, of its column's type.
+        key: the account's name, of its column's type, or a subclass of str.
         password: bytes or text, up to 256 bytes; not of a reset.
         new_password: of a change and of a reset.
 
@@ -88,6 +88,9 @@ class Request:
     new_password: Secret = field(default=b"", repr=False)
 
     def __post_init__(self) -> None:
+        if isinstance(self.key, str):
+            # As a driver knows it, whatever the subclass makes of itself.
+            object.__setattr__(self, "key", str.__str__(self.key))
         for name in ("password", "new_password"):
             password = bytes_of(getattr(self, name))
             if len(password) > LONGEST_PASSWORD:

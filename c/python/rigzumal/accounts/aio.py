@@ -18,10 +18,10 @@ from typing import Any, Optional, TypeVar
 from rigzumal._library import Secret
 from rigzumal.accounts._accounts import row_values
 from rigzumal.accounts._judgement import Foreign, Hasher, Judge
-from rigzumal.accounts._method import Method, OnConnection, Pause, Plan, Source, Step
-from rigzumal.accounts._method import Work
+from rigzumal.accounts._method import Method
+from rigzumal.accounts._plans import Pause, Plan, Source, Step, Work
 from rigzumal.accounts._values import Answer, Key, Kind, Reply, Request, Ticket, Worked
-from rigzumal.accounts._jobs import Job, Result, Statement
+from rigzumal.accounts._jobs import Ending, Job, Result, Statement
 from rigzumal.accounts.dialects import Dialect
 
 T = TypeVar("T")
@@ -65,10 +65,11 @@ class Accounts:
         upgrade_from: Iterable[str] = (),
         tries: int = 8,
         patience: float = 10.0,
+        confirm: bool = False,
     ) -> None:
         self._pools = {Source.PRIMARY: pool, Source.COPIES: replica or pool}
         self._judge = Judge(hasher, foreign, upgrade_from)
-        self._method = Method(dialect, tries, patience)
+        self._method = Method(dialect, tries, patience, confirm)
 
     async def enrol(self, key: Key, password: Secret) -> Reply:
         """ENROLLED; EXISTS if the account has a record; NO_ACCOUNT."""
@@ -118,14 +119,14 @@ class Accounts:
 
     async def commit_in(self, conn: Any, worked: Worked) -> Answer:
         """The third part within a transaction that the caller has begun, and ends."""
-        self._method.dialect.check_key(worked.ticket.request.key)
-        self._method.dialect.within(conn)
-        return await _on(conn, self._method.compare(worked))
+        return await on_connection(conn, self._method.commit_in(conn, worked))
 
     async def examine(self) -> list[str]:
         """What is wrong with the table and the server, in words; empty if nothing."""
-        async with self._pools[Source.PRIMARY]() as conn:
-            return await _on(conn, self._method.dialect.examine())
+        return await self._on(
+            Source.PRIMARY,
+            lambda conn: self._method.examine(conn, self._judge.sample),
+        )
 
     async def _run(self, plan: Plan[T]) -> T:
         value: Any = None
@@ -147,18 +148,22 @@ class Accounts:
             return await asyncio.sleep(step.seconds)
         if isinstance(step, Work):
             return await self.work(step.ticket)
-        done: list[Any] = []
+        return await self._on(step.source, step.job)
+
+    async def _on(self, source: Source, job: Callable[[Any], Job[T]]) -> T:
+        ending: Ending[T] = Ending()
         try:
-            async with self._pools[step.source]() as conn:
-                done.append(await _on(conn, step.job(conn)))
+            async with self._pools[source]() as conn:
+                with ending:
+                    ending.value = await on_connection(conn, job(conn))
         except Exception:
-            # What a pool raises after a job was done changes nothing of what was done.
-            if not done:
+            # What a pool raises after a job has ended changes nothing of how it ended.
+            if not ending.has_begun:
                 raise
-        return done[0]
+        return ending.answer()
 
 
-async def _on(conn: Any, job: Job[T]) -> T:
+async def on_connection(conn: Any, job: Job[T]) -> T:
     """Does a job's statements on a connection."""
     value: Any = None
     error: Optional[Exception] = None

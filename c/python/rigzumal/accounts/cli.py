@@ -11,8 +11,9 @@
     history LOG..  judges logs
 
 A password is asked for at a terminal, and otherwise is what standard input gives,
-without the newline at its end. An empty input is no password. The URL may stand in
-RIGZUMAL_DATABASE instead, where no list of processes shows it.
+without one newline at its end; `python3 -m rigzumal hash` takes that newline too. An
+empty input is no password. The URL may stand in RIGZUMAL_DATABASE instead, where no
+list of processes shows it.
 """
 
 from __future__ import annotations
@@ -29,11 +30,12 @@ from typing import Any, Optional, Union
 
 from rigzumal import PasswordHasher, RigzumalError, ScryptHasher
 from rigzumal._library import InvalidRecordError, bytes_of
-from rigzumal._parts import parts
+from rigzumal._newline import hint
+from rigzumal._parts import none_of_ours, parts
 from rigzumal.accounts import logs, torture
 from rigzumal.accounts._accounts import Accounts, on_connection
-from rigzumal.accounts._values import AccountsError, Answer, Key, Kind, Reply
-from rigzumal.accounts._values import Request, Ticket, Worked
+from rigzumal.accounts._values import LONGEST_PASSWORD, AccountsError, Answer, Key
+from rigzumal.accounts._values import Kind, Reply, Request, Ticket, Worked
 from rigzumal.accounts.database import Database
 from rigzumal.accounts._jobs import Job, Result, Statement
 from rigzumal.accounts.dialects import Dialect
@@ -95,6 +97,9 @@ def _words() -> argparse.ArgumentParser:
     words.add_argument("--key", default="name", help="its column of names")
     words.add_argument("--record", default="record", help="its column of records")
     words.add_argument("--numbers", action="store_true", help="names are whole numbers")
+    words.add_argument(
+        "--confirm", action="store_true", help="write what a look is answered by"
+    )
     words.add_argument("--scrypt", action="store_true", help="by scrypt, not Argon2id")
     words.add_argument("--memory", type=int, default=65536, help="of Argon2, in KiB")
     words.add_argument("--passes", type=int, default=3, help="of Argon2")
@@ -148,7 +153,7 @@ class _Command:
             if given.scrypt
             else PasswordHasher(given.passes, given.memory, given.lanes)
         )
-        return Accounts(self.pool, self.dialect, hasher)
+        return Accounts(self.pool, self.dialect, hasher, confirm=given.confirm)
 
     def key(self, name: str) -> Key:
         if not self.given.numbers:
@@ -163,12 +168,16 @@ class _Command:
             return on_connection(conn, _one(Statement(sql, values))).rows
 
     def init(self) -> int:
+        if self.database.kind == "sqlite":
+            self.execute("PRAGMA journal_mode = WAL")
         self.execute(self.dialect.create())
         return self.examine()
 
     def add(self) -> int:
         """The account and its record, in one transaction."""
         accounts, key = self.accounts(), self.key(self.given.name)
+        if not self.dialect.can_stand(key):
+            raise Refusal("no column holds this name")
         request = Request(Kind.ENROL, key, _password(twice=True))
         if isinstance(accounts.begin(request).copy, str):
             return _said(Reply.EXISTS)
@@ -180,7 +189,17 @@ class _Command:
         return _said(answer.reply, Reply.ENROLLED)
 
     def check(self) -> int:
-        reply = self.accounts().verify(self.key(self.given.name), _password())
+        accounts, password = self.accounts(), _password()
+        key = self.key(self.given.name)
+        try:
+            reply = accounts.verify(key, password)
+        except InvalidRecordError as fault:
+            copy = accounts.begin(Request(Kind.VERIFY, key)).copy
+            raise Refusal(_why(copy, fault)) from None
+        if reply is Reply.NO and len(password) < LONGEST_PASSWORD:
+            said = hint(password, lambda it: accounts.verify(key, it) is Reply.YES)
+            if said:
+                print(f"rigzumal: {said}", file=sys.stderr)
         return _said(reply, Reply.YES)
 
     def reset(self) -> int:
@@ -191,8 +210,7 @@ class _Command:
         return _said(reply, Reply.REPLACED, Reply.ENROLLED)
 
     def examine(self) -> int:
-        with self.pool() as conn:
-            faults = on_connection(conn, self.dialect.examine())
+        faults = self.accounts().examine()
         for fault in faults:
             print(fault)
         return 1 if faults else 0
@@ -213,7 +231,7 @@ class _Command:
         """The import: whole batches are committed, and what stands already stays."""
         accounts, counts = self.accounts(), {"added": 0, "there": 0, "another": 0}
         with open(self.given.file, encoding="utf-8") as file:
-            lines = list(_records(file))
+            lines = list(self._records(file))
         begun, done = time.monotonic(), 0
         for start in range(0, len(lines), BATCH):
             batch = lines[start : start + BATCH]
@@ -226,15 +244,30 @@ class _Command:
         print(f"{counts['added']} added, {counts['there']} there already")
         return 1 if counts["another"] else 0
 
-    def _batch(self, accounts: Accounts, batch: Sequence[tuple[str, str]]) -> list[str]:
+    def _records(self, lines: Iterable[str]) -> Iterator[tuple[Key, str]]:
+        """The names and records of an import, all read before anything is put."""
+        for number, line in enumerate(lines, 1):
+            name, _, record = line.rstrip("\r\n").rpartition(" ")
+            if not name:
+                raise Refusal(f'line {number} is no "NAME RECORD"')
+            key = self.key(name)
+            if not self.dialect.can_stand(key):
+                raise Refusal(f"line {number}: no column holds this name")
+            try:
+                parts(record)
+            except InvalidRecordError as fault:
+                raise Refusal(f"line {number}: {_why(record, fault)}") from None
+            yield key, record
+
+    def _batch(self, accounts: Accounts, batch: Sequence[tuple[Key, str]]) -> list[str]:
         with self.pool() as conn:
             on_connection(conn, _one(Statement(self.dialect.begin)))
             words = [self._imported(conn, accounts, *line) for line in batch]
             on_connection(conn, self.dialect.commit(conn))
         return words
 
-    def _imported(self, conn: Any, accounts: Accounts, name: str, record: str) -> str:
-        ticket = Ticket(Request(Kind.ENROL, self.key(name)), None)
+    def _imported(self, conn: Any, accounts: Accounts, key: Key, record: str) -> str:
+        ticket = Ticket(Request(Kind.ENROL, key), None)
         answer = self._put(conn, accounts, Worked(ticket, Reply.ENROLLED, record))
         if answer.reply is Reply.ENROLLED:
             return "added"
@@ -247,6 +280,8 @@ class _Command:
         if not rows:
             on_connection(conn, _one(Statement(self.dialect.insert, (key,))))
         answer = accounts.commit_in(conn, worked)
+        if answer.reply is Reply.NO_ACCOUNT:
+            raise Refusal(f"the server keeps another name than {_shown(key)}")
         if answer.reply is Reply.CHANGED:
             if answer.after is None:
                 raise Refusal("the account's row takes no record")
@@ -257,6 +292,7 @@ class _Command:
         given = self.given
         table = "rigzumal_torture" if given.table == "accounts" else given.table
         run = torture.Torture(given.database, table, kill=given.kill)
+        run.confirm = given.confirm
         run.processes, run.seconds = given.processes, given.seconds
         run.accounts, run.folder = given.accounts, given.logs
         accounts = run.run()
@@ -269,6 +305,8 @@ class _Command:
             it.makes_change for one in accounts.values() for it in one.operations
         ):
             raise Refusal("no change was made, so nothing is shown")
+        if given.kill and not run.killed:
+            raise Refusal("no process was killed, so nothing is shown of that")
         run.drop()
         if given.logs is None and run.folder is not None:
             shutil.rmtree(run.folder)
@@ -305,17 +343,10 @@ def _made_by(record: Optional[str]) -> str:
     return f"{found.scheme}{version} {numbers}"
 
 
-def _records(lines: Iterable[str]) -> Iterator[tuple[str, str]]:
-    """The names and records of an import, all read before anything is put."""
-    for number, line in enumerate(lines, 1):
-        name, _, record = line.rstrip("\r\n").rpartition(" ")
-        if not name:
-            raise Refusal(f'line {number} is no "NAME RECORD"')
-        try:
-            parts(record)
-        except InvalidRecordError as fault:
-            raise Refusal(f"line {number}: {fault}") from None
-        yield name, record
+def _why(record: object, fault: InvalidRecordError) -> str:
+    """What is wrong with a record, with the scheme of another program's."""
+    scheme = none_of_ours(record) if isinstance(record, str) else ""
+    return f"{scheme}, and {fault}" if scheme else str(fault)
 
 
 def _progress(done: int, total: int, begun: float) -> None:

@@ -15,12 +15,22 @@ import weakref
 from typing import Any, ClassVar, Final, Optional
 
 from rigzumal.accounts import _examine
-from rigzumal.accounts._jobs import LONGEST_RECORD, Job, Statement, Verdict
-from rigzumal.accounts._values import StoreFault
+from rigzumal.accounts._jobs import LONGEST_RECORD, Findings, Job, Result, Statement
+from rigzumal.accounts._jobs import Verdict
+from rigzumal.accounts._values import Copy, Key, StoreFault
 
 NOT_AUTOCOMMIT: Final = "the connections of the pool have to be in autocommit"
-TRANSACTION_OPEN: Final = "a transaction is open on the connection"
+TRANSACTION_OPEN: Final = (
+    "a transaction is open on the connection: after any exception, a pool closes what it"
+    " gave out, or rolls it back"
+)
 NO_TRANSACTION: Final = "no transaction is open on the connection"
+SNAPSHOT: Final = "the transaction is of REPEATABLE READ"
+NOBODYS_RECORD: Final = (
+    "$argon2id$v=19$m=8,t=1,p=1$bm9ib2R5J3M$"
+    "AAAAAAAAAAAAAAAAAAAAAAAAAAAAAAAAAAAAAAAAAAA"
+)
+"""Stands within a transaction alone, in the place of no record."""
 _BIGINT: Final = 2**63
 _POSTGRES_LOST: Final = frozenset({"25006", "25P03", "53300"})
 # 0 and 2xxx: the connection; 4031: it was idle for too long; 1047: a Galera node outside
@@ -29,6 +39,12 @@ _POSTGRES_LOST: Final = frozenset({"25006", "25P03", "53300"})
 _MARIADB_LOST: Final = frozenset(
     {0, 2002, 2003, 2006, 2013, 2055, 4031}
     | {1047, 1053, 1317, 1927, 1290, 1836, 1040, 1203}
+)
+# By an UPDATE, and by no COMMIT: no NULL, a key twice, no right (1142, 1143), two rows,
+# a value that is cut off or of another type, foreign keys, a trigger's SIGNAL, a CHECK.
+_MARIADB_REFUSED: Final = frozenset(
+    {1048, 1062, 1142, 1143, 1172, 1265, 1292, 1364, 1366, 1406}
+    | {1451, 1452, 1644, 3819, 4025}
 )
 
 
@@ -45,9 +61,10 @@ class Dialect:
         select: the statement that reads a record; takes a key.
         share: the same, so that the record stands until the transaction ends.
         update: puts a record if its copy stands; takes record, key and copy.
+        at_once: does a whole change and commits it, or undoes it; empty if the engine
+            has no such statement.
         insert: adds an account without a record; takes a key.
         every: reads all keys and records.
-        counts_same: an UPDATE counts rows whose values stay the same.
         returns: the UPDATE answers with the record that it put.
     """
 
@@ -57,7 +74,6 @@ class Dialect:
     commit_sql: ClassVar[str] = "COMMIT"
     key_types: ClassVar[tuple[type, ...]] = (str, int, bytes)
     key_sql: ClassVar[str] = "VARCHAR(255)"
-    counts_same: ClassVar[bool] = True
     returns: ClassVar[bool] = False
     # How a record is read that has to stand until the transaction's end.
     _share: ClassVar[str] = ""
@@ -77,8 +93,12 @@ class Dialect:
         self.update = f"UPDATE {t} SET {r} = {m} WHERE {k} = {m} AND {same}"
         if self.returns:
             self.update += f" RETURNING {r}"
+        self.at_once = self._at_once(t, k, r)
         self.insert = f"INSERT INTO {t} ({k}) VALUES ({m})"
-        self.every = self._alone(f"SELECT {k}, {r} FROM {t} ORDER BY {k}")
+        self.every = self.alone(f"SELECT {k}, {r} FROM {t} ORDER BY {k}")
+
+    def _at_once(self, t: str, k: str, r: str) -> str:
+        return ""
 
     def quoted(self, name: str) -> str:
         """A name of a table or a column, as it stands in a statement."""
@@ -87,7 +107,7 @@ class Dialect:
             doubled = doubled.replace("%", "%%")
         return f"{self.quote}{doubled}{self.quote}"
 
-    def _alone(self, sql: str) -> str:
+    def alone(self, sql: str) -> str:
         """A statement without values, in which no driver looks for marks."""
         return sql.replace("%%", "%") if self.mark == "%s" else sql
 
@@ -118,17 +138,30 @@ class Dialect:
         """
         raise NotImplementedError
 
-    def within(self, conn: Any) -> None:
+    def within(self, conn: Any) -> Job[None]:
         """Refuses a caller's connection on which each statement would be by itself.
 
         Raises:
-            StoreFault: it is in autocommit, and no transaction is open on it.
+            StoreFault: it is in autocommit, and no transaction is open on it; or the
+                transaction is of a level that won't do.
         """
         raise NotImplementedError
 
     def prepare(self, conn: Any) -> Job[None]:
         """What has to be asked of a session before it is used."""
         yield from ()
+
+    def put(self, after: Copy, key: Key, copy: Copy) -> Job[Result]:
+        """Puts a record if its copy stands; what stays the same is written too."""
+        return (yield Statement(self.update, (after, key, copy)))
+
+    def put_at_once(self, conn: Any, after: Copy, key: Key, copy: Copy) -> Job[int]:
+        """Puts a record by one statement that commits; how many rows it touched."""
+        raise NotImplementedError
+
+    def refuses_at_once(self, error: BaseException) -> bool:
+        """Whether the statement was undone, and a transaction does better or says why."""
+        return False
 
     def commit(self, conn: Any) -> Job[None]:
         """Commits, and raises unless what was done surely stands."""
@@ -160,10 +193,10 @@ class Dialect:
             self.key_type
         ]
         columns = f"{k} {kind} NOT NULL PRIMARY KEY, {r} VARCHAR({LONGEST_RECORD})"
-        return self._alone(f"CREATE TABLE {self.table} ({columns})")
+        return self.alone(f"CREATE TABLE {self.table} ({columns})")
 
-    def examine(self) -> Job[list[str]]:
-        """What is wrong with the table and the server, in words; empty if nothing."""
+    def examine(self) -> Job[Findings]:
+        """What the catalogue and the settings show to be wrong."""
         raise NotImplementedError
 
 
@@ -185,9 +218,10 @@ class Sqlite(Dialect):
         if mode is not True and (mode != -1 or conn.isolation_level is not None):
             raise StoreFault(NOT_AUTOCOMMIT)
 
-    def within(self, conn: Any) -> None:
+    def within(self, conn: Any) -> Job[None]:
         if not conn.in_transaction:
             raise StoreFault(NO_TRANSACTION)
+        yield from ()
 
     def undo(self, conn: Any) -> Job[None]:
         if conn.in_transaction:
@@ -208,7 +242,7 @@ class Sqlite(Dialect):
     def number(self, error: BaseException) -> str:
         return str(getattr(error, "sqlite_errorname", ""))
 
-    def examine(self) -> Job[list[str]]:
+    def examine(self) -> Job[Findings]:
         return _examine.sqlite(self)
 
 
@@ -238,11 +272,41 @@ class Postgres(Dialect):
         if not conn.autocommit:
             raise StoreFault(NOT_AUTOCOMMIT)
 
-    def within(self, conn: Any) -> None:
+    def within(self, conn: Any) -> Job[None]:
         if conn.autocommit and conn.info.transaction_status == 0:
             raise StoreFault(NO_TRANSACTION)
+        # A change whose snapshot is older than a session's row doesn't see it to end it.
+        found = yield Statement("SHOW transaction_isolation")
+        if found.rows == [("repeatable read",)]:
+            raise StoreFault(f"{SNAPSHOT}: begin by READ COMMITTED or SERIALIZABLE")
+
+    def _at_once(self, t: str, k: str, r: str) -> str:
+        # If what stands isn't what was put, it divides by zero, and is undone.
+        same = f'{r}::text COLLATE "C" = %s::text'
+        size = f"octet_length({r}) = octet_length(%s::text)"
+        update = self.update.rpartition(" RETURNING ")[0]
+        one = f"(SELECT count(*) FROM {t} WHERE {k} = %s) = 1"
+        return f"{update} AND {one} RETURNING 1 / ({same} AND {size})::int"
+
+    def put_at_once(self, conn: Any, after: Copy, key: Key, copy: Copy) -> Job[int]:
+        values = (after, key, copy, key, after, after)
+        done = yield from self._committed(conn, Statement(self.at_once, values))
+        return done.affected
+
+    def refuses_at_once(self, error: BaseException) -> bool:
+        # 25: the session only reads, and a transaction of ours doesn't; 42: the server
+        # doesn't take the statement; 22012: what stands isn't what was put.
+        state = getattr(error, "sqlstate", None) or ""
+        return state[:2] in ("25", "42") or state == "22012"
 
     def commit(self, conn: Any) -> Job[None]:
+        done = yield from self._committed(conn, Statement(self.commit_sql))
+        # A transaction that has failed answers ROLLBACK and raises nothing.
+        if done.status != "COMMIT":
+            raise StoreFault(f"the server answered {done.status} to COMMIT")
+
+    def _committed(self, conn: Any, statement: Statement) -> Job[Result]:
+        """A statement that commits, and that raises if the standby may lack it."""
         warnings: list[str] = []
 
         def handler(notice: Any) -> None:
@@ -252,15 +316,13 @@ class Postgres(Dialect):
 
         conn.add_notice_handler(handler)
         try:
-            status = (yield Statement(self.commit_sql)).status
+            done = yield statement
         finally:
             conn.remove_notice_handler(handler)
-        # A transaction that has failed answers ROLLBACK and raises nothing.
-        if status != "COMMIT":
-            raise StoreFault(f"the server answered {status} to COMMIT")
         # A wait for the standby that was cancelled answers COMMIT, with a warning.
         if warnings:
             raise ConnectionError("committed here, and perhaps not at the standby")
+        return done
 
     def verdict(self, error: BaseException) -> Optional[Verdict]:
         state = getattr(error, "sqlstate", None) or ""
@@ -290,12 +352,12 @@ class Postgres(Dialect):
         if self.key_type is not uuid.UUID:
             return super().create().replace(types[bytes], "BYTEA")
         k, r = self.quoted(self.key_name), self.quoted(self.record_name)
-        return self._alone(
+        return self.alone(
             f"CREATE TABLE {self.table} ({k} UUID PRIMARY KEY,"
             f" {r} VARCHAR({LONGEST_RECORD}))"
         )
 
-    def examine(self) -> Job[list[str]]:
+    def examine(self) -> Job[Findings]:
         return _examine.postgres(self)
 
 
@@ -304,12 +366,12 @@ class MariaDB(Dialect):
 
     A column's collation may hold 'a' = 'A' and 'a' = 'a ', so bytes are compared. An
     UPDATE that changes nothing counts no row, unless the client asks for FOUND_ROWS:
-    fresh salts make both right.
+    fresh salts make both right. Others read a change before it is on the disk, unless
+    there is a binary log: `confirm` of Accounts is against that.
     """
 
     quote = "`"
-    key_sql = "VARCHAR(255) CHARACTER SET utf8mb4 COLLATE utf8mb4_bin"
-    counts_same = False
+    key_sql = "VARCHAR(255) CHARACTER SET utf8mb4 COLLATE utf8mb4_nopad_bin"
     # A plain SELECT under REPEATABLE READ, the default, reads what stood when the
     # caller's transaction first read anything.
     _share = " LOCK IN SHARE MODE"
@@ -327,9 +389,10 @@ class MariaDB(Dialect):
         if conn.server_status & 1:  # SERVER_STATUS_IN_TRANS
             raise StoreFault(TRANSACTION_OPEN)
 
-    def within(self, conn: Any) -> None:
+    def within(self, conn: Any) -> Job[None]:
         if conn.get_autocommit() and not conn.server_status & 1:
             raise StoreFault(NO_TRANSACTION)
+        yield from ()
 
     def prepare(self, conn: Any) -> Job[None]:
         if conn in self._prepared:
@@ -338,6 +401,45 @@ class MariaDB(Dialect):
         if any(level.upper().startswith("READ-UNC") for _, level in found.rows):
             raise StoreFault("READ UNCOMMITTED: records are read that never stood")
         self._prepared.add(conn)
+
+    def _at_once(self, t: str, k: str, r: str) -> str:
+        # The same transaction as of several statements, within the server.
+        look = f"SELECT {r} INTO stands FROM {t} WHERE {k} = %s"
+        is_put = "CAST(stands AS BINARY) <=> CAST(%s AS BINARY)"
+        return (
+            "BEGIN NOT ATOMIC DECLARE touched INT; DECLARE stands LONGTEXT;"
+            " DECLARE EXIT HANDLER FOR SQLEXCEPTION BEGIN ROLLBACK; RESIGNAL; END;"
+            f" START TRANSACTION; {self.update}; SET touched = ROW_COUNT();"
+            f" IF touched = 1 THEN {look};"
+            f" IF NOT {is_put} THEN SET touched = -1; END IF; END IF;"
+            " IF touched = 1 THEN COMMIT; ELSE ROLLBACK; END IF;"
+            " SELECT touched; END"
+        )
+
+    def put_at_once(self, conn: Any, after: Copy, key: Key, copy: Copy) -> Job[int]:
+        values = (after, key, copy, key, after)
+        ((touched,),) = (yield Statement(self.at_once, values)).rows
+        return int(touched)
+
+    def refuses_at_once(self, error: BaseException) -> bool:
+        number = _first_number(error)
+        if number == 1064:
+            self.at_once = ""  # MySQL has no such statement
+        return number == 1064 or number in _MARIADB_REFUSED
+
+    def put(self, after: Copy, key: Key, copy: Copy) -> Job[Result]:
+        if after != copy:
+            return (yield from super().put(after, key, copy))
+        # An UPDATE to what stands writes nothing, and its COMMIT waits for no disk.
+        other = None if copy is not None else NOBODYS_RECORD
+        result = yield Statement(self.update, (other, key, copy))
+        if result.affected != 1:
+            return result
+        result = yield Statement(self.update, (copy, key, other))
+        if result.affected != 1:
+            # Never committed: what stands by now is no record of anybody's.
+            raise StoreFault("the record that stands isn't the one that was put")
+        return result
 
     def verdict(self, error: BaseException) -> Optional[Verdict]:
         number = _first_number(error)
@@ -352,7 +454,7 @@ class MariaDB(Dialect):
     def number(self, error: BaseException) -> str:
         return str(_first_number(error) or "")
 
-    def examine(self) -> Job[list[str]]:
+    def examine(self) -> Job[Findings]:
         return _examine.mariadb(self)
 
 

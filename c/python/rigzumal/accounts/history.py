@@ -3,8 +3,12 @@
 A history is legal if each operation can be given one moment between its call and its
 answer, so that every reply, and the record after it, is what the whole operation does
 at the record that stands at its moment. An operation without an answer has one moment
-after its call, or took no place. This is what is proved of any store whose update is
-one comparison and one writing, with the times of call and answer for the order.
+after its call, or took no place. The law `updates_are_one_history` of the crate
+cred_book proves this of any store whose update is one comparison and one writing, in
+the order of those updates; the times of call and answer say which orders are possible
+from outside. An operation there is any function from the row that stands, or from there
+being none, to a reply and the row after. So the law covers resets, new rows, texts of
+other schemes, and an upgrade that keeps dearer costs, as it covers the five operations.
 
 Why the check is exact. Each record has a fresh salt, so it stands during one period,
 and each change names the record that it replaces. So the changes of an account fall
@@ -15,6 +19,11 @@ chain fits into one moment). There are moments for all if and only if no two suc
 overlap and nothing else has to lie inside one. Sorting apart, this takes time in
 proportion to the history. The part that is shown of an illegal one is found by leaving
 out halves, quarters and so on for as long as the rest is refused.
+
+What an operation without an answer was about to commit is no evidence that it read what
+stood: a crash may take away what nobody was answered by. It took place exactly if what
+was answered wants it: a record that somebody was told of had been put, and one that is
+gone had been replaced.
 """
 
 from __future__ import annotations
@@ -149,23 +158,70 @@ def _settle(account: Account) -> None:
     """Notes which operations without an answer took place.
 
     Only the last attempt can have taken place unseen, since it was made when the one
-    before was known not to. A record that was seen was put. A record that is gone, and
-    that nothing seen replaced, was removed by one of those that tried to.
+    before was known not to. A record that an answer names was put, and so was the one
+    that it replaced. A record that is gone, and that nothing so far replaced, was led
+    to a removal by others without an answer.
     """
-    operations, last = account.operations, account.end.before
-    seen = {last} | {it.before for it in operations if it.reply}
-    seen |= {attempt.before for it in operations for attempt in it.attempts}
-    open_ones = [
-        (it, it.attempts[-1]) for it in operations if not it.reply and it.attempts
-    ]
-    for operation, attempt in open_ones:
-        if attempt.after is not None and attempt.after in seen:
-            operation.took_place(attempt, account.end.called)
-    gone = _unreplaced(account)
-    for operation, attempt in open_ones:
-        if attempt.after is None and attempt.before in gone:
-            del gone[attempt.before]
-            operation.took_place(attempt, account.end.called)
+    end, tries = account.end.called, _Tries(account.operations)
+    seen = {account.end.before, *(it.before for it in _effective(account.operations))}
+    todo = list(seen)
+    while todo:
+        lost = tries.putting.get(todo.pop())
+        if lost is not None and not lost.operation.reply:
+            lost.operation.took_place(lost.attempt, end)
+            if lost.attempt.before not in seen:
+                seen.add(lost.attempt.before)
+                todo.append(lost.attempt.before)
+    for record, maker in _unreplaced(account).items():
+        for lost in tries.way_out(record, maker):
+            lost.operation.took_place(lost.attempt, end)
+
+
+class _Lost(NamedTuple):
+    """An operation without an answer, and its last attempt."""
+
+    operation: Operation
+    attempt: Attempt
+
+
+class _Tries:
+    """What was tried last by operations that had no answer."""
+
+    def __init__(self, operations: Iterable[Operation]) -> None:
+        self.putting: dict[Record, _Lost] = {}
+        self._at: dict[Record, list[_Lost]] = collections.defaultdict(list)
+        for it in operations:
+            if not it.reply and it.attempts:
+                lost = _Lost(it, it.attempts[-1])
+                self._at[lost.attempt.before].append(lost)
+                if lost.attempt.after is not None:
+                    self.putting[lost.attempt.after] = lost
+
+    def way_out(self, record: Record, maker: Operation) -> list[_Lost]:
+        """What led from a record to none; of several ways the one that ends first.
+
+        Nobody was told of what stood between, so the moment of its last call is all by
+        which one way is better than another.
+        """
+        best: list[_Lost] = []
+        ways = [(record, maker, list[_Lost]())]
+        while ways:
+            at, maker, way = ways.pop()
+            for lost in self._at.get(at, ()):
+                if lost in way or lost.operation.reply:
+                    continue
+                if lost.attempt.reply not in _possible(lost.operation, at, maker):
+                    continue
+                longer = [*way, lost]
+                if lost.attempt.after is not None:
+                    ways.append((lost.attempt.after, lost.operation, longer))
+                elif not best or _last_call(longer) < _last_call(best):
+                    best = longer
+        return best
+
+
+def _last_call(way: Iterable[_Lost]) -> float:
+    return max(lost.operation.called for lost in way)
 
 
 def _unreplaced(account: Account) -> dict[Record, Operation]:
@@ -252,7 +308,7 @@ class _Records:
         if it.kind in ("seed", "end"):
             return
         maker = self.maker.get(it.before) if it.before is not None else None
-        if it.reply not in _possible(it, maker):
+        if it.reply not in _possible(it, it.before, maker):
             raise _Conflict(
                 f"{it.id} ({it.kind}) was answered {it.reply}"
                 f" at {it.before or 'no record'}"
@@ -305,9 +361,11 @@ def _too_early(it: Operation, late: Optional[Operation]) -> str:
     return f"{it.id} was answered before {name} was called, and can come after it alone"
 
 
-def _possible(it: Operation, maker: Optional[Operation]) -> frozenset[str]:
+def _possible(
+    it: Operation, record: Record, maker: Optional[Operation]
+) -> frozenset[str]:
     """The replies that an operation may have at a record that the maker put."""
-    if it.before is None:
+    if record is None:
         return frozenset({"enrolled" if it.kind in ("enrol", "reset") else "absent"})
     if it.kind == "enrol":
         return frozenset({"exists"})

@@ -1,4 +1,20 @@
-"""The smallest pool. psycopg_pool's `connection` is one too, in autocommit."""
+"""The smallest pool. psycopg_pool's `connection` is one too, in autocommit.
+
+A pool of your own closes a connection, or rolls it back, after any exception: after
+BaseException too, by which threads are interrupted and tasks cancelled.
+
+    @contextmanager
+    def pool():
+        conn = idle.get()
+        try:
+            yield conn
+        except BaseException:
+            conn.close()
+            conn = connect()
+            raise
+        finally:
+            idle.put(conn)
+"""
 
 from __future__ import annotations
 

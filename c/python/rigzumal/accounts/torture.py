@@ -19,30 +19,25 @@ import sys
 import tempfile
 import time
 import traceback
-from collections.abc import Callable, Mapping
+from collections.abc import Awaitable, Callable, Mapping
 from typing import Any, Optional
 
 from rigzumal._hashers import PasswordHasher
-from rigzumal.accounts import history, logs
+from rigzumal.accounts import aio, history, logs
 from rigzumal.accounts._accounts import Accounts
-from rigzumal.accounts._values import (
-    NO_ROW,
-    Kind,
-    OutcomeUnknown,
-    Request,
-    StoreFault,
-    Unavailable,
-    Worked,
-)
+from rigzumal.accounts._values import Kind, Request, StoreFault
+from rigzumal.accounts._worker import LOW, Worker
 from rigzumal.accounts.database import Database
+from rigzumal.accounts.dialects import Dialect
 from rigzumal.accounts.pools import PerThread, Pool
 
-LOW, HIGH = 64, 72
-"""KiB of the two costs between which upgrades go."""
-
-PASSWORDS = ("one", "two")
-MIX = {"enrol": 2, "verify": 6, "change": 4, "upgrade": 2, "remove": 1, "reset": 1}
+MIX = {
+    **{"enrol": 2, "verify": 6, "login": 4, "change": 4},
+    **{"upgrade": 2, "remove": 1, "reset": 1},
+}
+WAYS = ("whole", "whole", "parts", "within")
 KEY, RECORD = "name", "record"
+RISK = 0.01
 
 
 def hasher(memory: int) -> PasswordHasher:
@@ -61,12 +56,19 @@ class Torture:
         processes: how many, each with a connection.
         seconds: for how long.
         accounts: on how many rows.
-        kill: ends processes by SIGKILL now and then, and starts others.
+        kill: ends processes by SIGKILL, and starts others: now and then, and between
+            an UPDATE and its COMMIT or a COMMIT and its answer. One at least is killed
+            if any tries a change.
         folder: of the logs; one is made if it is left out.
         replica: another database for the copies, which may lag.
         end_url: the database at which one reads what stands at the end.
-        mix: how often each operation is done.
+        mix: how often each operation is done; a login is one too.
+        ways: how it is done: as a whole, in its three parts, or within a transaction of
+            the caller's.
+        tasks: on PostgreSQL, how many of asyncio every fourth process has; they are
+            cancelled now and then.
         patience: for how many seconds a lost connection is made anew.
+        confirm: looks are confirmed by a COMMIT that writes.
         alter: changes what a process uses, so that a test may break it.
         settings: SQL for each connection to begin with.
         killed: how many processes were killed.
@@ -82,8 +84,11 @@ class Torture:
     replica: Optional[str] = None
     end_url: Optional[str] = None
     mix: Mapping[str, int] = dataclasses.field(default_factory=lambda: dict(MIX))
+    ways: tuple[str, ...] = WAYS
+    tasks: int = 4
     patience: float = 30.0
-    alter: Callable[[Accounts], None] = lambda accounts: None
+    confirm: bool = False
+    alter: Callable[[Any], None] = lambda accounts: None
     settings: tuple[str, ...] = ()
     killed: int = 0
 
@@ -107,16 +112,14 @@ class Torture:
     def drop(self) -> None:
         """Drops the table."""
         conn = Database(self.end_url or self.url).connect()
-        dialect = self._accounts(conn=lambda: conn, memory=LOW)._method.dialect
-        conn.cursor().execute(f"DROP TABLE {dialect.table}")
+        conn.cursor().execute(f"DROP TABLE {self._dialect().table}")
         conn.close()
 
     def _fill(self, names: list[str], top: Any) -> None:
         conn = Database(self.url).connect()
         if self.url.startswith("sqlite"):
             conn.execute("PRAGMA journal_mode = WAL")
-        accounts = self._accounts(conn=lambda: conn, memory=LOW)
-        dialect = accounts._method.dialect
+        accounts, dialect = self.blocking(lambda: conn, LOW), self._dialect()
         cursor = conn.cursor()
         cursor.execute(dialect.create())
         for number, name in enumerate(names):
@@ -131,34 +134,49 @@ class Torture:
 
     def _read_ends(self, names: list[str], top: Any) -> None:
         database = Database(self.end_url or self.url)
-        accounts = self._accounts(conn=database.connect, memory=LOW)
+        accounts = self.blocking(database.connect, LOW)
         for name in names:
             record = accounts.begin(Request(Kind.VERIFY, name)).copy
             end = {"event": "end", "key": name, "time": time.monotonic_ns()}
             print(json.dumps({**end, "record": record}), file=top)
 
     def _load(self, names: list[str]) -> int:
-        """Runs the processes; returns how many ended by an exception."""
-        end, faults = time.monotonic() + self.seconds, 0
-        running = [self._start(number, names, end) for number in range(self.processes)]
-        while self.kill and time.monotonic() < end - 1:
-            time.sleep(random.uniform(0.1, 0.5))
-            number = random.randrange(self.processes)
-            os.kill(running[number], signal.SIGKILL)
-            _, status = os.waitpid(running[number], 0)
-            faults += not os.WIFSIGNALED(status)
-            self.killed += 1
-            running[number] = self._start(number, names, end)
-        return faults + sum(os.waitpid(pid, 0)[1] != 0 for pid in running)
+        """Runs the processes; returns how many ended by an exception.
 
-    def _start(self, number: int, names: list[str], end: float) -> int:
+        If they are killed, the first of them is so at its first change.
+        """
+        end, faults = time.monotonic() + self.seconds, 0
+        risk = 1.0 if self.kill else 0.0
+        running = {}
+        for number in range(self.processes):
+            running[self._start(number, names, end, risk)] = number
+            risk = RISK if self.kill else 0.0
+        while running:
+            time.sleep(0.02)
+            if self.kill and random.random() < 0.05:
+                os.kill(random.choice(list(running)), signal.SIGKILL)
+            for pid, number in list(running.items()):
+                done, status = os.waitpid(pid, os.WNOHANG)
+                if not done:
+                    continue
+                del running[pid]
+                if self.kill and os.WIFSIGNALED(status):
+                    self.killed += 1
+                    if time.monotonic() < end:
+                        running[self._start(number, names, end, risk)] = number
+                elif status != 0:
+                    print(f"process {number} ended with {status}", file=sys.stderr)
+                    faults += 1
+        return faults
+
+    def _start(self, number: int, names: list[str], end: float, risk: float) -> int:
         """A process by fork, so that it begins at once; no connection is open here."""
         pid = os.fork()
         if pid:
             return pid
         status = 1
         try:
-            _Worker(self, number).work(names, end)
+            Worker(self, number, risk).work(names, end)
             status = 0
         except BaseException:
             traceback.print_exc()
@@ -166,87 +184,30 @@ class Torture:
             sys.stderr.flush()
             os._exit(status)
 
-    def _accounts(
-        self, conn: Callable[[], Any], memory: int, replica: Optional[Pool] = None
+    def is_awaited(self, number: int) -> bool:
+        """Whether a process is one of asyncio: every fourth one, on PostgreSQL."""
+        is_postgres = self.url.startswith("postgres")
+        return is_postgres and self.tasks > 0 and number % 4 == 3
+
+    def blocking(
+        self, connect: Callable[[], Any], memory: int, replica: Optional[Pool] = None
     ) -> Accounts:
-        return Accounts(
-            PerThread(conn),
-            Database(self.url).dialect(self.table, KEY, RECORD, str),
-            hasher(memory),
-            replica=replica,
-            tries=50,
-            patience=self.patience,
-        )
+        """Accounts of a process or of this one."""
+        pool, cheap = PerThread(connect), hasher(memory)
+        return Accounts(pool, self._dialect(), cheap, replica=replica, **self._given())
 
+    def awaited(
+        self, connect: Callable[[], Awaitable[Any]], memory: int
+    ) -> aio.Accounts:
+        """Accounts of a task."""
+        pool, cheap = aio.PerUse(connect), hasher(memory)
+        return aio.Accounts(pool, self._dialect(), cheap, **self._given())
 
-class _Worker:
-    """One process of it."""
+    def _given(self) -> dict[str, Any]:
+        return {"tries": 50, "patience": self.patience, "confirm": self.confirm}
 
-    def __init__(self, torture: Torture, number: int) -> None:
-        self.torture = torture
-        self.name = f"{number}-{os.getpid()}"
-        self.current = ""
-        assert torture.folder is not None
-        path = torture.folder / f"log-{self.name}"
-        self.log = os.open(path, os.O_WRONLY | os.O_CREAT | os.O_APPEND, 0o600)
-        self.database = Database(torture.url, number)
-        replica = None
-        if torture.replica:
-            replica = PerThread(Database(torture.replica, number).connect)
-        self.accounts = {}
-        for memory in (LOW, HIGH):
-            accounts = torture._accounts(self.connect, memory, replica)
-            accounts._method.before_commit = self.tried
-            torture.alter(accounts)
-            self.accounts[memory] = accounts
-
-    def connect(self) -> Any:
-        conn = self.database.connect()
-        for sql in self.torture.settings:
-            cursor = conn.cursor()
-            cursor.execute(sql)
-            cursor.close()
-        return conn
-
-    def write(self, **event: object) -> None:
-        os.write(self.log, (json.dumps(event) + "\n").encode())
-
-    def tried(self, worked: Worked) -> None:
-        before, after = worked.ticket.copy, worked.after
-        if before != after:
-            said = {"before": before, "after": after, "reply": worked.reply.value}
-            self.write(event="try", id=self.current, **said)
-
-    def work(self, names: list[str], end: float) -> None:
-        rng, count = random.Random(os.urandom(8)), 0
-        kinds, weights = zip(*self.torture.mix.items())
-        while time.monotonic() < end:
-            count += 1
-            self.current = f"{self.name}-{count}"
-            kind, key = rng.choices(kinds, weights)[0], rng.choice(names)
-            memory = rng.choice((LOW, HIGH)) if kind == "upgrade" else LOW
-            password, new = rng.choice(PASSWORDS), rng.choice(PASSWORDS)
-            given = {"password": password, "new_password": new, "costs": memory}
-            now = time.monotonic_ns()
-            self.write(
-                event="call", id=self.current, time=now, kind=kind, key=key, **given
-            )
-            said = self.done(memory, Request(Kind(kind), key, password, new))
-            now = time.monotonic_ns()
-            self.write(event="answer", id=self.current, time=now, **said)
-
-    def done(self, memory: int, request: Request) -> dict[str, object]:
-        try:
-            answer = self.accounts[memory].perform(request)
-        except OutcomeUnknown:
-            return {"reply": "unknown"}
-        except (Unavailable, StoreFault) as fault:
-            print(f"{type(fault).__name__}: {fault}", file=sys.stderr, flush=True)
-            return {"reply": "failed"}
-        before, after = answer.before, answer.after
-        if NO_ROW in (before, after):
-            before = after = None
-        return {"reply": answer.reply.value, "before": before, "after": after}
+    def _dialect(self) -> Dialect:
+        return Database(self.url).dialect(self.table, KEY, RECORD, str)
 
 
 def verdict(accounts: Mapping[Any, history.Account]) -> Optional[history.Illegal]:

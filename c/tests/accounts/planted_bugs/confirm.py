@@ -1,0 +1,130 @@
+"""Bugs in what is confirmed by a COMMIT that writes."""
+
+BUGS = [
+    (
+        "_table.py",
+        "return worked.reply.makes_change or (self.confirm and is_there)",
+        "return worked.reply.makes_change",
+        "test_confirm.OnSqlite",
+    ),
+    (
+        "_table.py",
+        "return worked.reply.makes_change or (self.confirm and is_there)",
+        "return worked.reply.makes_change or (self.confirm and isinstance(worked.ticket.copy, str))",
+        "test_confirm.OnSqlite",
+    ),
+    (
+        "_table.py",
+        "return worked.reply.makes_change or (self.confirm and is_there)",
+        "return worked.reply.makes_change or (self.confirm and worked.reply is Reply.YES)",
+        "test_confirm.OnSqlite",
+    ),
+    (
+        "_table.py",
+        "return worked.reply.makes_change or (self.confirm and is_there)",
+        "return worked.reply.makes_change or self.confirm",
+        "test_confirm.OnSqlite",
+    ),
+    (
+        "_table.py",
+        "self.dialect, self.confirm = dialect, confirm",
+        "self.dialect, self.confirm = dialect, False",
+        "test_confirm.OnSqlite",
+    ),
+    (
+        "_table.py",
+        "raise (Broken if answer.reply.makes_change else Lost)()",
+        "raise Broken()",
+        "test_confirm.OnMariaDB",
+    ),
+    (
+        "_table.py",
+        "        if not self.confirm:\n            faults +=",
+        "        if True:\n            faults +=",
+        "test_confirm.OnMariaDB",
+    ),
+    (
+        "_table.py",
+        "        if not self.confirm:\n            faults +=",
+        "        if False:\n            faults +=",
+        "test_confirm.OnMariaDB",
+    ),
+    (
+        "_accounts.py",
+        "Method(dialect, tries, patience, confirm)",
+        "Method(dialect, tries, patience)",
+        "test_confirm.OnSqlite",
+    ),
+    (
+        "aio.py",
+        "Method(dialect, tries, patience, confirm)",
+        "Method(dialect, tries, patience)",
+        "test_confirm.OnSqlite",
+    ),
+    (
+        "dialects.py",
+        "        if after != copy:\n            return (yield from super()",
+        "        if True:\n            return (yield from super()",
+        "test_confirm.OnMariaDB",
+    ),
+    (
+        "dialects.py",
+        "        if result.affected != 1:\n            return result\n        result = yield Statement(self.update, (copy, key, other))\n",
+        "        return result\n",
+        "test_confirm.OnMariaDB",
+    ),
+    (
+        "dialects.py",
+        "        if result.affected != 1:\n            return result\n",
+        "",
+        "test_confirm.OnMariaDB",
+    ),
+    (
+        "dialects.py",
+        "        other = None if copy is not None else NOBODYS_RECORD\n",
+        "        other = None\n",
+        "test_confirm.OnMariaDB",
+    ),
+    (
+        "_examine.py",
+        'seen.get("log_bin") == "ON" or seen',
+        "seen",
+        "test_confirm.OnMariaDB",
+    ),
+    (
+        "_examine.py",
+        'seen.get("log_bin") == "ON" or seen.get("wsrep_on") == "ON"',
+        "True",
+        "test_confirm.OnMariaDB",
+    ),
+    (
+        "_method.py",
+        "        if now == after and after is not None:\n            again",
+        "        if now == after and after is not None:\n            return True\n            again",
+        "test_confirm.OnMariaDB",
+    ),
+    (
+        "dialects.py",
+        "        if result.affected != 1:\n            # Never",
+        "        if False:\n            # Never",
+        "test_confirm.OnMariaDB.test_the_two_updates",
+    ),
+    (
+        "dialects.py",
+        "        if result.affected != 1:\n            # Never",
+        "        if False:\n            # Never",
+        "test_confirm.OnMariaDB.test_a_trigger_between",
+    ),
+    (
+        "torture.py",
+        "return is_postgres and self.tasks > 0 and number % 4 == 3",
+        "return False",
+        "test_postgres.OnPostgres.test_a_torture_has_tasks_of_asyncio",
+    ),
+    (
+        "_worker.py",
+        "seconds = HASTY if self.is_awaited and rng.random() < 0.1 else PATIENT",
+        "seconds = PATIENT",
+        "test_postgres.OnPostgres.test_a_torture_has_tasks_of_asyncio",
+    ),
+]

@@ -1,0 +1,117 @@
+"""Bugs in what differs between databases."""
+
+BUGS = [
+    (
+        "dialects.py",
+        "if type(key) is not self.key_type:",
+        "if not isinstance(key, self.key_type):",
+        "test_refusals.Refusals",
+    ),
+    ("dialects.py", "not any(", "any(", "test_refusals.Refusals"),
+    (
+        "dialects.py",
+        '"{r} COLLATE BINARY IS {m}"',
+        '"{r} COLLATE BINARY = {m}"',
+        "test_operations.Operations",
+    ),
+    (
+        "dialects.py",
+        '"{r} COLLATE BINARY IS {m}"',
+        '"{r} IS {m}"',
+        "test_tables.Tables",
+    ),
+    (
+        "dialects.py",
+        "if mode is not True and (mode != -1 or conn.isolation_level is not None):",
+        "if False:",
+        "test_refusals.Refusals",
+    ),
+    ("dialects.py", "code & 0xFF in (5, 6)", "code == 6", "test_faults.Faulty"),
+    (
+        "dialects.py",
+        "_same = '{r}::text COLLATE \"C\" IS NOT DISTINCT FROM {m}::text'",
+        '_same = "{r} IS NOT DISTINCT FROM {m}"',
+        "test_postgres.OnPostgres.test_bytes_are_compared",
+    ),
+    ("dialects.py", "IS NOT DISTINCT FROM", "=", "test_postgres.OnPostgres.test_nulls"),
+    (
+        "dialects.py",
+        'begin = "BEGIN ISOLATION LEVEL READ COMMITTED READ WRITE"',
+        'begin = "BEGIN"',
+        "test_postgres.OnPostgres.test_other_levels",
+    ),
+    (
+        "dialects.py",
+        '_share = " FOR SHARE"',
+        '_share = ""',
+        "test_postgres.OnPostgres.test_a_session_beside_a_verify",
+    ),
+    ("dialects.py", "if warnings:", "if False:", "test_postgres.OnPostgres"),
+    (
+        "dialects.py",
+        "CAST({r} AS BINARY) <=> CAST({m} AS BINARY)",
+        "{r} <=> {m}",
+        "test_mariadb.OnMariaDB.test_bytes_are_compared",
+    ),
+    (
+        "dialects.py",
+        "CAST({r} AS BINARY) <=> CAST({m} AS BINARY)",
+        "CAST({r} AS BINARY) = CAST({m} AS BINARY)",
+        "test_mariadb.OnMariaDB.test_nulls",
+    ),
+    (
+        "dialects.py",
+        '_share = " LOCK IN SHARE MODE"',
+        '_share = ""',
+        "test_mariadb.OnMariaDB",
+    ),
+    (
+        "dialects.py",
+        'level.upper().startswith("READ-UNC")',
+        "False",
+        "test_mariadb.OnMariaDB.test_uncommitted_reads",
+    ),
+    (
+        "dialects.py",
+        "if not conn.get_autocommit():",
+        "if False:",
+        "test_mariadb.OnMariaDB.test_modes",
+    ),
+    (
+        "dialects.py",
+        'in ("22", "23", "P0")',
+        "in ()",
+        "test_postgres.OnPostgres.test_a_constraint_that_is_judged_at_commit",
+    ),
+    (
+        "dialects.py",
+        '{"25006", "25P03", "53300"}',
+        '{"25006", "53300"}',
+        "test_refusals.Refusals",
+    ),
+    ("dialects.py", "2055, 4031}", "2055}", "test_refusals.Refusals"),
+    (
+        "dialects.py",
+        "            conn.remove_notice_handler(handler)\n",
+        "            pass\n",
+        "test_postgres.OnPostgres.test_what_is_sent_and_left",
+    ),
+    (
+        "dialects.py",
+        "        self._prepared.add(conn)\n",
+        "",
+        "test_mariadb.OnMariaDB.test_a_connection_is_asked_once",
+    ),
+    (
+        "dialects.py",
+        "        found = yield Statement(\"SHOW SESSION VARIABLES LIKE 't%isolation'\")\n",
+        "        self._prepared.add(conn)\n        found = yield Statement(\"SHOW SESSION VARIABLES LIKE 't%isolation'\")\n",
+        "test_mariadb.OnMariaDB.test_uncommitted_reads",
+    ),
+    (
+        "dialects.py",
+        'if done.status != "COMMIT":',
+        "if False:",
+        "test_postgres.OnPostgres.test_a_commit_of_what_has_failed",
+    ),
+]

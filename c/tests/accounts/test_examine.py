@@ -1,0 +1,439 @@
+"""What `examine` says: each table, role and setting that won't do by itself."""
+
+import sqlite3
+import unittest
+
+import engines
+import servers
+import support
+from rigzumal.accounts import Accounts, MariaDB, PerThread, Postgres, Reply, Sqlite
+from rigzumal.accounts import StoreFault
+
+CASE, BLANKS = "differ in case", "differ by blanks at the end"
+ACCENTS, CUT = "differ by accents", "a record has up to 512 bytes"
+NOT_UNIQUE = "no unique index of its own"
+
+
+class Said:
+    """What is found is what was wrong, and nothing else."""
+
+    def assert_faults(self, words, accounts=None):
+        faults = (accounts or self.accounts()).examine()
+        self.assertEqual(len(faults), len(words), faults)
+        for word in words:
+            self.assertIn(word, "; ".join(faults))
+
+    def each_table(self, cases):
+        for sql, *words in cases:
+            with self.subTest(sql=sql):
+                self.execute("DROP TABLE IF EXISTS users")
+                for one in sql.split(";"):
+                    self.execute(one)
+                rows = self.execute("SELECT * FROM users")
+                self.assertEqual(len(rows), sql.count("INSERT"))
+                self.assert_faults(words)
+                self.assertEqual(self.execute("SELECT * FROM users"), rows)
+
+
+class OnSqlite(Said, support.Base):
+    def execute(self, sql):
+        return self.conn.execute(sql).fetchall()
+
+    def test_tables(self):
+        table = "CREATE TABLE users (name TEXT {}, record {})"
+        trigger = "CREATE TRIGGER tr BEFORE UPDATE ON users BEGIN SELECT"
+        ignored = [table.format("PRIMARY KEY", "TEXT"), f"{trigger} RAISE(IGNORE)"]
+        self.each_table(
+            [
+                (table.format("PRIMARY KEY", "TEXT"),),
+                (table.format("COLLATE NOCASE PRIMARY KEY", "TEXT"), CASE),
+                (table.format("COLLATE RTRIM PRIMARY KEY", "TEXT"), BLANKS),
+                (
+                    table.format("COLLATE NOCASE", "TEXT")
+                    + "; CREATE UNIQUE INDEX i ON users (name COLLATE BINARY)",
+                    CASE,
+                ),
+                (table.format("", "TEXT"), NOT_UNIQUE),
+                (table.format("", "TEXT, UNIQUE (name, record)"), NOT_UNIQUE),
+                (table.format("", "TEXT, UNIQUE (record)"), NOT_UNIQUE),
+                (table.format("", "TEXT, b, PRIMARY KEY (name, b)"), NOT_UNIQUE),
+                (
+                    table.format("", "TEXT")
+                    + "; CREATE UNIQUE INDEX i ON users (name) WHERE record IS NULL",
+                    NOT_UNIQUE,
+                ),
+                (
+                    table.format("PRIMARY KEY", "TEXT NOT NULL"),
+                    "NOT NULL",
+                ),
+                (
+                    table.format("PRIMARY KEY", "TEXT CHECK (length(record) < 60)"),
+                    "no record can be put: IntegrityError SQLITE_CONSTRAINT_CHECK",
+                ),
+                (table.format("PRIMARY KEY", "TEXT CHECK (record LIKE '$argon2%')"),),
+                # Rows that the trial can't make: it is done at one that is there.
+                (table.format("PRIMARY KEY", "TEXT, mail TEXT NOT NULL"),),
+                (
+                    table.format("PRIMARY KEY", "TEXT CHECK (length(record) < 60), b")
+                    + "; CREATE UNIQUE INDEX i ON users (b);"
+                    " INSERT INTO users VALUES ('ann', NULL, 1)",
+                    "SQLITE_CONSTRAINT_CHECK",
+                ),
+                (
+                    "CREATE TABLE users (name TEXT PRIMARY KEY, mail TEXT NOT NULL,"
+                    " record TEXT CHECK (length(record) < 60));"
+                    " INSERT INTO users VALUES ('ann', 'x', NULL)",
+                    "SQLITE_CONSTRAINT_CHECK",
+                ),
+                (
+                    "CREATE TABLE users (name TEXT PRIMARY KEY, mail TEXT NOT NULL,"
+                    " record TEXT); INSERT INTO users VALUES ('ann', 'x', 'old')",
+                ),
+            ]
+        )
+        self.execute("DROP TABLE users")
+        self.execute(ignored[0])
+        self.conn.execute(f"{ignored[1]}; END")
+        self.assert_faults(["the trigger tr", "a row takes no update"])
+        self.execute("DROP TRIGGER tr")
+        self.conn.execute(
+            "CREATE TRIGGER tr AFTER UPDATE ON users BEGIN UPDATE users SET"
+            " record = 'x' WHERE name = NEW.name AND record <> 'x'; END"
+        )
+        self.assert_faults(["the trigger tr", "isn't the one that was put"])
+
+    def with_pragma(self, pragma, path=None, **more):
+        def connect():
+            given = {"timeout": 5, "isolation_level": None, **more}
+            conn = sqlite3.connect(path or self.path, **given)
+            conn.execute(f"PRAGMA {pragma}")
+            return conn
+
+        return self.accounts(connect=connect)
+
+    def test_settings(self):
+        for pragma, *words in (
+            ("synchronous = 0", "a power cut takes acknowledged changes"),
+            ("synchronous = 1", "a power cut takes acknowledged changes"),
+            ("synchronous = 3",),
+            ("busy_timeout = 0", "busy timeout"),
+            ("busy_timeout = 999", "busy timeout"),
+            ("busy_timeout = 1000",),
+            ("query_only = 1", "no record can be put: OperationalError"),
+        ):
+            with self.subTest(pragma=pragma):
+                self.assert_faults(words, self.with_pragma(pragma))
+
+    def test_journals(self):
+        for mode in ("delete", "truncate", "persist", "memory", "off"):
+            self.conn.execute(f"PRAGMA journal_mode = {mode}")
+            with self.subTest(mode=mode):
+                accounts = self.with_pragma(f"journal_mode = {mode}")
+                self.assert_faults(["it isn't in WAL"], accounts)
+                accounts._pools.popitem()[1].close()
+
+    def test_reads_of_what_is_not_committed(self):
+        shared = f"file:{self.path}?cache=shared"
+        accounts = self.with_pragma("read_uncommitted = 1", shared, uri=True)
+        self.assert_faults(["read_uncommitted is on"], accounts)
+
+    def test_a_connection_in_the_wrong_mode(self):
+        """The trial's ROLLBACK would be that of a caller's transaction."""
+        self.conn.execute("BEGIN")
+        self.conn.execute("INSERT INTO users VALUES ('ann', NULL)")
+        accounts = self.accounts(connect=lambda: self.conn)
+        with self.assertRaises(StoreFault):
+            accounts.examine()
+        self.conn = self.connect()
+        manual = self.accounts(connect=lambda: self.connect(isolation_level=""))
+        with self.assertRaises(StoreFault):
+            manual.examine()
+
+    def test_it_leaves_no_transaction_open(self):
+        conn = self.connect()
+        accounts = self.accounts(connect=lambda: conn)
+        self.assert_faults([], accounts)
+        self.assertFalse(conn.in_transaction)
+        self.conn.execute("DROP TABLE users")
+        self.assert_faults(["no column users.name", "no column users.record"], accounts)
+        self.assertFalse(conn.in_transaction)
+
+    def test_keys_of_other_types(self):
+        for column, kind in (("INTEGER", int), ("BLOB", bytes)):
+            self.execute("DROP TABLE users")
+            self.execute(f"CREATE TABLE users (name {column} PRIMARY KEY, record TEXT)")
+            dialect = Sqlite("users", "name", "record", kind)
+            self.assert_faults([], self.accounts(dialect=dialect))
+
+
+class OnServer(Said):
+    """What both servers' tables have in common."""
+
+    def role(self, grants):
+        """Accounts by a role that may do this alone."""
+        raise NotImplementedError
+
+    def test_roles(self):
+        table = "CREATE TABLE users (name VARCHAR(150) PRIMARY KEY, record VARCHAR(512)"
+        for more, grants, *words in (
+            ("", "SELECT", "no record can be put"),
+            ("", "SELECT, INSERT", "no record can be put"),
+            ("", "SELECT, INSERT, UPDATE"),
+            ("", "SELECT, UPDATE"),
+            (", mail INT NOT NULL", "SELECT", "no record can be put"),
+            (", mail INT NOT NULL", "SELECT, INSERT, UPDATE"),
+        ):
+            with self.subTest(more=more, grants=grants):
+                self.execute("DROP TABLE IF EXISTS users")
+                self.execute(f"{table}{more}) {self.sound}")
+                mail = ", 1" if more else ""
+                self.execute(f"INSERT INTO users VALUES ('ann', NULL{mail})")
+                self.assert_faults(words, self.role(grants))
+
+    def lengths(self, *bad):
+        table = "CREATE TABLE users (name VARCHAR(150) PRIMARY KEY, record {}) "
+        cut = [table.format(it) + self.sound for it in bad]
+        cases = [(cut[0], CUT, "no record can be put")]
+        cases += [(it, CUT) for it in cut[1:]]
+        good = [(table.format(it) + self.sound,) for it in ("VARCHAR(512)", "TEXT")]
+        self.each_table(cases + good)
+
+
+class OnPostgres(OnServer, engines.Base):
+    kind = servers.PostgresServer
+    dialect = Postgres("users", "name", "record")
+    sound = ""
+
+    def setUp(self):
+        super().setUp()
+        # A statement that was prepared knows the table that was there before.
+        self.conn.prepare_threshold = None
+
+    def role(self, grants):
+        import psycopg
+
+        for sql in ("DROP OWNED BY looker", "DROP ROLE looker"):
+            try:
+                self.execute(sql)
+            except psycopg.errors.UndefinedObject:
+                pass
+        self.execute("CREATE ROLE looker LOGIN")
+        self.execute(f"GRANT {grants} ON users TO looker")
+        url = self.server.url.replace("store@", "looker@")
+        return self.accounts(connect=lambda: psycopg.connect(url, autocommit=True))
+
+    def test_lengths(self):
+        self.lengths("varchar(60)", "varchar(96)", "varchar(128)", "varchar(511)")
+
+    def test_keys(self):
+        self.execute("CREATE EXTENSION IF NOT EXISTS citext")
+        for name, level in (("ci", "level2"), ("ai", "level1-kc-true")):
+            self.execute(
+                f"CREATE COLLATION IF NOT EXISTS {name} (provider = icu,"
+                f" locale = 'und-u-ks-{level}', deterministic = false)"
+            )
+        table = "CREATE TABLE users (name {}, record text"
+        self.each_table(
+            [
+                (table.format("char(20) PRIMARY KEY") + ")", BLANKS),
+                (table.format("citext PRIMARY KEY") + ")", CASE),
+                (table.format("text COLLATE ci PRIMARY KEY") + ")", CASE),
+                (table.format("text COLLATE ai PRIMARY KEY") + ")", ACCENTS),
+                (table.format("name PRIMARY KEY") + ")",),
+                (table.format("text") + ", UNIQUE (name, record))", NOT_UNIQUE),
+                (table.format("text") + ", UNIQUE (record, name))", NOT_UNIQUE),
+                (table.format("text") + ", UNIQUE (record))", NOT_UNIQUE),
+                (
+                    table.format("text")
+                    + "); CREATE UNIQUE INDEX ON users (name) WHERE record IS NULL",
+                    NOT_UNIQUE,
+                ),
+                (
+                    table.format("text")
+                    + "); CREATE UNIQUE INDEX ON users (lower(name))",
+                    NOT_UNIQUE,
+                ),
+                (
+                    table.format("text")
+                    + "); CREATE UNIQUE INDEX ON users (name) INCLUDE (record)",
+                ),
+            ]
+        )
+
+    def test_rules_and_checks(self):
+        table = "CREATE TABLE users (name text PRIMARY KEY, record text"
+        refused = "no record can be put: CheckViolation 23514"
+        short = "CHECK (length(record) < 60)"
+        nothing = "CREATE RULE r AS ON UPDATE TO users DO INSTEAD NOTHING"
+        self.each_table(
+            [
+                (f"{table} {short})", refused),
+                (f"{table}); ALTER TABLE users ADD {short} NOT VALID", refused),
+                (f"{table} CHECK (record LIKE '$argon2%%'))",),
+                (f"{table}); {nothing}", "no record can be put: FeatureNotSupported"),
+            ]
+        )
+
+    def test_other_tables(self):
+        self.each_table(
+            [
+                (
+                    "CREATE UNLOGGED TABLE users (name text PRIMARY KEY, record text)",
+                    "unlogged",
+                ),
+                (
+                    "CREATE TABLE users (name text PRIMARY KEY, record text);"
+                    "ALTER TABLE users ENABLE ROW LEVEL SECURITY",
+                    "row security",
+                ),
+            ]
+        )
+        self.execute("CREATE VIEW people AS SELECT * FROM users")
+        self.addCleanup(self.execute, "DROP VIEW people")
+        dialect = Postgres("people", "name", "record")
+        self.assert_faults(["no unique", "no table"], self.accounts(dialect=dialect))
+
+    def test_settings_of_a_session(self):
+        self.table("text")
+        for setting, *words in (
+            ("synchronous_commit = off", "synchronous_commit is off"),
+            ("synchronous_commit = local", "synchronous_commit is local"),
+            ("synchronous_commit = remote_write", "synchronous_commit is remote_write"),
+            ("synchronous_commit = remote_apply",),
+            ("synchronous_commit = on",),
+        ):
+
+            def connect():
+                conn = self.server.connect()
+                conn.execute(f"SET {setting}")
+                return conn
+
+            with self.subTest(setting=setting):
+                self.assert_faults(words, self.accounts(connect=connect))
+
+    def test_settings_of_the_server(self):
+        self.table("text")
+        for name in ("fsync", "full_page_writes"):
+            self.server.set(**{name: "off"})
+            try:
+                with self.subTest(name=name):
+                    self.assert_faults([f"{name} is off"])
+            finally:
+                self.server.set(**{name: "on"})
+            self.assert_faults([])
+
+
+class OnMariaDB(OnServer, engines.Base):
+    kind = servers.MariaServer
+    dialect = MariaDB("users", "name", "record")
+    sound = "CHARACTER SET utf8mb4 COLLATE utf8mb4_nopad_bin"
+
+    def role(self, grants):
+        import pymysql
+
+        with self.server.root() as conn, conn.cursor() as cursor:
+            cursor.execute("DROP USER IF EXISTS looker@'127.0.0.1'")
+            cursor.execute("CREATE USER looker@'127.0.0.1' IDENTIFIED BY 'x'")
+            cursor.execute(f"GRANT {grants} ON store.users TO looker@'127.0.0.1'")
+        given = {"host": "127.0.0.1", "port": self.server.port, "user": "looker"}
+        given.update(password="x", database="store", autocommit=True)
+        return self.accounts(connect=lambda: pymysql.connect(**given))
+
+    def test_lengths(self):
+        bad = ("VARCHAR(60)", "VARCHAR(96)", "VARCHAR(128)", "VARCHAR(511)")
+        self.lengths(*bad, "TINYTEXT")
+
+    def test_keys(self):
+        table = "CREATE TABLE users (name VARCHAR(90){}, record TEXT{})"
+        key = " COLLATE {} PRIMARY KEY"
+        wide = [
+            (table.format(" CHARACTER SET utf8mb4" + key.format(name), ""), *words)
+            for name, *words in (
+                ("utf8mb4_bin", BLANKS),
+                ("utf8mb4_general_ci", CASE, BLANKS, ACCENTS),
+                ("utf8mb4_unicode_ci", CASE, BLANKS, ACCENTS),
+                ("utf8mb4_unicode_nopad_ci", CASE, ACCENTS),
+                ("utf8mb4_nopad_bin",),
+            )
+        ]
+        narrow = [
+            (table.format(f" CHARACTER SET {name}" + key.format(kind), ""), *words)
+            for name, kind, *words in (
+                ("latin1", "latin1_swedish_ci", CASE, BLANKS, ACCENTS),
+                ("latin1", "latin1_nopad_bin"),
+                ("ascii", "ascii_bin", BLANKS),
+                ("ascii", "ascii_nopad_bin"),
+            )
+        ]
+        plain = f" {self.sound}"
+        unique = [
+            (table.format(plain, ", UNIQUE (name, record(9))"), NOT_UNIQUE),
+            (table.format(plain, ", UNIQUE (record(9), name)"), NOT_UNIQUE),
+            (table.format(plain, ", UNIQUE (record(9))"), NOT_UNIQUE),
+            (table.format(plain, ", mail INT, UNIQUE (name, mail)"), NOT_UNIQUE),
+            (table.format(plain, ", mail INT, UNIQUE (mail, name)"), NOT_UNIQUE),
+            (table.format(plain, ", UNIQUE (name(5))"), NOT_UNIQUE),
+            (table.format(plain, ", KEY (name)"), NOT_UNIQUE),
+            (table.format(plain, ", UNIQUE (name)"),),
+        ]
+        self.each_table([*wide, *narrow, *unique])
+
+    def test_blanks_are_of_a_name(self):
+        """In the table that is made for accounts, 'ann ' is another name than 'ann'."""
+        self.execute(self.dialect.create())
+        self.execute(self.dialect.insert, "ann")
+        accounts = self.accounts()
+        self.assertIs(accounts.enrol("ann", "one"), Reply.ENROLLED)
+        for name in ("ann ", " ann", "ANN", "ann\t", "\u00e4nn"):
+            self.assertIs(accounts.verify(name, "one"), Reply.NO_ACCOUNT)
+            self.execute(self.dialect.insert, name)
+            self.assertIs(accounts.verify(name, "one"), Reply.ABSENT)
+        self.assertIs(accounts.verify("ann", "one"), Reply.YES)
+
+    def test_checks(self):
+        table = (
+            "CREATE TABLE users (name VARCHAR(90) PRIMARY KEY, record TEXT CHECK ({}))"
+        )
+        refused = "no record can be put: OperationalError 4025"
+        self.each_table(
+            [
+                (f"{table.format('length(record) < 60')} {self.sound}", refused),
+                (f"{table.format('length(record) > 60')} {self.sound}",),
+            ]
+        )
+
+    def test_nothing_is_tried_where_nothing_is_undone(self):
+        for engine in ("MyISAM", "Aria", "MEMORY"):
+            record = "VARCHAR(600)" if engine == "MEMORY" else "TEXT"
+            self.each_table(
+                [
+                    (
+                        f"CREATE TABLE users (name VARCHAR(90) PRIMARY KEY, record"
+                        f" {record}) ENGINE={engine} {self.sound}; INSERT INTO users"
+                        " VALUES ('ann', 'old')",
+                        f"is of {engine}, which has no transactions",
+                    )
+                ]
+            )
+            self.assertEqual(self.stands(), "old")
+
+    def test_settings(self):
+        self.table(more=self.sound)
+        for name, bad, good in (
+            ("innodb_flush_log_at_trx_commit", (0, 2), 1),
+            ("sync_binlog", (), 0),
+        ):
+            for value in bad:
+                with self.server.root() as conn, conn.cursor() as cursor:
+                    cursor.execute(f"SET GLOBAL {name} = {value}")
+                try:
+                    with self.subTest(name=name, value=value):
+                        self.assert_faults([f"{name} is {value}"])
+                finally:
+                    with self.server.root() as conn, conn.cursor() as cursor:
+                        cursor.execute(f"SET GLOBAL {name} = {good}")
+        self.assert_faults([])
+
+
+if __name__ == "__main__":
+    unittest.main()

@@ -1,0 +1,282 @@
+"""COMMITs whose answers are lost, and servers that fail."""
+
+import contextlib
+import sqlite3
+import time
+import unittest
+from unittest import mock
+
+import rigzumal
+from support import HIGH, LOW, Base, counted
+from rigzumal.accounts import (
+    Accounts,
+    Kind,
+    MariaDB,
+    OutcomeUnknown,
+    Reply,
+    Sqlite,
+    StoreFault,
+    Unavailable,
+)
+from rigzumal.accounts._plans import Source
+
+
+class Faulty(Base):
+    """COMMITs whose answers are lost, and pools that fail."""
+
+    def test_what_stands_tells(self):
+        for before in (True, False):
+            self.put("ann", LOW.hash("one"))
+            accounts = self.losing(before)
+            self.assertIs(accounts.change("ann", "one", "two"), Reply.REPLACED)
+            self.assertTrue(self.is_right("two"))
+            self.put("ann", LOW.hash("one"))
+            accounts = self.losing(before, hasher=HIGH)
+            self.assertIs(accounts.upgrade("ann", "one"), Reply.UPGRADED)
+
+    def test_an_error_of_the_disk_at_commit(self):
+        """SQLite's number 10 says nothing of what was done, so one looks."""
+
+        def disk(text):
+            error = sqlite3.OperationalError(text)
+            error.sqlite_errorcode, error.sqlite_errorname = 10, "SQLITE_IOERR"
+            return error
+
+        for before in (True, False):
+            self.put("ann", LOW.hash("one"))
+            accounts = self.losing(before, kind=disk)
+            self.assertIs(accounts.change("ann", "one", "two"), Reply.REPLACED)
+            self.assertTrue(self.is_right("two"))
+            self.put("ann", None)
+            accounts = self.losing(before, kind=disk)
+            if before:
+                with self.assertRaises(OutcomeUnknown):
+                    accounts.enrol("ann", "one")
+            else:
+                self.assertIs(accounts.enrol("ann", "one"), Reply.ENROLLED)
+            self.put("ann", LOW.hash("one"))
+            accounts = self.losing(before, kind=disk)
+            if before:
+                self.assertIs(accounts.remove("ann", "one"), Reply.REMOVED)
+            else:
+                with self.assertRaises(OutcomeUnknown):
+                    accounts.remove("ann", "one")
+            self.assertIsNone(self.stands())
+
+    def test_an_enrolment_is_never_sent_again(self):
+        self.put("ann", None)
+        with self.assertRaises(OutcomeUnknown):
+            self.losing(before=True).enrol("ann", "one")
+        self.assertIsNone(self.stands())
+        self.assertIs(self.losing(before=False).enrol("ann", "one"), Reply.ENROLLED)
+        self.put("ann", None)
+        with self.assertRaises(OutcomeUnknown):
+            self.losing(before=True).reset("ann", "one")
+
+    def test_a_removal_cannot_be_told(self):
+        self.put("ann", LOW.hash("one"))
+        with self.assertRaises(OutcomeUnknown):
+            self.losing(before=False).remove("ann", "one")
+        self.put("ann", LOW.hash("one"))
+        self.assertIs(self.losing(before=True).remove("ann", "one"), Reply.REMOVED)
+        self.assertIsNone(self.stands())
+
+    def test_a_fault_after_a_lost_answer_says_nothing_of_it(self):
+        """The change stands, or may come to stand: it is unknown, and no StoreFault."""
+        for before in (True, False):
+            self.put("ann", LOW.hash("one"))
+            accounts = self.losing(before)
+            method, compare = accounts._method, accounts._method.compare
+            fault = sqlite3.OperationalError("database or disk is full")
+
+            def once(worked):
+                method.compare = mock.Mock(side_effect=fault)
+                return compare(worked)
+
+            method.compare = once
+            with self.assertRaises(OutcomeUnknown) as raised:
+                accounts.change("ann", "one", "two")
+            self.assertIsNone(raised.exception.__context__)
+            self.assertEqual(self.is_right("two"), not before)
+
+    def test_another_change_comes_before_it_is_sent_again(self):
+        """The copy stood as one looked, and no more as the change was sent."""
+        self.put("ann", LOW.hash("one"))
+        accounts = self.losing(before=True)
+        method, look = accounts._method, accounts._method.look
+        looks = []
+
+        def slow(conn, key):
+            found = yield from look(conn, key)
+            looks.append(found)
+            if len(looks) == 2:
+                self.put("ann", LOW.hash("another"))
+            return found
+
+        method.look = slow
+        with self.assertRaises(OutcomeUnknown):
+            accounts.change("ann", "one", "two")
+        self.assertTrue(self.is_right("another"))
+
+    def test_a_login_waits_once_for_a_server(self):
+        def connect():
+            raise ConnectionError("nobody there")
+
+        accounts = self.accounts(
+            dialect=MariaDB("t", "k", "r"), connect=connect, patience=1.0
+        )
+        begun = time.monotonic()
+        with self.assertRaises(Unavailable):
+            accounts.login("ann", "one")
+        self.assertLess(time.monotonic() - begun, 1.9)
+
+    def test_a_connection_that_is_not_rolled_back_is_given_up(self):
+        """Where the server wants the transaction anew, and ROLLBACK fails."""
+        self.put("ann", LOW.hash("one"))
+        made = []
+
+        def connect():
+            made.append(self.connect())
+            return made[-1]
+
+        accounts = self.accounts(connect=connect)
+        method, compare = accounts._method, accounts._method.compare
+        busy = [sqlite3.OperationalError("database is locked")]
+
+        def once(worked):
+            if busy:
+                method.dialect.undo = fails
+                raise busy.pop()
+            method.dialect.undo = undo
+            return (yield from compare(worked))
+
+        def fails(conn):
+            raise sqlite3.OperationalError("no")
+
+        undo, method.compare = method.dialect.undo, once
+        self.assertIs(accounts.change("ann", "one", "two"), Reply.REPLACED)
+        self.assertEqual(len(made), 2)
+
+    def test_a_pool_that_fails_after_a_lost_answer(self):
+        self.put("ann", LOW.hash("one"))
+        accounts = self.losing(before=False)
+        pool, uses = accounts._pools[Source.PRIMARY], []
+
+        def broken():
+            uses.append(1)
+            if len(uses) > 2:
+                raise RuntimeError("the pool is shut")
+            return pool()
+
+        accounts._pools = dict.fromkeys(Source, broken)
+        with self.assertRaises(OutcomeUnknown):
+            accounts.change("ann", "one", "two")
+
+    def test_a_constraint_that_is_judged_at_commit(self):
+        """SQLite leaves the transaction open: it is rolled back, and said at once."""
+        self.conn.execute("CREATE TABLE known (record TEXT UNIQUE)")
+        self.conn.execute("DROP TABLE users")
+        self.conn.execute(
+            "CREATE TABLE users (name TEXT PRIMARY KEY, record TEXT"
+            " REFERENCES known (record) DEFERRABLE INITIALLY DEFERRED)"
+        )
+        self.put("ann", LOW.hash("one"))
+
+        def connect():
+            conn = self.connect()
+            conn.execute("PRAGMA foreign_keys = ON")
+            return conn
+
+        accounts, begun = self.accounts(connect=connect), time.monotonic()
+        with self.assertRaises(StoreFault) as raised:
+            accounts.change("ann", "one", "two")
+        self.assertIn("SQLITE_CONSTRAINT_FOREIGNKEY", str(raised.exception))
+        self.assertLess(time.monotonic() - begun, 2)
+        self.assertTrue(self.is_right("one"))
+
+    def test_a_change_that_others_replaced(self):
+        """The new record may have stood and been replaced: nobody knows."""
+        self.put("ann", LOW.hash("one"))
+        accounts = self.losing(before=False)
+        read = accounts._method.begin
+        reads = []
+
+        def begin(*given, **more):
+            if reads:
+                self.put("ann", LOW.hash("another"))
+            reads.append(1)
+            return read(*given, **more)
+
+        accounts._method.begin = begin
+        with self.assertRaises(OutcomeUnknown):
+            accounts.change("ann", "one", "two")
+
+    def test_a_login_goes_on(self):
+        """What is unknown of the upgrade is no matter of the answer."""
+        self.put("ann", LOW.hash("one"))
+        accounts = self.losing(before=True, times=1000, hasher=HIGH)
+        self.assertIs(accounts.login("ann", "one"), Reply.YES)
+        self.assertIs(accounts.login("ann", "two"), Reply.NO)
+        self.assertIn("m=64,", self.stands())
+        full = self.accounts(HIGH)
+
+        def refuses(worked):
+            raise sqlite3.OperationalError("database or disk is full")
+            yield
+
+        compare = full._method.compare
+        full._method.compare = refuses
+        self.assertIs(full.login("ann", "one"), Reply.YES)
+        full._method.compare = compare
+
+        def no_memory(ticket):
+            if ticket.request.kind is Kind.UPGRADE:
+                raise rigzumal.OutOfMemoryError(8)
+            return work(ticket)
+
+        work = full._judge.work
+        full._judge.work = no_memory
+        self.assertIs(full.login("ann", "one"), Reply.YES)
+
+    def test_busy(self):
+        self.put("ann", LOW.hash("one"))
+        accounts = self.accounts(
+            HIGH, connect=lambda: self.connect(timeout=0.01), patience=0.3
+        )
+        self.conn.execute("BEGIN IMMEDIATE")
+        begun = time.monotonic()
+        with self.assertRaises(Unavailable):
+            accounts.change("ann", "one", "two")
+        self.assertLess(time.monotonic() - begun, 3)
+        self.assertIs(accounts.login("ann", "one"), Reply.YES)
+        self.conn.execute("ROLLBACK")
+        self.assertIs(accounts.change("ann", "one", "two"), Reply.REPLACED)
+
+    def test_busy_before_python_3_11(self):
+        error = sqlite3.OperationalError("database is locked")
+        self.assertIsNotNone(self.dialect.verdict(error))
+        other = sqlite3.OperationalError("no such table: users")
+        self.assertIsNone(self.dialect.verdict(other))
+
+    def test_a_pool_that_fails_after_the_work(self):
+        """What was done is done: it isn't done once more."""
+        self.put("ann", LOW.hash("one"))
+
+        @contextlib.contextmanager
+        def pool():
+            yield self.conn
+            raise ConnectionError("the pool is closed")
+
+        accounts = Accounts(pool, self.dialect, LOW)
+        self.assertIs(accounts.change("ann", "one", "two"), Reply.REPLACED)
+        self.assertIs(accounts.verify("ann", "two"), Reply.YES)
+
+    def test_a_missing_table(self):
+        self.conn.execute("DROP TABLE users")
+        with counted() as hashes, self.assertRaises(StoreFault):
+            self.accounts().verify("ann", "one")
+        self.assertEqual(hashes, [])
+
+
+if __name__ == "__main__":
+    unittest.main()

@@ -1,0 +1,250 @@
+"""What a whole operation does at a copy, and what it costs."""
+
+import random
+import threading
+import unittest
+from unittest import mock
+
+import rigzumal
+from support import HIGH, LOW, OLDER, READS, Base, counted
+from rigzumal import PasswordHasher, ScryptHasher
+from rigzumal.accounts import NO_ROW, Kind, Reply, Request, Ticket, _judgement, _step
+
+
+class Upgrades(Base):
+    def test_only_up(self):
+        """No pair of costs is above each other, whatever they are."""
+        rng, ways = random.Random(1), {0: 0, 1: 0}
+        for _ in range(300):
+            hashers = [
+                PasswordHasher(
+                    time_cost=rng.randint(1, 4),
+                    memory_cost=rng.choice([64, 96, 128, 192]),
+                    parallelism=rng.randint(1, 3),
+                    type=rng.choice(list(rigzumal.Type)),
+                )
+                for _ in range(2)
+            ]
+            judges = [_judgement.Judge(it) for it in hashers]
+            found = [rigzumal.parts(it._dummy) for it in judges]
+            up = judges[1]._goes_up(found[0]), judges[0]._goes_up(found[1])
+            self.assertFalse(all(up))
+            self.assertFalse(judges[0]._goes_up(found[0]))
+            ways[sum(up)] += 1
+        self.assertGreater(min(ways.values()), 30)
+
+    def test_what_goes_up(self):
+        """More memory for as much work, and more work in as much memory."""
+        ways = (
+            (PasswordHasher(4, 64, 1), PasswordHasher(1, 256, 1), True),
+            (PasswordHasher(4, 64, 1), PasswordHasher(1, 128, 1), False),
+            (PasswordHasher(1, 64, 1), PasswordHasher(2, 64, 1), True),
+            (PasswordHasher(1, 64, 1), PasswordHasher(1, 64, 4), False),
+            (ScryptHasher(4, 8, 1), ScryptHasher(4, 8, 2), True),
+            (ScryptHasher(4, 8, 2), ScryptHasher(5, 8, 1), True),
+            (ScryptHasher(4, 8, 4), ScryptHasher(5, 8, 1), False),
+            (ScryptHasher(4, 8, 1), ScryptHasher(3, 16, 1), False),
+        )
+        for one, two, up in ways:
+            with self.subTest(one=one, two=two):
+                self.put("ann", one.hash("x"))
+                reply = self.accounts(two).upgrade("ann", "x")
+                self.assertIs(reply, Reply.UPGRADED if up else Reply.KEPT)
+
+    def test_two_versions_of_a_service(self):
+        """Neither makes the other's record anew, if neither is above the other."""
+        more_memory = self.accounts(PasswordHasher(1, 256, 1))
+        more_passes = self.accounts(PasswordHasher(5, 64, 1))
+        self.put("ann", None)
+        more_memory.enrol("ann", "one")
+        record = self.stands()
+        for accounts in (more_passes, more_memory, self.accounts(LOW)):
+            self.assertIs(accounts.login("ann", "one"), Reply.YES)
+            self.assertIs(accounts.upgrade("ann", "one"), Reply.KEPT)
+            self.assertIs(accounts.upgrade("ann", "two"), Reply.WRONG)
+            self.assertEqual(self.stands(), record)
+        listed = self.accounts(LOW, upgrade_from=["$argon2id$v=19$m=256,t=1,p=1"])
+        self.assertIs(listed.upgrade("ann", "one"), Reply.UPGRADED)
+        self.assertIn("m=64,", self.stands())
+
+    def test_the_older_version(self):
+        self.put("ann", OLDER)
+        other = self.accounts(PasswordHasher(2, 256, 1))
+        self.assertIs(other.upgrade("ann", "password"), Reply.KEPT)
+        same = PasswordHasher(2, 256, 1, type=rigzumal.Type.I)
+        self.assertIs(self.accounts(same).login("ann", "password"), Reply.YES)
+        self.assertIn("$argon2i$v=19$m=256,t=2,p=1$", self.stands())
+
+    def test_what_a_judge_refuses(self):
+        with self.assertRaises(ValueError):
+            self.accounts(PasswordHasher(1, 64, 1, hash_len=16))
+        with self.assertRaises(ValueError):
+            self.accounts(LOW, upgrade_from=["$argon2id$v=19$m=64,t=1,p=1"])
+        peppered = mock.Mock(wraps=LOW, hash_len=32, secret=b"pepper")
+        with self.assertRaises(ValueError):
+            self.accounts(peppered)
+        with self.assertRaises(rigzumal.InvalidRecordError):
+            self.accounts(LOW, upgrade_from=["$argon2id$m=64"])
+        with self.assertRaises(rigzumal.InvalidRecordError):
+            self.accounts(PasswordHasher(1, 7, 1))
+
+
+class Foreign(Base):
+    def hook(self, text, password):
+        self.assertIsInstance(password, bytes)
+        if text.startswith("$2b$"):
+            return text == "$2b$" + password.decode()
+        return None
+
+    def test_texts_of_other_schemes(self):
+        accounts = self.accounts(foreign=self.hook)
+        self.put("ann", "$2b$one")
+        self.assertIs(accounts.verify("ann", "one"), Reply.YES)
+        self.assertIs(accounts.verify("ann", "two"), Reply.NO)
+        self.assertIs(accounts.enrol("ann", "two"), Reply.EXISTS)
+        for call in (accounts.upgrade, accounts.remove):
+            self.assertIs(call("ann", "two"), Reply.WRONG)
+        self.assertIs(accounts.change("ann", "two", "x"), Reply.WRONG)
+        self.assertEqual(self.stands(), "$2b$one")
+        self.assertIs(accounts.login("ann", "one"), Reply.YES)
+        self.assertTrue(self.is_right("one"))
+        self.put("ann", "$2b$one")
+        self.assertIs(accounts.change("ann", "one", "new"), Reply.REPLACED)
+        self.assertTrue(self.is_right("new"))
+        self.put("ann", "$2b$one")
+        self.assertIs(accounts.remove("ann", "one"), Reply.REMOVED)
+        self.assertIsNone(self.stands())
+
+    def test_the_upgrade_compares_too(self):
+        self.put("ann", "$2b$one")
+        accounts, owner = self.accounts(foreign=self.hook), self.accounts()
+        slow = accounts.work(accounts.begin(Request(Kind.UPGRADE, "ann", "one")))
+        self.assertIs(slow.reply, Reply.UPGRADED)
+        self.assertIs(owner.reset("ann", "new"), Reply.REPLACED)
+        self.assertIs(accounts.commit(slow).reply, Reply.CHANGED)
+        self.assertTrue(self.is_right("new"))
+
+    def test_a_login_that_was_shut(self):
+        self.put("ann", "!shut")
+        accounts = self.accounts(foreign=self.hook)
+        for password in ("", "!shut", "one"):
+            with counted() as hashes:
+                self.assertIs(accounts.login("ann", password), Reply.NO)
+            self.assertEqual(len(hashes), 1)
+        self.assertIs(accounts.reset("ann", "new"), Reply.REPLACED)
+
+    def test_no_hook(self):
+        self.put("ann", "!shut")
+        with self.assertRaises(rigzumal.InvalidRecordError):
+            self.accounts().verify("ann", "x")
+        self.assertIs(self.accounts().enrol("ann", "x"), Reply.EXISTS)
+        self.assertEqual(self.stands(), "!shut")
+
+
+class Costs(Base):
+    def test_each_look_costs_one_hash(self):
+        """Whether the name is known, has a record, or the password is right."""
+        self.put("ann", LOW.hash("one"))
+        self.put("bob", None)
+        accounts = self.accounts()
+        for name in ("ann", "bob", "nobody", "a\0b", "a\ud800"):
+            for kind in READS:
+                with self.subTest(name=name, kind=kind), counted() as hashes:
+                    accounts.perform(Request(kind, name, "wrong", "x"))
+                    self.assertEqual(len(hashes), 1)
+            with counted() as hashes:
+                accounts.login(name, "wrong")
+            self.assertEqual(len(hashes), 1)
+
+    def test_a_name_that_is_not_there_costs_as_much_as_a_new_record(self):
+        for hasher in (LOW, HIGH, ScryptHasher(log2_n=3)):
+            judge = _judgement.Judge(hasher)
+            with mock.patch.object(_judgement, "is_right") as checked:
+                request = Request(Kind.VERIFY, "nobody", "x")
+                judge.work(Ticket(request, NO_ROW))
+            ((dummy, password), _) = checked.call_args
+            made = rigzumal.parts(hasher.hash("x"))
+            self.assertEqual(rigzumal.parts(dummy), made)
+            self.assertEqual(password, b"x")
+
+    def test_nothing_is_hashed_twice_if_the_server_is_busy(self):
+        self.put("ann", LOW.hash("one"))
+        made = []
+
+        def connect():
+            made.append(self.connect(timeout=0.01))
+            return made[-1]
+
+        accounts = self.accounts(connect=connect)
+        other = self.connect(check_same_thread=False)
+        other.execute("BEGIN IMMEDIATE")
+        timer = threading.Timer(0.5, lambda: other.execute("COMMIT"))
+        timer.start()
+        with counted() as hashes:
+            self.assertIs(accounts.change("ann", "one", "two"), Reply.REPLACED)
+        timer.join()
+        other.close()
+        self.assertEqual(hashes, ["change"])
+        self.assertEqual(len(made), 1)
+
+
+class Steps(unittest.TestCase):
+    """One step against the table of what a whole operation does."""
+
+    def test_random_steps(self):
+        rng = random.Random(3)
+        hashers = [LOW, HIGH, ScryptHasher(log2_n=2)]
+        words = ["one", "two", "", "a\0b", "x" * 200, "x" * 256]
+        for _ in range(1200):
+            kind = rng.choice([it for it in Kind if it is not Kind.RESET])
+            password, new = rng.choice(words), rng.choice(words)
+            maker, owner = rng.choice(hashers), rng.choice(words)
+            copy = rng.choice([None, maker.hash(owner), maker.hash(owner)])
+            setting = rng.choice(hashers)._costs() + "$c29tZXNhbHRzb21lc2FsdA"
+            found = _step.step(kind, copy, password, new, setting)
+            expected = wanted(kind, copy, owner, password, new, setting)
+            self.assertEqual(found, expected)
+
+    def test_faults(self):
+        setting = LOW._costs() + "$c29tZXNhbHRzb21lc2FsdA"
+        bad = rigzumal.InvalidRecordError
+        for kind in READS:
+            for copy in ("garbage", "", LOW.hash("x") + "="):
+                with self.assertRaises(bad):
+                    _step.step(kind, copy, "x", "y", setting)
+        for kind, copy in ((Kind.ENROL, None), (Kind.CHANGE, LOW.hash("x"))):
+            with self.assertRaises(bad):
+                _step.step(kind, copy, "x", "y", "$argon2id$v=19$m=1,t=1,p=1$c29t")
+
+
+def wanted(kind, copy, owner, password, new, setting):
+    """The reply and the record after, by the table."""
+    if copy is None:
+        if kind is Kind.ENROL:
+            return Reply.ENROLLED, made(setting, password)
+        return Reply.ABSENT, None
+    if kind is Kind.ENROL:
+        return Reply.EXISTS, copy
+    right = owner == password
+    if kind is Kind.VERIFY:
+        return (Reply.YES if right else Reply.NO), copy
+    if not right:
+        return Reply.WRONG, copy
+    if kind is Kind.REMOVE:
+        return Reply.REMOVED, None
+    if kind is Kind.CHANGE:
+        return Reply.REPLACED, made(setting, new)
+    if copy.startswith(setting.rpartition("$")[0] + "$"):
+        return Reply.KEPT, copy
+    return Reply.UPGRADED, made(setting, password)
+
+
+def made(setting, password):
+    """By the hasher of the setting's costs, which other programs' vectors try."""
+    for hasher in (LOW, HIGH, ScryptHasher(log2_n=2)):
+        if setting.startswith(hasher._costs() + "$"):
+            return hasher.hash(password, salt=b"somesaltsomesalt")
+
+
+if __name__ == "__main__":
+    unittest.main()

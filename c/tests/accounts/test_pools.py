@@ -1,0 +1,419 @@
+"""Pools, and what they do at a connection's way back."""
+
+import asyncio
+import contextlib
+import os
+import sqlite3
+import unittest
+
+from rigzumal.accounts import Accounts, OutcomeUnknown, PerThread, Reply, StoreFault
+from rigzumal.accounts import _accounts, aio
+from support import LOW, Awaiting, Base, losing
+
+BUSY = sqlite3.OperationalError("database is locked")
+
+
+class Alarm(BaseException):
+    """As a timeout of gevent, a cancelled task or an interrupt."""
+
+
+class WaysBack:
+    """Pools over one connection, by what they do after an exception.
+
+    Each is told by name: a method that takes the connection and the exception, and
+    returns whether the exception is swallowed.
+    """
+
+    def raises_another(self, conn, error):
+        """As a rollback that fails on a broken connection."""
+        conn.rollback()
+        raise BUSY
+
+    def raises_at_any_end(self, conn, error):
+        conn.rollback()
+        raise BUSY
+
+    def raises_a_base_exception(self, conn, error):
+        conn.rollback()
+        raise Alarm
+
+    def swallows(self, conn, error):
+        conn.rollback()
+        return True
+
+    def rolls_back(self, conn, error):
+        conn.rollback()
+
+
+NAMES = [name for name in vars(WaysBack) if not name.startswith("_")]
+
+
+class Pooled:
+    """One of the ways, as the blocking pools have it."""
+
+    def __init__(self, name, conn):
+        self.name, self.conn = name, conn
+        self.uses = 0
+
+    def __call__(self):
+        self.uses += 1
+        return self
+
+    def __enter__(self):
+        return self.conn
+
+    def __exit__(self, kind, error, traceback):
+        if error is not None or self.name == "raises_at_any_end":
+            return getattr(WaysBack(), self.name)(self.conn, error)
+
+
+class AwaitedPool(Pooled):
+    """The same for asyncio."""
+
+    async def __aenter__(self):
+        return Awaiting(self.conn)
+
+    async def __aexit__(self, *given):
+        return self.__exit__(*given)
+
+
+class Blocking:
+    """The operations, on a pool of one connection."""
+
+    def made(self, name, dialect):
+        self.pool = Pooled(name, self.conn)
+        return Accounts(self.pool, dialect, LOW, patience=0.5)
+
+    def awaited(self, said):
+        return said
+
+    @contextlib.contextmanager
+    def statements(self):
+        """The first words of what is sent within."""
+        sent, execute = [], _accounts._execute
+
+        def noted(conn, statement):
+            sent.append(statement.sql.split()[0])
+            return execute(conn, statement)
+
+        _accounts._execute = noted
+        try:
+            yield sent
+        finally:
+            _accounts._execute = execute
+
+
+class Asynchronous:
+    """The same operations for asyncio."""
+
+    def made(self, name, dialect):
+        self.pool = AwaitedPool(name, self.conn)
+        return aio.Accounts(self.pool, dialect, LOW, patience=0.5)
+
+    def awaited(self, said):
+        return asyncio.run(said)
+
+    @contextlib.contextmanager
+    def statements(self):
+        sent, execute = [], aio._execute
+
+        async def noted(conn, statement):
+            sent.append(statement.sql.split()[0])
+            return await execute(conn, statement)
+
+        aio._execute = noted
+        try:
+            yield sent
+        finally:
+            aio._execute = execute
+
+
+class LostAnswers:
+    """A COMMIT without an answer, and a pool that does as it likes afterwards."""
+
+    def each(self, before):
+        for name in NAMES:
+            with self.subTest(pool=name):
+                yield name, self.made(name, losing(before))
+
+    def test_a_change_that_was_made(self):
+        for name, accounts in self.each(before=False):
+            self.put("ann", LOW.hash("old"))
+            change = lambda: self.awaited(accounts.change("ann", "old", "new"))
+            with self.statements() as sent:
+                if name == "raises_a_base_exception":
+                    self.assertRaises(Alarm, change)
+                else:
+                    self.assertIs(change(), Reply.REPLACED)
+            self.assertEqual(sent.count("UPDATE"), 2 - (name[-9:] == "exception"))
+            self.assertTrue(self.is_right("new"))
+
+    def test_a_change_that_was_not_made(self):
+        for name, accounts in self.each(before=True):
+            self.put("ann", LOW.hash("old"))
+            change = lambda: self.awaited(accounts.change("ann", "old", "new"))
+            if name == "raises_a_base_exception":
+                self.assertRaises(Alarm, change)
+                self.assertTrue(self.is_right("old"))
+            else:
+                self.assertIs(change(), Reply.REPLACED)
+                self.assertTrue(self.is_right("new"))
+
+    def test_an_enrolment_that_its_owner_has_removed_since(self):
+        """It stays removed, and its outcome is unknown."""
+        for name in NAMES:
+            self.put("ann", None)
+            dialect = losing(before=False)
+            commit = dialect.commit
+
+            def removed(conn):
+                try:
+                    yield from commit(conn)
+                finally:
+                    dialect.commit = commit
+                    self.conn.execute("UPDATE users SET record = NULL")
+
+            dialect.commit = removed
+            accounts = self.made(name, dialect)
+            wanted = Alarm if name == "raises_a_base_exception" else OutcomeUnknown
+            with self.subTest(pool=name), self.assertRaises(wanted):
+                self.awaited(accounts.enrol("ann", "new"))
+            self.assertIsNone(self.stands())
+
+    def test_a_removal(self):
+        for name, accounts in self.each(before=False):
+            self.put("ann", LOW.hash("old"))
+            wanted = Alarm if name == "raises_a_base_exception" else OutcomeUnknown
+            with self.assertRaises(wanted):
+                self.awaited(accounts.remove("ann", "old"))
+            self.assertIsNone(self.stands())
+
+    def test_a_fault_is_said(self):
+        """What a job raised is what its caller is told."""
+        for name in NAMES:
+            self.put("ann", LOW.hash("old"))
+            accounts = self.made(name, self.dialect)
+            self.conn.execute("ALTER TABLE users RENAME TO gone")
+            wanted = Alarm if name == "raises_a_base_exception" else StoreFault
+            with self.subTest(pool=name), self.assertRaises(wanted):
+                self.awaited(accounts.verify("ann", "old"))
+            self.assertEqual(self.pool.uses, 1)
+            self.conn.execute("ALTER TABLE gone RENAME TO users")
+
+    def test_an_interrupt_is_no_lost_connection(self):
+        """It comes through, whatever the pool makes of it; nothing is sent again."""
+        for name in NAMES:
+            self.put("ann", LOW.hash("old"))
+            accounts = self.made(name, self.dialect)
+
+            def interrupted(worked):
+                raise Alarm
+
+            accounts._method.before_commit = interrupted
+            with self.subTest(pool=name), self.assertRaises(Alarm):
+                self.awaited(accounts.change("ann", "old", "new"))
+            self.assertEqual(self.pool.uses, 2)
+            self.assertTrue(self.is_right("old"))
+
+    def test_a_pool_that_gives_nothing(self):
+        """What it raises before a job was begun comes through, and nothing was done."""
+
+        class Shut(Pooled):
+            def __enter__(self):
+                raise RuntimeError("the pool is shut")
+
+            async def __aenter__(self):
+                raise RuntimeError("the pool is shut")
+
+            async def __aexit__(self, *given):
+                raise AssertionError("it never was entered")
+
+        accounts = self.made("rolls_back", self.dialect)
+        accounts._pools = dict.fromkeys(accounts._pools, Shut("rolls_back", None))
+        with self.assertRaisesRegex(RuntimeError, "the pool is shut"):
+            self.awaited(accounts.verify("ann", "old"))
+
+    def test_what_examine_says_is_not_swallowed(self):
+        accounts = self.made("swallows", self.dialect)
+        self.assertEqual(self.awaited(accounts.examine()), [])
+        accounts._method.dialect.examine = lambda: iter(())
+        with self.assertRaises(AttributeError):
+            self.awaited(accounts.examine())
+
+
+class LostAnswersOfThreads(Blocking, LostAnswers, Base):
+    pass
+
+
+class LostAnswersOfTasks(Asynchronous, LostAnswers, Base):
+    def test_a_cancellation_comes_through(self):
+        """At the pool's way back too, where the work is done."""
+        self.put("ann", LOW.hash("old"))
+
+        async def act():
+            waiting = asyncio.Event()
+
+            @contextlib.asynccontextmanager
+            async def pool():
+                yield Awaiting(self.conn)
+                if not waiting.is_set():
+                    waiting.set()
+                    await asyncio.Event().wait()
+
+            accounts = aio.Accounts(pool, self.dialect, LOW)
+            task = asyncio.create_task(accounts.change("ann", "old", "new"))
+            await asyncio.wait_for(waiting.wait(), 60)
+            task.cancel()
+            with self.assertRaises(asyncio.CancelledError):
+                await task
+
+        asyncio.run(act())
+
+    def test_a_cancellation_that_a_rollback_replaces(self):
+        """The pool's rollback raises in its place: it is a cancellation all the same."""
+        self.put("ann", LOW.hash("old"))
+        uses = []
+
+        async def act():
+            waiting = asyncio.Event()
+
+            class Waits(Awaiting):
+                @contextlib.asynccontextmanager
+                async def cursor(self):
+                    if len(uses) == 2:
+                        waiting.set()
+                        await asyncio.Event().wait()
+                    async with Awaiting.cursor(self) as cursor:
+                        yield cursor
+
+            @contextlib.asynccontextmanager
+            async def pool():
+                uses.append(1)
+                try:
+                    yield Waits(self.conn)
+                except BaseException:
+                    raise BUSY from None
+
+            accounts = aio.Accounts(pool, self.dialect, LOW, patience=0.5)
+            task = asyncio.create_task(accounts.change("ann", "old", "new"))
+            await asyncio.wait_for(waiting.wait(), 60)
+            task.cancel()
+            with self.assertRaises(asyncio.CancelledError):
+                await task
+
+        asyncio.run(act())
+        self.assertEqual(len(uses), 2)
+        self.assertTrue(self.is_right("old"))
+
+
+class OpenTransactions(Base):
+    """A pool that keeps its connections finds none of ours open."""
+
+    def kept(self, **more):
+        pool = lambda: contextlib.nullcontext(self.conn)
+        return Accounts(pool, self.dialect, LOW, **more)
+
+    def test_after_a_refused_statement(self):
+        self.conn.execute("DROP TABLE users")
+        self.conn.execute(
+            "CREATE TABLE users (name TEXT PRIMARY KEY, record TEXT"
+            " CHECK (record NOT LIKE '%t=1%'))"
+        )
+        older = "$argon2i$m=256,t=2,p=1$c29tZXNhbHQ$/U3YPXYsSb3q9XxHvc0MLxur+GP960kN9"
+        self.put("ann", older + "j7emXX8zwY")
+        accounts = self.kept()
+        for _ in range(2):
+            with self.assertRaises(StoreFault) as raised:
+                accounts.change("ann", "password", "new")
+            self.assertIn("SQLITE_CONSTRAINT_CHECK", str(raised.exception))
+            self.assertFalse(self.conn.in_transaction)
+        self.assertIs(accounts.verify("ann", "password"), Reply.YES)
+
+    def test_after_another_record_was_found(self):
+        self.put("ann", LOW.hash("one"))
+        accounts = self.kept()
+        work = accounts._judge.work
+
+        def slowly(ticket):
+            worked = work(ticket)
+            accounts._judge.work = work
+            self.put("ann", LOW.hash("another"))
+            return worked
+
+        accounts._judge.work = slowly
+        self.assertIs(accounts.change("ann", "one", "two"), Reply.WRONG)
+        self.assertFalse(self.conn.in_transaction)
+
+    def test_what_is_left_open_is_said(self):
+        """After an interrupt it is the pool that rolls back."""
+        self.put("ann", LOW.hash("one"))
+        accounts = self.kept()
+
+        def interrupted(worked):
+            raise Alarm
+
+        accounts._method.before_commit = interrupted
+        with self.assertRaises(Alarm):
+            accounts.change("ann", "one", "two")
+        self.assertTrue(self.conn.in_transaction)
+        with self.assertRaisesRegex(StoreFault, "pool closes what it gave out"):
+            accounts.verify("ann", "one")
+
+
+class OnePerThread(Base):
+    def test_a_forked_child_makes_its_own(self):
+        self.put("ann", LOW.hash("one"))
+        made = []
+
+        def connect():
+            made.append(os.getpid())
+            return self.connect()
+
+        accounts = self.accounts(connect=connect)
+        self.assertIs(accounts.verify("ann", "one"), Reply.YES)
+        pid = os.fork()
+        if pid == 0:
+            try:
+                reply = accounts.change("ann", "one", "two")
+                fine = reply is Reply.REPLACED and made[1:] == [os.getpid()]
+                os._exit(0 if fine else 1)
+            finally:
+                os._exit(2)
+        self.assertEqual(os.waitpid(pid, 0)[1], 0)
+        self.assertIs(accounts.verify("ann", "two"), Reply.YES)
+        self.assertEqual(made, [os.getpid()])
+
+    def test_a_connection_is_given_up_after_an_exception(self):
+        """After those, too, by which a thread is interrupted and a task cancelled."""
+        for kind in (KeyError, KeyboardInterrupt, asyncio.CancelledError, Alarm):
+            pool, made = PerThread(lambda: self.connect()), []
+            for _ in range(2):
+                with pool() as conn:
+                    made.append(conn)
+            self.assertIs(made[0], made[1])
+            with self.assertRaises(kind), pool() as conn:
+                conn.execute("BEGIN IMMEDIATE")
+                raise kind
+            with self.assertRaises(sqlite3.ProgrammingError):
+                conn.execute("SELECT 1")
+            with pool() as conn:
+                self.assertIsNot(conn, made[0])
+                self.assertFalse(conn.in_transaction)
+            pool.close()
+
+    def test_an_operation_after_an_interrupt(self):
+        self.put("ann", LOW.hash("one"))
+        accounts, alarms = self.accounts(), [Alarm()]
+
+        def interrupted(worked):
+            if alarms:
+                raise alarms.pop()
+
+        accounts._method.before_commit = interrupted
+        with self.assertRaises(Alarm):
+            accounts.change("ann", "one", "two")
+        self.assertIs(accounts.change("ann", "one", "two"), Reply.REPLACED)
+
+
+if __name__ == "__main__":
+    unittest.main()

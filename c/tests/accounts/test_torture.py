@@ -1,0 +1,214 @@
+"""What a torture does to its processes, notes of them, and judges."""
+
+import contextlib
+import io
+import json
+import math
+import os
+import pathlib
+import re
+import unittest
+from unittest import mock
+
+from rigzumal.accounts import Answer, Kind, Reply, StoreFault, cli
+from rigzumal.accounts import _worker, history, torture
+from rigzumal.accounts._method import Method
+from rigzumal.accounts.history import Account, Operation
+from support import Base
+
+
+class Tortures(Base):
+    def setUp(self):
+        super().setUp()
+        self.url = f"sqlite:///{self.path}"
+        self.logs = pathlib.Path(self.path).parent / "logs"
+
+    def command(self, *words, status=0):
+        """What the command prints on both streams."""
+        said = io.StringIO()
+        given = ["--database", self.url, "torture", "--seconds=1", "--accounts=2"]
+        with contextlib.redirect_stdout(said), contextlib.redirect_stderr(said):
+            self.assertEqual(cli.main([*given, *words]), status, said.getvalue())
+        return said.getvalue()
+
+    def run_one(self, **given):
+        """The logs of a short run of two processes, as read."""
+        given = {"processes": 2, "seconds": 1.0, "folder": self.logs, **given}
+        self.torture = torture.Torture(self.url, **given)
+        with contextlib.redirect_stderr(io.StringIO()):
+            return self.torture.run()
+
+    def lines(self):
+        """The lines of each process."""
+        for path in self.logs.glob("log-*-*"):
+            yield [json.loads(it) for it in path.read_text().splitlines()]
+
+    def operations(self, accounts):
+        return [it for one in accounts.values() for it in one.operations]
+
+    # ---- kills
+
+    def test_the_command(self):
+        """However short it is, somebody was killed, and the table goes again."""
+        said = self.command("--processes=2", "--kill")
+        self.assertTrue(said.startswith("legal: "), said)
+        (killed,) = re.findall(r", (\d+) killed\n", said)
+        self.assertGreater(int(killed), 0)
+        self.assertIn(", 0 killed", self.command("--processes=2"))
+        found = self.conn.execute("SELECT name FROM sqlite_master WHERE type = 'table'")
+        self.assertEqual(found.fetchall(), [("users",)])
+
+    def test_a_kill_that_kills_nobody(self):
+        with mock.patch.object(torture.os, "kill"):
+            with mock.patch.object(torture, "RISK", 0):
+                with mock.patch.object(_worker.Worker, "_risk"):
+                    said = self.command("--processes=2", "--kill", status=2)
+        self.assertIn("no process was killed", said)
+
+    def test_kills_before_a_commit(self):
+        """Each process ends between its first UPDATE and COMMIT: nothing was done."""
+        for way in torture.WAYS[1:]:
+            given = {"kill": True, "ways": (way,), "table": way, "mix": {"reset": 1}}
+            self.logs = pathlib.Path(self.path).parent / way
+            with mock.patch.object(torture, "RISK", 1.0):
+                with mock.patch.object(torture.random, "random", return_value=0.9):
+                    accounts = self.run_one(folder=self.logs, **given)
+            self.assertGreater(self.torture.killed, 0)
+            ends = [it[-1]["event"] for it in self.lines() if it]
+            self.assertGreaterEqual(ends.count("try"), self.torture.killed - 2)
+            self.assertIsNone(torture.verdict(accounts))
+            done = [it for it in self.operations(accounts) if it.makes_change]
+            self.assertEqual(done, [], way)
+
+    def test_kills_after_a_commit(self):
+        """Each ends between its first COMMIT and the answer: it was done, unseen."""
+
+        def tried(worker, worked):
+            worker.risk = 0.0
+            told(worker, worked)
+            worker.risk = 1.0
+
+        told = _worker.Worker._tried
+        with mock.patch.object(_worker.Worker, "_tried", tried):
+            with mock.patch.object(torture, "RISK", 1.0):
+                accounts = self.run_one(kill=True)
+        self.assertGreater(self.torture.killed, 0)
+        self.assertIsNone(torture.verdict(accounts))
+        found_out = [it for it in self.operations(accounts) if it.found_out]
+        self.assertGreater(len(found_out), 0)
+
+    # ---- what is noted
+
+    def test_an_exception_of_a_process_is_a_fault(self):
+        def broken(accounts):
+            accounts.login = mock.Mock(side_effect=RuntimeError)
+
+        with self.assertRaisesRegex(StoreFault, "2 processes ended by an exception"):
+            self.run_one(alter=broken)
+
+    def test_everything_is_called(self):
+        """The whole, the parts, a caller's transaction and the login."""
+        self.assertEqual(set(torture.WAYS), {"whole", "parts", "within"})
+        self.assertEqual(set(torture.MIX), {"login", *(it.value for it in Kind)})
+        for name, way, mix in (
+            ("perform", "whole", {"change": 1}),
+            ("login", "whole", {"login": 1}),
+            ("begin", "parts", {"change": 1}),
+            ("work", "parts", {"change": 1}),
+            ("commit", "parts", {"change": 1}),
+            ("commit_in", "within", {"change": 1}),
+        ):
+
+            def broken(accounts):
+                setattr(accounts, name, mock.Mock(side_effect=RuntimeError))
+
+            with self.subTest(name=name), self.assertRaises(StoreFault):
+                self.run_one(
+                    alter=broken, table=f"t{name}", seconds=10, ways=(way,), mix=mix
+                )
+
+    def test_an_unknown_outcome_is_no_failure(self):
+        def unknown(accounts):
+            def commit(conn):
+                yield from plain(conn)
+                raise ConnectionError
+
+            plain = accounts._method.dialect.commit
+            accounts._method.dialect.commit = commit
+
+        mix = {"enrol": 1, "remove": 2, "reset": 1}
+        accounts = self.run_one(alter=unknown, mix=mix, patience=0.0)
+        lines = [it for one in self.lines() for it in one if it["event"] == "answer"]
+        self.assertIn("unknown", {it["reply"] for it in lines})
+        self.assertIsNone(torture.verdict(accounts))
+        self.assertTrue(any(it.found_out for it in self.operations(accounts)))
+
+    def test_a_login_is_an_upgrade_and_what_its_caller_is_told(self):
+        kinds, replies = set(), set()
+        wanted = {"upgraded", "kept", "yes", "no", "wrong"}
+        for turn in range(10):
+            folder = self.logs.with_name(f"logs{turn}")
+            mix = {"login": 3, "change": 1, "reset": 1}
+            accounts = self.run_one(mix=mix, folder=folder, table=f"t{turn}")
+            self.assertIsNone(torture.verdict(accounts))
+            kinds |= {it.kind for it in self.operations(accounts)}
+            replies |= {it.reply for it in self.operations(accounts)}
+            if wanted <= replies:
+                break
+        self.assertEqual(kinds, {"upgrade", "verify", "change", "reset"})
+        self.assertLessEqual(wanted, replies)
+
+    def test_a_login_that_says_yes_is_refused(self):
+        def careless(accounts):
+            login = accounts.login
+            accounts.login = lambda *given: login(*given) and Reply.YES
+
+        accounts = self.run_one(alter=careless, mix={"login": 1, "reset": 1})
+        self.assertIn("was answered yes", str(torture.verdict(accounts)))
+
+    # ---- what is judged
+
+    def test_every_account_is_judged(self):
+        def account(end):
+            seed = {"answered": -math.inf, "reply": "seed", "after": "x"}
+            return Account(
+                Operation("seed", "seed", "one", -math.inf, **seed),
+                Operation("end", "end", None, 9.0, reply="end", before=end, after=end),
+            )
+
+        for names in (["good", "bad"], ["bad", "good"], ["good", "good", "bad"]):
+            accounts = {
+                f"{number} {name}": account("x" if name == "good" else "y")
+                for number, name in enumerate(names)
+            }
+            self.assertIn(f"bad'", str(torture.verdict(accounts).reason))
+        self.assertIsNone(torture.verdict({"good": account("x")}))
+
+    def test_one_that_shows_nothing(self):
+        for words in ("--processes=0", "--seconds=0", "--accounts=-1", "--seconds=x"):
+            with self.assertRaises(SystemExit) as raised:
+                self.command(words)
+            self.assertEqual(raised.exception.code, 2)
+        with mock.patch.object(torture.Torture, "_load", return_value=0):
+            said = self.command("--accounts=1", status=2)
+        self.assertIn("no change was made", said)
+
+    def test_one_that_is_refused(self):
+        """Status 1, what contradicts what, and the table and the logs stay."""
+        compare = Method.compare
+
+        def lies(method, worked):
+            """Says that it was put, and puts nothing."""
+            if not worked.reply.makes_change:
+                return (yield from compare(method, worked))
+            return Answer(worked.reply, worked.ticket.copy, worked.after)
+
+        with mock.patch.object(Method, "compare", lies):
+            said = self.command("--processes=2", f"--logs={self.logs}", status=1)
+        self.assertTrue(said.startswith("illegal: account"))
+        self.conn.execute("SELECT * FROM rigzumal_torture")
+        self.assertTrue(os.listdir(self.logs))
+
+
+if __name__ == "__main__":
+    unittest.main()
