@@ -2,36 +2,42 @@
 
     python3 examples/login_page/login_page.py        then http://127.0.0.1:8000/
 
-DATABASE names a file of SQLite or an address of PostgreSQL; see README.md.
+It is an application of WSGI, and runs on waitress. README.md has its settings.
 """
 
 from __future__ import annotations
 
+import gzip
 import hashlib
 import hmac
 import html
+import importlib.util
+import logging
+import math
 import os
 import pathlib
 import re
 import secrets
+import signal
 import string
 import sys
+import unicodedata
 import urllib.parse
-from concurrent.futures import ThreadPoolExecutor
 from http import HTTPStatus
 from http.cookies import CookieError, SimpleCookie
 from typing import Optional
-from wsgiref.simple_server import WSGIRequestHandler, WSGIServer, make_server
 
+import waitress
 from rigzumal import PasswordHasher
 from rigzumal.accounts import Kind, Reply, Request
 from store import Store, TooManyTries
 
 HERE = pathlib.Path(__file__).resolve().parent
-COOKIE, WORKERS, BODY = "session", 8, 8192
+BODY = 8192  # bytes of a form
 NOBODY = "?"  # a name that nobody can have
-LONGEST = 256  # bytes of a password, of which a character may have four
+SHORTEST, LONGEST = 8, 256  # of a password: characters, and bytes in UTF-8
 NAME = re.compile(r"[a-z0-9._-]{1,32}", re.ASCII)
+NAMES = "1 to 32 characters: a to z, 0 to 9, and . _ -"
 NO = "The name or the password is wrong."
 CHANGED = "Your password has been changed. Other browsers have been logged out."
 HEADERS = [
@@ -41,13 +47,21 @@ HEADERS = [
     ("Referrer-Policy", "same-origin"),
     ("Cache-Control", "no-store"),
 ]  # fmt: skip
+HSTS = ("Strict-Transport-Security", "max-age=31536000")
+FIELDS = {"/login": ["name", "password"], "/signup": ["name", "new", "again"],
+          "/change": ["old", "new", "again"]}  # fmt: skip
 
 
 class Answer(Exception):
-    """An answer that isn't a page: a status, with where to go or what to say."""
+    """An answer that isn't a page: a status, what to say, and headers."""
 
-    def __init__(self, status: HTTPStatus, where: str = "", message: str = "") -> None:
-        self.status, self.where, self.message = status, where, message
+    def __init__(self, status: HTTPStatus, message: str = "", **headers: str) -> None:
+        self.status, self.message = status, message
+        self.headers = [(name.replace("_", "-"), value) for name, value in headers.items()]
+
+
+def see(where: str) -> Answer:
+    return Answer(HTTPStatus.SEE_OTHER, Location=where)
 
 
 class Visit:
@@ -55,11 +69,12 @@ class Visit:
 
     def __init__(self, environ: dict, store: Store, secret: bytes) -> None:
         self.method, self.path = environ["REQUEST_METHOD"], environ.get("PATH_INFO") or "/"
-        self.query = environ.get("QUERY_STRING", "")
         self.address = environ.get("REMOTE_ADDR", "")
         self.https = environ.get("wsgi.url_scheme") == "https"
+        # Behind https no other host, and no page without https, can set this cookie.
+        self.cookie_name = "__Host-login" if self.https else "login"
         try:
-            cookie = SimpleCookie(environ.get("HTTP_COOKIE", "")).get(COOKIE)
+            cookie = SimpleCookie(environ.get("HTTP_COOKIE", "")).get(self.cookie_name)
         except CookieError:
             cookie = None
         self.token = cookie.value if cookie else secrets.token_urlsafe()
@@ -71,22 +86,43 @@ class Visit:
         try:
             size = int(environ.get("CONTENT_LENGTH") or 0)
             if not 0 <= size <= BODY:
-                raise Answer(HTTPStatus.REQUEST_ENTITY_TOO_LARGE, message="That is too long.")
+                raise Answer(HTTPStatus.REQUEST_ENTITY_TOO_LARGE, "That is too long.")
             text = environ["wsgi.input"].read(size).decode()
             form = dict(urllib.parse.parse_qsl(text, True, True, errors="strict"))
         except ValueError:
-            raise Answer(HTTPStatus.BAD_REQUEST, message="That is not a form.") from None
+            raise Answer(HTTPStatus.BAD_REQUEST, "That is not a form.") from None
         if not hmac.compare_digest(form.get("csrf", "").encode(), self.csrf().encode()):
-            raise Answer(
-                HTTPStatus.FORBIDDEN,
-                message="This form is out of date. Please open the page again.",
-            )
+            out_of_date = "This form is out of date. Please open the page again."
+            raise Answer(HTTPStatus.FORBIDDEN, out_of_date)
         return form
 
     def typed(self, field: str) -> str:
-        """A password that was typed. One that nobody can have is as wrong as none."""
-        password = self.form.get(field, "")
+        """A password that was typed, in RFC 8265's form: a keyboard's way to write it, and
+        which space it has, doesn't matter. One that nobody can have is as wrong as none."""
+        password = unicodedata.normalize("NFC", self.form.get(field, ""))
+        password = "".join(" " if unicodedata.category(it) == "Zs" else it for it in password)
         return password if len(password.encode()) <= LONGEST else ""
+
+    def account(self) -> str:
+        """The name that was typed; "" if nobody can have it."""
+        name = self.form.get("name", "").strip()
+        return name.lower() if name.isascii() and NAME.fullmatch(name.lower()) else ""
+
+    def chosen(self) -> dict[str, str]:
+        """What is amiss with a new password that was typed twice, by its field."""
+        size = len(unicodedata.normalize("NFC", self.form.get("new", "")).encode())
+        password, name = self.typed("new"), self.name or self.account()
+        if size > LONGEST:
+            return {"new": f"This is too long: {size} bytes, and {LONGEST} are possible. A plain"
+                    " letter is one byte, and an emoji is four or more."}  # fmt: skip
+        if len(password) < SHORTEST:
+            return {"new": f"A password has at least {SHORTEST} characters."}
+        plain = password.strip().lower()
+        if len(set(plain)) < 3 or plain in COMMON or plain == name:
+            return {"new": "This password is one of the first that are guessed."}
+        if password != self.typed("again"):
+            return {"again": "The two passwords are not the same."}
+        return {}
 
     def csrf(self) -> str:
         """The token of this browser's forms, which no other page can know."""
@@ -96,12 +132,11 @@ class Visit:
         """Gives the browser another cookie, with a session of the name or with none."""
         self.token, self.name, self.has_cookie = token, name, False
 
-    def cookie(self) -> list[tuple[str, str]]:
-        """The cookie's header, if the browser hasn't it already."""
-        if self.has_cookie:
-            return []
+    def headers(self) -> list[tuple[str, str]]:
+        """The cookie, if the browser hasn't it already, and what https asks for."""
         flags = "; Path=/; HttpOnly; SameSite=Lax" + ("; Secure" if self.https else "")
-        return [("Set-Cookie", f"{COOKIE}={self.token}{flags}")]
+        cookie = ("Set-Cookie", f"{self.cookie_name}={self.token}{flags}")
+        return [HSTS] * self.https + [cookie] * (not self.has_cookie)
 
 
 class LoginPage:
@@ -113,81 +148,89 @@ class LoginPage:
                       "/change": self.change, "/logout": self.log_out}  # fmt: skip
 
     def __call__(self, environ, start_response):
-        visit, headers = None, list(HEADERS)
+        visit, headers, kind = None, list(HEADERS), "text/html; charset=utf-8"
         try:
             if environ.get("PATH_INFO") == "/style.css":
-                start_response("200 OK", HEADERS + [("Content-Type", "text/css")])
-                return [(HERE / "templates" / "style.css").read_bytes()]
-            visit = Visit(environ, self.store, self.secret)
-            if visit.path not in self.pages:
-                raise Answer(HTTPStatus.NOT_FOUND, message="This page does not exist.")
-            if visit.method not in ("GET", "HEAD", "POST"):
-                raise Answer(HTTPStatus.METHOD_NOT_ALLOWED, message="That can't be done.")
-            status, body = HTTPStatus.OK, self.pages[visit.path](visit)
+                status, kind = HTTPStatus.OK, "text/css"
+                allow(environ["REQUEST_METHOD"], "GET, HEAD")
+                body = (HERE / "templates" / "style.css").read_bytes()
+            else:
+                visit = Visit(environ, self.store, self.secret)
+                if visit.path not in self.pages:
+                    raise Answer(HTTPStatus.NOT_FOUND, "This page does not exist.")
+                allow(visit.method, "GET, HEAD" if visit.path == "/" else "GET, HEAD, POST")
+                status, body = HTTPStatus.OK, self.pages[visit.path](visit)
         except Answer as answer:
-            status, body = answer.status, page("message", None, answer.message)
-            headers += [("Location", answer.where)] if answer.where else []
-        except TooManyTries:
-            status = HTTPStatus.TOO_MANY_REQUESTS
-            body = page("message", None, "Too many attempts. Please try again in 15 minutes.")
-        headers += visit.cookie() if visit else []
-        start_response(f"{status.value} {status.phrase}",
-                       headers + [("Content-Type", "text/html; charset=utf-8")])  # fmt: skip
+            status, body = answer.status, page("message", message=answer.message)
+            headers, kind = headers + answer.headers, "text/html; charset=utf-8"
+        except TooManyTries as many:
+            status, minutes = HTTPStatus.TOO_MANY_REQUESTS, math.ceil(many.seconds / 60)
+            when = "a minute" if minutes == 1 else f"{minutes} minutes"
+            message = f"Too many attempts. Please try again in {when}."
+            headers.append(("Retry-After", str(many.seconds)))
+            body = page("message", message=message)
+        headers += [*(visit.headers() if visit else []), ("Content-Type", kind)]
+        headers.append(("Content-Length", str(len(body))))
+        start_response(f"{status.value} {status.phrase}", headers)
         return [b"" if environ["REQUEST_METHOD"] == "HEAD" else body]
 
     def home(self, visit: Visit) -> bytes:
         if visit.name is None:
-            raise Answer(HTTPStatus.SEE_OTHER, "/login")
-        return page("home", visit, CHANGED if visit.query == "changed" else "")
+            raise see("/login")
+        note = CHANGED if self.store.take_note(visit.token) else ""
+        return page("home", name=visit.name, csrf=visit.csrf(), note=note)
 
     def sign_up(self, visit: Visit) -> bytes:
         if visit.method != "POST":
-            return page("signup", visit)
-        name, password = visit.form.get("name", "").strip().lower(), self.chosen(visit)
-        if not NAME.fullmatch(name):
-            return page("signup", visit, "A name is 1 to 32 characters: a to z, 0 to 9, and . _ -")
-        if isinstance(password, Answer):
-            return page("signup", visit, password.message)
-        self.store.limit(visit.address)
+            return form(visit)
+        name, errors = visit.account(), visit.chosen()
+        if not name:
+            errors = {"name": f"A name is {NAMES}", **errors}
+        if errors:
+            return form(visit, errors)
+        self.store.count(signup=visit.address)
+        ticket = self.store.count(address=visit.address)
         self.store.add(name)
-        request = Request(Kind.ENROL, name, password)
-        if self.enter(visit, name, request, [Reply.ENROLLED]):
-            raise Answer(HTTPStatus.SEE_OTHER, "/")
-        return page("signup", visit, "This name is taken.")
+        request = Request(Kind.ENROL, name, visit.typed("new"))
+        if not self.enter(visit, name, request, [Reply.ENROLLED]):
+            return form(visit, {"name": "This name is taken."})
+        self.store.forgive(ticket)
+        raise see("/")
 
     def login(self, visit: Visit) -> bytes:
         if visit.method != "POST":
-            return page("login", visit)
-        name = visit.form.get("name", "").strip().lower()
+            return form(visit)
         # What is no name is looked up and hashed for like any other.
-        name = name if NAME.fullmatch(name) else NOBODY
-        self.store.limit(visit.address, name)
+        name, typed = visit.account() or NOBODY, visit.form.get("name", "")
+        account = typed if name == NOBODY else name
+        ticket = self.store.count(account=account, address=visit.address)
         request = Request(Kind.UPGRADE, name, visit.typed("password"))
         if not self.enter(visit, name, request, [Reply.KEPT, Reply.UPGRADED]):
-            return page("login", visit, NO)
-        self.store.forgive(name)
-        raise Answer(HTTPStatus.SEE_OTHER, "/")
+            return form(visit, {"password": NO})
+        self.store.forgive(ticket, account=account)
+        raise see("/")
 
     def change(self, visit: Visit) -> bytes:
         if visit.name is None:
-            raise Answer(HTTPStatus.SEE_OTHER, "/login")
+            raise see("/login")
         if visit.method != "POST":
-            return page("change", visit)
-        password = self.chosen(visit)
-        if isinstance(password, Answer):
-            return page("change", visit, password.message)
-        self.store.limit(visit.address, visit.name)
-        request = Request(Kind.CHANGE, visit.name, visit.typed("old"), password)
+            return form(visit)
+        errors = visit.chosen()
+        if errors:
+            return form(visit, errors)
+        # Of this session alone: whoever guesses elsewhere doesn't shut its owner out.
+        ticket = self.store.count(session=visit.token)
+        request = Request(Kind.CHANGE, visit.name, visit.typed("old"), visit.typed("new"))
         if not self.enter(visit, visit.name, request, [Reply.REPLACED]):
-            return page("change", visit, "The old password is wrong.")
-        self.store.forgive(visit.name)
-        raise Answer(HTTPStatus.SEE_OTHER, "/?changed")
+            return form(visit, {"old": "The old password is wrong."})
+        self.store.forgive(ticket, account=visit.name)
+        raise see("/")
 
     def log_out(self, visit: Visit) -> bytes:
         if visit.method == "POST":
             self.store.end(visit.token)
             visit.take(secrets.token_urlsafe(), None)
-        raise Answer(HTTPStatus.SEE_OTHER, "/login")
+        raise see("/")
 
     def enter(self, visit: Visit, name: str, request: Request, good: list[Reply]) -> bool:
         """Does the operation; if its reply is good the browser has a session, which is
@@ -198,71 +241,90 @@ class LoginPage:
         visit.take(token, name)
         return True
 
-    def chosen(self, visit: Visit):
-        """The password that was chosen and typed twice, or why it won't do."""
-        one, two = visit.form.get("new", ""), visit.form.get("again", "")
-        if one != two:
-            return Answer(HTTPStatus.OK, message="The two passwords are not the same.")
-        if len(one) < 8 or len(one.encode()) > LONGEST:
-            return Answer(HTTPStatus.OK, message="A password is 8 to 256 characters long.")
-        return one
+
+def allow(method: str, methods: str) -> None:
+    if method not in methods.split(", "):
+        raise Answer(HTTPStatus.METHOD_NOT_ALLOWED, "That can't be done.", Allow=methods)
 
 
-def page(name: str, visit=None, message: str = "") -> bytes:
-    """A template in the frame. Whatever is put into one is escaped."""
-    given = {"name": visit.name or "", "csrf": visit.csrf()} if visit else {}
-    escaped = {key: html.escape(value) for key, value in given.items()}
-    typed = visit.form.get("name", "") if visit else ""
-    escaped["typed"] = html.escape(typed)
-    if message:
-        message = f'<p class="message" role="alert">{html.escape(message)}</p>'
-    inner = template(name).substitute(escaped, message=message)
+def form(visit: Visit, errors: Optional[dict[str, str]] = None) -> bytes:
+    """A form; what is amiss stands at its field, where one goes on typing."""
+    fields, errors = FIELDS[visit.path], errors or {}
+    focused = next(it for it in fields if it in errors or not errors)
+    given = {f"{it}_error": errors.get(it, "") for it in fields}
+    for it in fields:
+        state = ' aria-invalid="true"' * (it in errors) + " autofocus" * (it == focused)
+        given[f"{it}_state"] = Html(state)
+    given |= {"typed": visit.form.get("name", ""), "user": visit.name or ""}
+    return page(visit.path[1:], "Error: " * bool(errors), csrf=visit.csrf(), **given)
+
+
+class Html(str):
+    """What is put into a template as it is."""
+
+
+def page(file: str, front: str = "", **given: str) -> bytes:
+    """A template in the frame. Whatever is put into it is escaped, but for Html."""
+    inner = template(file).substitute(
+        {key: it if isinstance(it, Html) else html.escape(it) for key, it in given.items()}
+    )
     title = re.search("<h1>(.*?)</h1>", inner)
-    return template("frame").substitute(title=title[1], body=inner).encode()
+    return template("frame").substitute(title=front + title[1], body=inner).encode()
 
 
 def template(name: str) -> string.Template:
     return string.Template((HERE / "templates" / f"{name}.html").read_text())
 
 
-class Server(WSGIServer):
-    """wsgiref's, with a fixed number of threads: each keeps its connection."""
-
-    pool = ThreadPoolExecutor(WORKERS)
-
-    def process_request(self, request, client_address):
-        self.pool.submit(self._answer, request, client_address)
-
-    def _answer(self, request, client_address):
-        try:
-            self.finish_request(request, client_address)
-        except Exception:
-            self.handle_error(request, client_address)
-        finally:
-            self.shutdown_request(request)
+def common_passwords() -> frozenset[str]:
+    """Django's list of the 20,000 passwords that are tried first."""
+    django = importlib.util.find_spec("django")
+    if django is None or django.origin is None:
+        raise SystemExit("python3-django isn't there, whose list of common passwords is asked")
+    found = pathlib.Path(django.origin).parent / "contrib/auth/common-passwords.txt.gz"
+    return frozenset(gzip.decompress(found.read_bytes()).decode().split("\n"))
 
 
-class Quiet(WSGIRequestHandler):
-    """Writes no line for each request, and waits for none without end."""
-
-    timeout = 30
-
-    def log_message(self, *given):
-        pass
+COMMON = common_passwords()
 
 
-def serve(database: str, port: int, hasher: PasswordHasher) -> WSGIServer:
-    """A server that is ready; `serve_forever` runs it."""
+def server(store: Store, port: int):
+    """A server of waitress that is ready; `run` runs it. It reads a request whole before a
+    thread works it, so slow clients hold none."""
+    proxy = os.environ.get("PROXY")
+    behind = {
+        "trusted_proxy": proxy,
+        "trusted_proxy_headers": {"x-forwarded-for", "x-forwarded-proto"},
+    }
     secret = os.environ.get("SECRET", "").encode() or secrets.token_bytes(32)
-    application = LoginPage(Store(database, hasher), secret)
-    return make_server("127.0.0.1", port, application, Server, Quiet)
+    return waitress.create_server(
+        LoginPage(store, secret),
+        host="127.0.0.1",
+        port=port,
+        threads=8,
+        connection_limit=500,
+        channel_timeout=20,  # seconds of an idle connection
+        cleanup_interval=5,
+        max_request_header_size=16384,
+        max_request_body_size=BODY,
+        asyncore_use_poll=True,
+        ident=None,
+        **(behind if proxy else {}),
+        clear_untrusted_proxy_headers=True,
+    )
+
+
+def main() -> None:
+    database = os.environ.get("DATABASE", str(HERE / "data" / "login_page.db"))
+    hasher = PasswordHasher(memory_cost=int(os.environ.get("MEMORY", "65536")))
+    serving = server(Store(database, hasher), int(os.environ.get("PORT", "8000")))
+    print(f"http://127.0.0.1:{serving.effective_port}/", flush=True)
+    logging.getLogger("waitress.queue").setLevel(logging.ERROR)  # a busy moment is none
+    for ends in (signal.SIGINT, signal.SIGTERM):
+        # waitress ends what it is working, for up to five seconds.
+        signal.signal(ends, lambda *_: sys.exit(0))
+    serving.run()
 
 
 if __name__ == "__main__":
-    costs = PasswordHasher(memory_cost=int(os.environ.get("MEMORY", "65536")))
-    server = serve(os.environ.get("DATABASE", "login_page.db"), int(os.environ.get("PORT", "8000")), costs)  # fmt: skip
-    print(f"http://127.0.0.1:{server.server_port}/", flush=True)
-    try:
-        server.serve_forever()
-    except KeyboardInterrupt:
-        sys.exit(0)
+    main()

@@ -4,9 +4,13 @@ from __future__ import annotations
 
 import contextlib
 import hashlib
+import math
+import os
+import pathlib
+import secrets
 import sqlite3
 import time
-from collections.abc import Iterator
+from collections.abc import Callable, Iterator
 from typing import Any, Optional
 
 from rigzumal import PasswordHasher
@@ -14,19 +18,23 @@ from rigzumal.accounts import Accounts, Kind, PerThread, Postgres, Reply, Reques
 
 TABLES = """
 CREATE TABLE IF NOT EXISTS account (name TEXT PRIMARY KEY, record TEXT);
-CREATE TABLE IF NOT EXISTS session
-    (token TEXT PRIMARY KEY, name TEXT NOT NULL, until DOUBLE PRECISION NOT NULL);
+CREATE TABLE IF NOT EXISTS session (token TEXT PRIMARY KEY, name TEXT NOT NULL,
+    until DOUBLE PRECISION NOT NULL, has_note INTEGER NOT NULL);
 CREATE INDEX IF NOT EXISTS session_name ON session (name);
-CREATE TABLE IF NOT EXISTS try (what TEXT NOT NULL, at DOUBLE PRECISION NOT NULL);
+CREATE TABLE IF NOT EXISTS try
+    (what TEXT NOT NULL, at DOUBLE PRECISION NOT NULL, ticket TEXT NOT NULL);
 CREATE INDEX IF NOT EXISTS try_what ON try (what, at)
 """
 LASTS = 12 * 3600  # a session, in seconds
 WINDOW = 15 * 60  # in which tries are counted, in seconds
-TRIES = {"account": 10, "address": 50}
+TRIES = {"account": 10, "session": 10, "address": 50, "signup": 50}
 
 
 class TooManyTries(Exception):
-    """An account or an address has had its tries."""
+    """An account, a session or an address has had its tries; it has more after seconds."""
+
+    def __init__(self, seconds: int) -> None:
+        self.seconds = seconds
 
 
 class Store:
@@ -34,7 +42,15 @@ class Store:
 
     def __init__(self, database: str, hasher: PasswordHasher) -> None:
         self._postgres = database.startswith(("postgres:", "postgresql:"))
-        self._pool = PerThread(lambda: _connect(database, self._postgres))
+        if self._postgres:
+            import psycopg
+
+            self._lost: type[Exception] = psycopg.OperationalError
+            self._pool = PerThread(lambda: psycopg.connect(database, autocommit=True))
+        else:
+            self._lost = ConnectionError  # a file's isn't
+            make_private(pathlib.Path(database))
+            self._pool = PerThread(lambda: _sqlite(database))
         dialect = (Postgres if self._postgres else Sqlite)("account", "name", "record", str)
         with self._pool() as conn:
             for statement in TABLES.split(";"):
@@ -62,45 +78,62 @@ class Store:
             ticket = Ticket(request, answer.after)
 
     def _begin_session(self, conn: Any, request: Request, old: str, new: str) -> None:
-        self._in(conn, "DELETE FROM session WHERE token = ?", _hash(old))
-        if request.kind is Kind.CHANGE:
+        now, changes = time.time(), request.kind is Kind.CHANGE
+        self._in(conn, "DELETE FROM session WHERE token = ? OR until <= ?", _hash(old), now)
+        if changes:
             self._in(conn, "DELETE FROM session WHERE name = ?", request.key)
-        until = time.time() + LASTS
-        self._in(conn, "INSERT INTO session VALUES (?, ?, ?)", _hash(new), request.key, until)
+        values = (_hash(new), request.key, now + LASTS, int(changes))
+        self._in(conn, "INSERT INTO session VALUES (?, ?, ?, ?)", *values)
 
     def who(self, token: str) -> Optional[str]:
         """The name whose session this is."""
-        found = self._do(
-            "SELECT name FROM session WHERE token = ? AND until > ?", _hash(token), time.time()
-        )
+        query = "SELECT name FROM session WHERE token = ? AND until > ?"
+        found = self._do(query, _hash(token), time.time())
         return found[0][0] if found else None
 
-    def end(self, token: str) -> None:
-        """Ends a session, and all that are out of date."""
-        query = "DELETE FROM session WHERE token = ? OR until < ?"
-        self._do(query, _hash(token), time.time())
+    def take_note(self, token: str) -> bool:
+        """Whether the session is to be told, once, that the password was changed."""
+        query = "SELECT has_note FROM session WHERE token = ? AND has_note = 1"
+        found = self._do(query, _hash(token))
+        if found:
+            self._do("UPDATE session SET has_note = 0 WHERE token = ?", _hash(token))
+        return bool(found)
 
-    def limit(self, address: str, name: Optional[str] = None) -> None:
+    def end(self, token: str) -> None:
+        """Ends a session."""
+        self._do("DELETE FROM session WHERE token = ?", _hash(token))
+
+    def count(self, **tried: str) -> str:
         """Counts a try before its password is hashed, so that many at once count too.
 
-        Raises:
-            TooManyTries: that is one too many, of the address or of the account.
-        """
-        now = time.time()
-        self._do("DELETE FROM try WHERE at < ?", now - WINDOW)
-        for kind, what in (("address", address), ("account", name)):
-            if what is None:
-                continue
-            self._do("INSERT INTO try VALUES (?, ?)", f"{kind} {what}", now)
-            tries = self._do("SELECT count(*) FROM try WHERE what = ?", f"{kind} {what}")
-            if tries[0][0] > TRIES[kind]:
-                # What is refused isn't counted: who tries on would be shut out for ever.
-                self._do("DELETE FROM try WHERE what = ? AND at = ?", f"{kind} {what}", now)
-                raise TooManyTries
+        Returns:
+            A ticket, by which a try that was right is forgiven.
 
-    def forgive(self, name: str) -> None:
-        """Forgets an account's tries, after a right password."""
-        self._do("DELETE FROM try WHERE what = ?", f"account {name}")
+        Raises:
+            TooManyTries: one of them has had its tries. What is refused isn't counted.
+        """
+        return self._again(lambda: self._count(tried))
+
+    def _count(self, tried: dict[str, str]) -> str:
+        ticket, now = secrets.token_urlsafe(), time.time()
+        whats = {kind: _hash(f"{kind} {what}") for kind, what in tried.items()}
+        with self._transaction() as conn:
+            if self._postgres:
+                conn.execute("LOCK TABLE try IN EXCLUSIVE MODE")
+            self._in(conn, "DELETE FROM try WHERE at <= ?", now - WINDOW)
+            for kind, what in whats.items():
+                found = self._in(conn, "SELECT at FROM try WHERE what = ? ORDER BY at DESC", what)
+                if len(found) >= TRIES[kind]:
+                    first = found[TRIES[kind] - 1][0] if TRIES[kind] else now
+                    raise TooManyTries(math.ceil(first + WINDOW - now))
+            for what in whats.values():
+                self._in(conn, "INSERT INTO try VALUES (?, ?, ?)", what, now, ticket)
+        return ticket
+
+    def forgive(self, ticket: str, account: Optional[str] = None) -> None:
+        """Forgets a try that was right, and all of its account."""
+        what = _hash(f"account {account}")
+        self._do("DELETE FROM try WHERE ticket = ? OR what = ?", ticket, what)
 
     @contextlib.contextmanager
     def _transaction(self) -> Iterator[Any]:
@@ -113,9 +146,19 @@ class Store:
                 raise
             conn.execute("COMMIT")
 
+    def _again(self, act: Callable[[], Any]) -> Any:
+        """Does it on a new connection if the server has closed the one of this thread."""
+        try:
+            return act()
+        except self._lost:
+            return act()
+
     def _do(self, query: str, *values: Any) -> list[Any]:
-        with self._pool() as conn:
-            return self._in(conn, query, *values)
+        def act() -> list[Any]:
+            with self._pool() as conn:
+                return self._in(conn, query, *values)
+
+        return self._again(act)
 
     def _in(self, conn: Any, query: str, *values: Any) -> list[Any]:
         query = query.replace("?", "%s") if self._postgres else query
@@ -123,16 +166,21 @@ class Store:
         return cursor.fetchall() if cursor.description else []
 
 
-def _hash(token: str) -> str:
-    """What stands for a token in the table, so that who reads it has no session."""
-    return hashlib.sha256(token.encode()).hexdigest()
+def _hash(text: str) -> str:
+    """What stands for a token or a try in the tables, so that who reads them has neither a
+    session nor what was typed into the wrong field."""
+    return hashlib.sha256(text.encode()).hexdigest()
 
 
-def _connect(database: str, postgres: bool) -> Any:
-    if postgres:
-        import psycopg
+def make_private(file: pathlib.Path) -> None:
+    """Makes a file, and its folder, for their owner alone; SQLite's others are as this one."""
+    file.parent.mkdir(mode=0o700, parents=True, exist_ok=True)
+    opened = os.open(file, os.O_RDWR | os.O_CREAT, 0o600)
+    os.fchmod(opened, 0o600)
+    os.close(opened)
 
-        return psycopg.connect(database, autocommit=True)
+
+def _sqlite(database: str) -> sqlite3.Connection:
     conn = sqlite3.connect(database, isolation_level=None, timeout=30)
     conn.execute("PRAGMA journal_mode = WAL")
     conn.execute("PRAGMA synchronous = FULL")

@@ -1,11 +1,12 @@
 """Random interleavings of login, change, reset and upgrade in threads, on a real database.
 
-    python3 django_histories.py [--rounds 1000] [--broken]
+    python3 django_histories.py [--rounds 1000] [--broken] [--mixin]
 
 Each round has an account of its own, with a record of old costs, and six operations that
 begin at the same time. The checker of histories decides whether their answers and the
-record at the end have one legal order. With --broken the comparison is left out, and the
-checker has to find that.
+record at the end have one legal order. With --mixin the users are those of a model with
+the mixin, by whose own methods it is done, beside saves of another field. With --broken
+the comparison is left out, and the checker has to find that.
 """
 
 import argparse
@@ -26,10 +27,13 @@ django.setup()
 from django.contrib.auth import hashers
 from django.contrib.auth.models import User
 from django.db import connections
+from django.db.models import Model
+from users_app.models import Person
 
 from rigzumal.accounts.history import Account, Illegal, Operation, check
-from rigzumal.django import backends, passwords
+from rigzumal.django import backends, passwords, records
 from rigzumal.django.hashers import Argon2PasswordHasher
+from rigzumal.django.users import CompareAndSetMixin
 
 OLD, NEW, THREADS = 64, 72, 6
 Argon2PasswordHasher.time_cost = Argon2PasswordHasher.parallelism = 1
@@ -60,13 +64,15 @@ def slowed(made):
 class Round:
     """An account, and what is done to it."""
 
+    model = User
+
     def __init__(self):
         self.name = f"ann{next(NUMBERS)}"
         self.passwords = ["old", "new", "newer"]
         Argon2PasswordHasher.memory_cost = OLD
         record = hashers.make_password("old")
         Argon2PasswordHasher.memory_cost = NEW
-        self.user = User.objects.create(username=self.name, password=record)
+        self.user = self.model.objects.create(username=self.name, password=record)
         now = time.monotonic()
         seed = Operation("seed", "seed", "old", now, costs=OLD, answered=now)
         seed.after, seed.reply = record, "enrolled"
@@ -74,18 +80,25 @@ class Round:
 
     def operate(self, barrier):
         """One operation, in a thread of its own."""
-        act = random.choice((self.login, self.change, self.reset, self.upgrade))
+        act = random.choice(self.acts())
         old, new = random.choice(self.passwords), f"p{next(NUMBERS)}"
         if act != self.login:
             new = random.choice((new, *self.passwords))
-        stale = User.objects.get(pk=self.user.pk) if random.random() < 0.5 else None
+        stale = self.read() if random.random() < 0.5 else None
         barrier.wait()
         time.sleep(random.choice((0, 0.001, 0.004, 0.008)))
         operation = Operation(f"{self.name}.{next(NUMBERS)}", "", old, 0, costs=NEW)
         operation.called = time.monotonic()
-        act(operation, stale or User.objects.get(pk=self.user.pk), old, new)
+        act(operation, stale or self.read(), old, new)
         operation.answered = time.monotonic()
-        self.operations.append(operation)
+        if operation.kind:
+            self.operations.append(operation)
+
+    def acts(self):
+        return self.login, self.change, self.reset, self.upgrade
+
+    def read(self):
+        return self.model.objects.get(pk=self.user.pk)
 
     def login(self, operation, stale, old, new):
         judged.last = None
@@ -95,7 +108,7 @@ class Round:
     def upgrade(self, operation, stale, old, new):
         judged.last = None
         try:
-            self.note_upgrade(operation, passwords.check_password(stale, old))
+            self.note_upgrade(operation, self.check_password(stale, old))
         except passwords.RecordChanged:
             operation.kind, operation.reply = "upgrade", "changed"
 
@@ -123,7 +136,7 @@ class Round:
         operation.kind, operation.new_password = "reset", new
         operation.before = stale.password
         try:
-            passwords.set_password(stale, new)
+            self.set_password(stale, new)
             operation.reply, operation.after = "replaced", stale.password
         except passwords.RecordChanged:
             operation.reply = "changed"
@@ -131,31 +144,59 @@ class Round:
     def check(self):
         now = time.monotonic()
         end = Operation("end", "end", None, now, answered=now, reply="end")
-        end.before = end.after = User.objects.get(pk=self.user.pk).password
+        end.before = end.after = self.read().password
         check(Account(self.seed, end, self.operations))
+
+    check_password, set_password = map(
+        staticmethod, (passwords.check_password, passwords.set_password)
+    )
+
+
+class MixinRound(Round):
+    """The same by the methods of a model with the mixin."""
+
+    model = Person
+
+    def acts(self):
+        return self.upgrade, self.change, self.reset, self.edit
+
+    def check_password(self, user, password):
+        return user.check_password(password)
+
+    def set_password(self, user, password):
+        user.set_password(password)
+        user.save()
+
+    def edit(self, operation, stale, old, new):
+        """A save of another field, which is none of the account's operations."""
+        stale.first_name = new
+        stale.save()
 
 
 def main():
     words = argparse.ArgumentParser()
     words.add_argument("--rounds", type=int, default=1000)
     words.add_argument("--broken", action="store_true")
+    words.add_argument("--mixin", action="store_true")
     given = words.parse_args()
     call_command("migrate", run_syncdb=True, verbosity=0)
-    passwords.judge_login = noted(passwords.judge_login)
-    passwords.judge_change = noted(passwords.judge_change)
+    records.judge_login = noted(records.judge_login)
+    records.judge_change = noted(records.judge_change)
     Argon2PasswordHasher._made = slowed(Argon2PasswordHasher._made)
     if given.broken:
 
-        def put(row, copy, record):
+        def put(row, rows, copy, record):
             row._rows.update(password=record)
             row.found(record)
             return True
 
-        passwords._Row.put = put
-    replies = {}
+        records.Row._put = put
+        update = Model._do_update  # which a save compares with nothing by
+        CompareAndSetMixin._do_update = lambda user, *rest: update(user, *rest)
+    replies, kind = {}, MixinRound if given.mixin else Round
     with ThreadPoolExecutor(THREADS) as pool:
         for number in range(given.rounds):
-            round_, barrier = Round(), threading.Barrier(THREADS)
+            round_, barrier = kind(), threading.Barrier(THREADS)
             done = [pool.submit(round_.operate, barrier) for _ in range(THREADS)]
             for it in done:
                 it.result()

@@ -1,9 +1,8 @@
 <?php
 // Runs docs/PHP.md's plain code: php php_accounts.php CODE, with a change between check and UPDATE.
-ini_set('assert.exception', '1');
 require $argv[1];
 
-/** Does something once before the next UPDATE. */
+/** Does something once before the next UPDATE, or after the next rows were read. */
 class Between extends PDO
 {
     public ?Closure $before = null;
@@ -11,7 +10,7 @@ class Between extends PDO
 
     public function prepare(string $query, array $options = []): PDOStatement|false
     {
-        if (str_starts_with(strtolower($query), 'update') && ($act = $this->before)) {
+        if (str_starts_with($query, 'UPDATE') && ($act = $this->before)) {
             $this->before = null;
             $act();
         }
@@ -22,21 +21,44 @@ class Between extends PDO
     }
 }
 
+class Rows extends PDOStatement
+{
+    public static ?Closure $after = null;
+
+    protected function __construct()
+    {
+    }
+
+    public function fetchAll(int $mode = PDO::FETCH_DEFAULT, mixed ...$given): array
+    {
+        $rows = parent::fetchAll($mode, ...$given);
+        if ($act = self::$after) {
+            self::$after = null;
+            $this->closeCursor();
+            $act();
+        }
+        return $rows;
+    }
+}
+
 function check(bool $right, string $what): void
 {
     if (!$right) {
-        fwrite(STDERR, "FAILED: $what\n");
+        echo "FAILED: $what\n";
         exit(1);
     }
 }
 
 function fresh(string $password, array $costs): Between
 {
-    $db = new Between('sqlite::memory:');
+    $db = new Between('sqlite::memory:', null, null, [PDO::ATTR_STATEMENT_CLASS => ['Rows']]);
     $db->exec('CREATE TABLE users (id INTEGER PRIMARY KEY, name TEXT UNIQUE, record TEXT)');
-    $record = password_hash($password, PASSWORD_ARGON2ID, $costs);
-    $db->prepare('INSERT INTO users (name, record) VALUES (?, ?), (?, ?)')
-       ->execute(['ann', $record, 'nobody', null]);
+    $insert = $db->prepare('INSERT INTO users (name, record) VALUES (?, ?)');
+    foreach (['ann' => password_hash($password, PASSWORD_ARGON2ID, $costs), 'none' => null] as $name => $record) {
+        $insert->execute([$name, $record]);
+    }
+    $insert->execute(['empty', '']);
+    $insert->execute(['star', '*']);
     return $db;
 }
 
@@ -45,32 +67,93 @@ function record(PDO $db): string
     return $db->query("SELECT record FROM users WHERE name = 'ann'")->fetchColumn();
 }
 
+function is_in(PDO $db, ?array $user): bool
+{
+    return $user !== null && who($db, session($user)) === 1;
+}
+
 $old = ['memory_cost' => 64, 'time_cost' => 1, 'threads' => 1];
 check(str_contains(file_get_contents('/proc/self/maps'), 'c/out/libargon2.so.1'), 'our library');
+check(COSTS === ['memory_cost' => 65536, 'time_cost' => 3, 'threads' => 4], 'the costs');
 
 $db = fresh('secret', $old);
-check(!login($db, 'ann', 'guess') && password_get_info(record($db))['options'] == $old, 'a guess');
-check(login($db, 'ann', 'secret'), 'a login');
+check(login($db, 'ann', 'guess') === null && password_get_info(record($db))['options'] == $old, 'a guess');
+check(login($db, 'ann', 'secret') === [1, record($db)], 'a login');
 check(password_get_info(record($db))['options'] == COSTS, 'its upgrade');
 $stands = record($db);
-check(login($db, 'ann', 'secret') && record($db) === $stands, 'once');
-foreach (['nobody', 'none', ''] as $name) {
-    check(!login($db, $name, 'secret') && !change($db, $name, 'secret', 'x'), "who isn't there");
+check(login($db, 'ann', 'secret') === [1, $stands] && record($db) === $stands, 'once');
+foreach (['none', 'nobody', '', 'empty', 'star'] as $name) {
+    check(login($db, $name, 'secret') === null, "who has no record: $name");
 }
-check(!change($db, 'ann', 'guess', 'new') && change($db, 'ann', 'secret', 'new'), 'a change');
+foreach ([2, 3, 4, 99] as $id) {
+    check(change($db, $id, 'secret', 'x') === null && change($db, $id, '', 'x') === null, "a change of $id");
+}
+check(change($db, 1, 'guess', 'new') === null && change($db, 1, 'secret', 'new') === [1, record($db)], 'a change');
 check(!login($db, 'ann', 'secret') && login($db, 'ann', 'new'), 'after it');
+
+// What has no record costs a hash: in processor time, the least of three.
+$spend = function (string $name) use ($db): float {
+    for ($least = INF, $turn = 0; $turn < 3; $turn++) {
+        $before = getrusage();
+        login($db, $name, 'guess');
+        $after = getrusage();
+        $spent = ($after['ru_utime.tv_sec'] - $before['ru_utime.tv_sec']) * 1e6
+            + $after['ru_utime.tv_usec'] - $before['ru_utime.tv_usec'];
+        $least = min($least, $spent);
+    }
+    return $least;
+};
+$wrong = $spend('ann');
+foreach (['none', 'nobody', 'empty', 'star'] as $name) {
+    $spent = $spend($name);
+    check($spent > $wrong * 0.4 && $spent < $wrong * 2.5, "$name takes as long: $spent, $wrong");
+}
 
 foreach ([true, false] as $compares) {
     $db = fresh('stolen', $old);
     $db->compares = $compares;
-    $db->before = fn () => check(change($db, 'ann', 'stolen', 'new'), 'the change');
+    $db->before = fn () => check(change($db, 1, 'stolen', 'new') !== null, 'the change');
     $answer = login($db, 'ann', 'stolen');
-    $after = [$answer, login($db, 'ann', 'stolen'), login($db, 'ann', 'new')];
+    $after = [(bool) $answer, (bool) login($db, 'ann', 'stolen'), (bool) login($db, 'ann', 'new')];
     check($after === ($compares ? [false, false, true] : [true, true, false]), 'the race');
 }
 
+$db = fresh('stolen', COSTS); // no upgrade: the login reads before the change, and answers after it
+Rows::$after = fn () => check(change($db, 1, 'stolen', 'new') !== null, 'the change');
+check(login($db, 'ann', 'stolen') === null, 'a login is looked at again');
+
 $db = fresh('old', $old);
 $reset = password_hash('reset', PASSWORD_ARGON2ID, $old);
-$db->before = fn () => $db->exec("UPDATE users SET record = '$reset'");
-check(!change($db, 'ann', 'old', 'new') && record($db) === $reset, 'a change undoes no reset');
+$db->before = fn () => $db->exec("UPDATE users SET record = '$reset' WHERE id = 1");
+check(change($db, 1, 'old', 'new') === null && record($db) === $reset, 'a change undoes no reset');
+$again = password_hash('reset', PASSWORD_ARGON2ID, $old);
+$db->before = fn () => $db->exec("UPDATE users SET record = '$again' WHERE id = 1");
+check(login($db, 'ann', 'reset') === [1, record($db)], 'a login whose upgrade is lost goes on');
+$db->before = fn () => $db->exec('DELETE FROM users WHERE id = 1');
+check(change($db, 1, 'reset', 'new') === null && login($db, 'ann', 'reset') === null, 'who is gone');
+
+$db = fresh('old', COSTS);
+$one = login($db, 'ann', 'old');
+$two = login($db, 'ann', 'old');
+check(is_in($db, $one) && is_in($db, $two) && who($db, null) === null, 'two sessions');
+check(who($db, ['id' => 1, 'of' => '']) === null && who($db, ['id' => 2] + session($one)) === null, 'no session');
+check(!str_contains(json_encode(session($one)), '$argon2'), 'a session has no record');
+$one = change($db, 1, 'old', 'new');
+check(is_in($db, $one) && !is_in($db, $two), 'a change ends the other sessions');
+
+$user = read($db, 'ann');
+$token = reset_token($user, 'key', time() + 60);
+foreach ([
+    [1, 'another key', $token], [2, 'key', $token], [1, 'key', ''], [1, 'key', '0.'],
+    [1, 'key', reset_token($user, 'key', time() - 1)],
+    [1, 'key', (time() + 600) . strstr($token, '.')],
+    [1, 'key', $token . '0'], [1, 'key', substr($token, 0, -1)],
+] as [$id, $key, $given]) {
+    check(reset_password($db, $id, $key, $given, 'thief') === null, "no token: $given");
+}
+check(reset_password($db, 1, 'key', $token, 'reset') !== null && login($db, 'ann', 'reset') !== null, 'a reset');
+check(reset_password($db, 1, 'key', $token, 'again') === null && !is_in($db, $one), 'once, and it ends sessions');
+$token = reset_token(read($db, 'ann'), 'key', time() + 600);
+$db->before = fn () => check(change($db, 1, 'reset', 'mine') !== null, 'the change');
+check(reset_password($db, 1, 'key', $token, 'late') === null && login($db, 'ann', 'mine') !== null, 'it compares');
 echo "plain PHP: all right, and without the condition the change is undone\n";

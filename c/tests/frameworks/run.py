@@ -4,11 +4,11 @@
 
 What a test needs and this machine doesn't have is named, and the test is skipped. Nothing
 is installed. Debian's packages for all of it: python3-django, python3-psycopg2,
-python3-psycopg, python3-argon2, python3-passlib, python3-selenium, chromium,
-chromium-driver, postgresql, php-cli, php-sqlite3, php-laravel-framework,
-apache2-utils, dovecot-core, python3-bcrypt, mypy. Django's
-own tests stand in its source package: DJANGO_SOURCE names the folder that
-`apt-get source python3-django` makes.
+python3-psycopg, python3-argon2, python3-passlib, python3-waitress, python3-selenium,
+chromium, chromium-driver, postgresql, php-cli, php-sqlite3, php-laravel-framework,
+php-symfony-security-http, php-symfony-password-hasher, apache2-utils, dovecot-core,
+python3-bcrypt, mypy. Django's own tests stand in its source package: DJANGO_SOURCE names
+the folder that `apt-get source python3-django` makes.
 """
 
 import contextlib
@@ -123,7 +123,7 @@ def postgres():
         shutil.rmtree(folder, ignore_errors=True)
 
 
-DJANGOS = ("test_django", "test_django_strings")
+DJANGOS = [f"test_django{it}" for it in ("", "_checks", "_forms", "_mixin", "_strings")]
 
 
 def django_test(**env):
@@ -157,10 +157,24 @@ def test_django_histories_postgres():
         return last(python("django_histories.py", FRAMEWORKS_POSTGRES=str(port)))
 
 
-def test_django_histories_without_comparison():
-    """Left out, the checker finds it."""
+def test_django_histories_mixin():
+    """The same by the methods of a model with the mixin, beside saves of another field."""
     need("django")
-    return last(python("django_histories.py", "--broken"))
+    return last(python("django_histories.py", "--mixin"))
+
+
+def test_django_histories_mixin_postgres():
+    """The same on PostgreSQL."""
+    need("django", "psycopg2")
+    with postgres() as port:
+        return last(python("django_histories.py", "--mixin", FRAMEWORKS_POSTGRES=str(port)))
+
+
+def test_django_histories_without_comparison():
+    """Left out, the checker finds it, of the operations and of the mixin."""
+    need("django")
+    said = [last(python("django_histories.py", "--broken", *it)) for it in ([], ["--mixin"])]
+    return " | ".join(it.partition(":")[0] for it in said)
 
 
 def test_djangos_own():
@@ -169,6 +183,25 @@ def test_djangos_own():
     if not DJANGO_SOURCE:
         raise Skipped("DJANGO_SOURCE names no source of Django")
     return last(python("test_django_own.py", DJANGO_SOURCE), 5)
+
+
+def test_django_page():
+    """docs/DJANGO.md's settings and tests, in a new project: nothing is amiss."""
+    need("django")
+    blocks = re.findall(r"```python\n(.*?)```", (TOP.parent / "docs/DJANGO.md").read_text(), re.S)
+    folder = pathlib.Path(tempfile.mkdtemp(dir=ROOM))
+    given = {"cwd": folder, "PYTHONPATH": str(PYTHON), "DJANGO_SETTINGS_MODULE": "service.settings"}
+    run("django-admin", "startproject", "service", ".", **{**given, "DJANGO_SETTINGS_MODULE": ""})
+    with open(folder / "service/settings.py", "a") as settings:
+        settings.write(blocks[0])
+    (folder / "tests.py").write_text(blocks[-1])
+    manage = [sys.executable, "manage.py"]
+    run(*manage, "migrate", "-v", "0", **given)
+    said = run(*manage, "check", "--database", "default", **given)
+    if said != "System check identified no issues (0 silenced).":
+        raise Failed(said)
+    text = run(*manage, "test", **given)
+    return next(line for line in text.splitlines() if line.startswith("Ran "))
 
 
 def test_passlib():
@@ -186,7 +219,7 @@ def test_passlibs_own():
 def login_page(*names, **env):
     program("chromedriver")
     program("chromium")
-    need("selenium")
+    need("selenium", "waitress", "django")
     text = python("test_login_page.py", *names, **env)
     told = [line for line in text.splitlines() if re.search("median|the thief|^Ran", line)]
     return " | ".join(told)
@@ -206,7 +239,7 @@ def test_login_page_postgres():
 
 def php(name, test):
     """Runs a test over the code of docs/PHP.md that begins with this name."""
-    blocks = re.findall(r"```php\n(.*?)```", (TOP.parent / "docs/PHP.md").read_text(), re.S)
+    blocks = re.findall(r"^```php\n(.*?)```", (TOP.parent / "docs/PHP.md").read_text(), re.S | re.M)
     code = ROOM / name
     code.write_text(next(it for it in blocks if it.startswith(f"<?php // {name}")))
     return run(program("php"), test, code, LD_LIBRARY_PATH=str(TOP / "out"))
@@ -225,6 +258,13 @@ def test_laravel():
     if not pathlib.Path("/usr/share/php/Illuminate/autoload.php").exists():
         raise Skipped("php-laravel-framework is not there")
     return php("CompareAndSetUserProvider.php", "php_laravel.php")
+
+
+def test_symfony():
+    """docs/PHP.md's upgrader for Symfony, on SQLite."""
+    if not pathlib.Path("/usr/share/php/Symfony/Component/Security/Http/autoload.php").exists():
+        raise Skipped("php-symfony-security-http is not there")
+    return php("CompareAndSetUpgrader.php", "php_symfony.php")
 
 
 def test_migrating():

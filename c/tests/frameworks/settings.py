@@ -17,10 +17,12 @@ def _database(name):
 
 DATABASES = {"default": _database("one"), "other": _database("two")}
 INSTALLED_APPS = [
+    "rigzumal.django",  # before auth: its changepassword is ours
+    "rigzumal.django.apps.AdminConfig",
     "django.contrib.auth",
     "django.contrib.contenttypes",
     "django.contrib.sessions",
-    "rigzumal.django",
+    "django.contrib.messages",
     "users_app",
 ]
 PASSWORD_HASHERS = [
@@ -33,20 +35,18 @@ AUTHENTICATION_BACKENDS = ["rigzumal.django.backends.CompareAndSetBackend"]
 MIDDLEWARE = [
     "django.contrib.sessions.middleware.SessionMiddleware",
     "django.contrib.auth.middleware.AuthenticationMiddleware",
+    "django.contrib.messages.middleware.MessageMiddleware",
 ]
+_PROCESSORS = ("template.context_processors.request", "contrib.auth.context_processors.auth")
 TEMPLATES = [
     {
         "BACKEND": "django.template.backends.django.DjangoTemplates",
+        "APP_DIRS": True,
         "OPTIONS": {
-            "loaders": [
-                (
-                    "django.template.loaders.locmem.Loader",
-                    {
-                        "registration/password_change_form.html": "{{ form.errors }}",
-                        "registration/password_reset_confirm.html": "{{ form.errors }}",
-                    },
-                )
-            ]
+            "context_processors": [
+                *(f"django.{name}" for name in _PROCESSORS),
+                "django.contrib.messages.context_processors.messages",
+            ],
         },
     }
 ]
@@ -54,5 +54,6 @@ ROOT_URLCONF = "urls"
 SECRET_KEY = "of the tests"
 DEFAULT_AUTO_FIELD = "django.db.models.AutoField"
 USE_TZ = True
+STATIC_URL = "/static/"
 # The tables are made as the models are, since a model of the tests inherits from one of auth's.
-MIGRATION_MODULES = {name: None for name in ("auth", "contenttypes", "sessions")}
+MIGRATION_MODULES = {name: None for name in ("admin", "auth", "contenttypes", "sessions")}

@@ -2,7 +2,8 @@
 
     python3 test_django_own.py FOLDER-OF-DJANGO'S-SOURCE
 
-`--djangos` runs the same without Rigzumal, to see what fails then.
+Its stock User compares, as by RIGZUMAL_USER_COMPARES. `--djangos` runs the same without
+Rigzumal, to see what fails then.
 """
 
 import os
@@ -101,8 +102,12 @@ settings.configure(
 )
 django.setup()
 from auth_tests import test_auth_backends
+from django.contrib.auth.models import User
 
 if not DJANGOS:
+    from rigzumal.django.users import make_comparing
+
+    make_comparing(User)
     # Its tests put the backend that they try behind the settings' own.
     test_auth_backends.BaseModelBackendTest.backend = BACKEND
 

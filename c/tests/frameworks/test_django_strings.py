@@ -1,30 +1,23 @@
-"""The hashers' strings, and what `manage.py check` says."""
+"""The hashers' strings, beside those of Django's own."""
 
 import base64
 import hashlib
+import hmac
+import math
 import unittest
 from unittest import mock
 
 from cheap import cheap
-from django.contrib.auth import get_user_model, hashers
-from django.core.checks import run_checks
-from django.test import override_settings
+from django.contrib.auth import hashers
 
 import rigzumal
-from rigzumal.django import checks, passwords
+from rigzumal.django import checks, records
 from rigzumal.django.hashers import Argon2PasswordHasher, ScryptPasswordHasher
 
 try:
     import argon2 as argon2_cffi
 except ImportError:
     argon2_cffi = None
-try:
-    import psycopg
-except ImportError:
-    psycopg = None
-
-OURS = "rigzumal.django.backends.CompareAndSetBackend"
-THEIRS = "django.contrib.auth.backends.ModelBackend"
 
 
 class Strings(unittest.TestCase):
@@ -174,8 +167,89 @@ class Strings(unittest.TestCase):
                 hasher.encode("secret", "somesalt"),
             ):
                 self.assertTrue(hasher.must_update(old), old)
-            with mock.patch.object(hasher, "hash_len", 16):
-                self.assertTrue(hasher.must_update(record))
+
+    def test_what_is_old_of_scrypt(self):
+        """Each number alone, above and below."""
+        hasher = ScryptPasswordHasher()
+        with mock.patch.multiple(hasher, work_factor=4, block_size=2, parallelism=2):
+            self.assertFalse(hasher.must_update(hasher.encode("secret", "seasalt")))
+            for numbers in ((2, 2, 2), (8, 2, 2), (4, 1, 2), (4, 3, 2), (4, 2, 1), (4, 2, 3)):
+                record = hasher.encode("secret", "seasalt", *numbers)
+                self.assertTrue(hasher.must_update(record), numbers)
+
+    def test_a_shorter_tag_is_not_old(self):
+        """Beside servers of Django's own hasher, whose argon2-cffi makes 16 bytes, no
+        record goes back and forth."""
+        ours = Argon2PasswordHasher()
+        with cheap():
+            for size, length, old in (
+                (32, 16, False),
+                (32, 32, False),
+                (32, 64, False),
+                (32, 15, True),
+                (16, 32, False),
+                (8, 8, False),
+                (8, 7, True),
+            ):
+                with mock.patch.object(ours, "hash_len", length):
+                    record = ours.encode("secret", ours.salt())
+                with mock.patch.object(ours, "hash_len", size):
+                    self.assertEqual(ours.must_update(record), old, (size, length))
+                    self.assertTrue(ours.verify("secret", record))
+
+    @unittest.skipIf(argon2_cffi is None, "argon2-cffi is not there")
+    def test_a_rolling_deploy(self):
+        """Servers with each hasher, by turns: at most one record is made anew."""
+        theirs, ours = hashers.Argon2PasswordHasher(), Argon2PasswordHasher()
+        costs = {"memory_cost": 64, "time_cost": 1, "parallelism": 1}
+        with mock.patch.multiple(theirs, **costs), mock.patch.multiple(ours, **costs):
+            for first in (theirs, ours):
+                record, made = first.encode("secret", first.salt()), 0
+                for hasher in (theirs, ours) * 4:
+                    self.assertTrue(hasher.verify("secret", record))
+                    if hasher.must_update(record):
+                        record, made = hasher.encode("secret", hasher.salt()), made + 1
+                self.assertLessEqual(made, 1)
+
+    def test_the_numbers_are_djangos(self):
+        """Of its newest: those of a service that sets none."""
+        ours = Argon2PasswordHasher
+        self.assertEqual((ours.time_cost, ours.memory_cost, ours.parallelism), (2, 102400, 8))
+        self.assertEqual(ours.hash_len, 32)
+        for name in ("time_cost", "memory_cost", "parallelism"):
+            self.assertEqual(getattr(hashers.Argon2PasswordHasher, name), getattr(ours, name))
+        ours = ScryptPasswordHasher
+        self.assertEqual((ours.work_factor, ours.block_size), (2**14, 8))
+        theirs = getattr(hashers, "ScryptPasswordHasher", None)
+        self.assertEqual(ours.parallelism, theirs.parallelism if theirs else 5)
+
+    def test_each_record_has_a_salt_of_its_own(self):
+        for hasher in (Argon2PasswordHasher(), ScryptPasswordHasher()):
+            salts = {hasher.salt() for _ in range(100)}
+            self.assertEqual(len(salts), 100)
+            bits = min(map(len, salts)) * math.log2(62)
+            self.assertGreaterEqual(bits, 128)
+            with cheap(), mock.patch.object(ScryptPasswordHasher, "work_factor", 2):
+                made = {hashers.make_password("secret", hasher=hasher.algorithm) for _ in "ab"}
+            self.assertEqual(len({hasher.decode(it)["salt"] for it in made}), 2)
+
+    def test_all_of_the_tag_is_compared(self):
+        """At one speed, wherever the first difference is."""
+        compare = mock.patch("hmac.compare_digest", side_effect=hmac.compare_digest)
+        with cheap(), mock.patch.object(ScryptPasswordHasher, "work_factor", 2):
+            for hasher in (Argon2PasswordHasher(), ScryptPasswordHasher()):
+                record = hasher.encode("secret", hasher.salt())
+                tag = base64.b64decode(record.rpartition("$")[2] + "==")
+                with compare as compared:
+                    self.assertTrue(hasher.verify("secret", record))
+                self.assertEqual(compared.mock_calls, [mock.call(tag, tag)])
+                for place in (0, len(tag) // 2, len(tag) - 1):
+                    other = bytes(it ^ (at == place) for at, it in enumerate(tag))
+                    letters = base64.b64encode(other).decode()
+                    if hasher.algorithm == "argon2":
+                        letters = letters.rstrip("=")
+                    changed = f"{record.rpartition('$')[0]}${letters}"
+                    self.assertFalse(hasher.verify("secret", changed), place)
 
     def test_new_records_fit(self):
         for hasher in (Argon2PasswordHasher(), ScryptPasswordHasher()):
@@ -185,7 +259,7 @@ class Strings(unittest.TestCase):
 
     def test_nothing_secret_is_shown(self):
         record = Argon2PasswordHasher().encode("secret", "somesaltsomesalt")
-        shown = repr(passwords.Judged(True, record, record))
+        shown = repr(records.Judged(True, record, record))
         self.assertNotIn("argon2", shown)
         shown = Argon2PasswordHasher().safe_summary(record)
         self.assertEqual(shown["salt"], "somesa**********")
@@ -194,62 +268,3 @@ class Strings(unittest.TestCase):
         shown = ScryptPasswordHasher().safe_summary(record)
         self.assertEqual(shown["salt"], "somesa**********")
         self.assertEqual(shown["hash"], record.split("$")[-1][:6] + "*" * 82)
-
-
-class Checks(unittest.TestCase):
-    def found(self):
-        return sorted(it.id for it in run_checks() if it.id.startswith("rigzumal"))
-
-    def test_all_is_well(self):
-        self.assertEqual(self.found(), [])
-
-    def test_backends(self):
-        with override_settings(AUTHENTICATION_BACKENDS=[THEIRS]):
-            self.assertEqual(self.found(), ["rigzumal.W001", "rigzumal.W002"])
-        with override_settings(AUTHENTICATION_BACKENDS=[OURS, THEIRS]):
-            self.assertEqual(self.found(), ["rigzumal.W002"])
-        remote = "django.contrib.auth.backends.RemoteUserBackend"
-        with override_settings(AUTHENTICATION_BACKENDS=[OURS, remote]):
-            self.assertEqual(self.found(), [])
-        with override_settings(AUTHENTICATION_BACKENDS=[remote]):
-            self.assertEqual(self.found(), ["rigzumal.W001"])
-
-    def test_a_short_column(self):
-        field = get_user_model()._meta.get_field("password")
-        with mock.patch.object(field, "max_length", 127):
-            self.assertEqual(self.found(), ["rigzumal.E003"])
-        with mock.patch.object(field, "max_length", None):
-            self.assertEqual(self.found(), [])
-
-    def test_hashers(self):
-        with override_settings(
-            PASSWORD_HASHERS=["django.contrib.auth.hashers.PBKDF2PasswordHasher"]
-        ):
-            self.assertEqual(self.found(), ["rigzumal.W004"])
-
-    def warned(self, engine, **options):
-        database = {"ENGINE": f"django.db.backends.{engine}", "OPTIONS": options}
-        with mock.patch.object(checks.settings, "DATABASES", {"default": database}):
-            return bool(checks.isolation())
-
-    def test_isolation(self):
-        for level, warned in (
-            ("repeatable read", True),
-            ("READ COMMITTED", False),
-            (2, True),
-            (3, True),
-            (1, False),
-            (None, False),
-        ):
-            self.assertEqual(self.warned("postgresql", isolation_level=level), warned, level)
-        self.assertFalse(self.warned("postgresql"))
-        # Django's own level of MySQL is READ COMMITTED; None is the server's.
-        self.assertFalse(self.warned("mysql"))
-        self.assertTrue(self.warned("mysql", isolation_level=None))
-
-    @unittest.skipIf(psycopg is None, "psycopg 3 is not there")
-    def test_isolation_of_psycopg_3(self):
-        """Its numbers aren't those of psycopg2."""
-        for level in psycopg.IsolationLevel:
-            warned = level.name in ("REPEATABLE_READ", "SERIALIZABLE")
-            self.assertEqual(self.warned("postgresql", isolation_level=level), warned, level)

@@ -37,6 +37,20 @@ class Argon2(unittest.TestCase):
                 self.assertFalse(two_of.needs_update(one))
                 self.assertTrue(two_of.using(memory_cost=72).needs_update(one))
 
+    def test_the_defaults(self):
+        """Those of RFC 9106's second choice, whatever passlib's are."""
+        record = ours.hash("secret")
+        self.assertRegex(record, r"^\$argon2id\$v=19\$m=65536,t=3,p=4\$.{22}\$.{43}$")
+        self.assertNotEqual(record, ours.hash("secret"))
+
+    def test_sizes_of_tags(self):
+        for size in (16, 24, 64):
+            handler = ours.using(memory_cost=64, time_cost=1, digest_size=size)
+            record = handler.hash("password")
+            self.assertEqual(len(handler.from_string(record).checksum), size)
+            self.assertTrue(ours.verify("password", record))
+            self.assertFalse(ours.verify("Password", record))
+
     def test_threads(self):
         for settings, threads in (
             ({}, 4),
@@ -97,6 +111,13 @@ class Registered(unittest.TestCase):
             [sys.executable, "-c", REGISTERED], capture_output=True, text=True, check=True
         )
         self.assertEqual(done.stdout.split(), ["rigzumal"] * 4)
+
+    def test_after_passlibs_own_were_loaded(self):
+        text = "import passlib.hash; passlib.hash.argon2; passlib.hash.scrypt" + REGISTERED
+        done = subprocess.run(
+            [sys.executable, "-W", "ignore", "-c", text], capture_output=True, text=True
+        )
+        self.assertEqual(done.stdout.split(), ["rigzumal"] * 4, done.stderr)
 
     def test_contexts(self):
         context = CryptContext([ours, our_scrypt], argon2__memory_cost=64, argon2__rounds=1)

@@ -1,16 +1,44 @@
+from django.contrib import admin
+from django.contrib.auth import get_user_model
+from django.contrib.auth.models import User
 from django.http import HttpResponse
-from django.urls import path
+from django.urls import include, path
 
-from rigzumal.django import views
+from rigzumal.django import passwords
+from rigzumal.django.admin import UserAdmin
+
+admin.site.unregister(User)
+admin.site.register(User, UserAdmin)
 
 
-def done(request):
-    return HttpResponse("done")
+def who(request):
+    return HttpResponse(request.user.get_username() or "nobody")
+
+
+def later(request):
+    """A view of a project's own, which goes on with the user after a change."""
+    changed = passwords.change_password(request.user, request.POST["old"], request.POST["new"])
+    request.user.first_name = "later"
+    request.user.save()
+    return HttpResponse(str(changed))
+
+
+def last_seen(get_response):
+    """A middleware as many projects have: it saves the user after each request."""
+
+    def answer(request):
+        response = get_response(request)
+        if request.user.is_authenticated:
+            request.user.last_name = "seen"
+            request.user.save()
+        return response
+
+    return answer
 
 
 urlpatterns = [
-    path("change/", views.PasswordChangeView.as_view()),
-    path("reset/<uidb64>/<token>/", views.PasswordResetConfirmView.as_view()),
-    path("done/", done, name="password_change_done"),
-    path("reset-done/", done, name="password_reset_complete"),
+    path("accounts/", include("rigzumal.django.urls")),
+    path("admin/", admin.site.urls),
+    path("later/", later),
+    path("who/", who),
 ]

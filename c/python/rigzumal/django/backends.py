@@ -3,19 +3,19 @@
     AUTHENTICATION_BACKENDS = ["rigzumal.django.backends.CompareAndSetBackend"]
 """
 
-# mypy: allow-subclassing-any, allow-untyped-decorators
+# mypy: allow-subclassing-any
 
 from __future__ import annotations
 
+from collections.abc import Awaitable
 from typing import Any, Optional
 
-from asgiref.sync import sync_to_async
 from django.contrib.auth import get_user_model, hashers
 from django.contrib.auth.backends import ModelBackend
 from django.db import router
-from django.views.decorators.debug import sensitive_variables
 
-from rigzumal.django import passwords
+from rigzumal.django import passwords, records
+from rigzumal.django.records import hidden
 
 
 class CompareAndSetBackend(ModelBackend):
@@ -24,13 +24,11 @@ class CompareAndSetBackend(ModelBackend):
     - A record of old costs is made anew at a right login by an UPDATE that asks whether
       it still stands; otherwise the password is judged at what stands.
     - The user is read from the database that is written, so a replica may lag.
-    - A name that isn't there and an inactive user cost one hash, as a wrong password
-      does; an inactive user's record isn't made anew.
-
-    Subclasses override `user_can_authenticate` and `get_user` as ModelBackend's.
+    - A name that isn't there and an inactive user cost one hash and two queries, as a
+      wrong password does; an inactive user's record isn't made anew.
     """
 
-    @sensitive_variables("password")
+    @hidden
     def authenticate(
         self,
         request: Any,
@@ -48,24 +46,18 @@ class CompareAndSetBackend(ModelBackend):
         try:
             user = users.get_by_natural_key(username)
         except model.DoesNotExist:
-            user = None
-        if user is None or not self.user_can_authenticate(user):
             hashers.make_password("")  # as long as a wrong password takes
+            users.filter(**{model.USERNAME_FIELD: username}).exists()
+            return None
+        if not self.user_can_authenticate(user):
+            hashers.make_password("")
+            records.Row(user).look()
             return None
         try:
             return user if passwords.check_password(user, password) else None
         except passwords.RecordChanged:
             return None
 
-    @sensitive_variables("password")
-    async def aauthenticate(
-        self,
-        request: Any,
-        username: Optional[str] = None,
-        password: Optional[str] = None,
-        **kwargs: Any,
-    ) -> Any:
+    def aauthenticate(self, *given: Any, **credentials: Any) -> Awaitable[Any]:
         """`authenticate`, in a thread; Django calls it from 5.2 on."""
-        return await sync_to_async(self.authenticate)(
-            request, username=username, password=password, **kwargs
-        )
+        return records.in_thread(lambda: self.authenticate(*given, **credentials))

@@ -1,97 +1,116 @@
-"""What `manage.py check` says of the settings."""
+"""What `manage.py check` says of the settings, and of what they leave unprotected.
+
+`manage.py check --database default`, and `migrate`, look at the records too.
+"""
 
 from __future__ import annotations
 
+import re
+from collections.abc import Iterator
 from typing import Any, Optional
 
+from django.apps import apps
 from django.conf import settings
 from django.contrib.auth import get_user_model
-from django.contrib.auth.backends import ModelBackend
+from django.contrib.auth import hashers as djangos
+from django.contrib.auth import views as djangos_views
+from django.contrib.auth.backends import ModelBackend, RemoteUserBackend
 from django.core import checks
+from django.core.exceptions import FieldDoesNotExist
+from django.core.management import get_commands
+from django.db import connections, router
+from django.urls import get_resolver
 from django.utils.module_loading import import_string
 
-from rigzumal.django import hashers
+from rigzumal.django import forms, hashers, users
 from rigzumal.django.backends import CompareAndSetBackend
+
+Messages = list[checks.CheckMessage]
 
 WIDTH = 128
 """Letters that a record of Django's may have."""
 
 _SNAPSHOTS = {"repeatable read", "serializable"}
 _PSYCOPG2_SNAPSHOTS = {2, 3}  # psycopg2's numbers of the same
+_LEVEL = re.compile(r"isolation(?:[ _-]level)?[ =']+(repeatable|serializable)")
+"""As it stands in PostgreSQL's `options` and in MySQL's `init_command`."""
 
 
 def register() -> None:
     """Registers the checks; called once, by the app."""
-    for check in (backends, column, first_hasher, isolation):
+    settings_checks = (backends, column, first_hasher, isolation, own_methods)
+    for check in (*settings_checks, user_model, admin_sites, url_views, command):
         checks.register(check, checks.Tags.security)
+    checks.register(unlisted_hashers, checks.Tags.database)
 
 
-def backends(**_: Any) -> list[checks.CheckMessage]:
-    """W001: the backend isn't used. W002: one that doesn't compare is used too."""
+def _warning(number: int, text: str, hint: str) -> checks.CheckMessage:
+    return checks.Warning(text, hint=hint, id=f"rigzumal.W{number:03}")
+
+
+def _compares() -> bool:
+    return issubclass(get_user_model(), users.CompareAndSetMixin)
+
+
+def _password_field() -> Optional[Any]:
+    try:
+        return get_user_model()._meta.get_field("password")
+    except FieldDoesNotExist:
+        return None
+
+
+def backends(**_: Any) -> Messages:
+    """W001: the backend isn't used. W002: one that doesn't compare is used too.
+
+    A model that compares does so under any backend which calls its check_password.
+    """
+    if _compares():
+        return []
     found = [import_string(path) for path in settings.AUTHENTICATION_BACKENDS]
-    amiss: list[checks.CheckMessage] = []
+    amiss: Messages = []
     if not any(issubclass(it, CompareAndSetBackend) for it in found):
-        amiss.append(
-            checks.Warning(
-                "AUTHENTICATION_BACKENDS has no CompareAndSetBackend: a login may undo"
-                " a change of its password.",
-                hint="Put 'rigzumal.django.backends.CompareAndSetBackend' in the place"
-                " of 'django.contrib.auth.backends.ModelBackend'.",
-                id="rigzumal.W001",
-            )
-        )
-    for backend in found:
-        if getattr(backend, "authenticate", None) is ModelBackend.authenticate:
-            amiss.append(
-                checks.Warning(
-                    f"{backend.__module__}.{backend.__qualname__} upgrades records at"
-                    " login without a comparison.",
-                    hint="Take it out, or derive it from CompareAndSetBackend.",
-                    id="rigzumal.W002",
-                )
-            )
+        text = "No backend is a CompareAndSetBackend: a login may undo a change."
+        hint = "Put 'rigzumal.django.backends.CompareAndSetBackend' for ModelBackend."
+        amiss.append(_warning(1, text, hint))
+    judging_none = (CompareAndSetBackend, RemoteUserBackend)
+    for it in found:
+        if issubclass(it, ModelBackend) and not issubclass(it, judging_none):
+            name = f"{it.__module__}.{it.__qualname__}"
+            text = f"{name} upgrades records at login without a comparison."
+            hint = "Take it out, or derive it from CompareAndSetBackend."
+            amiss.append(_warning(2, text, hint))
     return amiss
 
 
-def column(**_: Any) -> list[checks.CheckMessage]:
+def column(**_: Any) -> Messages:
     """E003: the column is too short for a record."""
-    field = get_user_model()._meta.get_field("password")
-    width: Optional[int] = field.max_length
+    field = _password_field()
+    width: Optional[int] = field.max_length if field else None
     if width is None or width >= WIDTH:
         return []
-    return [
-        checks.Error(
-            f"The password column has {width} letters, and a record up to {WIDTH}.",
-            hint=f"Give it max_length={WIDTH}.",
-            obj=field,
-            id="rigzumal.E003",
-        )
-    ]
+    text = f"The password column has {width} letters, and a record up to {WIDTH}."
+    hint = f"Give it max_length={WIDTH}."
+    return [checks.Error(text, hint=hint, id="rigzumal.E003")]
 
 
-def first_hasher(**_: Any) -> list[checks.CheckMessage]:
+def first_hasher(**_: Any) -> Messages:
     """W004: new records are made by another library."""
     ours = (hashers.Argon2PasswordHasher, hashers.ScryptPasswordHasher)
     if issubclass(import_string(settings.PASSWORD_HASHERS[0]), ours):
         return []
-    return [
-        checks.Warning(
-            "The first of PASSWORD_HASHERS, which makes new records, isn't Rigzumal's.",
-            hint="Put 'rigzumal.django.hashers.Argon2PasswordHasher' in front.",
-            id="rigzumal.W004",
-        )
-    ]
+    text = "The first of PASSWORD_HASHERS, which makes new records, isn't Rigzumal's."
+    hint = "Put 'rigzumal.django.hashers.Argon2PasswordHasher' before the others."
+    return [_warning(4, text, hint)]
 
 
-def isolation(**_: Any) -> list[checks.CheckMessage]:
+def isolation(**_: Any) -> Messages:
     """W005: a transaction would read what stood when it began."""
+    text = (
+        "The database {!r} has an isolation level of snapshots: in a transaction an old"
+        " password is right, or the request fails."
+    )
     return [
-        checks.Warning(
-            f"The database {alias!r} has an isolation level of snapshots: within a"
-            " transaction a changed password is right, or the request fails.",
-            hint="Leave out 'isolation_level', or set READ COMMITTED.",
-            id="rigzumal.W005",
-        )
+        _warning(5, text.format(alias), "Leave the level out, or set READ COMMITTED.")
         for alias, database in settings.DATABASES.items()
         if _has_snapshots(database)
     ]
@@ -99,6 +118,10 @@ def isolation(**_: Any) -> list[checks.CheckMessage]:
 
 def _has_snapshots(database: Any) -> bool:
     options = database.get("OPTIONS", {})
+    for option in ("options", "init_command"):
+        # libpq takes a space with a backslash before it.
+        if _LEVEL.search(str(options.get(option, "")).replace("\\", "").lower()):
+            return True
     level = options.get("isolation_level")
     if level is None:
         # None is the server's own level, which is REPEATABLE READ of MySQL and MariaDB.
@@ -109,3 +132,124 @@ def _has_snapshots(database: Any) -> bool:
     if name is None:
         return level in _PSYCOPG2_SNAPSHOTS
     return name.lower().replace("_", " ") in _SNAPSHOTS
+
+
+def own_methods(**_: Any) -> Messages:
+    """E006: a method of the user model's own would be passed over."""
+    hint = "Give the model the CompareAndSetMixin, behind the class that has it."
+    text = "{} would be passed over, so logins are refused."
+    return [
+        checks.Error(text.format(name), hint=hint, id="rigzumal.E006")
+        for name in users.unreached_methods(get_user_model())
+    ]
+
+
+def user_model(**_: Any) -> Messages:
+    """W007: the user model's own methods write without a comparison."""
+    if _compares() or _password_field() is None:
+        return []
+    name = get_user_model()._meta.label
+    text = f"{name}.save and check_password don't compare: they may undo a change."
+    hint = "Set RIGZUMAL_USER_COMPARES = True, or give the model CompareAndSetMixin."
+    return [_warning(7, text, hint)]
+
+
+def _outcome() -> str:
+    return "a lost write is an error page" if _compares() else "it may undo a change"
+
+
+def admin_sites(**_: Any) -> Messages:
+    """W008: an admin's page of users, or of one's own password, is Django's."""
+    if not apps.is_installed("django.contrib.admin"):
+        return []
+    from django.contrib.admin.sites import all_sites
+
+    from rigzumal.django.admin import UserAdmin
+    from rigzumal.django.site import AdminSite
+
+    amiss: Messages = []
+    for site in all_sites:
+        front = f"The admin {site.name!r} has Django's"
+        registered = site._registry.get(get_user_model())
+        if registered is not None and not isinstance(registered, UserAdmin):
+            hint = "Register the user model with rigzumal.django.admin.UserAdmin."
+            amiss.append(_warning(8, f"{front} admin of users: {_outcome()}.", hint))
+        if site._registry and not isinstance(site, AdminSite):
+            hint = (
+                "Install 'rigzumal.django.apps.AdminConfig' for 'django.contrib.admin',"
+                " or derive the site from rigzumal.django.site.AdminSite."
+            )
+            amiss.append(_warning(8, f"{front} password_change: {_outcome()}.", hint))
+    return amiss
+
+
+def url_views(**_: Any) -> Messages:
+    """W009: a URL leads to Django's own view of a change or of a reset."""
+    if not getattr(settings, "ROOT_URLCONF", None):
+        return []
+    hint = "Include 'rigzumal.django.urls', or take the views of rigzumal.django.views."
+    return [
+        _warning(9, f"The URL {route!r} is Django's {view}: {_outcome()}.", hint)
+        for route, view, form in _password_views(get_resolver().url_patterns)
+        if not issubclass(form, (forms.PasswordChangeForm, forms.SetPasswordForm))
+    ]
+
+
+def _password_views(patterns: Any, front: str = "") -> Iterator[tuple[str, str, Any]]:
+    kinds = (djangos_views.PasswordChangeView, djangos_views.PasswordResetConfirmView)
+    for it in patterns:
+        route = front + str(it.pattern)
+        if hasattr(it, "url_patterns"):
+            yield from _password_views(it.url_patterns, route)
+            continue
+        view = getattr(it.callback, "view_class", None)
+        if view is not None and issubclass(view, kinds):
+            form = it.callback.view_initkwargs.get("form_class", view.form_class)
+            yield route, view.__name__, form
+
+
+def command(**_: Any) -> Messages:
+    """W010: `manage.py changepassword` is Django's."""
+    if get_commands().get("changepassword") != "django.contrib.auth":
+        return []
+    outcome = "a traceback" if _compares() else "undone"
+    text = f"changepassword is Django's own: a change that came between is {outcome}."
+    hint = "Put 'rigzumal.django' before 'django.contrib.auth' in INSTALLED_APPS."
+    return [_warning(10, text, hint)]
+
+
+def unlisted_hashers(databases: Any = None, **_: Any) -> Messages:
+    """W011: records stand whose hasher isn't listed, so their users can't log in."""
+    field, amiss = _password_field(), Messages()
+    for alias in databases or []:
+        if field is None or not router.allow_migrate_model(alias, field.model):
+            continue
+        found = _unlisted(field.model, alias)
+        if found is not None:
+            text = (
+                f"The database {alias!r} has records of {found}, which PASSWORD_HASHERS"
+                " doesn't list: their users can't log in."
+            )
+            hint = "List the hashers that were there before, behind Rigzumal's."
+            amiss.append(_warning(11, text, hint))
+    return amiss
+
+
+def _unlisted(holder: Any, alias: str) -> Optional[str]:
+    """What made a record that no listed hasher takes; None if there is no such record."""
+    if holder._meta.db_table not in connections[alias].introspection.table_names():
+        return None  # It is `migrate` that asks, before it makes the table.
+    others = holder._base_manager.using(alias).exclude(password="")
+    others = others.exclude(password__startswith=djangos.UNUSABLE_PASSWORD_PREFIX)
+    for algorithm in djangos.get_hashers_by_algorithm():
+        others = others.exclude(password__startswith=f"{algorithm}$")
+    for record in others.values_list("password", flat=True).iterator():
+        try:
+            djangos.identify_hasher(record)
+        except ValueError:
+            name = record.partition("$")[0]
+            classes = [it for it in vars(djangos).values() if isinstance(it, type)]
+            known = {getattr(it, "algorithm", None) for it in classes}
+            # What isn't Django's isn't shown: it may be a password in the clear.
+            return repr(name) if name in known else "another hasher"
+    return None

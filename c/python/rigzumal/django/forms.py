@@ -1,24 +1,40 @@
-"""Django's forms of a change and of a reset, which compare before they write.
+"""Django's forms of a change, of a reset and of the admin, which compare as they write.
 
-`save` raises a ValidationError where the record was changed after the form was
-validated; the views of `rigzumal.django.views` show it, and a view of your own adds it
-by `form.add_error(None, error)`.
+`save` raises a ValidationError where the record was changed after the form was validated:
+our views show it, and a view of your own does by `show(form, error)`. There is no
+`commit=False`, which is a ValueError.
 """
 
-# mypy: allow-subclassing-any, allow-untyped-decorators
+# mypy: allow-subclassing-any
 
 from __future__ import annotations
 
+import contextlib
+from collections.abc import Iterator
 from typing import Any
 
-from django.contrib.auth import forms, hashers
+from django.contrib.auth import forms
 from django.core.exceptions import ValidationError
 from django.utils.translation import gettext_lazy as _
-from django.views.decorators.debug import sensitive_variables
 
 from rigzumal.django import passwords
+from rigzumal.django.records import hidden
 
-_CHANGED = _("The password was changed meanwhile. Please begin again.")
+CHANGED = _("The password was changed meanwhile. Nothing was done; please begin again.")
+
+
+@contextlib.contextmanager
+def lost_as_error() -> Iterator[None]:
+    """Makes a ValidationError of RecordChanged, for a `with`."""
+    try:
+        yield
+    except passwords.RecordChanged:
+        raise ValidationError(CHANGED, code="password_changed") from None
+
+
+def show(form: Any, error: ValidationError) -> None:
+    """Adds the error to the form's first field: the admin's pages show no other."""
+    form.add_error(next(iter(form.fields)), error)
 
 
 def _only_whole(commit: bool) -> None:
@@ -26,66 +42,69 @@ def _only_whole(commit: bool) -> None:
         raise ValueError("a record is compared as it is put: there is no commit=False")
 
 
-class PasswordChangeForm(forms.PasswordChangeForm):
+class _Hidden:
+    """A form whose cleaning, in whose frames passwords stand, no report shows."""
+
+    @hidden
+    def full_clean(self) -> None:
+        """Cleans the fields, as Form's."""
+        super().full_clean()  # type: ignore[misc]
+
+
+class PasswordChangeForm(_Hidden, forms.PasswordChangeForm):
     """Changes the password of a user who types the old one."""
 
-    error_messages = {
-        **forms.PasswordChangeForm.error_messages,
-        "password_changed": _CHANGED,
-    }
-
-    @sensitive_variables()
     def clean_old_password(self) -> Any:
-        """Judges the old password, without an upgrade: the record is to be replaced."""
+        """Judges the old password at what stands, and makes no record anew."""
         old_password = self.cleaned_data["old_password"]
-        if not hashers.check_password(old_password, self.user.password):
-            raise self._error("password_incorrect")
+        with lost_as_error():
+            if not passwords.verify_password(self.user, old_password):
+                raise self._incorrect()
         return old_password
 
-    @sensitive_variables()
+    @hidden
     def save(self, commit: bool = True) -> Any:
-        """Puts the new password, and returns the user.
-
-        Raises:
-            ValidationError: the old one isn't right any more.
-            ValueError: `commit` is False.
-        """
+        """Puts the new password, if the old one is right yet."""
         _only_whole(commit)
-        given = self.cleaned_data
-        try:
-            changed = passwords.change_password(
-                self.user, given["old_password"], given["new_password1"]
-            )
-        except passwords.RecordChanged:
-            raise self._error("password_changed") from None
-        if not changed:
-            raise self._error("password_incorrect")
+        old, new = self.cleaned_data["old_password"], self.cleaned_data["new_password1"]
+        with lost_as_error():
+            if not passwords.change_password(self.user, old, new):
+                raise self._incorrect()
         return self.user
 
-    def _error(self, code: str) -> ValidationError:
+    def _incorrect(self) -> ValidationError:
+        code = "password_incorrect"
         return ValidationError(self.error_messages[code], code=code)
 
 
-class SetPasswordForm(forms.SetPasswordForm):
+class SetPasswordForm(_Hidden, forms.SetPasswordForm):
     """Sets the password of a user who came by a link; the link dies with its record."""
 
-    error_messages = {
-        **forms.SetPasswordForm.error_messages,
-        "password_changed": _CHANGED,
-    }
-
-    @sensitive_variables()
+    @hidden
     def save(self, commit: bool = True) -> Any:
-        """Puts the new password, and returns the user.
-
-        Raises:
-            ValidationError: the record that the link was made for stands no more.
-            ValueError: `commit` is False.
-        """
+        """Puts the new password over the record that the link was made for."""
         _only_whole(commit)
-        try:
+        with lost_as_error():
             passwords.set_password(self.user, self.cleaned_data["new_password1"])
-        except passwords.RecordChanged:
-            message = self.error_messages["password_changed"]
-            raise ValidationError(message, code="password_changed") from None
         return self.user
+
+
+class AdminPasswordChangeForm(_Hidden, forms.AdminPasswordChangeForm):
+    """Sets the password of a user in the admin."""
+
+    @hidden
+    def save(self, commit: bool = True) -> Any:
+        """Puts the new password over the record that the user was read with."""
+        _only_whole(commit)
+        given = self.cleaned_data
+        # From Django 5.1 on there is a button that takes the password away.
+        is_usable = given.get("set_usable_password", True)
+        with lost_as_error():
+            passwords.set_password(self.user, given["password1"] if is_usable else None)
+        return self.user
+
+
+class AdminOwnPasswordChangeForm(PasswordChangeForm):
+    """PasswordChangeForm as the admin shows it, for the one who is logged in."""
+
+    required_css_class = "required"

@@ -1,17 +1,11 @@
 """Password hashers for Django's own strings, over the proved library.
 
-    PASSWORD_HASHERS = [
-        "rigzumal.django.hashers.Argon2PasswordHasher",
-        "rigzumal.django.hashers.ScryptPasswordHasher",
-        ...                                   # what else stands in the database
-    ]
-
-They read what Django's own hashers of the same names have written, and write what
-those read. The numbers are class attributes, as there: a service that wants others
-makes a subclass.
+They read what Django's own hashers of the same names have written, and write what those
+read. The numbers are class attributes, as there: a service that wants others makes a
+subclass.
 """
 
-# mypy: allow-subclassing-any, allow-untyped-decorators
+# mypy: allow-subclassing-any
 
 from __future__ import annotations
 
@@ -20,19 +14,21 @@ import binascii
 import hmac
 import math
 import re
-from dataclasses import dataclass
 from typing import Any, Optional, Union
 
+from django.contrib.auth import hashers
 from django.contrib.auth.hashers import BasePasswordHasher
-from django.utils.translation import gettext_noop as _
-from django.views.decorators.debug import sensitive_variables
 
 import rigzumal
+from rigzumal.django.records import hidden
 
 Password = Union[str, bytes]
 
-_SALT_LETTERS = 62
-"""Of how many letters Django draws a salt."""
+_DJANGOS_SCRYPT = getattr(hashers, "ScryptPasswordHasher", None)
+_SALT_LETTERS = 62  # of how many Django draws a salt
+_TAG_OF_CFFI = 16
+"""Bytes of a tag of argon2-cffi before 21.2. It isn't old: beside a server with Django's
+own hasher each would make the other's record anew, by turns."""
 
 _ARGON2 = re.compile(
     r"argon2\$(argon2(?:id|i|d))\$(?:v=(16|19)\$)?"
@@ -59,11 +55,6 @@ def _unbase64(text: str) -> bytes:
     return found
 
 
-def _masked(text: str) -> str:
-    """The first six letters, and stars for the others."""
-    return text[:6] + "*" * len(text[6:])
-
-
 class _RecordHasher(BasePasswordHasher):
     """What both hashers share: how a string is compared, shown and seen to be old."""
 
@@ -71,21 +62,17 @@ class _RecordHasher(BasePasswordHasher):
         """The tag of the password under a record's own numbers and salt."""
         raise NotImplementedError
 
-    @sensitive_variables()
+    @hidden
     def verify(self, password: Password, encoded: str) -> bool:
-        """Whether the record is one of the password.
+        """Whether the record is one of the password; OutOfMemoryError if memory lacks.
 
         A broken record, or one of numbers that the library doesn't take, is one of no
         password, and costs a hash like any other.
-
-        Raises:
-            OutOfMemoryError: there was too little memory.
         """
         try:
             parts = self.decode(encoded)
             made = self._made(password, parts)
-        # OverflowError: a number above 2^32. No OutOfMemoryError, which says nothing of
-        # the password.
+        # OverflowError: a number above 2^32.
         except (ValueError, OverflowError):
             self.encode(b"", self.salt())
             return False
@@ -94,12 +81,12 @@ class _RecordHasher(BasePasswordHasher):
     def safe_summary(self, encoded: str) -> dict[str, Any]:
         """What may be shown of a record; of a broken one, that it is broken."""
         try:
-            return self._summary(self.decode(encoded))
+            parts = self.decode(encoded)
         except ValueError as fault:
-            return {_("algorithm"): self.algorithm, _("broken record"): str(fault)}
-
-    def _summary(self, parts: dict[str, Any]) -> dict[str, Any]:
-        raise NotImplementedError
+            return {"algorithm": self.algorithm, "broken record": str(fault)}
+        for secret in ("salt", "hash"):
+            parts[secret] = parts[secret][:6] + "*" * len(parts[secret][6:])
+        return {name.replace("_", " "): value for name, value in parts.items()}
 
     def must_update(self, encoded: str) -> bool:
         """Whether the record's numbers are others than a new one's."""
@@ -115,9 +102,7 @@ class _RecordHasher(BasePasswordHasher):
         """Does nothing, as Django's own do."""
 
 
-def _checked(password: Password, salt: str) -> None:
-    if not isinstance(password, (str, bytes)):
-        raise TypeError("a password is str or bytes")
+def _check_salt(salt: str) -> None:
     if not salt or "$" in salt:
         raise ValueError("a salt has at least one letter, and no $")
 
@@ -129,7 +114,7 @@ class Argon2PasswordHasher(_RecordHasher):
         time_cost: passes.
         memory_cost: in KiB, 8 a lane to 2097152.
         parallelism: lanes, 1 to 255; a login works all of them on its own thread.
-        hash_len: bytes of the tag.
+        hash_len: bytes of the tag; a record's may have fewer, down to 16.
     """
 
     algorithm = "argon2"
@@ -138,10 +123,10 @@ class Argon2PasswordHasher(_RecordHasher):
     parallelism = 8
     hash_len = 32
 
-    @sensitive_variables()
+    @hidden
     def encode(self, password: Password, salt: str) -> str:
         """A new record of the password, by Argon2id, version 0x13."""
-        _checked(password, salt)
+        _check_salt(salt)
         tag = rigzumal.argon2(
             password,
             salt.encode(),
@@ -151,17 +136,12 @@ class Argon2PasswordHasher(_RecordHasher):
             hash_len=self.hash_len,
         )
         costs = f"m={self.memory_cost},t={self.time_cost},p={self.parallelism}"
-        letters = (
-            base64.b64encode(part).decode().rstrip("=") for part in (salt.encode(), tag)
-        )
-        return "$".join([self.algorithm, "argon2id", "v=19", costs, *letters])
+        letters = [base64.b64encode(it).decode() for it in (salt.encode(), tag)]
+        parts = [self.algorithm, "argon2id", "v=19", costs, *letters]
+        return "$".join(it.rstrip("=") for it in parts)
 
     def decode(self, encoded: str) -> dict[str, Any]:
-        """The parts of a record.
-
-        Raises:
-            ValueError: it is no record of Argon2; the text shows none of it.
-        """
+        """The parts of a record; ValueError, which shows none of it, if it is none."""
         found = _ARGON2.fullmatch(encoded)
         if not found:
             raise ValueError("the text is not a record of Argon2")
@@ -190,39 +170,15 @@ class Argon2PasswordHasher(_RecordHasher):
             version=parts["version"],
         )
 
-    def _summary(self, parts: dict[str, Any]) -> dict[str, Any]:
-        return {
-            _("algorithm"): parts["algorithm"],
-            _("variety"): parts["variety"],
-            _("version"): parts["version"],
-            _("memory cost"): parts["memory_cost"],
-            _("time cost"): parts["time_cost"],
-            _("parallelism"): parts["parallelism"],
-            _("salt"): _masked(parts["salt"]),
-            _("hash"): _masked(parts["hash"]),
-        }
-
     def _is_old(self, parts: dict[str, Any]) -> bool:
-        found = (
-            parts["variety"],
-            parts["version"],
-            parts["memory_cost"],
-            parts["time_cost"],
-            parts["parallelism"],
-            len(_unbase64(parts["hash"])),
-        )
-        costs = (self.memory_cost, self.time_cost, self.parallelism, self.hash_len)
+        numbers = ("memory_cost", "time_cost", "parallelism")
         bits = len(parts["salt"]) * math.log2(_SALT_LETTERS)
-        return found != ("argon2id", 19) + costs or bits < self.salt_entropy
-
-
-@dataclass(frozen=True)
-class _ScryptCosts:
-    """N, r and p, as RFC 7914 names them."""
-
-    work_factor: int
-    block_size: int
-    parallelism: int
+        return (
+            (parts["variety"], parts["version"]) != ("argon2id", 19)
+            or any(parts[it] != getattr(self, it) for it in numbers)
+            or len(_unbase64(parts["hash"])) < min(self.hash_len, _TAG_OF_CFFI)
+            or bits < self.salt_entropy
+        )
 
 
 class ScryptPasswordHasher(_RecordHasher):
@@ -231,15 +187,16 @@ class ScryptPasswordHasher(_RecordHasher):
     Attributes:
         work_factor: N, a power of two.
         block_size: r, 1 to 255.
-        parallelism: p, 1 to 255.
+        parallelism: p, 1 to 255; as in the Django that is there, whose records would be
+            old otherwise, or 5.
     """
 
     algorithm = "scrypt"
     work_factor = 2**14
     block_size = 8
-    parallelism = 5
+    parallelism: int = getattr(_DJANGOS_SCRYPT, "parallelism", 5)
 
-    @sensitive_variables()
+    @hidden
     def encode(
         self,
         password: Password,
@@ -249,20 +206,14 @@ class ScryptPasswordHasher(_RecordHasher):
         p: Optional[int] = None,
     ) -> str:
         """A new record of the password, with a key of 64 bytes."""
-        _checked(password, salt)
-        costs = _ScryptCosts(
-            n or self.work_factor, r or self.block_size, p or self.parallelism
-        )
-        key = base64.b64encode(_scrypt(password, salt, costs, 64)).decode()
-        numbers = (costs.work_factor, salt, costs.block_size, costs.parallelism)
-        return "$".join(map(str, (self.algorithm, *numbers, key)))
+        _check_salt(salt)
+        n, r, p = n or self.work_factor, r or self.block_size, p or self.parallelism
+        parts = {"work_factor": n, "block_size": r, "parallelism": p, "salt": salt}
+        key = base64.b64encode(self._key(password, parts, 64)).decode()
+        return f"{self.algorithm}${n}${salt}${r}${p}${key}"
 
     def decode(self, encoded: str) -> dict[str, Any]:
-        """The parts of a record.
-
-        Raises:
-            ValueError: it is no record of scrypt; the text shows none of it.
-        """
+        """The parts of a record; ValueError, which shows none of it, if it is none."""
         found = _SCRYPT.fullmatch(encoded)
         if not found:
             raise ValueError("the text is not a record of scrypt")
@@ -271,41 +222,28 @@ class ScryptPasswordHasher(_RecordHasher):
         return {
             "algorithm": self.algorithm,
             "work_factor": int(work_factor),
-            "salt": salt,
             "block_size": int(block_size),
             "parallelism": int(parallelism),
+            "salt": salt,
             "hash": key,
         }
 
     def _made(self, password: Password, parts: dict[str, Any]) -> bytes:
-        costs = _ScryptCosts(
-            parts["work_factor"], parts["block_size"], parts["parallelism"]
-        )
-        return _scrypt(password, parts["salt"], costs, len(_unbase64(parts["hash"])))
+        return self._key(password, parts, len(_unbase64(parts["hash"])))
 
-    def _summary(self, parts: dict[str, Any]) -> dict[str, Any]:
-        return {
-            _("algorithm"): parts["algorithm"],
-            _("work factor"): parts["work_factor"],
-            _("block size"): parts["block_size"],
-            _("parallelism"): parts["parallelism"],
-            _("salt"): _masked(parts["salt"]),
-            _("hash"): _masked(parts["hash"]),
-        }
+    def _key(self, password: Password, parts: dict[str, Any], length: int) -> bytes:
+        work_factor = parts["work_factor"]
+        if work_factor & (work_factor - 1):
+            raise ValueError("the work factor is no power of two")
+        return rigzumal.scrypt(
+            password,
+            parts["salt"].encode(),
+            log2_n=work_factor.bit_length() - 1,
+            r=parts["block_size"],
+            p=parts["parallelism"],
+            length=length,
+        )
 
     def _is_old(self, parts: dict[str, Any]) -> bool:
-        found = (parts["work_factor"], parts["block_size"], parts["parallelism"])
-        return found != (self.work_factor, self.block_size, self.parallelism)
-
-
-def _scrypt(password: Password, salt: str, costs: _ScryptCosts, length: int) -> bytes:
-    if costs.work_factor & (costs.work_factor - 1):
-        raise ValueError("the work factor is no power of two")
-    return rigzumal.scrypt(
-        password,
-        salt.encode(),
-        log2_n=costs.work_factor.bit_length() - 1,
-        r=costs.block_size,
-        p=costs.parallelism,
-        length=length,
-    )
+        numbers = ("work_factor", "block_size", "parallelism")
+        return any(parts[it] != getattr(self, it) for it in numbers)

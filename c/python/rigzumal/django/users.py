@@ -1,21 +1,24 @@
-"""A mixin for user models of your own, whose own methods compare before they write.
+"""A mixin for user models, whose own methods compare before they write.
 
     class User(CompareAndSetMixin, AbstractUser):
         pass
-"""
 
-# mypy: allow-untyped-decorators
+A project with Django's own User sets RIGZUMAL_USER_COMPARES = True: see `make_comparing`.
+"""
 
 from __future__ import annotations
 
-from collections.abc import Collection, Iterable
+import contextlib
+from collections.abc import Awaitable, Collection, Iterable, Iterator
 from typing import Any, Optional
 
 from django.contrib.auth import hashers
-from django.db import transaction
-from django.views.decorators.debug import sensitive_variables
+from django.contrib.auth.base_user import AbstractBaseUser
+from django.core.exceptions import ImproperlyConfigured
+from django.db import connections, transaction
 
-from rigzumal.django import passwords
+from rigzumal.django import records
+from rigzumal.django.records import RecordChanged, hidden
 
 
 class CompareAndSetMixin:
@@ -25,17 +28,20 @@ class CompareAndSetMixin:
     - `save` writes the password only if it was set since the user was read, and then
       only over the record that was read; otherwise it raises RecordChanged, with
       nothing written. So a form of other fields doesn't bring an old password back.
+
+    All else is Model's. A method of your own that judges or sets passwords stands in
+    front of the mixin and calls `super()`. Not compared are `update`, `bulk_create`,
+    `bulk_update`, fixtures, and a save to another database than the router's.
     """
 
-    _meta: Any
     _state: Any
     password: str
 
     @classmethod
-    def from_db(cls, db: Any, field_names: Any, values: Any) -> Any:
+    def from_db(cls, db: Any, field_names: Any, values: Any, **more: Any) -> Any:
         """Called by Django for each row that is read."""
-        user = super().from_db(db, field_names, values)  # type: ignore[misc]
-        passwords.remember(user, user.__dict__.get("password"))
+        user = super().from_db(db, field_names, values, **more)  # type: ignore[misc]
+        user._note_read()
         return user
 
     def refresh_from_db(
@@ -48,23 +54,37 @@ class CompareAndSetMixin:
         read_from = super().refresh_from_db  # type: ignore[misc]
         read_from(using=using, fields=fields, **kwargs)
         if fields is None or "password" in fields:
-            passwords.remember(self, self.__dict__.get("password"))
+            self._note_read()
 
-    @sensitive_variables()
+    def _note_read(self) -> None:
+        if "password" in self.__dict__:
+            records.note_read(self, self._state.db, self.password)
+
+    @hidden
     def check_password(self, raw_password: Any) -> bool:
-        """Whether the password is right, as AbstractBaseUser's.
-
-        Raises:
-            RecordChanged: the record was changed eight times meanwhile.
-        """
-        if self._state.adding or self.password != passwords.remembered(self):
+        """Whether the password is right; RecordChanged if it was changed eight times."""
+        copy = records.known_copy(self, records.database_of(self))
+        if self._state.adding or copy is None or self.password != copy.newest:
+            # It was set and isn't saved.
             return bool(hashers.check_password(raw_password, self.password))
-        return bool(passwords.check_password(self, raw_password))
+        return records.judge_login(self, raw_password).right
 
-    async def acheck_password(self, raw_password: Any) -> bool:
+    def acheck_password(self, raw_password: Any) -> Awaitable[bool]:
         """`check_password`, in a thread."""
-        return bool(await passwords.in_thread(self.check_password, raw_password))
+        return records.in_thread(lambda: self.check_password(raw_password))
 
+    @hidden
+    def set_password(self, raw_password: Any) -> None:
+        """Sets the password, which `save` writes, as AbstractBaseUser's."""
+        _ = self.password  # One that was deferred is read, so that it is compared.
+        super().set_password(raw_password)  # type: ignore[misc]
+
+    def set_unusable_password(self) -> None:
+        """Sets that no password is right, which `save` writes."""
+        _ = self.password
+        super().set_unusable_password()  # type: ignore[misc]
+
+    @hidden
     def save(
         self,
         force_insert: Any = False,
@@ -75,39 +95,104 @@ class CompareAndSetMixin:
         """Writes the user, as Model's.
 
         Raises:
-            RecordChanged: the password was set, and another record stands by now.
+            RecordChanged: the password was set, and another record stands by now. The
+                caller's transaction can go on.
         """
-        write = super().save  # type: ignore[misc]
-        copy = passwords.remembered(self)
-        elsewhere = using is not None and using != passwords.database_of(self)
-        if self._state.adding or force_insert or elsewhere or copy is None:
-            write(
+        if update_fields is not None:
+            update_fields = frozenset(update_fields)
+        database = using or records.database_of(self)
+        may_lose = update_fields is None or "password" in update_fields
+        savepoint: Any = contextlib.nullcontext()
+        if may_lose and connections[database].in_atomic_block:
+            savepoint = transaction.atomic(database)
+        with savepoint:
+            super().save(  # type: ignore[misc]
                 force_insert=force_insert,
                 force_update=force_update,
                 using=using,
                 update_fields=update_fields,
             )
-            passwords.remember(self, self.__dict__.get("password"))
-            return
-        asked = set(self._fields() if update_fields is None else update_fields)
-        if "password" not in asked or self.password == copy:
-            write(update_fields=asked - {"password"})
-            return
-        try:
-            with transaction.atomic(using=passwords.database_of(self)):
-                passwords.replace(self, copy, self.password)
-                # The row is locked by now: once more does no harm, and sends signals.
-                write(update_fields=asked)
-        except BaseException:
-            passwords.remember(self, copy)
-            raise
 
-    def _fields(self) -> set[str]:
-        """What a save without update_fields writes."""
-        return {
-            field.name
-            for field in self._meta.concrete_fields
-            if field.attname in self.__dict__
-            and not field.primary_key
-            and not getattr(field, "generated", False)  # of Django 5.0 and later
-        }
+    @hidden
+    def _do_update(
+        self, rows: Any, using: str, pk: Any, values: Any, *rest: Any, **more: Any
+    ) -> Any:
+        """Model's UPDATE of one table, which compares if it writes the password."""
+        update = super()._do_update  # type: ignore[misc]
+        given = [it[2] for it in values if it[0].attname == "password"]
+        copy = records.known_copy(self, using)
+        if not given or copy is None:
+            updated = update(rows, using, pk, values, *rest, **more)
+            if given and updated:
+                records.note_put(self, using, records.Copy(given[0]))
+            return updated
+        if given[0] == copy.newest and not copy.is_in_doubt(using):
+            others = [it for it in values if it[0].attname != "password"]
+            return update(rows, using, pk, others, *rest, **more)
+        compared = rows.filter(password__in=copy.records)
+        updated = update(compared, using, pk, values, *rest, **more)
+        if updated:
+            records.note_put(self, using, copy.followed_by(given[0], using))
+        elif rows.filter(pk=pk).exists():
+            raise RecordChanged
+        return updated
+
+    @hidden
+    def _do_insert(
+        self, manager: Any, using: str, fields: Any, *rest: Any, **more: Any
+    ) -> Any:
+        """Model's INSERT into one table."""
+        made = super()._do_insert(  # type: ignore[misc]
+            manager, using, fields, *rest, **more
+        )
+        if any(it.attname == "password" for it in fields):
+            # Before post_save is sent, whose handlers may save again.
+            records.note_put(self, using, records.Copy(self.password))
+        return made
+
+
+def make_comparing(model: Any) -> None:
+    """Puts the mixin in front of a model's bases, as if it stood there in its source.
+
+    The app does it to the user model where RIGZUMAL_USER_COMPARES is True.
+    """
+    if not issubclass(model, CompareAndSetMixin):
+        model.__bases__ = (CompareAndSetMixin, *model.__bases__)
+
+
+@contextlib.contextmanager
+def comparing(model: Any) -> Iterator[None]:
+    """`make_comparing`, for the time of a `with`."""
+    bases = model.__bases__
+    make_comparing(model)
+    try:
+        yield
+    finally:
+        model.__bases__ = bases
+
+
+def own_methods(classes: Any, *names: str) -> list[str]:
+    """Which of these methods are neither Django's nor the mixin's."""
+    known = (AbstractBaseUser, CompareAndSetMixin)
+    having = [(it, name) for name in names for it in classes if name in vars(it)]
+    return [f"{it.__qualname__}.{name}" for it, name in having if it not in known]
+
+
+def unreached_methods(model: Any) -> list[str]:
+    """Which methods of a model's own would be passed over, or would not compare."""
+    classes = model.__mro__
+    if not issubclass(model, CompareAndSetMixin):
+        return own_methods(classes, "check_password", "set_password")
+    behind = classes[classes.index(CompareAndSetMixin) :]
+    return own_methods(behind, "check_password")
+
+
+def has_own_methods(user: Any) -> bool:
+    """Whether the user's model has any; ImproperlyConfigured if one is unreached."""
+    unreached = unreached_methods(user.__class__)
+    if unreached:
+        raise ImproperlyConfigured(
+            f"{unreached[0]} would be passed over: give {user._meta.label} the"
+            " CompareAndSetMixin, behind the class that has it"
+        )
+    return bool(own_methods(user.__class__.__mro__, "check_password", "set_password"))

@@ -1,8 +1,4 @@
-"""Django's views of a change and of a reset, with the forms that compare.
-
-    path("password_change/", views.PasswordChangeView.as_view(), name="password_change")
-    path("reset/<uidb64>/<token>/", views.PasswordResetConfirmView.as_view(), ...)
-"""
+"""Django's views of a change and of a reset, with the forms that compare."""
 
 # mypy: allow-subclassing-any
 
@@ -16,29 +12,26 @@ from django.core.exceptions import ValidationError
 from rigzumal.django import forms
 
 
-class PasswordChangeView(views.PasswordChangeView):
+class _ShowsWhyNot:
+    """What `form_valid` raises becomes an error of the form."""
+
+    def form_valid(self, form: Any) -> Any:
+        """Writes the password, or shows why not."""
+        try:
+            with forms.lost_as_error():
+                return super().form_valid(form)  # type: ignore[misc]
+        except ValidationError as error:
+            forms.show(form, error)
+            return self.form_invalid(form)  # type: ignore[attr-defined]
+
+
+class PasswordChangeView(_ShowsWhyNot, views.PasswordChangeView):
     """Django's PasswordChangeView."""
 
     form_class = forms.PasswordChangeForm
 
-    def form_valid(self, form: Any) -> Any:
-        """Changes the password, or shows why not."""
-        try:
-            return super().form_valid(form)
-        except ValidationError as error:
-            form.add_error(None, error)
-            return self.form_invalid(form)
 
-
-class PasswordResetConfirmView(views.PasswordResetConfirmView):
+class PasswordResetConfirmView(_ShowsWhyNot, views.PasswordResetConfirmView):
     """Django's PasswordResetConfirmView."""
 
     form_class = forms.SetPasswordForm
-
-    def form_valid(self, form: Any) -> Any:
-        """Sets the password, or shows why not."""
-        try:
-            return super().form_valid(form)
-        except ValidationError as error:
-            form.add_error(None, error)
-            return self.form_invalid(form)

@@ -1,7 +1,7 @@
 """User models of several shapes, for the tests."""
 
 from django.contrib.auth.base_user import AbstractBaseUser, BaseUserManager
-from django.contrib.auth.models import AbstractUser, User
+from django.contrib.auth.models import AbstractUser, User, UserManager
 from django.db import models
 
 from rigzumal.django.users import CompareAndSetMixin
@@ -20,11 +20,75 @@ class Staff(User):
         proxy = True
 
 
-class Person(CompareAndSetMixin, AbstractUser):
-    """A model of one's own, with the mixin."""
+class Groupless(AbstractUser):
+    """AbstractUser without the tables of groups and permissions."""
 
     groups = None
     user_permissions = None
+
+    class Meta:
+        abstract = True
+
+
+class Plain(Groupless):
+    """A model of one's own as Django has it: the mixin is compared with it."""
+
+
+class Person(CompareAndSetMixin, Groupless):
+    """A model of one's own, with the mixin."""
+
+
+class Pupil(CompareAndSetMixin, Plain):
+    """The mixin in a child, whose password is in its parent's table."""
+
+    form = models.CharField(max_length=20, default="")
+
+
+class Methods:
+    """A model's methods of its own: no locked user is let in, and a change is noted."""
+
+    def check_password(self, raw_password):
+        self.checks = getattr(self, "checks", 0) + 1
+        return not self.locked and super().check_password(f"pepper {raw_password}")
+
+    def set_password(self, raw_password):
+        super().set_password(f"pepper {raw_password}")
+        self.changes += 1
+
+
+class Lockable(models.Model):
+    """The columns of these methods."""
+
+    locked = models.BooleanField(default=False)
+    changes = models.IntegerField(default=0)
+
+    class Meta:
+        abstract = True
+
+
+class Locked(Methods, CompareAndSetMixin, Lockable, Groupless):
+    """Methods of its own, in front of the mixin."""
+
+
+class Unreached(CompareAndSetMixin, Methods, Lockable, Groupless):
+    """Methods of its own behind the mixin, which would pass them over."""
+
+
+class Unmixed(Methods, Lockable, Groupless):
+    """Methods of its own without the mixin."""
+
+
+class OnlyActive(UserManager):
+    """A manager that hides rows, as some projects have."""
+
+    def get_queryset(self):
+        return super().get_queryset().filter(is_active=True)
+
+
+class Hidden(Groupless):
+    """A model whose default manager hides some users."""
+
+    objects = OnlyActive()
 
 
 class ByMail(AbstractBaseUser):
@@ -33,3 +97,13 @@ class ByMail(AbstractBaseUser):
     mail = models.EmailField(unique=True)
     objects = BaseUserManager()
     USERNAME_FIELD = "mail"
+
+
+class NoPassword(models.Model):
+    """A user model whose users come from elsewhere."""
+
+    name = models.CharField(max_length=30, unique=True)
+    USERNAME_FIELD = "name"
+    REQUIRED_FIELDS = []
+    is_anonymous = False
+    is_authenticated = True

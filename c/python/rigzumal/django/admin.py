@@ -1,0 +1,78 @@
+"""The admin of users, which undoes no change of a password.
+
+    admin.site.register(Person, UserAdmin)
+
+With RIGZUMAL_USER_COMPARES a stock User has it already, in the place of Django's own.
+"""
+
+# mypy: allow-subclassing-any
+
+from __future__ import annotations
+
+import copy
+from typing import Any
+
+from django.conf import settings
+from django.contrib import messages
+from django.contrib.admin import site
+from django.contrib.auth import admin, get_user_model
+from django.core.exceptions import ValidationError
+from django.http import HttpResponseRedirect
+
+from rigzumal.django import forms
+from rigzumal.django.passwords import RecordChanged
+from rigzumal.django.users import CompareAndSetMixin
+
+
+class UserAdmin(admin.UserAdmin):
+    """Django's UserAdmin; a password that was changed meanwhile is an error of the form."""
+
+    change_password_form = forms.AdminPasswordChangeForm
+
+    def save_model(self, request: Any, obj: Any, form: Any, change: bool) -> None:
+        """Saves the user; the password only if the model compares or the form has set it."""
+        if (
+            not change
+            or isinstance(obj, CompareAndSetMixin)
+            or "password" in form.changed_data
+        ):
+            super().save_model(request, obj, form, change)
+            return
+        names = [it.name for it in obj._meta.concrete_fields if not it.primary_key]
+        names.remove("password")
+        obj.save(update_fields=names)
+
+    def changeform_view(self, request: Any, *given: Any, **named: Any) -> Any:
+        """The page of a user, which is shown anew where a password couldn't be put."""
+        try:
+            return super().changeform_view(request, *given, **named)
+        except RecordChanged:
+            self.message_user(request, forms.CHANGED, messages.ERROR)
+            return HttpResponseRedirect(request.get_full_path())
+
+    def user_change_password(self, request: Any, id: str, form_url: str = "") -> Any:
+        """The page that sets a password, with an error if another was put meanwhile."""
+        try:
+            with forms.lost_as_error():
+                return super().user_change_password(request, id, form_url)
+        except ValidationError as error:
+            again = copy.copy(self)
+            again.change_password_form = _refused(self.change_password_form, error)
+            return super(UserAdmin, again).user_change_password(request, id, form_url)
+
+
+def _refused(form: Any, error: ValidationError) -> Any:
+    """The form, which isn't valid and says why."""
+
+    class Refused(form):
+        def full_clean(self) -> None:
+            super().full_clean()
+            forms.show(self, error)
+
+    return Refused
+
+
+if getattr(settings, "RIGZUMAL_USER_COMPARES", False):
+    if type(site._registry.get(get_user_model())) is admin.UserAdmin:
+        site.unregister(get_user_model())
+        site.register(get_user_model(), UserAdmin)

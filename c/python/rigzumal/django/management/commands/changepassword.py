@@ -1,0 +1,33 @@
+"""Django's `manage.py changepassword`, which undoes no change that came between.
+
+It takes the place of Django's own where INSTALLED_APPS has `rigzumal.django` before
+`django.contrib.auth`.
+"""
+
+# mypy: allow-subclassing-any
+
+from __future__ import annotations
+
+from typing import Any
+
+from django.contrib.auth import get_user_model
+from django.contrib.auth.management.commands import changepassword
+from django.core.management.base import CommandError
+
+from rigzumal.django import records, users
+
+
+class Command(changepassword.Command):
+    """Django's command, during which the user model compares."""
+
+    @records.hidden
+    def handle(self, *args: Any, **options: Any) -> Any:
+        """Asks for the new password, and puts it, or raises a CommandError."""
+        try:
+            with users.comparing(get_user_model()):
+                return super().handle(*args, **options)
+        except records.RecordChanged:
+            raise CommandError(
+                "The password was changed meanwhile, perhaps by a login with an old"
+                " record. Nothing was done; please run the command again."
+            ) from None
