@@ -150,6 +150,14 @@ def ratio(found, setting, name, part=0):
     return f"{best(found, setting, 'ours', part) / best(found, setting, name, part):.2f}"
 
 
+def median_ratio(found, setting, name):
+    """Ours over another's processor time: the median of the turns."""
+    if (setting, name) not in found:
+        return ""
+    pairs = zip(found[setting, "ours"], found[setting, name])
+    return f"{statistics.median(ours[1] / other[1] for ours, other in pairs):.2f}"
+
+
 def wall(found, setting, name):
     return f"{best(found, setting, name):.1f}" if (setting, name) in found else ""
 
@@ -183,11 +191,13 @@ def argon2_table(times, other):
         ways["other"] = (rigzumal_argon2(other), always)
     found = times_of(ways, ARGON2, times)
     names = "m (KiB), t, p|Ours, ms|libargon2, ms|libsodium, ms|Ours over libargon2|of processor time|Ours over libsodium"
+    names += "|of processor time, median: over libargon2|over libsodium"
     print_head(names.split("|"), other is not None)
     for setting in ARGON2:
         cells = [", ".join(map(str, setting))]
         cells += [wall(found, setting, name) for name in ("ours", "original", "sodium")]
         cells += [ratio(found, setting, "original"), ratio(found, setting, "original", 1), ratio(found, setting, "sodium")]
+        cells += [median_ratio(found, setting, name) for name in ("original", "sodium")]
         print("| " + " | ".join(cells + over_other(found, setting)) + " |")
 
 

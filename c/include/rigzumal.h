@@ -17,9 +17,11 @@
  *
  * Any number of threads may call at the same time, and each call works on its own thread alone, but
  * for the five calls at the end: with those several threads may work the lanes of one tag.
- * Nothing stays after a call but up to 32 MiB of cleared memory, which the next call takes again
- * and the system may take back.
- * Memory is cleared as it is given back; the stack below the call, 48 KiB of it, and the vector
+ * Nothing stays after a call but cleared memory, which the next calls take again: as much as calls
+ * took at one time, and 64 MiB at most. Tools count it as the process's own until the system, when
+ * it is short of memory, takes it back by itself; rigzumal_trim gives it back at once.
+ *
+ * Memory is cleared as it is given back; the stack below the call, 20 KiB of it, and the vector
  * registers are cleared after each call. Blocks of 64 KiB and more are in no core dump, and read as
  * zero in a forked child. Where the memory is large it has huge pages.
  *
@@ -30,6 +32,8 @@
  * - A pointer that comes with a size reaches that many bytes; it may be null if the size is 0, and
  *   a salt where a call says so. Other pointers are never null.
  * - What a call writes overlaps nothing that it reads.
+ * - The stack has RIGZUMAL_STACK_SIZE bytes left below the call: threads with a stack of 32 KiB may
+ *   call. The memory of a hash is not on the stack, whatever its costs.
  * - No call is made in a signal handler, nor in the child of a process of several threads that
  *   forked and has not called exec.
  *
@@ -51,6 +55,9 @@ extern "C" {
 
 /* Into so many bytes every record fits, with its zero byte. */
 #define RIGZUMAL_TEXT_SIZE 513u
+
+/* So many bytes of the caller's stack are enough for any call. */
+#define RIGZUMAL_STACK_SIZE 24576u
 
 /* A salt and a tag as they are usual. */
 #define RIGZUMAL_SALT_SIZE 16u
@@ -114,6 +121,11 @@ enum rigzumal_fault {
 
 /* The version of the library in use, as "0.2.0". */
 const char *rigzumal_version(void);
+
+/* Gives the memory that is kept between calls back to the system, and answers how many bytes it
+ * has. Calls that are under way keep theirs. It is for a program that hashes seldom: the next call
+ * has the system map and clear its memory anew, which takes longer. */
+size_t rigzumal_trim(void);
 
 /* What a fault means in words, and its name in one word, as "mismatch". Never null. */
 const char *rigzumal_strerror(int fault);
@@ -192,15 +204,21 @@ enum rigzumal_reply {
 /* Does one whole operation at a copy of an account's record, for a store that holds the records of
  * accounts, such as a table of a database:
  *
- *     SELECT record FROM accounts WHERE id = ?                              -- the copy
+ *     SELECT record FROM accounts WHERE id = ?                         -- the copy, or NULL
  *     rigzumal_step(text, sizeof text, &reply, operation, copy, ...)
- *     UPDATE accounts SET record = ? WHERE id = ? AND record = ?           -- text, id, copy
+ *     UPDATE accounts SET record = ?                                   -- the text, or NULL
+ *         WHERE id = ? AND record IS NOT DISTINCT FROM ?               -- id; the copy, or NULL
  *
- * If the store does the update only if the record is still the copy, and nothing comes between
- * that look and the writing, the replies to all clients are those of one history, in which each
- * operation was done whole at its update. An update that changes no row is answered CHANGED, or
- * begun anew with what stands. A reply that makes no change needs a second look in place of the
- * update.
+ * IS NOT DISTINCT FROM is an = that holds of two NULLs too: MySQL and MariaDB write <=>, and SQLite
+ * before 3.39 IS. With = alone an ENROL would never find its copy. The comparison is to be that of
+ * bytes, whatever the column's collation.
+ *
+ * If the store does an update only if what stands is still the copy, and nothing comes between that
+ * look and the writing, the replies to the updates that it does are those of one history, in which
+ * each operation was done whole at its update. That holds whatever else clients do to the rows, if
+ * each compares and writes so: a reset, a record of another scheme, or a new row, whose copy is no
+ * row. An update that changes no row is answered CHANGED, or begun anew with what stands. A reply
+ * that makes no change needs a second look in place of the update.
  *
  * copy is the record's text, or null if none stands. password is the new one of an ENROL, and
  * otherwise the one that is judged; new_password is read for a CHANGE, and setting, which is costs

@@ -51,10 +51,15 @@ Tag: {tag()}
     return {"METADATA": about.encode(), "WHEEL": wheel.encode()}
 
 
-def package() -> dict[str, bytes]:
-    """The package's files, with the library."""
+def need_library() -> None:
+    """Ends with a word on how to build the library if it isn't there."""
     if not LIBRARY.exists():
         sys.exit(f"{LIBRARY} is not there: run `make -C c` first, which builds it")
+
+
+def package() -> dict[str, bytes]:
+    """The package's files, with the library."""
+    need_library()
     files = {
         str(path.relative_to(HERE)): path.read_bytes()
         for path in sorted((HERE / "rigzumal").rglob("*"))
@@ -71,20 +76,15 @@ def line_of(name: str, data: bytes) -> str:
     return f"{name},sha256={digest},{len(data)}\n"
 
 
-def build_wheel(
-    wheel_directory: str,
-    config_settings: Optional[dict[str, Any]] = None,
-    metadata_directory: Optional[str] = None,
-) -> str:
-    """Writes the wheel into the folder, and answers its name."""
-    held = package()
+def write_wheel(directory: str, held: dict[str, bytes]) -> str:
+    """Writes a wheel of these files into the folder, and answers its name."""
     folder = f"rigzumal-{version()}.dist-info"
     files = {**held, **{f"{folder}/{name}": data for name, data in metadata().items()}}
     record = "".join(line_of(name, data) for name, data in files.items())
     files[f"{folder}/RECORD"] = (record + f"{folder}/RECORD,,\n").encode()
     name = f"rigzumal-{version()}-{tag()}.whl"
     with zipfile.ZipFile(
-        pathlib.Path(wheel_directory) / name, "w", zipfile.ZIP_DEFLATED
+        pathlib.Path(directory) / name, "w", zipfile.ZIP_DEFLATED
     ) as archive:
         for path, data in files.items():
             entry = zipfile.ZipInfo(path)  # of 1980, so that one tree makes one wheel
@@ -92,6 +92,27 @@ def build_wheel(
             entry.compress_type = zipfile.ZIP_DEFLATED
             archive.writestr(entry, data)
     return name
+
+
+def build_wheel(
+    wheel_directory: str,
+    config_settings: Optional[dict[str, Any]] = None,
+    metadata_directory: Optional[str] = None,
+) -> str:
+    """Writes the wheel into the folder, and answers its name."""
+    return write_wheel(wheel_directory, package())
+
+
+def build_editable(
+    wheel_directory: str,
+    config_settings: Optional[dict[str, Any]] = None,
+    metadata_directory: Optional[str] = None,
+) -> str:
+    """Writes a wheel that names this folder, for `pip install -e` (PEP 660): what is changed here
+    is changed for all who import it. The library is the one that `make -C c` has built.
+    """
+    need_library()
+    return write_wheel(wheel_directory, {"rigzumal.pth": f"{HERE}\n".encode()})
 
 
 def build_sdist(

@@ -2,8 +2,9 @@
  * that of lanes.c.
  *
  * Every block is cleared as it is given back. Small blocks come from the C library. Large ones are
- * cut one behind another from areas of huge pages, so that many lanes get huge pages too. Two
- * areas, cleared, are kept for the next call of any thread: a small hash maps nothing.
+ * cut one behind another from areas of huge pages, so that many lanes get huge pages too. Four
+ * areas, cleared, are kept for the next call of any thread: a hash of up to 64 MiB maps nothing,
+ * and the system has no page to clear for it.
  *
  * What is given back was taken on the same thread, in the same call: the table of blocks is the
  * thread's own, and is gone when the call is over. Sizes stand in that table and not before the
@@ -23,7 +24,7 @@ enum { KIB = 1024, MIB = 1024 * KIB };
 #define HUGE_PAGE ((size_t)2 * MIB)
 #define AREA ((size_t)16 * MIB)
 #define LEAST_ALIGN ((size_t)64)
-enum { KEPT_AREAS = 2 };
+enum { KEPT_AREAS = 4 };
 
 static size_t rounded_up(size_t size, size_t unit) {
     return (size + unit - 1) / unit * unit;
@@ -70,12 +71,20 @@ static void give_area(unsigned char *area) {
     munmap(area, AREA);
 }
 
-__attribute__((destructor)) static void unmap_kept_areas(void) {
+size_t unmap_kept_areas(void) {
+    size_t unmapped = 0;
     for (int i = 0; i < KEPT_AREAS; i++) {
         unsigned char *area = atomic_exchange(&kept_areas[i], NULL);
-        if (area != NULL)
-            munmap(area, AREA);
+        if (area == NULL)
+            continue;
+        munmap(area, AREA);
+        unmapped += AREA;
     }
+    return unmapped;
+}
+
+__attribute__((destructor)) static void leave_nothing(void) {
+    unmap_kept_areas();
 }
 
 /* The blocks that this thread has taken, the newest last. */

@@ -1,4 +1,4 @@
-/* Memory for those who clear it themselves. */
+/* Memory for those who clear it themselves, and what is kept between calls. */
 #ifndef HEAP_H
 #define HEAP_H
 
@@ -10,5 +10,8 @@ void *take_zeros(size_t size);
 
 /* Gives them back, on the thread that took them, when all are zero again. */
 void give_zeros(void *start);
+
+/* Gives the kept areas back to the system: how many bytes they have. */
+size_t unmap_kept_areas(void);
 
 #endif

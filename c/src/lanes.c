@@ -154,12 +154,24 @@ static void work_with_helpers(struct run *run, uint32_t wanted) {
         pthread_join(helpers[i], NULL);
 }
 
+/* The caller's memory, slice behind slice. */
+static void cut_slices(struct run *run) {
+    for (int i = 0; i < SLICES; i++)
+        run->slices[i] = run->task->memory + (size_t)i * run->slice_size;
+}
+
 static void give_slices(struct run *run, int count) {
+    if (run->task->memory != NULL)
+        return;
     while (count > 0)
         give_zeros(run->slices[--count]);
 }
 
 static bool take_slices(struct run *run) {
+    if (run->task->memory != NULL) {
+        cut_slices(run);
+        return true;
+    }
     for (int i = 0; i < SLICES; i++) {
         run->slices[i] = take_zeros(run->slice_size * sizeof(struct argon2_block));
         if (run->slices[i] == NULL) {
@@ -182,14 +194,23 @@ static uint8_t work(struct run *run, uint32_t threads) {
     return fault;
 }
 
-uint8_t work_lanes(const struct task *task, uint32_t threads) {
+uint8_t size_of_slices(const struct tag_numbers *numbers, size_t *size) {
     uint32_t segment_size;
-    uint8_t fault = v1_cred_argon2_segment_len(&task->numbers, &segment_size);
+    uint8_t fault = v1_cred_argon2_segment_len(numbers, &segment_size);
+    if (fault == RIGZUMAL_OK)
+        *size = (size_t)SLICES * numbers->lanes * segment_size * sizeof(struct argon2_block);
+    return fault;
+}
+
+uint8_t work_lanes(const struct task *task, uint32_t threads) {
+    size_t size = 0;
+    uint8_t fault = size_of_slices(&task->numbers, &size);
     if (fault != RIGZUMAL_OK)
         return fault;
+    size_t slice_size = size / SLICES / sizeof(struct argon2_block);
     struct run run = {.task = task,
-                      .segment_size = segment_size,
-                      .slice_size = (size_t)segment_size * task->numbers.lanes,
+                      .segment_size = slice_size / task->numbers.lanes,
+                      .slice_size = slice_size,
                       .segments = (uint64_t)SLICES * task->numbers.passes * task->numbers.lanes,
                       .lock = PTHREAD_MUTEX_INITIALIZER,
                       .more_done = PTHREAD_COND_INITIALIZER};

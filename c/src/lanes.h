@@ -12,7 +12,11 @@ struct task {
     uint8_t (*begin)(const void *inputs, struct argon2_block *first, size_t count);
     uint8_t (*end)(const void *inputs, const struct argon2_block *last, size_t count);
     const void *inputs;
+    struct argon2_block *memory; /* the caller's, for all four slices; or null for the heap's */
 };
+
+/* How many bytes the four slices have, or a fault of the numbers. */
+uint8_t size_of_slices(const struct tag_numbers *numbers, size_t *size);
 
 /* How many threads are to work the lanes, if the program allows so many: no more than there are
  * lanes, and processors that it may run on. One, if the memory is so small that the start of
@@ -20,7 +24,8 @@ struct task {
 uint32_t useful_threads(const struct tag_numbers *numbers, uint32_t allowed);
 
 /* Works a task with so many threads, 1 to 255, the caller's among them. Where one can't be started
- * the others work its lanes. All have ended when the call is over. */
+ * the others work its lanes. All have ended when the call is over, and memory of the caller's,
+ * which was zero, is zero again. */
 uint8_t work_lanes(const struct task *task, uint32_t threads);
 
 #endif

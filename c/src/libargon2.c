@@ -1,175 +1,26 @@
 /* The calls of argon2.h, as Debian's libargon2.so.1 has them, over those of rigzumal.h.
  *
  * Inputs are tried in the original's order and refused with its numbers and messages. What it takes
- * and the proved code doesn't is refused after that, by the nearest of them: in encoded strings a
- * tag of over 64 bytes and a salt of over 48; over 255 lanes, over 2 GiB of memory, and a version
- * that isn't 0x10 or 0x13. Lanes are worked by as many threads as the context has, as the original
- * does, or as are of use; one that can't be started is no fault. The callbacks for memory are tried
- * and not called. */
+ * and the proved code doesn't is refused after that, by the nearest of them: over 255 lanes, over 2
+ * GiB of memory, and a version that isn't 0x10 or 0x13. Strings that are no records here, for a
+ * salt of over 48 bytes or a tag of over 64, are read and written in libargon2_strings.c; their
+ * tags are proved all the same. Lanes are worked by as many threads as the context has, as the
+ * original does, or as are of use; one that can't be started is no fault. A context's callbacks
+ * give the memory and get it back cleared; without them up to 64 MiB, cleared, are kept for the
+ * next call. The inputs may overlap what is written, but not one another where flags have one of
+ * them cleared. */
 #define _GNU_SOURCE
-#include "base64.h"
+#include "libargon2.h"
+
 #include "rigzumal.h"
 #include "secrets.h"
+#include "with_threads.h"
 
-#include <stdbool.h>
-#include <stdio.h>
 #include <stdlib.h>
 #include <string.h>
 
-/* The declarations of argon2.h, whose names and numbers these are. */
-
-enum argon2_error {
-    ARGON2_OK = 0,
-    ARGON2_OUTPUT_PTR_NULL = -1,
-    ARGON2_OUTPUT_TOO_SHORT = -2,
-    ARGON2_OUTPUT_TOO_LONG = -3,
-    ARGON2_PWD_TOO_LONG = -5,
-    ARGON2_SALT_TOO_SHORT = -6,
-    ARGON2_SALT_TOO_LONG = -7,
-    ARGON2_TIME_TOO_SMALL = -12,
-    ARGON2_MEMORY_TOO_LITTLE = -14,
-    ARGON2_MEMORY_TOO_MUCH = -15,
-    ARGON2_LANES_TOO_FEW = -16,
-    ARGON2_LANES_TOO_MANY = -17,
-    ARGON2_PWD_PTR_MISMATCH = -18,
-    ARGON2_SALT_PTR_MISMATCH = -19,
-    ARGON2_SECRET_PTR_MISMATCH = -20,
-    ARGON2_AD_PTR_MISMATCH = -21,
-    ARGON2_MEMORY_ALLOCATION_ERROR = -22,
-    ARGON2_FREE_MEMORY_CBK_NULL = -23,
-    ARGON2_ALLOCATE_MEMORY_CBK_NULL = -24,
-    ARGON2_INCORRECT_PARAMETER = -25,
-    ARGON2_INCORRECT_TYPE = -26,
-    ARGON2_THREADS_TOO_FEW = -28,
-    ARGON2_THREADS_TOO_MANY = -29,
-    ARGON2_ENCODING_FAIL = -31,
-    ARGON2_DECODING_FAIL = -32,
-    ARGON2_VERIFY_MISMATCH = -35
-};
-
-enum argon2_type { Argon2_d = 0, Argon2_i = 1, Argon2_id = 2 };
-typedef enum argon2_type argon2_type;
-
-enum { FLAG_CLEAR_PASSWORD = 1, FLAG_CLEAR_SECRET = 2 };
-
-typedef struct {
-    uint8_t *out;
-    uint32_t outlen;
-    uint8_t *pwd;
-    uint32_t pwdlen;
-    uint8_t *salt;
-    uint32_t saltlen;
-    uint8_t *secret;
-    uint32_t secretlen;
-    uint8_t *ad;
-    uint32_t adlen;
-    uint32_t t_cost;
-    uint32_t m_cost;
-    uint32_t lanes;
-    uint32_t threads;
-    uint32_t version;
-    int (*allocate_cbk)(uint8_t **memory, size_t size);
-    void (*free_cbk)(uint8_t *memory, size_t size);
-    uint32_t flags;
-} argon2_context;
-
-/* The most that the proved code takes, where the original takes more. */
-enum { MOST_LANES = 255, MOST_MEMORY = 2 * 1024 * 1024 };
-
-#define PUBLIC __attribute__((visibility("default")))
-
-PUBLIC const char *argon2_type2string(argon2_type type, int uppercase) {
-    switch (type) {
-    case Argon2_d:
-        return uppercase ? "Argon2d" : "argon2d";
-    case Argon2_i:
-        return uppercase ? "Argon2i" : "argon2i";
-    case Argon2_id:
-        return uppercase ? "Argon2id" : "argon2id";
-    }
-    return NULL;
-}
-
-PUBLIC const char *argon2_error_message(int number) {
-    static const char *const messages[] = {
-        "OK",
-        "Output pointer is NULL",
-        "Output is too short",
-        "Output is too long",
-        "Password is too short",
-        "Password is too long",
-        "Salt is too short",
-        "Salt is too long",
-        "Associated data is too short",
-        "Associated data is too long",
-        "Secret is too short",
-        "Secret is too long",
-        "Time cost is too small",
-        "Time cost is too large",
-        "Memory cost is too small",
-        "Memory cost is too large",
-        "Too few lanes",
-        "Too many lanes",
-        "Password pointer is NULL, but password length is not 0",
-        "Salt pointer is NULL, but salt length is not 0",
-        "Secret pointer is NULL, but secret length is not 0",
-        "Associated data pointer is NULL, but ad length is not 0",
-        "Memory allocation error",
-        "The free memory callback is NULL",
-        "The allocate memory callback is NULL",
-        "Argon2_Context context is NULL",
-        "There is no such version of Argon2",
-        "Output pointer mismatch",
-        "Not enough threads",
-        "Too many threads",
-        "Missing arguments",
-        "Encoding failed",
-        "Decoding failed",
-        "Threading failure",
-        "Some of encoded parameters are too long or too short",
-        "The password does not match the supplied hash",
-    };
-    int last = sizeof messages / sizeof messages[0] - 1;
-    return number > 0 || number < -last ? "Unknown error code" : messages[-number];
-}
-
-/* What the original finds wrong with its inputs, in its order. */
-static int fault_of(const argon2_context *context) {
-    enum { LEAST_OUT = 4, LEAST_SALT = 8, LEAST_MEMORY = 8, MOST_THREADS = 0xFFFFFF };
-    if (context == NULL)
-        return ARGON2_INCORRECT_PARAMETER;
-    if (context->out == NULL)
-        return ARGON2_OUTPUT_PTR_NULL;
-    if (context->outlen < LEAST_OUT)
-        return ARGON2_OUTPUT_TOO_SHORT;
-    if (context->pwd == NULL && context->pwdlen != 0)
-        return ARGON2_PWD_PTR_MISMATCH;
-    if (context->salt == NULL && context->saltlen != 0)
-        return ARGON2_SALT_PTR_MISMATCH;
-    if (context->saltlen < LEAST_SALT)
-        return ARGON2_SALT_TOO_SHORT;
-    if (context->secret == NULL && context->secretlen != 0)
-        return ARGON2_SECRET_PTR_MISMATCH;
-    if (context->ad == NULL && context->adlen != 0)
-        return ARGON2_AD_PTR_MISMATCH;
-    if (context->m_cost < LEAST_MEMORY || context->m_cost < 8 * context->lanes)
-        return ARGON2_MEMORY_TOO_LITTLE;
-    if (context->t_cost == 0)
-        return ARGON2_TIME_TOO_SMALL;
-    if (context->lanes == 0)
-        return ARGON2_LANES_TOO_FEW;
-    if (context->lanes > MOST_THREADS)
-        return ARGON2_LANES_TOO_MANY;
-    if (context->threads == 0)
-        return ARGON2_THREADS_TOO_FEW;
-    if (context->threads > MOST_THREADS)
-        return ARGON2_THREADS_TOO_MANY;
-    if (context->allocate_cbk != NULL && context->free_cbk == NULL)
-        return ARGON2_FREE_MEMORY_CBK_NULL;
-    if (context->allocate_cbk == NULL && context->free_cbk != NULL)
-        return ARGON2_ALLOCATE_MEMORY_CBK_NULL;
-    return ARGON2_OK;
-}
+/* In argon2_verify there is a thread for each lane. */
+enum { MOST_LANES = 255 };
 
 /* The number of the original that is nearest to a refusal of the proved code. */
 static int number_of(int fault) {
@@ -203,8 +54,50 @@ static void clear_inputs(argon2_context *context) {
     }
 }
 
+/* As the original does: what allocate answers is passed over, and null is a refusal. */
+static uint8_t *memory_of(const argon2_context *context, size_t size) {
+    uint8_t *memory = NULL;
+    context->allocate_cbk(&memory, size);
+    if (memory != NULL && (uintptr_t)memory % _Alignof(struct argon2_block) != 0) {
+        context->free_cbk(memory, size);
+        return NULL;
+    }
+    return memory;
+}
+
+/* Writes the tag, which is worked in memory that the caller's functions give and get back. */
+static int make_tag_by_callbacks(uint8_t *tag, const argon2_context *context, argon2_type type) {
+    struct tag_numbers numbers = {(uint32_t)type,  context->version, context->m_cost,
+                                  context->t_cost, context->lanes,   context->outlen};
+    size_t size;
+    int fault = size_of_slices(&numbers, &size);
+    if (fault != RIGZUMAL_OK)
+        return fault;
+    uint8_t *memory = memory_of(context, size);
+    if (memory == NULL)
+        return RIGZUMAL_MEMORY;
+    memset(memory, 0, size);
+    struct tag_inputs inputs = {
+        &numbers,        context->pwd,     context->salt,      context->secret, context->ad,
+        context->pwdlen, context->saltlen, context->secretlen, context->adlen,  tag};
+    fault = make_tag_in((struct argon2_block *)memory, &inputs, context->threads);
+    context->free_cbk(memory, size);
+    return fault;
+}
+
+static int make_tag(uint8_t *tag, const argon2_context *context, argon2_type type) {
+    if (context->allocate_cbk != NULL)
+        return make_tag_by_callbacks(tag, context, type);
+    struct rigzumal_argon2 numbers = {(uint32_t)type, context->version, context->m_cost,
+                                      context->t_cost, context->lanes};
+    return rigzumal_argon2_threads(tag, context->outlen, &numbers, context->pwd, context->pwdlen,
+                                   context->salt, context->saltlen, context->secret,
+                                   context->secretlen, context->ad, context->adlen,
+                                   context->threads);
+}
+
 PUBLIC int argon2_ctx(argon2_context *context, argon2_type type) {
-    int number = fault_of(context);
+    int number = fault_of_context(context);
     if (number != ARGON2_OK)
         return number;
     if (argon2_type2string(type, 0) == NULL)
@@ -212,12 +105,7 @@ PUBLIC int argon2_ctx(argon2_context *context, argon2_type type) {
     uint8_t *tag = malloc(context->outlen); /* as the caller's may overlap the inputs */
     if (tag == NULL)
         return ARGON2_MEMORY_ALLOCATION_ERROR;
-    struct rigzumal_argon2 numbers = {(uint32_t)type, context->version, context->m_cost,
-                                      context->t_cost, context->lanes};
-    number = number_of(rigzumal_argon2_threads(tag, context->outlen, &numbers, context->pwd,
-                                               context->pwdlen, context->salt, context->saltlen,
-                                               context->secret, context->secretlen, context->ad,
-                                               context->adlen, context->threads));
+    number = number_of(make_tag(tag, context, type));
     if (number == ARGON2_OK) {
         clear_inputs(context);
         memcpy(context->out, tag, context->outlen);
@@ -226,13 +114,6 @@ PUBLIC int argon2_ctx(argon2_context *context, argon2_type type) {
     free(tag);
     clear_traces();
     return number;
-}
-
-/* What no encoded string holds here, though the original takes it. */
-static int fault_of_string(const argon2_context *context) {
-    if (context->outlen > RIGZUMAL_TAG_SIZE_MAX)
-        return ARGON2_OUTPUT_TOO_LONG;
-    return context->saltlen > RIGZUMAL_SALT_SIZE_MAX ? ARGON2_SALT_TOO_LONG : ARGON2_OK;
 }
 
 PUBLIC int argon2_verify_ctx(argon2_context *context, const char *hash, argon2_type type) {
@@ -244,12 +125,15 @@ PUBLIC int argon2_verify_ctx(argon2_context *context, const char *hash, argon2_t
     return is_right ? ARGON2_OK : ARGON2_VERIFY_MISMATCH;
 }
 
-/* Writes the encoded string, or zeros all of its room where it doesn't fit. */
+/* Writes the encoded string, or zeros all of its room where it doesn't fit. What is a record here
+ * is written by the proved code. */
 static int encode(char *encoded, size_t size, const argon2_context *context, argon2_type type) {
     struct rigzumal_argon2 numbers = {(uint32_t)type, context->version, context->m_cost,
                                       context->t_cost, context->lanes};
     int fault = rigzumal_argon2_write(encoded, size, &numbers, context->salt, context->saltlen,
                                       context->out, context->outlen);
+    if (fault == RIGZUMAL_SALT || fault == RIGZUMAL_TAG)
+        fault = write_string(encoded, size, context, type) ? RIGZUMAL_OK : RIGZUMAL_NO_ROOM;
     if (fault == RIGZUMAL_OK)
         return ARGON2_OK;
     explicit_bzero(encoded, size);
@@ -259,7 +143,6 @@ static int encode(char *encoded, size_t size, const argon2_context *context, arg
 PUBLIC int argon2_hash(uint32_t t_cost, uint32_t m_cost, uint32_t parallelism, const void *pwd,
                        size_t pwdlen, const void *salt, size_t saltlen, void *hash, size_t hashlen,
                        char *encoded, size_t encodedlen, argon2_type type, uint32_t version) {
-    bool is_encoded = encoded != NULL && encodedlen > 0;
     if (pwdlen > UINT32_MAX)
         return ARGON2_PWD_TOO_LONG;
     if (saltlen > UINT32_MAX)
@@ -280,14 +163,10 @@ PUBLIC int argon2_hash(uint32_t t_cost, uint32_t m_cost, uint32_t parallelism, c
                               .lanes = parallelism,
                               .threads = parallelism,
                               .version = version};
-    int number = is_encoded ? fault_of(&context) : ARGON2_OK;
-    if (number == ARGON2_OK && is_encoded && argon2_type2string(type, 0) != NULL)
-        number = fault_of_string(&context);
-    if (number == ARGON2_OK)
-        number = argon2_ctx(&context, type);
+    int number = argon2_ctx(&context, type);
     if (number == ARGON2_OK && hash != NULL)
         memcpy(hash, tag, hashlen);
-    if (number == ARGON2_OK && is_encoded)
+    if (number == ARGON2_OK && encoded != NULL && encodedlen > 0)
         number = encode(encoded, encodedlen, &context, type);
     explicit_bzero(tag, hashlen);
     free(tag);
@@ -295,89 +174,53 @@ PUBLIC int argon2_hash(uint32_t t_cost, uint32_t m_cost, uint32_t parallelism, c
     return number;
 }
 
-/* What follows is for the number of a refusal alone: the original reads what it can of a string
- * that isn't right, and answers by what it read. Each reads from *text on, and moves it, or answers
- * false. */
-
-static bool read_word(const char **text, const char *word) {
-    size_t size = strlen(word);
-    bool is_there = strncmp(*text, word, size) == 0;
-    *text += is_there ? size : 0;
-    return is_there;
+/* Whether the tag that a context reads from a string is the one of its password. */
+static int verify_read(argon2_context *read, argon2_type type) {
+    uint8_t *tag = read->out;
+    read->out = malloc(read->outlen);
+    if (read->out == NULL)
+        return ARGON2_MEMORY_ALLOCATION_ERROR;
+    int number = argon2_verify_ctx(read, (const char *)tag, type);
+    explicit_bzero(read->out, read->outlen);
+    free(read->out);
+    return number;
 }
 
-static bool read_number(const char **text, uint32_t *number) {
-    static const char digits[] = "0123456789";
-    size_t size = strspn(*text, digits);
-    if (size == 0 || size > 10 || (**text == '0' && size > 1))
-        return false;
-    unsigned long long read = strtoull(*text, NULL, 10);
-    *number = (uint32_t)read;
-    *text += size;
-    return read <= UINT32_MAX;
-}
-
-/* Base64, of which bits that stand for no byte are zero: how many bytes it stands for. */
-static bool read_base64_size(const char **text, uint32_t *size) {
-    size_t length = 0;
-    int value, last = 0;
-    while ((value = base64_value((uint8_t)(*text)[length])) >= 0) {
-        last = value;
-        length++;
-    }
-    *size = (uint32_t)(length * 3 / 4);
-    *text += length;
-    if (length % 4 < 2)
-        return length % 4 == 0;
-    int unused_bits = length % 4 == 2 ? 0xf : 0x3;
-    return (last & unused_bits) == 0;
-}
-
-/* Reads a string after its type's name, but for its salt and tag, of which it reads the sizes. */
-static bool read_fields(const char **text, argon2_context *read) {
-    return (!read_word(text, "$v=") || read_number(text, &read->version)) &&
-           read_word(text, "$m=") && read_number(text, &read->m_cost) && read_word(text, ",t=") &&
-           read_number(text, &read->t_cost) && read_word(text, ",p=") &&
-           read_number(text, &read->lanes) && read_word(text, "$") &&
-           read_base64_size(text, &read->saltlen) && read_word(text, "$") &&
-           read_base64_size(text, &read->outlen);
-}
-
-/* The number by which the original refuses a string, or which is nearest to what is wrong with it
- * here. The text begins after its type's name, and the proved code refuses the string. */
-static int refusal(const char *text, const void *pwd, size_t pwdlen) {
-    uint8_t nothing[1];
-    argon2_context read = {.out = nothing,
+/* Verifies a string that is no record here, or finds the number by which the original refuses it.
+ * The text begins behind its type's name. */
+static int verify_string(const char *text, const void *pwd, size_t pwdlen, argon2_type type) {
+    size_t room = strlen(text) + 1;
+    if (room > UINT32_MAX)
+        return ARGON2_DECODING_FAIL;
+    uint8_t *fields = malloc(2 * room);
+    if (fields == NULL)
+        return ARGON2_MEMORY_ALLOCATION_ERROR;
+    argon2_context read = {.out = fields,
+                           .outlen = (uint32_t)room,
                            .pwd = (uint8_t *)(uintptr_t)pwd,
                            .pwdlen = (uint32_t)pwdlen,
-                           .salt = nothing,
-                           .version = RIGZUMAL_VERSION_10};
-    if (!read_fields(&text, &read))
-        return ARGON2_DECODING_FAIL;
+                           .salt = fields + room,
+                           .saltlen = (uint32_t)room};
+    const char *end = read_string(&read, text);
     read.threads = read.lanes;
-    int number = fault_of(&read);
-    if (number != ARGON2_OK)
-        return number;
-    if (*text != '\0')
-        return ARGON2_DECODING_FAIL;
-    number = fault_of_string(&read);
-    if (number != ARGON2_OK)
-        return number;
-    if (read.lanes > MOST_LANES)
-        return ARGON2_LANES_TOO_MANY;
-    return read.m_cost > MOST_MEMORY ? ARGON2_MEMORY_TOO_MUCH : ARGON2_INCORRECT_TYPE;
+    int number = end == NULL ? ARGON2_DECODING_FAIL : fault_of_context(&read);
+    if (number == ARGON2_OK)
+        number = *end == '\0' ? verify_read(&read, type) : ARGON2_DECODING_FAIL;
+    explicit_bzero(fields, 2 * room);
+    free(fields);
+    return number;
 }
 
 static int verify(const char *encoded, const void *pwd, size_t pwdlen, argon2_type type) {
     const char *name = argon2_type2string(type, 0);
     if (name == NULL)
         return ARGON2_INCORRECT_TYPE;
-    const char *text = encoded;
-    if (!read_word(&text, "$") || !read_word(&text, name))
+    size_t size = strlen(name);
+    if (encoded[0] != '$' || strncmp(encoded + 1, name, size) != 0)
         return ARGON2_DECODING_FAIL;
-    int fault = rigzumal_record_fault(encoded);
-    if (fault != RIGZUMAL_OK || *text != '$')
-        return refusal(text, pwd, pwdlen);
+    const char *text = encoded + 1 + size;
+    if (*text != '$' || rigzumal_record_fault(encoded) != RIGZUMAL_OK)
+        return verify_string(text, pwd, pwdlen, type);
     if (pwd == NULL && pwdlen != 0)
         return ARGON2_PWD_PTR_MISMATCH;
     return number_of(rigzumal_check_threads(encoded, pwd, pwdlen, MOST_LANES));
@@ -391,16 +234,6 @@ PUBLIC int argon2_verify(const char *encoded, const void *pwd, size_t pwdlen, ar
     int number = verify(encoded, pwd, pwdlen, type);
     clear_traces();
     return number;
-}
-
-PUBLIC size_t argon2_encodedlen(uint32_t t_cost, uint32_t m_cost, uint32_t parallelism,
-                                uint32_t saltlen, uint32_t hashlen, argon2_type type) {
-    const char *name = argon2_type2string(type, 0);
-    int size = snprintf(NULL, 0, "$%s$v=19$m=%u,t=%u,p=%u$$", name == NULL ? "" : name, m_cost,
-                        t_cost, parallelism);
-    size_t salt_size = ((size_t)saltlen * 4 + 2) / 3;
-    size_t tag_size = ((size_t)hashlen * 4 + 2) / 3;
-    return (size_t)size + salt_size + tag_size + 1;
 }
 
 /* The calls above for each type. */

@@ -3,11 +3,16 @@
 #include "rigzumal.h"
 
 #include "builds.h"
+#include "heap.h"
 #include "secrets.h"
 #include "setting.h"
 
 const char *rigzumal_version(void) {
     return RIGZUMAL_LIBRARY_VERSION;
+}
+
+size_t rigzumal_trim(void) {
+    return unmap_kept_areas();
 }
 
 /* Clears what a call left, and hands its answer on. */

@@ -2,17 +2,10 @@
  * worked by lanes.c. Where one thread is enough, and for a text that has a fault or is scrypt's,
  * the call without threads does it. */
 #define _GNU_SOURCE
-#include "lanes.h"
+#include "with_threads.h"
+
 #include "secrets.h"
 #include "setting.h"
-
-/* What a tag is made of, and where to. */
-struct tag_inputs {
-    const struct tag_numbers *numbers;
-    bytes password, salt, secret, associated;
-    size_t password_size, salt_size, secret_size, associated_size;
-    uint8_t *tag;
-};
 
 static uint8_t begin_tag(const void *inputs, struct argon2_block *first, size_t count) {
     const struct tag_inputs *it = inputs;
@@ -49,6 +42,11 @@ int rigzumal_argon2_threads(void *tag, size_t tag_size, const struct rigzumal_ar
                                 password_size, salt_size, secret_size, associated_size, tag};
     task.inputs = &inputs;
     return cleared_work(&task, threads);
+}
+
+int make_tag_in(struct argon2_block *memory, const struct tag_inputs *inputs, uint32_t threads) {
+    struct task task = {*inputs->numbers, begin_tag, end_tag, inputs, memory};
+    return cleared_work(&task, useful_threads(&task.numbers, threads));
 }
 
 struct check_inputs {

@@ -3,20 +3,23 @@
     /usr/bin/python3 tests/against_libargon2.py OURS THEIRS SEED
 
 Each of the 22 calls is made on both. Their answers, and all bytes that they could write, are the
-same. What the original takes and ours refuses is listed in src/libargon2.c: there the answer is
-the one that is listed, and nothing is written.
+same, as is the memory that they ask of a context's callbacks. What the original takes and ours
+refuses is listed in src/libargon2.c: there the answer is the one that is listed, and nothing is
+written.
 """
 
 import base64
 import ctypes
+import mmap
 import random
 import re
 import sys
 
 KINDS = ("argon2d", "argon2i", "argon2id")
 TURNS = 200
-NO_ROOM, MISMATCH = -31, -35
-HASHED = (0, NO_ROOM, MISMATCH)  # the answers that the original gives after it has hashed
+MISMATCH = -35
+HASHED = (0, -31, MISMATCH)  # the answers that the original gives after it has hashed
+ARENA = 32768
 
 
 class Context(ctypes.Structure):
@@ -64,6 +67,35 @@ def library(path):
     return it
 
 
+ALLOCATE = ctypes.CFUNCTYPE(
+    ctypes.c_int, ctypes.POINTER(ctypes.POINTER(ctypes.c_uint8)), ctypes.c_size_t
+)
+FREE = ctypes.CFUNCTYPE(None, ctypes.POINTER(ctypes.c_uint8), ctypes.c_size_t)
+
+
+class Callbacks:
+    """A context's functions for memory, which note what they are called with. They give what isn't
+    zero, or nothing; what they get back is to be zero."""
+
+    def __init__(self, gives, askew=0):
+        self.gives, self.askew, self.calls, self.held = gives, askew, [], {}
+        self.allocate, self.free = ALLOCATE(self._allocate), FREE(self._free)
+
+    def _allocate(self, memory, size):
+        self.calls.append(("allocate", size))
+        if self.gives:
+            room = (ctypes.c_uint8 * (size + 16))(*b"\xa5" * 4096)
+            place = ctypes.addressof(room) + -ctypes.addressof(room) % 16 + self.askew
+            self.held[place] = room
+            memory[0] = ctypes.cast(place, ctypes.POINTER(ctypes.c_uint8))
+        return 77  # which is passed over
+
+    def _free(self, memory, size):
+        place = ctypes.addressof(memory.contents)
+        is_clear = not any(ctypes.string_at(place, size))
+        self.calls.append(("free", size, is_clear, self.held.pop(place, None) is not None))
+
+
 class Inputs:
     """The numbers and bytes of a call: mostly good, each now and then bad."""
 
@@ -86,9 +118,19 @@ class Inputs:
         self.kind = mostly(draw.randrange(3), 3, -1)
         self.version = draw.choice((0x10, 0x13))
         self.null = draw.choice("psxaohhh") if draw.random() < 0.08 else ""
-        self.threads = mostly(self.lanes or 1, 0, 0x1000000)
-        self.callbacks = mostly((0, 0), (0, 1), (1, 0))
+        self.threads = mostly(draw.choice((self.lanes or 1, 1, 9)), 0, 0x1000000)
+        self.callbacks = draw.choice(("", "", "", "", "", "gives", "gives", "none", "odd", "dod"))
         self.flags = draw.choice((0, 0, 1, 2, 3))
+        self.overlap = draw.randrange(4000)
+
+
+def zeros(size):
+    """Where so many zero bytes lie, of which the system has no page until they are read."""
+    call = ctypes.CDLL(None).mmap
+    call.restype, number = ctypes.c_void_p, ctypes.c_int
+    call.argtypes = [ctypes.c_void_p, ctypes.c_size_t, number, number, number, ctypes.c_long]
+    flags = mmap.MAP_PRIVATE | mmap.MAP_ANONYMOUS | 0x4000  # MAP_NORESERVE
+    return call(None, size, mmap.PROT_READ, flags, -1, 0)
 
 
 def is_untouched(written):
@@ -100,45 +142,57 @@ def bytes_or_null(data, is_null):
     return None if is_null else data
 
 
-def by_context(lib, it, name, *given):
-    """A call of a context, with all that it wrote, into the inputs too."""
-    size = max(it.tag_size, 1)
-    out = ctypes.create_string_buffer(b"\x5a" * (size + 8), size + 8)
-    room = {
-        name: ctypes.create_string_buffer(data, len(data) + 1)
-        for name, data in (("p", it.password), ("s", it.salt), ("x", it.secret), ("a", it.associated))
-    }
+def places(it):
+    """Where the inputs lie in an arena, one behind another, and where what is written does: over any
+    of them, or behind them."""
+    sizes = {"p": len(it.password), "s": len(it.salt), "x": len(it.secret), "a": len(it.associated)}
+    at, found = 64, {}
+    for name, size in sizes.items():
+        found[name] = at
+        at += size + 8
+    found["o"] = 64 + it.overlap * 2 % at if it.overlap % 2 else at
+    return found
+
+
+def context_at(it, arena, callbacks):
+    """A context over an arena into which the inputs are written."""
+    found = places(it)
+    start = ctypes.addressof(arena)
+    data = {"p": it.password, "s": it.salt, "x": it.secret, "a": it.associated}
+    for name, content in data.items():
+        ctypes.memmove(start + found[name], content, len(content))
 
     def address(name):
-        return None if it.null == name else ctypes.addressof(room[name])
+        return None if it.null == name else start + found[name]
 
-    context = Context(
-        None if it.null == "o" else ctypes.addressof(out),
-        it.tag_size,
-        address("p"),
-        len(it.password),
-        address("s"),
-        len(it.salt),
-        address("x"),
-        len(it.secret),
-        address("a"),
-        len(it.associated),
-        it.passes,
-        it.memory,
-        it.lanes,
-        it.threads,
-        it.version,
-        *(None if n == 0 else 1 for n in it.callbacks),
-        it.flags if it.null == "" else 0,
-    )
+    fields = [address("o"), it.tag_size]
+    for name, content in data.items():
+        fields += [address(name), len(content)]
+    fields += [it.passes, it.memory, it.lanes, it.threads, it.version]
+    pair = [
+        ctypes.cast(call, ctypes.c_void_p).value for call in (callbacks.allocate, callbacks.free)
+    ]
+    if it.callbacks == "":
+        pair = [None, None]
+    elif it.callbacks in ("odd", "dod"):
+        pair[it.callbacks == "odd"] = None
+    return Context(*fields, *pair, it.flags if it.null == "" else 0)
+
+
+def by_context(lib, it, name, *given):
+    """A call of a context, with all that it wrote, into the inputs too, and what its callbacks saw."""
+    arena = ctypes.create_string_buffer(b"\x5a" * ARENA, ARENA)
+    callbacks = Callbacks(it.callbacks == "gives")
+    context = context_at(it, arena, callbacks)
     answer = getattr(lib, name)(ctypes.byref(context), *given)
-    written = [out.raw] + [room[name].raw for name in "psxa"]
-    return answer, written, context.pwdlen, context.secretlen
+    at = places(it)["o"]
+    tag = arena.raw[at : at + it.tag_size]
+    return answer, tag, arena.raw, context.pwdlen, context.secretlen, callbacks.calls
 
 
 def by_hash(lib, it, encoded_size, has_raw):
     raw = ctypes.create_string_buffer(b"\x5a" * 1100, 1100)
-    encoded = ctypes.create_string_buffer(b"\x5a" * 600, 600)
+    encoded = ctypes.create_string_buffer(b"\x5a" * 3000, 3000)
     answer = lib.argon2_hash(
         it.passes,
         it.memory,
@@ -159,13 +213,18 @@ def by_hash(lib, it, encoded_size, has_raw):
 
 def encoded_by_kind(lib, it, kind):
     raw = ctypes.create_string_buffer(1100)
-    encoded = ctypes.create_string_buffer(600)
+    encoded = ctypes.create_string_buffer(3000)
     common = (it.passes, it.memory, it.lanes, it.password, len(it.password))
     salt = (it.salt, len(it.salt))
     first = getattr(lib, kind + "_hash_raw")(*common, *salt, raw, it.tag_size)
-    size = (it.tag_size, ctypes.addressof(encoded), 600)
+    size = (it.tag_size, ctypes.addressof(encoded), 3000)
     second = getattr(lib, kind + "_hash_encoded")(*common, *salt, *size)
     return second, encoded.raw, first, raw.raw
+
+
+def with_high_bytes(draw, text):
+    """A string whose '/' are bytes that no base64 has, which the original reads as '/'."""
+    return re.sub("/", lambda _: chr(draw.randrange(0x80, 0x100)), text)
 
 
 def damaged(draw, text):
@@ -175,6 +234,9 @@ def damaged(draw, text):
         lambda: text[:at],
         lambda: text[:at] + draw.choice("$,=a0+/\x7f ") + text[at:],
         lambda: text[:at] + draw.choice("$,=a0+/Z9") + text[at + 1 :],
+        lambda: text[:at] + chr(draw.randrange(0x80, 0x100)) + text[at + 1 :],
+        lambda: with_high_bytes(draw, text),
+        lambda: with_high_bytes(draw, text),
         lambda: text + draw.choice(("$", "A", "=", "AAAA")),
         lambda: text.replace("m=", draw.choice(("m=0", "m=", "M=", "m=+", "m=1")), 1),
         lambda: text.replace("t=", draw.choice(("t=0", "t", "t=-")), 1),
@@ -185,14 +247,7 @@ def damaged(draw, text):
     return draw.choice(ways)()
 
 
-TAG_TOO_LONG, SALT_TOO_LONG, LANES_TOO_MANY, MEMORY_TOO_MUCH, NO_VERSION = -3, -7, -17, -15, -26
-
-
-def refused_sizes(salt_size, tag_size):
-    """The number that refuses a string of such sizes here, which the original takes, or none."""
-    if tag_size > 64:
-        return TAG_TOO_LONG
-    return SALT_TOO_LONG if salt_size > 48 else None
+LANES_TOO_MANY, MEMORY_TOO_MUCH, NO_VERSION = -17, -15, -26
 
 
 def refused_here(text):
@@ -202,14 +257,11 @@ def refused_here(text):
     if found is None:
         return None
     version, memory, lanes = (int(it or 16) for it in found.group(1, 2, 3))
-    sizes = refused_sizes(*(len(it) * 3 // 4 for it in found.group(4, 5)))
-    if sizes is not None:
-        return sizes
+    if version not in (16, 19):
+        return NO_VERSION
     if lanes > 255:
         return LANES_TOO_MANY
-    if memory > 2**21:
-        return MEMORY_TOO_MUCH
-    return NO_VERSION if version not in (16, 19) else None
+    return MEMORY_TOO_MUCH if memory > 2**21 else None
 
 
 def is_costly(text):
@@ -252,11 +304,13 @@ class Comparison:
 
 
 def compare_contexts(draw, comparison, it):
-    comparison.same(f"argon2_ctx {vars(it)}", lambda lib: by_context(lib, it, "argon2_ctx", it.kind))
+    comparison.same(
+        f"argon2_ctx {vars(it)}", lambda lib: by_context(lib, it, "argon2_ctx", it.kind)
+    )
     for kind in KINDS:
         name = kind + "_ctx"
         made = comparison.same(f"{name} {vars(it)}", lambda lib: by_context(lib, it, name))
-        tag = bytearray(made[1][0][: it.tag_size])
+        tag = bytearray(made[1])
         for at in (None, 0, len(tag) // 2, len(tag) - 1, draw.randrange(len(tag) or 1)):
             tried = bytearray(tag)
             if at is not None and tag:
@@ -273,10 +327,16 @@ def compare_contexts(draw, comparison, it):
 
 def compare_texts(draw, comparison, it, texts):
     for text in texts:
-        for password in (it.password, it.password + b"x", it.password[:-1], None):
+        for password, size in (
+            (it.password, len(it.password)),
+            (it.password + b"x", len(it.password) + 1),
+            (it.password[:-1], len(it.password[:-1])),
+            (None, 7),
+            (None, 0),
+        ):
             if is_costly(text):
                 continue
-            given = (text.encode(), password, 7 if password is None else len(password))
+            given = (text.encode("latin1"), password, size)
             comparison.same(
                 f"argon2_verify {text} {given[1:]}",
                 lambda lib: lib.argon2_verify(*given, it.kind),
@@ -293,21 +353,27 @@ def compare_texts(draw, comparison, it, texts):
 def compare(draw, comparison):
     it = Inputs(draw)
     compare_contexts(draw, comparison, it)
-    it.threads, it.flags, it.callbacks = it.lanes, 0, (0, 0)
+    it.threads, it.flags, it.callbacks = it.lanes, 0, ""
     comparison.same(
         f"argon2_encodedlen {vars(it)}",
         lambda lib: lib.argon2_encodedlen(
             it.passes, it.memory, it.lanes, len(it.salt), it.tag_size, it.kind % 3
         ),
     )
-    size, has_raw = draw.choice((None, 0, 1, 40, 600, 600, 600)), draw.random() < 0.5
-    refused = refused_sizes(len(it.salt), it.tag_size)
+    size, has_raw = draw.choice((None, 0, 1, 40, 100, 3000, 3000, 3000)), draw.random() < 0.5
     answer, encoded, _ = comparison.same(
-        f"argon2_hash {vars(it)}",
-        lambda lib: by_hash(lib, it, size, has_raw),
-        refused if size else None,
+        f"argon2_hash {vars(it)}", lambda lib: by_hash(lib, it, size, has_raw)
     )
-    if answer == 0 and size == 600:
+    if size == 3000:
+        fits = comparison.theirs.argon2_encodedlen(
+            it.passes, it.memory, it.lanes, len(it.salt), it.tag_size, it.kind % 3
+        )
+        for room in (fits - 1, fits, fits + 1):
+            comparison.same(
+                f"argon2_hash into {room} bytes {vars(it)}",
+                lambda lib: by_hash(lib, it, room, has_raw),
+            )
+    if answer == 0 and size == 3000:
         texts = [encoded.split(b"\0")[0].decode()]
     else:
         texts = [text_of(it)]
@@ -315,9 +381,7 @@ def compare(draw, comparison):
     texts.append(damaged(draw, texts[-1]))
     compare_texts(draw, comparison, it, texts)
     for kind in KINDS:
-        comparison.same(
-            f"{kind} {vars(it)}", lambda lib: encoded_by_kind(lib, it, kind), refused
-        )
+        comparison.same(f"{kind} {vars(it)}", lambda lib: encoded_by_kind(lib, it, kind))
 
 
 def compare_memory_beyond_ours(ours):
@@ -325,14 +389,91 @@ def compare_memory_beyond_ours(ours):
     for text, wanted in (
         ("$argon2id$v=19$m=2097153,t=1,p=1$c29tZXNhbHQ$c29tZXRhZw", MEMORY_TOO_MUCH),
         ("$argon2id$v=19$m=4294967295,t=1,p=256$c29tZXNhbHQ$c29tZXRhZw", LANES_TOO_MANY),
-        (f"$argon2id$v=18$m=4194304,t=1,p=1${'A' * 66}$c29tZXRhZw", SALT_TOO_LONG),
-        (f"$argon2id$v=18$m=4194304,t=1,p=1${'A' * 66}${'A' * 87}", TAG_TOO_LONG),
-        (f"$argon2id$v=19$m=8,t=1,p=1${'A' * 600}$c29tZXRhZw", SALT_TOO_LONG),
-        (f"$argon2id$v=19$m=8,t=1,p=1$c29tZXNhbHQ${'A' * 600}", TAG_TOO_LONG),
+        ("$argon2id$v=19$m=4194304,t=1,p=255$c29tZXNhbHQ$c29tZXRhZw", MEMORY_TOO_MUCH),
+        (f"$argon2id$v=18$m=4194304,t=1,p=1${'A' * 66}$c29tZXRhZw", NO_VERSION),
+        (f"$argon2id$v=17$m=8,t=1,p=1$c29tZXNhbHQ${'A' * 600}", NO_VERSION),
     ):
         answer = ours.argon2_verify(text.encode(), b"x", 1, 2)
         if answer != wanted:
             sys.exit(f"{text}: {answer}, and not {wanted}")
+
+
+def compare_refused_contexts(ours):
+    """A context that only the proved code refuses: by its number, with nothing written or cleared,
+    whatever the flags."""
+    it = Inputs(random.Random(1))
+    it.tag_size, it.passes, it.kind, it.null, it.flags, it.overlap = 32, 1, 2, "", 3, 0
+    it.salt, it.password, it.secret = b"somesalt", b"password", b"secret"
+    for lanes, memory, version, wanted in (
+        (256, 4096, 0x13, LANES_TOO_MANY),
+        (1000, 8000, 0x13, LANES_TOO_MANY),
+        (1, 2**21 + 1, 0x13, MEMORY_TOO_MUCH),
+        (1, 2**32 - 1, 0x13, MEMORY_TOO_MUCH),
+        (1, 8, 0x12, NO_VERSION),
+        (1, 8, 0, NO_VERSION),
+    ):
+        for it.callbacks in ("", "gives"):
+            it.lanes, it.memory, it.version, it.threads = lanes, memory, version, 1
+            answer, _, arena, *sizes, calls = by_context(ours, it, "argon2_ctx", 2)
+            before = ctypes.create_string_buffer(b"\x5a" * ARENA, ARENA)
+            context_at(it, before, Callbacks(False))
+            if (answer, arena, sizes, calls) != (wanted, before.raw, [8, 6], []):
+                sys.exit(f"a context of {lanes}, {memory}, {version}: {answer}, {sizes}, {calls}")
+
+
+def compare_memory_askew(ours):
+    """Memory that no number can lie in is given back, and is as none."""
+    arena = ctypes.create_string_buffer(ARENA)
+    it = Inputs(random.Random(3))
+    it.salt, it.null, it.callbacks, it.lanes, it.memory = b"somesalt", "", "gives", 1, 8
+    it.passes, it.threads, it.tag_size = 1, 1, 32
+    for askew in (1, 2, 4):
+        callbacks = Callbacks(True, askew)
+        answer = ours.argon2_ctx(ctypes.byref(context_at(it, arena, callbacks)), 2)
+        calls = [call[0] for call in callbacks.calls]
+        if (answer, calls, callbacks.held) != (-22, ["allocate", "free"], {}):
+            sys.exit(f"memory at {askew}: {answer}, {calls}")
+
+
+def compare_large_numbers(comparison):
+    """Passes past 16 bits, tags past a page and past 16 bits, and texts of over 32 bits."""
+    it = Inputs(random.Random(2))
+    it.salt, it.password, it.secret, it.associated = b"somesalt", b"password", b"", b""
+    it.null, it.flags, it.callbacks, it.overlap, it.version = "", 0, "", 0, 0x13
+    it.lanes, it.memory, it.threads, it.tag_size = 1, 8, 1, 32
+    for it.passes in (257, 65536, 65537 + 256):
+        comparison.same(f"{it.passes} passes", lambda lib: by_context(lib, it, "argon2_ctx", 2))
+    for size in (1023, 4095, 4096, 4097, 65535, 65536, 70000):
+
+        def hashed(lib):
+            raw = ctypes.create_string_buffer(b"\x5a" * 70008, 70008)
+            encoded = ctypes.create_string_buffer(b"\x5a" * 100_000, 100_000)
+            room = (ctypes.addressof(encoded), 100_000)
+            given = (1, 8, 1, b"password", 8, b"somesalt", 8, raw, size, *room, 2, 0x13)
+            made = lib.argon2_hash(*given)
+            text = encoded.value
+            answers = [lib.argon2_verify(text, it, len(it), 2) for it in (b"password", b"x")]
+            return made, encoded.raw, raw.raw, answers
+
+        made = comparison.same(f"a tag of {size} bytes", hashed)
+        if made[3] != [0, MISMATCH]:
+            sys.exit(f"a tag of {size} bytes: {made[3]}")
+    for salt, tag in ((2**31, 8), (8, 2**31), (2**32 - 1, 2**32 - 1)):
+        given = (2**32 - 1, 2**32 - 1, 2**32 - 1, salt, tag, 1)
+        comparison.same(f"argon2_encodedlen {given}", lambda lib: lib.argon2_encodedlen(*given))
+
+
+def compare_long_password(ours, theirs):
+    """A password of over 31 bits isn't the one of its first eight bytes."""
+    size = 2**31 + 8
+    text = ctypes.create_string_buffer(200)
+    given = (1, 8, 1, bytes(8), 8, b"somesalt", 8, None, 32, ctypes.addressof(text), 200)
+    if theirs.argon2_hash(*given, 2, 0x13) != 0:
+        sys.exit("the original makes no string")
+    password = zeros(size)
+    answers = [ours.argon2_verify(text.value, password, it, 2) for it in (8, size)]
+    if answers != [0, MISMATCH]:
+        sys.exit(f"a password of {size} bytes: {answers}")
 
 
 def compare_long_sizes(comparison):
@@ -372,6 +513,10 @@ def main():
         comparison.same(f"{call} of null", lambda lib: getattr(lib, call)(None, b"x"))
     comparison.same("argon2_verify of null", lambda lib: lib.argon2_verify(None, b"", 0, 1))
     compare_memory_beyond_ours(ours)
+    compare_refused_contexts(ours)
+    compare_memory_askew(ours)
+    compare_large_numbers(comparison)
+    compare_long_password(ours, theirs)
     compare_long_sizes(comparison)
     for _ in range(TURNS):
         compare(draw, comparison)

@@ -3,6 +3,7 @@
  * step is met by another thread. */
 #define _GNU_SOURCE
 #include "check.h"
+#include "heap.h"
 
 #include <pthread.h>
 #include <stdatomic.h>
@@ -18,7 +19,7 @@ struct tried {
 struct tried rattle_alloc(size_t size, size_t align);
 void rattle_dealloc(void *start);
 
-enum { THREADS = 6, TURNS = 150, SIZE = 64 * 1024, KEPT = 32 * 1024 * 1024 };
+enum { THREADS = 8, TURNS = 150, SIZE = 64 * 1024, AREA = 16 * 1024 * 1024, KEPT = 4 * AREA };
 
 static _Atomic(size_t) mapped;
 
@@ -37,6 +38,15 @@ int __wrap_munmap(void *start, size_t size) {
     return __real_munmap(start, size);
 }
 
+/* Gives areas back while others take them: each once. */
+static void *give_back(void *unused) {
+    for (int turn = 0; turn < TURNS; turn++) {
+        size_t size = unmap_kept_areas();
+        CHECK(size % AREA == 0 && size <= KEPT);
+    }
+    return unused;
+}
+
 static void *work(void *number) {
     int byte = *(const int *)number;
     for (int turn = 0; turn < TURNS; turn++) {
@@ -52,14 +62,17 @@ static void *work(void *number) {
 }
 
 int main(void) {
-    pthread_t threads[THREADS];
+    pthread_t threads[THREADS], giver;
     int numbers[THREADS];
     for (int i = 0; i < THREADS; i++) {
         numbers[i] = i + 1;
         CHECK(pthread_create(&threads[i], NULL, work, &numbers[i]) == 0);
     }
+    CHECK(pthread_create(&giver, NULL, give_back, NULL) == 0);
     for (int i = 0; i < THREADS; i++)
         CHECK(pthread_join(threads[i], NULL) == 0);
+    CHECK(pthread_join(giver, NULL) == 0);
     CHECK(mapped <= KEPT);
+    CHECK(unmap_kept_areas() <= KEPT && mapped == 0);
     return 0;
 }

@@ -32,6 +32,9 @@ int argon2id_hash_raw(uint32_t t_cost, uint32_t m_cost, uint32_t parallelism, co
 int argon2id_hash_encoded(uint32_t t_cost, uint32_t m_cost, uint32_t parallelism, const void *pwd,
                           size_t pwdlen, const void *salt, size_t saltlen, size_t hashlen,
                           char *encoded, size_t encodedlen);
+int argon2i_hash_encoded(uint32_t t_cost, uint32_t m_cost, uint32_t parallelism, const void *pwd,
+                         size_t pwdlen, const void *salt, size_t saltlen, size_t hashlen,
+                         char *encoded, size_t encodedlen);
 int argon2i_verify(const char *encoded, const void *pwd, size_t pwdlen);
 int argon2id_verify(const char *encoded, const void *pwd, size_t pwdlen);
 

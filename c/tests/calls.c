@@ -1,11 +1,8 @@
 /* Each call of rigzumal.h: the standards' values, records of other programs, and bad input. */
-#define _GNU_SOURCE
 #include "check.h"
 #include "rigzumal.h"
 
-#include <errno.h>
 #include <stdbool.h>
-#include <sys/types.h>
 
 /* RFC 9106, section 5: the inputs of all three, and the tags of 5.1, 5.2 and 5.3. */
 static void test_argon2_vectors(void) {
@@ -269,51 +266,6 @@ static void test_words(void) {
         CHECK(strcmp(rigzumal_word(fault), "unknown") != 0 && rigzumal_strerror(fault)[0] != '\0');
 }
 
-/* The salt is what getrandom gives, piece by piece; where it gives nothing there is no record. */
-static int drawn_size; /* how much getrandom gives at most, or less than 0 */
-static int draws;
-
-ssize_t __real_getrandom(void *to, size_t size, unsigned flags);
-ssize_t __wrap_getrandom(void *to, size_t size, unsigned flags);
-
-ssize_t __wrap_getrandom(void *to, size_t size, unsigned flags) {
-    CHECK(flags == 0);
-    if (drawn_size < 0) {
-        errno = ENOSYS;
-        return -1;
-    }
-    if (++draws == 2) {
-        errno = EINTR;
-        return -1;
-    }
-    size = size < (size_t)drawn_size ? size : (size_t)drawn_size;
-    memset(to, 'a' + draws, size);
-    return (ssize_t)size;
-}
-
-static void test_drawn_salts(void) {
-    static const char costs[] = "$argon2id$v=19$m=8,t=1,p=1";
-    char text[RIGZUMAL_TEXT_SIZE], wanted[RIGZUMAL_TEXT_SIZE];
-    drawn_size = 5;
-    CHECK_NUMBER(rigzumal_record(text, sizeof text, 32, costs, NULL, 16, "password", 8),
-                 RIGZUMAL_OK);
-    CHECK_NUMBER(
-        rigzumal_record(wanted, sizeof wanted, 32, costs, "bbbbbdddddeeeeef", 16, "password", 8),
-        RIGZUMAL_OK);
-    CHECK(strcmp(text, wanted) == 0);
-    drawn_size = -1;
-    memset(text, 0x5a, sizeof text);
-    CHECK_NUMBER(rigzumal_record(text, sizeof text, 32, costs, NULL, 16, "password", 8),
-                 RIGZUMAL_NO_RANDOM);
-    CHECK_NUMBER(rigzumal_record_with_secret(text, sizeof text, 32, costs, NULL, 16, "password", 8,
-                                             "secret", 6),
-                 RIGZUMAL_NO_RANDOM);
-    drawn_size = 0;
-    CHECK_NUMBER(rigzumal_record(text, sizeof text, 32, costs, NULL, 16, "password", 8),
-                 RIGZUMAL_NO_RANDOM);
-    CHECK(is_all(text, 0x5a, sizeof text));
-}
-
 /* A record of which any letter of the tag is another one is of another password, or no record if it
  * is the last and has bits that stand for nothing. */
 static void check_each_letter(char *record, size_t tag_size) {
@@ -541,8 +493,18 @@ static void test_version(void) {
     CHECK(strcmp(rigzumal_version(), RIGZUMAL_LIBRARY_VERSION) == 0);
 }
 
+/* What is kept is given back once, and the next call is as before. */
+static void test_trim(void) {
+    enum { AREA = 16 * 1024 * 1024 };
+    CHECK(rigzumal_trim() >= AREA);
+    for (int turn = 0; turn < 2; turn++) {
+        CHECK(rigzumal_trim() == 0);
+        CHECK_NUMBER(rigzumal_check(records[0], "password", 8), RIGZUMAL_OK);
+        CHECK(rigzumal_trim() == AREA);
+    }
+}
+
 int main(void) {
-    test_drawn_salts();
     test_secrets();
     test_faults_with_secrets();
     test_long_inputs();
@@ -561,5 +523,6 @@ int main(void) {
     test_bad_numbers_of_scrypt();
     test_bad_parts_of_records();
     test_words();
+    test_trim();
     return 0;
 }

@@ -23,7 +23,7 @@ static struct windows {
 static void add_windows(const void *start, size_t size) {
     const unsigned char *from = start;
     for (size_t i = 0; i + WINDOW <= size; i++) {
-        CHECK(windows.count < MOST_WINDOWS);
+        CHECK(windows.count < MOST_WINDOWS && !is_all(from + i, 0, WINDOW));
         windows.at[windows.count++] = from + i;
         windows.is_first[from[i] << 8 | from[i + 1]] = 1;
     }
@@ -43,6 +43,14 @@ static int is_window(const unsigned char *at) {
     return 0;
 }
 
+/* The first place from here on where a window may begin: most memory is zeros, and no window is. */
+static uintptr_t after_zeros(uintptr_t at, uintptr_t end) {
+    while (at % WINDOW == 0 && at + 2 * WINDOW <= end && ((const uint64_t *)at)[0] == 0 &&
+           ((const uint64_t *)at)[1] == 0)
+        at += WINDOW;
+    return at;
+}
+
 static int is_vault(uintptr_t start) {
     return start >= (uintptr_t)vault && start < (uintptr_t)(vault + 1);
 }
@@ -60,7 +68,8 @@ static int found_in_process(const char *name) {
         CHECK(sscanf(line, "%lx-%lx %4s", &start, &end, rights) == 3);
         if (strncmp(rights, "rw", 2) != 0 || is_vault(start) || strstr(line, "[stack]") != NULL)
             continue;
-        for (uintptr_t at = start; at + WINDOW <= end; at++)
+        for (uintptr_t at = after_zeros(start, end); at + WINDOW <= end;
+             at = after_zeros(at + 1, end))
             if (is_window((const unsigned char *)at) && found++ < 3)
                 fprintf(stderr, "%s: at %lx of %s", name, at - start, line);
     }
@@ -123,6 +132,7 @@ static void *make_call(void *unused) {
 }
 
 static int found_after(const struct job *tried) {
+    rigzumal_trim(); /* so that what is kept afterwards is this call's */
     job = tried;
     atomic_store(&is_done, 0);
     atomic_store(&may_end, 0);
@@ -161,9 +171,11 @@ int main(void) {
     add_windows(vault->tag, sizeof vault->tag);
     add_windows(vault->tag_with_secret, sizeof vault->tag_with_secret);
     add_windows(vault->key, sizeof vault->key);
+    add_windows(vault->long_tag, sizeof vault->long_tag);
     add_letters(vault->record);
     add_letters(vault->record_with_secret);
     add_letters(vault->scrypt_record);
+    add_letters(vault->long_string);
     int found = 0;
     for (int i = 0; i < job_count; i++) {
         int here = found_after(&jobs[i]);

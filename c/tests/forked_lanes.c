@@ -60,7 +60,7 @@ static uint8_t end(const void *inputs, const struct argon2_block *last, size_t c
 }
 
 static void *call(void *unused) {
-    struct task task = {{2, 0x13, 4 * LANES * SEGMENT, 1, LANES, 32}, begin, end, NULL};
+    struct task task = {{2, 0x13, 4 * LANES * SEGMENT, 1, LANES, 32}, begin, end, NULL, NULL};
     caller = pthread_self();
     CHECK_NUMBER(work_lanes(&task, LANES), 0);
     return unused;
@@ -105,7 +105,6 @@ static void be_child(void) {
 }
 
 int main(void) {
-    alarm(100);
     for (int turn = 0; turn < TURNS; turn++) {
         pthread_t thread;
         marked = is_forked = 0;

@@ -21,7 +21,7 @@ struct tried rattle_alloc(size_t size, size_t align);
 struct tried rattle_realloc(void *old, size_t kept, size_t size, size_t align);
 void rattle_dealloc(void *start);
 
-enum { KIB = 1024, MIB = 1024 * KIB, BLOCKS = 24, STEPS = 1200, KEPT = 32 * MIB };
+enum { KIB = 1024, MIB = 1024 * KIB, BLOCKS = 24, STEPS = 1200, AREA = 16 * MIB, KEPT = 4 * AREA };
 
 static size_t mapped;
 static bool is_refusing, is_refusing_maps;
@@ -32,6 +32,8 @@ void *__real_mmap(void *at, size_t size, int protection, int flags, int file, of
 void *__wrap_mmap(void *at, size_t size, int protection, int flags, int file, off_t offset);
 int __real_munmap(void *start, size_t size);
 int __wrap_munmap(void *start, size_t size);
+int __real_madvise(void *start, size_t size, int advice);
+int __wrap_madvise(void *start, size_t size, int advice);
 void __real_free(void *start);
 void __wrap_free(void *start);
 
@@ -75,6 +77,19 @@ int __wrap_munmap(void *start, size_t size) {
     mapped -= size;
     CHECK(is_all(start, 0, size < 4096 ? size : 4096));
     return __real_munmap(start, size);
+}
+
+/* What was last advised of each kind, and how often. */
+static struct advised {
+    unsigned char *start;
+    size_t size;
+    int times;
+} advised[128];
+
+int __wrap_madvise(void *start, size_t size, int advice) {
+    CHECK(advice >= 0 && advice < 128);
+    advised[advice] = (struct advised){start, size, advised[advice].times + 1};
+    return __real_madvise(start, size, advice);
 }
 
 static struct block {
@@ -176,20 +191,110 @@ static void try_flags(void) {
     for (size_t i = 0; i < sizeof sizes / sizeof sizes[0]; i++) {
         struct tried tried = rattle_alloc(sizes[i], 8);
         CHECK(tried.ok);
-        char flags[512];
-        read_flags(tried.start, flags, sizeof flags);
-        CHECK(strstr(flags, " dd") != NULL);
-        CHECK(strstr(flags, " wf") != NULL);
-        CHECK(strstr(flags, " sh") == NULL);
+        unsigned char *start = tried.start;
+        for (int at_end = 0; at_end < 2; at_end++) {
+            char flags[512];
+            read_flags(at_end ? start + sizes[i] - 1 : start, flags, sizeof flags);
+            CHECK(strstr(flags, " dd") != NULL);
+            CHECK(strstr(flags, " wf") != NULL);
+            CHECK(strstr(flags, " sh") == NULL);
+        }
         rattle_dealloc(tried.start);
     }
 }
 
-/* Memory for those who clear it themselves is zero wherever it is from. Of the three of 16 MiB the
+static bool is_advised(int advice, const unsigned char *start, size_t size) {
+    const struct advised *it = &advised[advice];
+    return it->times == 1 && it->start <= start && start + size <= it->start + it->size;
+}
+
+/* The whole of a new mapping is to have huge pages, once; the system may have the pages of a kept
+ * area; and a block of its own is unmapped. */
+static void try_advice(void) {
+    static const size_t sizes[] = {64 * KIB, 5 * MIB, 16 * MIB, 40 * MIB};
+    for (size_t i = 0; i < sizeof sizes / sizeof sizes[0]; i++) {
+        unmap_kept_areas();
+        CHECK(mapped == 0);
+        memset(advised, 0, sizeof advised);
+        struct tried tried = rattle_alloc(sizes[i], 8);
+        size_t whole = sizes[i] <= AREA ? AREA : sizes[i];
+        CHECK(tried.ok && mapped == whole && (uintptr_t)tried.start % AREA == 0);
+        CHECK(is_advised(MADV_HUGEPAGE, tried.start, whole));
+        CHECK(is_advised(MADV_DONTDUMP, tried.start, whole));
+        CHECK(is_advised(MADV_WIPEONFORK, tried.start, whole));
+        CHECK(advised[MADV_FREE].times == 0);
+        rattle_dealloc(tried.start);
+        CHECK(whole == AREA ? is_advised(MADV_FREE, tried.start, AREA) && mapped == AREA
+                            : advised[MADV_FREE].times == 0 && mapped == 0);
+    }
+}
+
+/* The fewest and the most that can be kept are given back, each once; what is in use stays. */
+static void try_giving_back(void) {
+    unsigned char *taken[6];
+    unmap_kept_areas();
+    CHECK(mapped == 0 && unmap_kept_areas() == 0);
+    for (int held = 0; held <= 6; held++) {
+        for (int i = 0; i < held; i++) {
+            taken[i] = rattle_alloc(AREA, 8).start;
+            memset(taken[i], i + 1, AREA);
+        }
+        CHECK(unmap_kept_areas() == 0 && mapped == (size_t)held * AREA);
+        for (int i = 0; i < held; i++) {
+            CHECK(is_all(taken[i], i + 1, AREA));
+            rattle_dealloc(taken[i]);
+        }
+        size_t kept = held < 4 ? (size_t)held * AREA : KEPT;
+        CHECK(mapped == kept);
+        CHECK(unmap_kept_areas() == kept && mapped == 0);
+    }
+}
+
+/* What is kept is given back, whichever of it is taken meanwhile. */
+static void try_giving_some_back(void) {
+    unsigned char *taken[4];
+    for (int held = 1; held <= 4; held++) {
+        for (int i = 0; i < 4; i++)
+            taken[i] = rattle_alloc(AREA, 8).start;
+        for (int i = 0; i < 4; i++)
+            rattle_dealloc(taken[i]);
+        for (int i = 0; i < held; i++)
+            taken[i] = rattle_alloc(AREA, 8).start;
+        CHECK(unmap_kept_areas() == (size_t)(4 - held) * AREA);
+        CHECK(mapped == (size_t)held * AREA);
+        for (int i = 0; i < held; i++)
+            rattle_dealloc(taken[i]);
+        CHECK(unmap_kept_areas() == (size_t)held * AREA && mapped == 0);
+    }
+}
+
+/* As many areas as are kept are taken again, with no mapping. */
+static void try_kept_areas(void) {
+    unsigned char *first[4], *second[4];
+    for (int i = 0; i < 4; i++)
+        first[i] = rattle_alloc(AREA, 8).start;
+    for (int i = 0; i < 4; i++)
+        rattle_dealloc(first[i]);
+    is_refusing_maps = true;
+    for (int i = 0; i < 4; i++) {
+        second[i] = take_zeros(AREA);
+        CHECK((uintptr_t)second[i] % AREA == 0 && is_all(second[i], 0, AREA));
+        bool is_known = false;
+        for (int j = 0; j < 4; j++)
+            is_known |= second[i] == first[j];
+        CHECK(is_known);
+    }
+    is_refusing_maps = false;
+    for (int i = 0; i < 4; i++)
+        give_zeros(second[i]);
+    CHECK(mapped == KEPT);
+}
+
+/* Memory for those who clear it themselves is zero wherever it is from. Of the four of 16 MiB the
  * last has no area. */
 static void try_zeros(void) {
     static const size_t sizes[] = {1024,     48 * KIB, 64 * KIB, 5 * MIB, 16 * MIB,
-                                   16 * MIB, 16 * MIB, 1024,     40 * MIB};
+                                   16 * MIB, 16 * MIB, 16 * MIB, 1024,    40 * MIB};
     enum { SIZES = sizeof sizes / sizeof sizes[0] };
     unsigned char *taken[SIZES];
     for (int i = 0; i < SIZES; i++) {
@@ -235,6 +340,10 @@ int main(void) {
     try_changed_sizes();
     try_flags();
     try_zeros();
+    try_advice();
+    try_giving_back();
+    try_giving_some_back();
+    try_kept_areas();
     CHECK(mapped == KEPT && count == 0);
     pthread_t thread;
     CHECK(pthread_create(&thread, NULL, refused, NULL) == 0);

@@ -241,6 +241,46 @@ static int libargon2_bad_verify(struct vault *vault) {
     return argon2id_verify(vault->bad_record, vault->password, PASSWORD);
 }
 
+/* What no record of rigzumal.h holds. */
+static int libargon2_long_raw(struct vault *vault) {
+    return argon2id_hash_raw(1, 64, 2, vault->password, PASSWORD, salt, sizeof salt, vault->made,
+                             LONG_TAG);
+}
+
+static int libargon2_long_encoded(struct vault *vault) {
+    return argon2id_hash_encoded(1, 64, 2, vault->password, PASSWORD, salt, sizeof salt, LONG_TAG,
+                                 vault->text, ENCODED);
+}
+
+static int libargon2_long_verify(struct vault *vault) {
+    return argon2id_verify(vault->long_string, vault->password, PASSWORD);
+}
+
+static int libargon2_wrong_long_verify(struct vault *vault) {
+    return argon2id_verify(vault->long_string, vault->password, PASSWORD - 1);
+}
+
+static struct vault *of_memory;
+
+static int allocate(uint8_t **memory, size_t size) {
+    *memory = size == sizeof of_memory->memory ? of_memory->memory : NULL;
+    return 0;
+}
+
+/* What isn't cleared by then counts as a trace. */
+static void give(uint8_t *memory, size_t size) {
+    (void)memory, (void)size;
+}
+
+static int libargon2_ctx_with_memory(struct vault *vault) {
+    argon2_context context = context_of(vault);
+    context.allocate_cbk = allocate;
+    context.free_cbk = give;
+    of_memory = vault;
+    int answer = argon2_ctx(&context, ARGON2_TYPE_ID);
+    return answer == ARGON2_OK && !is_all(vault->memory, 0, sizeof vault->memory) ? -1 : answer;
+}
+
 const struct job jobs[] = {
     {"rigzumal_argon2, small", small_tag, RIGZUMAL_OK},
     {"rigzumal_argon2 in areas", tag_of_areas, RIGZUMAL_OK},
@@ -284,6 +324,12 @@ const struct job jobs[] = {
     {"argon2id_hash_encoded without room", libargon2_encoded_without_room, -31},
     {"argon2id_verify", libargon2_verify, ARGON2_OK},
     {"argon2id_verify of another password", libargon2_wrong_verify, ARGON2_VERIFY_MISMATCH},
+    {"argon2id_hash_raw of a long tag", libargon2_long_raw, ARGON2_OK},
+    {"argon2id_hash_encoded of a long tag", libargon2_long_encoded, ARGON2_OK},
+    {"argon2id_verify of a long tag", libargon2_long_verify, ARGON2_OK},
+    {"argon2id_verify of a long tag and another password", libargon2_wrong_long_verify,
+     ARGON2_VERIFY_MISMATCH},
+    {"argon2_ctx with its own memory", libargon2_ctx_with_memory, ARGON2_OK},
     {"argon2id_verify of a bad string", libargon2_bad_verify, ARGON2_DECODING_FAIL},
 };
 
@@ -297,6 +343,10 @@ void fill_vault(struct vault *vault) {
     CHECK_NUMBER(argon2_into(vault->tag, vault, 64, 0), RIGZUMAL_OK);
     CHECK_NUMBER(argon2_into(vault->tag_with_secret, vault, 64, SECRET), RIGZUMAL_OK);
     CHECK_NUMBER(key_into(vault->key, vault, 4), RIGZUMAL_OK);
+    CHECK_NUMBER(libargon2_long_raw(vault), ARGON2_OK);
+    memcpy(vault->long_tag, vault->made, LONG_TAG);
+    CHECK_NUMBER(libargon2_long_encoded(vault), ARGON2_OK);
+    memcpy(vault->long_string, vault->text, ENCODED);
     CHECK_NUMBER(new_record_with_secret(vault), RIGZUMAL_OK);
     memcpy(vault->record_with_secret, vault->text, sizeof vault->text);
     CHECK_NUMBER(new_scrypt_record(vault), RIGZUMAL_OK);

@@ -6,17 +6,19 @@
 
 #include <stddef.h>
 
-enum { TAG = 40, KEY = 48, ENCODED = 200 };
+enum { TAG = 40, KEY = 48, ENCODED = 200, LONG_TAG = 80 };
 
 /* All secrets, and all that is written: nothing of it may stand elsewhere after a call. */
 struct vault {
     unsigned char password[48], secret[40];
-    unsigned char tag[TAG], tag_with_secret[TAG], key[KEY];
+    unsigned char tag[TAG], tag_with_secret[TAG], key[KEY], long_tag[LONG_TAG];
+    char long_string[ENCODED]; /* of argon2.h, with the long tag */
     char record[RIGZUMAL_TEXT_SIZE], bad_record[RIGZUMAL_TEXT_SIZE];
     char record_with_secret[RIGZUMAL_TEXT_SIZE], scrypt_record[RIGZUMAL_TEXT_SIZE];
     char setting[RIGZUMAL_TEXT_SIZE]; /* with the tag where a salt ought to be */
     char text[RIGZUMAL_TEXT_SIZE];
-    unsigned char made[64];
+    unsigned char made[LONG_TAG];
+    _Alignas(64) unsigned char memory[64 * 1024]; /* for a context */
 };
 
 struct job {

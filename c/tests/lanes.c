@@ -1,6 +1,6 @@
 /* src/lanes.c over stand-ins for the exports and for the heap, which rest at random and look at
  * what they are given, when, how often and on which thread, as src/parts.h has it; with threads
- * refused at random, and answers that aren't 0. */
+ * refused at random, answers that aren't 0, and memory of the caller's. */
 #define _GNU_SOURCE
 #include "lanes.h"
 #include "check.h"
@@ -12,13 +12,15 @@
 #include <sched.h>
 #include <signal.h>
 #include <stdatomic.h>
+#include <sys/wait.h>
 #include <unistd.h>
 
 enum {
     LEAST_STACK = 512 * 1024,
     SLICES = 4,
     MOST_LANES = 255,
-    MOST_SEGMENTS = SLICES * MOST_LANES,
+    MANY_PASSES = 300,
+    MOST_SEGMENTS = SLICES * MANY_PASSES * 2,
     STAMPS = 2,
     PLACE = 27
 };
@@ -29,8 +31,10 @@ static struct {
     size_t segment, slice; /* in blocks */
     pthread_t caller;
     struct argon2_block *taken[SLICES];
+    struct argon2_block *callers; /* the caller's memory, or null */
+    sigset_t signals;             /* what the caller's thread blocks */
     int begin_answer, end_answer, refused_slice;
-    uint64_t bad_segment;
+    uint64_t bad_segment, last_segment;
     _Atomic(int) takes, gives, begins, ends, starts, joins, alive;
     _Atomic(int) begun[MOST_SEGMENTS], over[MOST_SEGMENTS];
     _Atomic(int) segments_over, has_fault;
@@ -65,6 +69,18 @@ static int is_caller(void) {
     return pthread_equal(pthread_self(), now.caller);
 }
 
+/* Every signal that a program may block; the C library keeps two of its own. */
+static int is_signal(int number) {
+    return number != SIGKILL && number != SIGSTOP && (number < 32 || number >= SIGRTMIN);
+}
+
+static int are_same_signals(const sigset_t *one, const sigset_t *other) {
+    for (int number = 1; number <= SIGRTMAX; number++)
+        if (is_signal(number) && sigismember(one, number) != sigismember(other, number))
+            return 0;
+    return 1;
+}
+
 /* Whether each block of a row has this stamp. */
 static int are_stamped(const struct argon2_block *blocks, size_t count, uint64_t stamp) {
     for (size_t i = 0; i < count; i++)
@@ -84,7 +100,7 @@ static uint64_t stamp_of(int64_t g) {
 }
 
 void *take_zeros(size_t size) {
-    CHECK(is_caller() && seen(&now.begins) == 0);
+    CHECK(is_caller() && seen(&now.begins) == 0 && now.callers == NULL);
     CHECK(size == now.slice * sizeof(struct argon2_block));
     int number = now.takes;
     CHECK(number < SLICES);
@@ -105,7 +121,8 @@ void give_zeros(void *start) {
 
 static uint8_t begin(const void *inputs, struct argon2_block *first, size_t blocks) {
     CHECK(inputs == &now && is_caller() && count(&now.begins) == 0 && now.starts == 0);
-    CHECK(now.takes == SLICES && first == now.taken[0] && blocks == now.slice);
+    CHECK(now.takes == (now.callers == NULL ? SLICES : 0));
+    CHECK(first == now.taken[0] && blocks == now.slice);
     CHECK(are_stamped(first, blocks, 0));
     if (now.begin_answer == 0)
         stamp(first, blocks, stamp_of(-SLICES));
@@ -159,11 +176,16 @@ static uint8_t segment(const struct tag_numbers *numbers, const struct segment_i
         int state;
         pthread_setcancelstate(PTHREAD_CANCEL_DISABLE, &state);
         CHECK(state == PTHREAD_CANCEL_DISABLE);
+        sigset_t blocked;
+        pthread_sigmask(SIG_SETMASK, NULL, &blocked);
+        CHECK(are_same_signals(&blocked, &now.signals));
     } else
         leave_marks();
     rest();
     CHECK(are_stamped(own, own_count, stamp_of(g - SLICES)));
     check_earlier(g, oldest, middle, newest);
+    if (number == now.last_segment)
+        _exit(0);
     if (number == now.bad_segment) {
         count(&now.has_fault);
         return PLACE;
@@ -227,8 +249,8 @@ static void *run_counted(void *given) {
     struct start *start = given;
     sigset_t blocked;
     pthread_sigmask(SIG_SETMASK, NULL, &blocked);
-    for (int number = 1; number < 32; number++)
-        CHECK(number == SIGKILL || number == SIGSTOP || sigismember(&blocked, number));
+    for (int number = 1; number <= SIGRTMAX; number++)
+        CHECK(!is_signal(number) || sigismember(&blocked, number));
     void *result = start->run(start->given);
     usleep(200);
     now.alive--;
@@ -265,6 +287,23 @@ int __wrap_sched_getaffinity(pid_t process, size_t size, cpu_set_t *set) {
     return 0;
 }
 
+long __real_sysconf(int name);
+long __wrap_sysconf(int name);
+
+static long online = 5;
+
+long __wrap_sysconf(int name) {
+    return name == _SC_NPROCESSORS_ONLN ? online : __real_sysconf(name);
+}
+
+/* Gives the turn memory of its caller, for all slices. */
+static void give_memory(void) {
+    now.callers = calloc(SLICES * now.slice, sizeof(struct argon2_block));
+    CHECK(now.callers != NULL);
+    for (size_t i = 0; i < SLICES; i++)
+        now.taken[i] = now.callers + i * now.slice;
+}
+
 static void begin_turn(void) {
     memset((void *)&now, 0, sizeof now);
     uint32_t lanes = 1 + random_below(9);
@@ -273,26 +312,32 @@ static void begin_turn(void) {
     now.slice = now.segment * lanes;
     now.caller = pthread_self();
     now.refused_slice = -1;
-    now.bad_segment = UINT64_MAX;
+    now.bad_segment = now.last_segment = UINT64_MAX;
     refusals = random_below(3) == 0 ? random_below(5) : 0;
 }
 
 /* What a turn answers, if everything that it is to do is done. */
 static void try_threads(uint32_t threads, int wanted) {
-    sigset_t before, after;
+    sigset_t after;
     int state;
-    struct task task = {now.numbers, begin, end, &now};
-    pthread_sigmask(SIG_SETMASK, NULL, &before);
+    size_t size = 0;
+    struct task task = {now.numbers, begin, end, &now, now.callers};
+    CHECK_NUMBER(size_of_slices(&now.numbers, &size), wanted == RIGZUMAL_NO_KIND ? wanted : 0);
+    CHECK(size == (wanted == RIGZUMAL_NO_KIND ? 0 : SLICES * now.slice * sizeof *now.callers));
+    pthread_sigmask(SIG_SETMASK, NULL, &now.signals);
     CHECK_NUMBER(work_lanes(&task, threads), wanted);
     pthread_sigmask(SIG_SETMASK, NULL, &after);
-    for (int number = 1; number < 32; number++)
-        CHECK(sigismember(&before, number) == sigismember(&after, number));
+    CHECK(are_same_signals(&now.signals, &after));
     pthread_setcancelstate(PTHREAD_CANCEL_ENABLE, &state);
     CHECK(state == PTHREAD_CANCEL_ENABLE);
     CHECK(now.alive == 0 && now.joins == now.starts && now.starts < (int)threads);
     CHECK(refusals > 0 || now.begins == 0 || now.begin_answer != 0 ||
           now.starts == (int)threads - 1);
     CHECK(now.gives == now.takes);
+    if (now.callers != NULL) {
+        CHECK(now.takes == 0 && is_all(now.callers, 0, size));
+        free(now.callers);
+    }
 }
 
 static void try_turn(int wanted) {
@@ -302,6 +347,8 @@ static void try_turn(int wanted) {
 static void test_order(int turns) {
     for (int turn = 0; turn < turns; turn++) {
         begin_turn();
+        if (random_below(4) == 0)
+            give_memory();
         try_turn(RIGZUMAL_OK);
         CHECK(now.begins == 1 && now.ends == 1);
         CHECK((uint64_t)now.segments_over ==
@@ -319,6 +366,49 @@ static void test_most_threads(void) {
     CHECK(now.ends == 1 && now.starts == MOST_LANES - 1);
 }
 
+/* More passes than eight bits count. */
+static void test_many_passes(void) {
+    begin_turn();
+    refusals = 0;
+    now.numbers.lanes = 2;
+    now.numbers.passes = MANY_PASSES;
+    now.segment = 2;
+    now.slice = now.segment * now.numbers.lanes;
+    try_threads(2, RIGZUMAL_OK);
+    CHECK(now.ends == 1 && now.segments_over == SLICES * MANY_PASSES * 2);
+}
+
+/* More segments than 32 bits count: in a child, which ends well when it works a late one. */
+static void test_many_segments(void) {
+    pid_t child = fork();
+    if (child == 0) {
+        begin_turn();
+        now.numbers.lanes = 4;
+        now.numbers.passes = 1u << 28;
+        now.segment = 2;
+        now.slice = now.segment * now.numbers.lanes;
+        now.last_segment = 100;
+        struct task task = {now.numbers, begin, end, &now, NULL};
+        pthread_sigmask(SIG_SETMASK, NULL, &now.signals);
+        work_lanes(&task, 1);
+        _exit(1);
+    }
+    int status;
+    CHECK(child > 0 && waitpid(child, &status, 0) == child);
+    CHECK(WIFEXITED(status) && WEXITSTATUS(status) == 0);
+}
+
+/* Signals that the caller blocks stay blocked, and the others stay open. */
+static void test_blocked_signals(void) {
+    sigset_t some, before;
+    sigemptyset(&some);
+    sigaddset(&some, SIGUSR2);
+    sigaddset(&some, SIGRTMIN + 3);
+    pthread_sigmask(SIG_SETMASK, &some, &before);
+    test_order(5);
+    pthread_sigmask(SIG_SETMASK, &before, NULL);
+}
+
 /* In a program whose threads have small stacks. */
 static void test_small_stacks(void) {
     pthread_attr_t attributes;
@@ -334,6 +424,8 @@ static void test_small_stacks(void) {
 static void test_faults(int turns) {
     for (int turn = 0; turn < turns; turn++) {
         begin_turn();
+        if (turn % 2 == 0)
+            give_memory();
         uint32_t segments = SLICES * now.numbers.passes * now.numbers.lanes;
         now.bad_segment = random_below(segments);
         try_turn(PLACE);
@@ -345,6 +437,8 @@ static void test_faults(int turns) {
         now.end_answer = RIGZUMAL_MEMORY;
         try_turn(RIGZUMAL_MEMORY);
         begin_turn();
+        if (turn % 2 == 1)
+            give_memory();
         now.begin_answer = RIGZUMAL_INPUT_SIZE;
         try_turn(RIGZUMAL_INPUT_SIZE);
         CHECK(now.begun[0] == 0 && now.ends == 0);
@@ -376,19 +470,23 @@ static void test_useful_threads(void) {
     CHECK(threads_for(UINT32_MAX, UINT32_MAX, UINT32_MAX) == 255);
     processors = 1;
     CHECK(threads_for(4, ENOUGH, 4) == 1);
-    processors = 0; /* the system doesn't say */
-    CHECK(threads_for(4, ENOUGH, 4) >= 1);
+    processors = 0; /* the system doesn't say which */
+    CHECK(threads_for(9, ENOUGH, 9) == 5 && threads_for(4, ENOUGH, 4) == 4);
+    online = -1;
+    CHECK(threads_for(9, ENOUGH, 9) == 1);
     processors = 16;
 }
 
 /* Words: how many turns, and whether marks are looked for, which no sanitizer allows. */
 int main(int given, char **words) {
     CHECK(given >= 2);
-    alarm(100);
     int turns = atoi(words[1]);
     test_useful_threads();
     test_order(turns);
     test_most_threads();
+    test_many_passes();
+    test_many_segments();
+    test_blocked_signals();
     test_small_stacks();
     test_faults(turns / 5);
     if (given > 2)

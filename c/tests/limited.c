@@ -5,6 +5,7 @@
 #include "check.h"
 #include "rigzumal.h"
 
+#include <sys/mman.h>
 #include <sys/resource.h>
 #include <sys/wait.h>
 #include <unistd.h>
@@ -14,8 +15,12 @@ enum { COST = 65536, MIB = 1024 * 1024, RIGHT = 0, REFUSED = 3 };
 static const char record[] =
     "$argon2id$v=19$m=65536,t=2,p=1$c29tZXNhbHQ$CTFhFdXPJO1aFaMaO6Mm5c8y7cJHAph8ArZWb2GRPPc";
 
-static unsigned char wanted_tag[32];
-static char wanted_text[200];
+/* What a child makes that may map what it likes, for all the others: the first process makes no
+ * call, so that it keeps no memory for them. */
+static struct wanted {
+    unsigned char tag[32];
+    char text[200];
+} * wanted;
 
 static void try_tag(size_t *refused) {
     unsigned char tag[32] = {0};
@@ -24,7 +29,7 @@ static void try_tag(size_t *refused) {
         rigzumal_argon2(tag, sizeof tag, &numbers, "password", 8, "somesalt", 8, NULL, 0, NULL, 0);
     CHECK(answer == RIGZUMAL_OK || answer == RIGZUMAL_MEMORY);
     if (answer == RIGZUMAL_OK)
-        CHECK(memcmp(tag, wanted_tag, sizeof tag) == 0);
+        CHECK(memcmp(tag, wanted->tag, sizeof tag) == 0);
     else
         CHECK(is_all(tag, 0, sizeof tag));
     *refused += answer == RIGZUMAL_MEMORY;
@@ -36,7 +41,7 @@ static void try_hash(size_t *refused) {
                                        sizeof encoded);
     CHECK(answer == ARGON2_OK || answer == ARGON2_MEMORY_ALLOCATION_ERROR);
     if (answer == ARGON2_OK)
-        CHECK(memcmp(encoded, wanted_text, sizeof encoded) == 0);
+        CHECK(memcmp(encoded, wanted->text, sizeof encoded) == 0);
     else
         CHECK(is_all(encoded, 0, sizeof encoded));
     *refused += answer == ARGON2_MEMORY_ALLOCATION_ERROR;
@@ -51,6 +56,30 @@ static void try_checks(size_t *refused) {
     *refused += (wrong == ARGON2_MEMORY_ALLOCATION_ERROR) + (right != ARGON2_OK);
 }
 
+static int status_of_child(pid_t child) {
+    int status;
+    CHECK(child > 0 && waitpid(child, &status, 0) == child && WIFEXITED(status));
+    return WEXITSTATUS(status);
+}
+
+static void make_wanted(void) {
+    wanted = mmap(NULL, sizeof *wanted, PROT_READ | PROT_WRITE, MAP_SHARED | MAP_ANONYMOUS, -1, 0);
+    CHECK(wanted != MAP_FAILED);
+    pid_t child = fork();
+    if (child == 0) {
+        struct rigzumal_argon2 numbers = {RIGZUMAL_ARGON2ID, RIGZUMAL_VERSION_13, COST, 1, 1};
+        CHECK_NUMBER(rigzumal_argon2(wanted->tag, sizeof wanted->tag, &numbers, "password", 8,
+                                     "somesalt", 8, NULL, 0, NULL, 0),
+                     RIGZUMAL_OK);
+        CHECK_NUMBER(argon2id_hash_encoded(1, COST, 1, "password", 8, "somesalt", 8, 32,
+                                           wanted->text, sizeof wanted->text),
+                     ARGON2_OK);
+        CHECK_NUMBER(argon2id_verify(record, "password", 8), ARGON2_OK);
+        _exit(RIGHT);
+    }
+    CHECK_NUMBER(status_of_child(child), RIGHT);
+}
+
 /* The calls in a child that may map so much. */
 static int status_of(rlim_t limit) {
     pid_t child = fork();
@@ -63,20 +92,11 @@ static int status_of(rlim_t limit) {
         try_checks(&refused);
         _exit(refused == 0 ? RIGHT : REFUSED);
     }
-    int status;
-    CHECK(child > 0 && waitpid(child, &status, 0) == child && WIFEXITED(status));
-    return WEXITSTATUS(status);
+    return status_of_child(child);
 }
 
 int main(void) {
-    struct rigzumal_argon2 numbers = {RIGZUMAL_ARGON2ID, RIGZUMAL_VERSION_13, COST, 1, 1};
-    CHECK_NUMBER(rigzumal_argon2(wanted_tag, sizeof wanted_tag, &numbers, "password", 8, "somesalt",
-                                 8, NULL, 0, NULL, 0),
-                 RIGZUMAL_OK);
-    CHECK_NUMBER(argon2id_hash_encoded(1, COST, 1, "password", 8, "somesalt", 8, 32, wanted_text,
-                                       sizeof wanted_text),
-                 ARGON2_OK);
-    CHECK_NUMBER(argon2id_verify(record, "password", 8), ARGON2_OK);
+    make_wanted();
     CHECK_NUMBER(status_of(RLIM_INFINITY), RIGHT);
     CHECK_NUMBER(status_of(48 * MIB), REFUSED);
     for (rlim_t limit = 16 * MIB; limit <= 192 * MIB; limit += 4 * MIB) {

@@ -163,6 +163,60 @@ static int libargon2_ctx(unsigned char *to) {
     return argon2_ctx(&context, ARGON2_TYPE_ID);
 }
 
+/* What the caller wants cleared is cleared when the tag is made, and as it was after a refusal: a
+ * second try is of the same password. Of so many threads, with the context's own memory or not. */
+static int clearing_ctx(unsigned char *to, argon2_context context) {
+    unsigned char password[8] = "password", secret[6] = "secret";
+    context.pwd = password;
+    context.secret = secret;
+    context.secretlen = sizeof secret;
+    context.flags = 1 | 2;
+    int answer = argon2_ctx(&context, ARGON2_TYPE_ID);
+    if (answer == ARGON2_OK) {
+        CHECK(context.pwdlen == 0 && is_all(password, 0, sizeof password));
+        CHECK(context.secretlen == 0 && is_all(secret, 0, sizeof secret));
+    } else {
+        CHECK(context.pwdlen == sizeof password && memcmp(password, "password", 8) == 0);
+        CHECK(context.secretlen == sizeof secret && memcmp(secret, "secret", 6) == 0);
+        CHECK(context.out == to && is_all(to, 0, ROOM));
+    }
+    return answer;
+}
+
+static int libargon2_clearing_ctx(unsigned char *to) {
+    return clearing_ctx(to, context_of(to));
+}
+
+static int libargon2_clearing_ctx_in_threads(unsigned char *to) {
+    argon2_context context = context_of(to);
+    context.lanes = context.threads = 2;
+    return clearing_ctx(to, context);
+}
+
+static int allocated;
+
+static int allocate(uint8_t **memory, size_t size) {
+    CHECK(*memory == NULL);
+    *memory = is_refused() ? NULL : __real_malloc(size);
+    allocated += *memory != NULL;
+    return *memory == NULL;
+}
+
+static void give(uint8_t *memory, size_t size) {
+    CHECK(is_all(memory, 0, size));
+    allocated--;
+    free(memory);
+}
+
+static int libargon2_ctx_with_memory(unsigned char *to) {
+    argon2_context context = context_of(to);
+    context.allocate_cbk = allocate;
+    context.free_cbk = give;
+    int answer = clearing_ctx(to, context);
+    CHECK(allocated == 0);
+    return answer;
+}
+
 static int libargon2_verify_ctx(unsigned char *to) {
     argon2_context context = context_of(to);
     return argon2id_verify_ctx(&context, "another tag, which has 32 bytes ");
@@ -180,6 +234,20 @@ static int libargon2_verify(unsigned char *to) {
     (void)to;
     return argon2id_verify(
         "$argon2id$v=19$m=256,t=2,p=1$c29tZXNhbHQ$nf65EOgLrQMR/uIPnA4rEsF5h7TKyQwu9U1bMCHGi/4",
+        "another", 7);
+}
+
+/* A tag of 66 bytes, which no record of rigzumal.h holds. */
+static int libargon2_long_encoded(unsigned char *to) {
+    return argon2id_hash_encoded(1, 64, 1, "password", 8, "somesalt", 8, 66, (char *)to, 200);
+}
+
+static int libargon2_long_verify(unsigned char *to) {
+    (void)to;
+    return argon2id_verify(
+        "$argon2id$v=19$m=256,t=2,p=1$c29tZXNhbHQ$"
+        "AAAAAAAAAAAAAAAAAAAAAAAAAAAAAAAAAAAAAAAAAAAAAAAAAAAA"
+        "AAAAAAAAAAAAAAAAAAAAAAAAAAAAAAAAAAAA",
         "another", 7);
 }
 
@@ -210,6 +278,16 @@ static const struct trial trials[] = {
     {"a check of scrypt", checked_scrypt_record, RIGZUMAL_MISMATCH, RIGZUMAL_MEMORY, 4},
     {"a check with a secret", checked_with_secret, RIGZUMAL_MISMATCH, RIGZUMAL_MEMORY, 4},
     {"argon2_ctx", libargon2_ctx, ARGON2_OK, ARGON2_MEMORY_ALLOCATION_ERROR, 5},
+    {"argon2_ctx that clears", libargon2_clearing_ctx, ARGON2_OK, ARGON2_MEMORY_ALLOCATION_ERROR,
+     5},
+    {"argon2_ctx that clears, in threads", libargon2_clearing_ctx_in_threads, ARGON2_OK,
+     ARGON2_MEMORY_ALLOCATION_ERROR, 3},
+    {"argon2_ctx with its own memory", libargon2_ctx_with_memory, ARGON2_OK,
+     ARGON2_MEMORY_ALLOCATION_ERROR, 2},
+    {"argon2id_hash_encoded of a long tag", libargon2_long_encoded, ARGON2_OK,
+     ARGON2_MEMORY_ALLOCATION_ERROR, 6},
+    {"argon2id_verify of a long tag", libargon2_long_verify, ARGON2_VERIFY_MISMATCH,
+     ARGON2_MEMORY_ALLOCATION_ERROR, 6},
     {"argon2id_verify_ctx", libargon2_verify_ctx, ARGON2_VERIFY_MISMATCH,
      ARGON2_MEMORY_ALLOCATION_ERROR, 5},
     {"argon2id_hash_raw", libargon2_raw, ARGON2_OK, ARGON2_MEMORY_ALLOCATION_ERROR, 6},
@@ -222,6 +300,7 @@ static const struct trial trials[] = {
  * Answers whether one was refused. */
 static int try_refusal(const struct trial *trial, const unsigned char *wanted, long before) {
     unsigned char written[ROOM] = {0};
+    rigzumal_trim(); /* each area is asked for anew */
     granted = before;
     refused = 0;
     int number = trial->call(written);

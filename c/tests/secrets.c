@@ -1,5 +1,6 @@
 /* No conditional jump and no address depends on a secret, to be run under valgrind: its memcheck
- * counts those that do, with the passwords, tags and letters of tags marked as undefined. */
+ * counts those that do, with the passwords, tags and letters of tags marked as undefined. Where a
+ * tag is judged there is one such jump, by the verdict, whichever byte of the tag is wrong. */
 #include "argon2.h"
 #include "check.h"
 #include "rigzumal.h"
@@ -68,12 +69,50 @@ static int check(void) {
     return rigzumal_check(record, password, PASSWORD);
 }
 
+static const char dearer[] = "$argon2i$v=19$m=64,t=2,p=2$c2l4dGVlbiBvZiBzYWx0Lg";
+
+/* What a step replies, as the answer of a check; the new password is the secret. */
+static int step(enum rigzumal_operation operation, const char *copy, uint32_t right,
+                uint32_t wrong) {
+    char text[RIGZUMAL_TEXT_SIZE];
+    uint32_t reply = 0;
+    int fault = rigzumal_step(text, sizeof text, &reply, operation, copy, password, PASSWORD,
+                              secret, SECRET, dearer);
+    show(&fault, sizeof fault);
+    show(&reply, sizeof reply);
+    if (fault == RIGZUMAL_OK)
+        fault = reply == right ? RIGZUMAL_OK : reply == wrong ? RIGZUMAL_MISMATCH : -1;
+    return fault;
+}
+
+static int enrol(void) {
+    return step(RIGZUMAL_ENROL, NULL, RIGZUMAL_REPLY_ENROLLED, 0);
+}
+
+static int verify(void) {
+    return step(RIGZUMAL_VERIFY, record, RIGZUMAL_REPLY_YES, RIGZUMAL_REPLY_NO);
+}
+
+static int change(void) {
+    return step(RIGZUMAL_CHANGE, record, RIGZUMAL_REPLY_REPLACED, RIGZUMAL_REPLY_WRONG);
+}
+
+static int upgrade(void) {
+    return step(RIGZUMAL_UPGRADE, record, RIGZUMAL_REPLY_UPGRADED, RIGZUMAL_REPLY_WRONG);
+}
+
+static int removal(void) {
+    return step(RIGZUMAL_REMOVE, record, RIGZUMAL_REPLY_REMOVED, RIGZUMAL_REPLY_WRONG);
+}
+
 static int check_with_secret(void) {
     return rigzumal_check_with_secret(record, password, PASSWORD, secret, SECRET);
 }
 
 static int libargon2_check(void) {
-    return argon2i_verify(record, password, PASSWORD);
+    int number = argon2i_verify(record, password, PASSWORD);
+    show(&number, sizeof number);
+    return number == ARGON2_VERIFY_MISMATCH ? RIGZUMAL_MISMATCH : number;
 }
 
 static int argon2i_in_threads(void) {
@@ -91,6 +130,12 @@ static int check_in_threads(void) {
     return rigzumal_check_threads(record, password, PASSWORD, 2);
 }
 
+/* A string that is no record, since its tag is too long for one. */
+static int libargon2_long_check(void) {
+    return argon2i_verify(record, password, PASSWORD) == ARGON2_OK ? RIGZUMAL_OK
+                                                                   : RIGZUMAL_MISMATCH;
+}
+
 static int record_fault(void) {
     return rigzumal_record_fault(record);
 }
@@ -103,7 +148,8 @@ static int hidden_record_fault(void) {
     return record_fault();
 }
 
-static const struct {
+/* Calls that judge no tag. */
+static const struct call {
     const char *name;
     int (*call)(void);
 } calls[] = {
@@ -113,35 +159,102 @@ static const struct {
     {"scrypt", scrypt},
     {"written", written},
     {"new_record", new_record},
-    {"check", check},
-    {"libargon2_check", libargon2_check},
     {"new_record_with_secret", new_record_with_secret},
-    {"check_with_secret", check_with_secret},
     {"argon2i_in_threads", argon2i_in_threads},
     {"new_record_in_threads", new_record_in_threads},
-    {"check_in_threads", check_in_threads},
+    {"enrol", enrol},
     {"hidden_record_fault", hidden_record_fault},
 };
+
+/* Calls that judge the record's tag. */
+static const struct call judgements[] = {
+    {"check", check},
+    {"check_with_secret", check_with_secret},
+    {"check_in_threads", check_in_threads},
+    {"libargon2_check", libargon2_check},
+    {"libargon2_long_check", libargon2_long_check},
+    {"verify", verify},
+    {"change", change},
+    {"upgrade", upgrade},
+    {"removal", removal},
+};
+
+enum { CALLS = sizeof calls / sizeof calls[0] };
+enum { JUDGEMENTS = sizeof judgements / sizeof judgements[0] };
 
 /* Makes the record that a check reads, before the secrets are hidden. */
 static void make_record(const char *name) {
     if (strcmp(name, "check_with_secret") == 0)
         CHECK_NUMBER(new_record_with_secret(), RIGZUMAL_OK);
+    else if (strcmp(name, "libargon2_long_check") == 0)
+        CHECK_NUMBER(argon2i_hash_encoded(2, 48, 2, password, PASSWORD, salt, sizeof salt, 80,
+                                          record, sizeof record),
+                     ARGON2_OK);
     else
         CHECK_NUMBER(new_record(), RIGZUMAL_OK);
+}
+
+/* A comparison that stops at the first wrong byte, by which the count itself is tried. */
+static int leaking_check(void) {
+    int is_same = 1;
+    for (size_t i = 0; i < PASSWORD && is_same; i++)
+        is_same = password[i] == (unsigned char)record[i];
+    return is_same ? RIGZUMAL_OK : RIGZUMAL_MISMATCH;
+}
+
+/* Which byte of the record's tag is wrong. */
+enum damage { NO_BYTE, FIRST_BYTE, LAST_BYTE, DAMAGES };
+
+static void do_damage(enum damage damage) {
+    char *first = strrchr(record, '$') + 1, *last = record + strlen(record) - 1;
+    if (damage == FIRST_BYTE)
+        *first = *first == 'A' ? 'E' : 'A';
+    if (damage == LAST_BYTE) /* of two letters more than a multiple of four: its last bits are 0 */
+        *last = *last == 'A' ? 'E' : 'A';
+}
+
+/* How many jumps and addresses depend on secrets in a call that answers so. */
+static unsigned leaks_of(int (*call)(void), int wanted) {
+    hide(password, PASSWORD);
+    hide(secret, SECRET);
+    hide(tag, TAG);
+    unsigned before = VALGRIND_COUNT_ERRORS;
+    int answer = shown(call());
+    unsigned leaks = VALGRIND_COUNT_ERRORS - before;
+    show(password, PASSWORD);
+    show(secret, SECRET);
+    CHECK_NUMBER(answer, wanted);
+    return leaks;
+}
+
+static void try_judgement(const struct call *it) {
+    for (enum damage damage = NO_BYTE; damage < DAMAGES; damage++) {
+        make_record(it->name);
+        do_damage(damage);
+        CHECK(leaks_of(it->call, damage == NO_BYTE ? RIGZUMAL_OK : RIGZUMAL_MISMATCH) <= 1);
+    }
+}
+
+static void try_count(void) {
+    memcpy(record, password, PASSWORD);
+    CHECK(leaks_of(leaking_check, RIGZUMAL_OK) > 1);
 }
 
 /* Makes the one call that is named. */
 int main(int count, char **words) {
     CHECK(count == 2 && RUNNING_ON_VALGRIND);
-    make_record(words[1]);
-    for (size_t i = 0; i < sizeof calls / sizeof calls[0]; i++)
+    for (size_t i = 0; i < CALLS; i++)
         if (strcmp(words[1], calls[i].name) == 0) {
-            hide(password, PASSWORD);
-            hide(secret, SECRET);
-            hide(tag, TAG);
-            CHECK_NUMBER(shown(calls[i].call()), RIGZUMAL_OK);
+            make_record(words[1]);
+            leaks_of(calls[i].call, RIGZUMAL_OK);
             return 0;
         }
-    return 2;
+    for (size_t i = 0; i < JUDGEMENTS; i++)
+        if (strcmp(words[1], judgements[i].name) == 0) {
+            try_judgement(&judgements[i]);
+            return 0;
+        }
+    CHECK(strcmp(words[1], "leaking_check") == 0);
+    try_count();
+    return 0;
 }

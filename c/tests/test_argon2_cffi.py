@@ -5,6 +5,8 @@ import dataclasses
 import inspect
 import pickle
 import random
+import subprocess
+import sys
 import unittest
 
 import argon2 as theirs
@@ -82,14 +84,26 @@ class Hashers(unittest.TestCase):
                     hashed = maker.hash(password)
                     self.assertIs(reader.verify(hashed, password), True)
                     self.assertIs(reader.check_needs_rehash(hashed), False)
-                    with self.assertRaises((ours.exceptions.VerifyMismatchError, theirs.exceptions.VerifyMismatchError)):
+                    with self.assertRaises(
+                        (ours.exceptions.VerifyMismatchError, theirs.exceptions.VerifyMismatchError)
+                    ):
                         reader.verify(hashed, "another")
 
     def test_answers_are_theirs(self):
         mine, other = ours.PasswordHasher(**COSTS), theirs.PasswordHasher(**COSTS)
-        for given in ("", "$argon2id$", "x" * 20, OLD, OLD[:-1], b"$argon2i$", OLD.replace("2i", "2x")):
+        for given in (
+            "",
+            "$argon2id$",
+            "x" * 20,
+            OLD,
+            OLD[:-1],
+            b"$argon2i$",
+            OLD.replace("2i", "2x"),
+        ):
             self.assertEqual(
-                outcome(mine.verify, given, "password"), outcome(other.verify, given, "password"), given
+                outcome(mine.verify, given, "password"),
+                outcome(other.verify, given, "password"),
+                given,
             )
 
     def test_wrong_types_are_named(self):
@@ -98,8 +112,36 @@ class Hashers(unittest.TestCase):
             self.assertEqual(*answers)
 
     def test_encodings(self):
-        hasher = ours.PasswordHasher(**COSTS, encoding="latin1")
-        self.assertTrue(hasher.verify(hasher.hash("p\xe4ss"), b"p\xe4ss"))
+        for encoding in ("latin1", "utf-16-le", "utf-8"):
+            hasher = ours.PasswordHasher(**COSTS, encoding=encoding)
+            hashed = hasher.hash("p\xe4ss")
+            self.assertTrue(theirs.PasswordHasher().verify(hashed, "p\xe4ss".encode(encoding)))
+            self.assertTrue(hasher.verify(hashed, "p\xe4ss"))
+            made = theirs.PasswordHasher(**COSTS, encoding=encoding).hash("p\xe4ss")
+            self.assertTrue(hasher.verify(made, "p\xe4ss"))
+
+    def test_salts_are_drawn(self):
+        hasher = ours.PasswordHasher(**COSTS)
+        salts = {hasher.hash("x").split("$")[4] for _ in range(20)}
+        self.assertEqual(len(salts), 20)
+
+    def test_want_of_memory(self):
+        script = (
+            "import resource\n"
+            "from rigzumal import argon2_cffi as it\n"
+            "resource.setrlimit(resource.RLIMIT_AS, (2**29, 2**29))\n"
+            "record = '$argon2id$v=19$m=1048576,t=1,p=1$c29tZXNhbHQ$' + 'A' * 43\n"
+            "for call in (lambda: it.PasswordHasher(1, 2**20, 1).hash('x'),\n"
+            "             lambda: it.PasswordHasher().verify(record, 'x')):\n"
+            "    try:\n        call()\n"
+            "    except Exception as refused:\n"
+            "        print(type(refused).__name__, refused.number, refused)\n"
+        )
+        done = subprocess.run([sys.executable, "-c", script], capture_output=True, text=True)
+        wanted = (
+            "HashingError 8 Memory allocation error\nVerificationError 8 Memory allocation error\n"
+        )
+        self.assertEqual(done.stdout, wanted, done.stderr)
 
     def test_a_salt_may_be_given(self):
         hashed = ours.PasswordHasher(**COSTS).hash("x", salt=b"sixteen of salt.")
@@ -154,7 +196,9 @@ class Exceptions(unittest.TestCase):
                 call()
             other = pickle.loads(pickle.dumps(raised.exception))
             self.assertIs(type(other), type(raised.exception))
-            self.assertEqual((other.args, other.number), (raised.exception.args, raised.exception.number))
+            self.assertEqual(
+                (other.args, other.number), (raised.exception.args, raised.exception.number)
+            )
 
 
 if __name__ == "__main__":

@@ -10,6 +10,7 @@
 #include <errno.h>
 #include <pthread.h>
 #include <sched.h>
+#include <stdbool.h>
 
 enum { SETS = 300, MOST_INPUT = 80, MOST_TAG = 128, TEXT = RIGZUMAL_TEXT_SIZE };
 
@@ -210,7 +211,25 @@ static void compare_records_with_secret(void) {
         RIGZUMAL_MISMATCH);
 }
 
-static void test_against(const char *original) {
+/* More passes than eight bits count, and segments of more blocks than sixteen bits count. */
+static void test_large_numbers(void) {
+    static const struct rigzumal_argon2 large[] = {
+        {RIGZUMAL_ARGON2ID, RIGZUMAL_VERSION_13, 16, 257, 2},
+        {RIGZUMAL_ARGON2I, RIGZUMAL_VERSION_10, 40, 300, 3},
+        {RIGZUMAL_ARGON2D, RIGZUMAL_VERSION_13, 8 * 2, 1025, 2},
+        {RIGZUMAL_ARGON2ID, RIGZUMAL_VERSION_13, 8 * 2 * 65536 / 2 + 24, 1, 2},
+        {RIGZUMAL_ARGON2ID, RIGZUMAL_VERSION_13, 255 * 8, 2, 255},
+    };
+    for (size_t i = 0; i < sizeof large / sizeof large[0]; i++) {
+        draw_set();
+        set.numbers = large[i];
+        set.threads = 2;
+        set.tag_size = 32;
+        compare_tags();
+    }
+}
+
+static void test_against(const char *original, bool has_large_numbers) {
     void *library = dlopen(original, RTLD_NOW | RTLD_LOCAL);
     CHECK(library != NULL);
     *(void **)&their_ctx = dlsym(library, "argon2_ctx");
@@ -226,6 +245,8 @@ static void test_against(const char *original) {
     }
     refusals = 0;
     CHECK(started - before > 2 * SETS);
+    if (has_large_numbers)
+        test_large_numbers();
 }
 
 static int make_tag(uint32_t threads) {
@@ -279,6 +300,16 @@ static void test_drawn_salts(void) {
     }
 }
 
+static int allocate(uint8_t **memory, size_t size) {
+    *memory = malloc(size);
+    return 0;
+}
+
+static void give(uint8_t *memory, size_t size) {
+    CHECK(is_all(memory, 0, size));
+    free(memory);
+}
+
 /* How many threads a call of argon2.h starts: as many as its context has, or as there are lanes. */
 static void test_threads_of_argon2_h(void) {
     unsigned char tag[32];
@@ -297,6 +328,14 @@ static void test_threads_of_argon2_h(void) {
     started = 0;
     CHECK_NUMBER(argon2_ctx(&context, ARGON2_TYPE_ID), ARGON2_OK);
     CHECK(started == 2);
+    unsigned char first[32];
+    memcpy(first, tag, sizeof first);
+    memset(tag, 0, sizeof tag);
+    context.allocate_cbk = allocate;
+    context.free_cbk = give;
+    CHECK_NUMBER(argon2_ctx(&context, ARGON2_TYPE_ID), ARGON2_OK);
+    CHECK(started == 2 + 2 && memcmp(tag, first, sizeof tag) == 0);
+    started = 2;
     CHECK_NUMBER(argon2id_hash_encoded(1, 64, 4, "password", 8, "somesalt", 8, 32, encoded, TEXT),
                  ARGON2_OK);
     CHECK(started == 2 + 3);
@@ -304,11 +343,12 @@ static void test_threads_of_argon2_h(void) {
     CHECK(started == 2 + 3 + 3);
 }
 
-/* Words: the path of the original, or none. */
+/* Words: the path of the original, or none; and whether large numbers are tried, for which a
+ * sanitizer takes too long. */
 int main(int count, char **words) {
     test_vectors();
     if (count > 1)
-        test_against(words[1]);
+        test_against(words[1], count > 2);
     test_threads_of_each_call();
     test_drawn_salts();
     test_threads_of_argon2_h();

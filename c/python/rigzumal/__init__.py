@@ -17,6 +17,7 @@ from rigzumal._library import (
     OutOfMemoryError,
     RigzumalError,
     VerifyMismatchError,
+    trim,
     version,
 )
 from rigzumal._parts import Parts, parts
@@ -35,5 +36,6 @@ __all__ = [
     "argon2",
     "parts",
     "scrypt",
+    "trim",
     "version",
 ]

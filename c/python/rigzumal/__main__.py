@@ -3,8 +3,10 @@
     printf %s 'correct horse' | python3 -m rigzumal hash
     printf %s 'correct horse' | python3 -m rigzumal verify '$argon2id$v=19$..'
     python3 -m rigzumal calibrate --target-ms 250 --memory 64M
+    python3 -m rigzumal accounts --help
 
-The password is what standard input gives, all of it: it stands in no argument.
+The password is what standard input gives, all of it, with a newline at its end too: it
+stands in no argument.
 """
 
 from __future__ import annotations
@@ -14,7 +16,10 @@ import sys
 from typing import Union
 
 from rigzumal import PasswordHasher, RigzumalError, ScryptHasher, VerifyMismatchError
+from rigzumal import _library
 from rigzumal._calibrate import trials
+from rigzumal._newline import hint
+from rigzumal._parts import none_of_ours
 
 _UNITS = {"K": 1, "M": 1024, "G": 1024 * 1024}
 
@@ -69,7 +74,28 @@ def _words() -> argparse.ArgumentParser:
         default=1,
         help="how many work the lanes of a hash; 1 for a service with many logins",
     )
+    commands.add_parser(
+        "accounts", help="accounts in a service's own database: accounts --help"
+    )
     return words
+
+
+def _verify(record: str, password: bytes) -> int:
+    """Writes yes, or no with status 1."""
+
+    def is_right(password: bytes) -> bool:
+        return _library.check(record, password) == _library.OK
+
+    try:
+        PasswordHasher().verify(record, password)
+    except VerifyMismatchError:
+        print("no")
+        said = hint(password, is_right)
+        if said:
+            print(f"rigzumal: {said}", file=sys.stderr)
+        return 1
+    print("yes")
+    return 0
 
 
 def _calibrate(target: float, memory: int, lanes: int, threads: int) -> None:
@@ -94,20 +120,17 @@ def main() -> int:
             return 0
         password = sys.stdin.buffer.read()
         if given.command == "verify":
-            PasswordHasher().verify(given.record, password)
-            print("yes")
-        else:
-            hasher: Union[PasswordHasher, ScryptHasher] = (
-                ScryptHasher(log2_n=given.log2_n)
-                if given.scrypt
-                else PasswordHasher(given.passes, given.memory, given.lanes)
-            )
-            print(hasher.hash(password))
-    except VerifyMismatchError:
-        print("no")
-        return 1
+            return _verify(given.record, password)
+        hasher: Union[PasswordHasher, ScryptHasher] = (
+            ScryptHasher(log2_n=given.log2_n)
+            if given.scrypt
+            else PasswordHasher(given.passes, given.memory, given.lanes)
+        )
+        print(hasher.hash(password))
     except RigzumalError as fault:
-        print(f"rigzumal: {fault.number} {fault.word}: {fault}", file=sys.stderr)
+        said = none_of_ours(getattr(given, "record", ""))
+        said = f"{fault}{said and f' ({said})'}"
+        print(f"rigzumal: {fault.number} {fault.word}: {said}", file=sys.stderr)
         return 2
     return 0
 

@@ -171,6 +171,7 @@ def _load() -> Any:
     pointer, size = ctypes.c_char_p, ctypes.c_size_t
     data = [pointer, size]
     library.rigzumal_version.restype = pointer
+    library.rigzumal_trim.restype = size
     library.rigzumal_strerror.restype = pointer
     library.rigzumal_word.restype = pointer
     made = data + [size, pointer] + data * 2
@@ -196,6 +197,15 @@ def version() -> str:
     """rigzumal_version."""
     found: bytes = _library.rigzumal_version()
     return found.decode()
+
+
+def trim() -> int:
+    """Gives the memory that is kept for the next hashes back to the system: how many bytes.
+
+    It is as much as hashes took at one time, and 64 MiB at most. The system takes it by itself when
+    it is short of memory; this is for a program that hashes seldom.
+    """
+    return int(_library.rigzumal_trim())
 
 
 def pair(data: bytes) -> tuple[bytes, int]:

@@ -2,6 +2,7 @@
 
 from __future__ import annotations
 
+import re
 from dataclasses import dataclass
 from typing import Final
 
@@ -9,6 +10,11 @@ from rigzumal import _library
 from rigzumal._library import Secret
 
 _SCHEMES: Final = ("argon2d", "argon2i", "argon2id", "scrypt")
+# As other programs begin a record: $2b$.., or Django's pbkdf2_sha256$... Nothing else is
+# shown, since what stands there may be a password.
+_OTHERS: Final = re.compile(
+    r"\$([A-Za-z0-9-]{1,20})\$|((?:pbkdf2|bcrypt|argon2|scrypt|md5|sha1)[a-z0-9_]{0,9})\$"
+)
 
 
 @dataclass(frozen=True)
@@ -55,3 +61,12 @@ def parts(record: Secret) -> Parts:
         found.salt_size,
         found.tag_size,
     )
+
+
+def none_of_ours(record: str) -> str:
+    """Says the scheme of another program's record; empty if it shows none."""
+    found = _OTHERS.match(record)
+    name = found and (found[1] or found[2])
+    if not name or name in _SCHEMES and record.startswith("$"):
+        return ""
+    return f"the record's scheme is {name}"

@@ -1,0 +1,103 @@
+"""The client for threads."""
+
+from __future__ import annotations
+
+import os
+import socket
+import time
+from typing import Union
+
+from rigzumal._library import Secret
+from rigzumal.server._lines import (
+    LOGIN_SOCKET,
+    LONGEST_ANSWER,
+    Question,
+    Reply,
+    Unavailable,
+    answer_of,
+    question,
+    reply_of,
+)
+
+TAG = b"1"
+
+
+class Client:
+    """Asks a book through a socket of credkeep-server.
+
+    Each call has a connection of its own. So a client may be used by many threads at
+    once, and after a fork, and holds nothing.
+
+    Args:
+        path: the socket.
+        timeout: seconds for a call, in all.
+
+    Each call may raise `ServerError`, and ValueError or TypeError for a name or a
+    password that can't be sent.
+    """
+
+    def __init__(
+        self, path: Union[str, "os.PathLike[str]"] = LOGIN_SOCKET, timeout: float = 10.0
+    ) -> None:
+        self._path, self._timeout = os.fspath(path), timeout
+
+    def verify(self, name: str, password: Secret) -> Reply:
+        """YES or NO; ABSENT if the account has no record; NO_ACCOUNT."""
+        return self._reply(question("verify", name, passwords=(password,)))
+
+    def change(self, name: str, password: Secret, new_password: Secret) -> Reply:
+        """REPLACED, or WRONG for the old password; ABSENT; NO_ACCOUNT."""
+        return self._reply(question("change", name, passwords=(password, new_password)))
+
+    def known(self, name: str) -> Reply:
+        """YES if the account has a record; ABSENT if it has none; NO_ACCOUNT."""
+        return self._reply(question("known", name))
+
+    def account(self, name: str) -> Reply:
+        """OK: adds the name, with no record. `Refused` (1 exists) if it is there."""
+        return self._reply(question("account", name))
+
+    def enrol(self, name: str, password: Secret) -> Reply:
+        """ENROLLED, or EXISTS if there is a record; NO_ACCOUNT."""
+        return self._reply(question("enrol", name, passwords=(password,)))
+
+    def reset(self, name: str, new_password: Secret) -> Reply:
+        """REPLACED, or ENROLLED if there was no record; NO_ACCOUNT."""
+        return self._reply(question("reset", name, passwords=(new_password,)))
+
+    def disable(self, name: str) -> Reply:
+        """DISABLED: the record is gone and the name stays; ABSENT; NO_ACCOUNT."""
+        return self._reply(question("disable", name))
+
+    def delete(self, name: str) -> Reply:
+        """DELETED: name and record are gone; NO_ACCOUNT."""
+        return self._reply(question("delete", name))
+
+    def rename(self, name: str, new_name: str) -> Reply:
+        """RENAMED, or EXISTS if the new name is there; NO_ACCOUNT."""
+        return self._reply(question("rename", name, new_name))
+
+    def names(self, first: str = "-", count: int = 100) -> list[str]:
+        """Up to so many names (1 to 100) from the first on, in order."""
+        return self._answer(question("list", first, str(count))).split()[1:]
+
+    def _reply(self, asked: Question) -> Reply:
+        return reply_of(self._answer(asked))
+
+    def _answer(self, asked: Question) -> str:
+        until = time.monotonic() + self._timeout
+        line = b""
+        try:
+            with socket.socket(socket.AF_UNIX) as connection:
+                connection.settimeout(self._timeout)
+                connection.connect(self._path)
+                connection.sendall(asked.line(TAG))
+                while b"\n" not in line and len(line) < LONGEST_ANSWER:
+                    connection.settimeout(max(until - time.monotonic(), 0.001))
+                    more = connection.recv(4096)
+                    if not more:
+                        break
+                    line += more
+        except OSError as fault:
+            raise Unavailable(f"{self._path}: {fault.strerror or fault}") from None
+        return answer_of(TAG, line)

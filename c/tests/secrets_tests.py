@@ -1,0 +1,138 @@
+"""Tests of what is left of secrets after a call, and of what depends on them."""
+
+import pathlib
+import re
+
+from harness import (
+    IN_THREADS,
+    LIBARGON2,
+    SOURCES,
+    Failed,
+    Skipped,
+    built,
+    need,
+    run,
+    sources_for,
+)
+
+
+# Which functions may branch on secrets or read at addresses that depend on them, in each call of
+# tests/secrets.c: Argon2id's second half and scrypt's table do by their definitions.
+SECRET_CALLS = {
+    "argon2i": [],
+    "old_argon2i": [],
+    "argon2id": ["cred_argon::argon::", "cred_argon::block::"],
+    "scrypt": ["cred_scrypt::romix::", "cred_scrypt::key_derivation::"],
+    "written": [],
+    "new_record": [],
+    "new_record_with_secret": [],
+    "argon2i_in_threads": [],
+    "new_record_in_threads": [],
+    "enrol": [],
+    # A text is cut at its '$', and is told from one that isn't base64.
+    "hidden_record_fault": [
+        "strlen",
+        "cred_phc::pieces::",
+        "cred_phc::parse::",
+        "cred_base64::decoding::",
+    ],
+}
+
+# Calls that judge a tag, right or wrong in its first byte or its last: one jump at one place, by the
+# verdict. Those of C may do without.
+JUDGEMENTS = {
+    "check": r"v[123]_cred_check",
+    "check_in_threads": r"v[123]_cred_check_end",
+    "libargon2_check": r"v[123]_cred_check_end",
+    "verify": r"v[123]_cred_step",
+    "change": r"v[123]_cred_step",
+    "upgrade": r"v[123]_cred_step",
+    "removal": r"v[123]_cred_step",
+    "check_with_secret": "rigzumal_check_with_secret(_threads)?",
+    "libargon2_long_check": "argon2_verify_ctx|verify",
+}
+
+
+def test_cleared_memory():
+    """No secret stands anywhere after a call, of each build, with the C library bound lazily."""
+    lazy = ["-O2", "-Wl,-z,lazy", "tests/jobs.c", *LIBARGON2]
+    for linked in (SOURCES, *map(sources_for, ("v1", "v2"))):
+        for flags in (lazy, [*lazy, IN_THREADS]):
+            run(built("cleared", flags, linked))
+
+
+def test_registers():
+    """No vector register holds anything after a call, whichever build it chose."""
+    run(built("registers", ["-O2"], ["src/secrets.c", "src/processor.c"]))
+    for build in ("V1", "V2"):
+        run(
+            built(
+                "registers",
+                ["-O2", f"-DGIVEN=BUILD_{build}"],
+                ["src/secrets.c", "tests/given_build.c"],
+            )
+        )
+
+
+def test_depth_of_calls():
+    """What is cleared of the stack is a quarter more than any call uses."""
+    lazy = ["-O2", "-Wl,-z,lazy", "tests/jobs.c", *LIBARGON2]
+    said = [
+        run(built("depth", [*lazy, *flags], linked), env={"LD_BIND_NOT": "1"})
+        for linked in (SOURCES, *map(sources_for, ("v1", "v2")))
+        for flags in ([], [IN_THREADS])
+    ]
+    return said[0]
+
+
+def test_small_stacks():
+    """Each call on as small a stack as the header says, and in a thread with 32 KiB, of each build."""
+    lazy = ["-O2", "-Wl,-z,lazy", "tests/jobs.c", *LIBARGON2]
+    for linked in (SOURCES, *map(sources_for, ("v1", "v2"))):
+        for flags in ([], [IN_THREADS]):
+            run(built("small_stacks", [*lazy, *flags], linked), env={"LD_BIND_NOT": "1"})
+
+
+def errors_of(log):
+    """The kind, the address and the function of each error of valgrind's memcheck."""
+    form = r"(Conditional jump|Use of uninitialised value|Syscall param|Invalid|Jump to).*\n"
+    return re.findall(form + r".* at (0x\w+): (.*) \(", log)
+
+
+def errors_in(program, name):
+    """The errors of one call: as many as valgrind counts."""
+    log = run("valgrind", "--error-limit=no", program, name)
+    errors = errors_of(log)
+    if f"from {len(errors)} contexts" not in log:
+        raise Failed(f"{name}: {errors}\n{log[-2000:]}")
+    return errors
+
+
+def check_leaks(program):
+    """How many places by design there are in each call of a build."""
+    counts = {}
+    for name, allowed in SECRET_CALLS.items():
+        errors = errors_in(program, name)
+        wrong = [it for it in errors if not it[2].startswith(tuple(allowed))]
+        if wrong:
+            raise Failed(f"{name}: {wrong}")
+        counts[name] = len(errors)
+    for name, place in JUDGEMENTS.items():
+        errors = errors_in(program, name)
+        jumps = set(errors)
+        if len(jumps) > 1 or not all(re.fullmatch(place, it[2]) for it in jumps):
+            raise Failed(f"{name}: {errors}")
+        counts[name] = len(jumps)
+    if not errors_in(program, "leaking_check"):
+        raise Failed("a comparison that leaks is not seen")
+    return counts
+
+
+def test_secrets():
+    """No branch and no address depends on a secret, but where that is by design."""
+    need("valgrind")
+    if not pathlib.Path("/usr/include/valgrind/memcheck.h").exists():
+        raise Skipped("valgrind/memcheck.h is not there")
+    for linked in (SOURCES, *map(sources_for, ("v1", "v2"))):
+        counts = check_leaks(built("secrets", ["-O2", IN_THREADS, *LIBARGON2], linked))
+    return "places by design: " + ", ".join(f"{name} {count}" for name, count in counts.items())

@@ -1,0 +1,74 @@
+/* Each call on small stacks: of RIGZUMAL_STACK_SIZE bytes, and of a thread with 32 KiB. Below each
+ * stack no page can be read or written, so that a call which reaches deeper ends the program. */
+#define _GNU_SOURCE
+#include "check.h"
+#include "jobs.h"
+
+#include <pthread.h>
+#include <sys/mman.h>
+#include <ucontext.h>
+
+enum { PAGE = 4096, OF_A_THREAD = 32 * 1024 };
+
+static struct vault vault;
+static const struct job *job;
+static ucontext_t here, there;
+static int answer;
+
+/* A stack with a page below it that isn't there for anyone. */
+static unsigned char *map_stack(size_t size) {
+    unsigned char *mapping = mmap(NULL, PAGE + size, PROT_NONE, MAP_PRIVATE | MAP_ANONYMOUS, -1, 0);
+    CHECK(mapping != MAP_FAILED);
+    CHECK(mprotect(mapping + PAGE, size, PROT_READ | PROT_WRITE) == 0);
+    return mapping + PAGE;
+}
+
+static void unmap_stack(unsigned char *stack, size_t size) {
+    CHECK(munmap(stack - PAGE, PAGE + size) == 0);
+}
+
+static void call(void) {
+    answer = job->call(&vault);
+}
+
+static void call_on_stack(void) {
+    unsigned char *stack = map_stack(RIGZUMAL_STACK_SIZE);
+    CHECK(getcontext(&there) == 0);
+    there.uc_stack.ss_sp = stack;
+    there.uc_stack.ss_size = RIGZUMAL_STACK_SIZE;
+    there.uc_link = &here;
+    makecontext(&there, call, 0);
+    CHECK(swapcontext(&here, &there) == 0);
+    unmap_stack(stack, RIGZUMAL_STACK_SIZE);
+}
+
+static void *call_in_thread(void *unused) {
+    call();
+    return unused;
+}
+
+static void call_on_thread(void) {
+    unsigned char *stack = map_stack(OF_A_THREAD);
+    pthread_attr_t attributes;
+    pthread_t thread;
+    CHECK(pthread_attr_init(&attributes) == 0);
+    CHECK(pthread_attr_setstack(&attributes, stack, OF_A_THREAD) == 0);
+    CHECK(pthread_create(&thread, &attributes, call_in_thread, NULL) == 0);
+    CHECK(pthread_join(thread, NULL) == 0);
+    pthread_attr_destroy(&attributes);
+    unmap_stack(stack, OF_A_THREAD);
+}
+
+int main(void) {
+    fill_vault(&vault);
+    for (int i = 0; i < job_count; i++) {
+        static void (*const ways[])(void) = {call_on_stack, call_on_thread};
+        job = &jobs[i];
+        for (size_t way = 0; way < sizeof ways / sizeof ways[0]; way++) {
+            answer = -1;
+            ways[way]();
+            CHECK_NUMBER(answer, job->answer);
+        }
+    }
+    return 0;
+}

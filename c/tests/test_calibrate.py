@@ -1,0 +1,127 @@
+"""Tests of the calibration, by machines that take as long as a rule says: no clock is read."""
+
+import contextlib
+import io
+import itertools
+import sys
+import unittest
+from unittest import mock
+
+from rigzumal import __main__, _calibrate
+from rigzumal._calibrate import Measured, measured, trials
+
+
+def linear(rate):
+    """A machine whose threads share the work: milliseconds a KiB of a pass."""
+    return lambda it: it.time_cost * it.memory_cost * rate / it.threads
+
+
+def with_dear_passes(rate):
+    """A machine on which each pass takes longer than the one before."""
+    return lambda it: it.time_cost**1.5 * it.memory_cost * rate
+
+
+def with_a_slow_start(it):
+    """A machine on which the first pass takes much longer than each other one."""
+    return 50 + 10 * it.time_cost
+
+
+def tried(machine, target, memory, lanes, threads=1):
+    """The trials on a machine."""
+
+    def timed(hasher, turns=5):
+        return Measured(hasher, machine(hasher))
+
+    with mock.patch.object(_calibrate, "measured", timed):
+        return list(itertools.islice(trials(target, memory, lanes, threads), 200))
+
+
+class Trials(unittest.TestCase):
+    def test_passes_are_as_many_as_the_time_allows(self):
+        for target, memory, rate, passes in (
+            (250, 65536, 1 / 1024, 3),
+            (250, 65536, 1 / 264, 1),
+            (255, 65536, 1 / 512, 1),
+            (256, 65536, 1 / 512, 2),
+            (1000, 65536, 1 / 1024, 15),
+            (40, 16, 0.01, 250),
+        ):
+            last = tried(linear(rate), target, memory, 1)[-1].hasher
+            self.assertEqual((last.memory_cost, last.time_cost), (memory, passes), (target, rate))
+
+    def test_memory_is_as_much_as_the_time_allows(self):
+        for target in (250, 100, 33.3, 7):
+            found = tried(linear(1 / 64), target, 65536, 4)
+            last = found[-1]
+            self.assertEqual(last.hasher.time_cost, 1)
+            self.assertLessEqual(last.milliseconds, target)
+            self.assertGreater(last.milliseconds, 0.9 * target)
+
+    def test_the_least_memory_is_the_end(self):
+        for lanes in (1, 2, 255):
+            last = tried(linear(1000), 1, 65536, lanes)[-1].hasher
+            self.assertEqual((last.memory_cost, last.time_cost), (8 * lanes, 1))
+
+    def test_the_last_is_never_too_slow(self):
+        for target in (50, 60, 64, 65, 100, 500, 2000):
+            found = tried(with_dear_passes(1 / 1024), target, 65536, 2)
+            self.assertLessEqual(found[-1].milliseconds, max(target, found[0].milliseconds))
+            fits = [it for it in found if it.milliseconds <= target]
+            self.assertEqual(found[-1], max(fits, key=lambda it: it.milliseconds))
+
+    def test_passes_are_raised_until_the_time_is_used(self):
+        found = tried(with_a_slow_start, 250, 65536, 1)
+        self.assertGreaterEqual(found[-1].milliseconds, 240)
+        self.assertLessEqual(found[-1].milliseconds, 250)
+
+    def test_lanes_and_threads_are_those_given(self):
+        for lanes, threads in ((1, 1), (4, 1), (4, 4), (7, 3)):
+            for it in tried(linear(1 / 512), 100, 65536, lanes, threads):
+                self.assertEqual((it.hasher.parallelism, it.hasher.threads), (lanes, threads))
+        one, four = (tried(linear(1 / 512), 250, 65536, 4, n)[-1].hasher for n in (1, 4))
+        self.assertEqual((one.time_cost, four.time_cost), (1, 7))
+
+
+class Timing(unittest.TestCase):
+    def test_the_time_is_the_median_after_the_first(self):
+        for first in (0, 4, 6, 100):
+            now, hashes = [0.0], []
+            seconds = iter((first, 5, 1, 9, 3, 7))
+
+            class Hasher:
+                def hash(self, password):
+                    hashes.append(password)
+                    now[0] += next(seconds)
+
+            with mock.patch.object(_calibrate.time, "perf_counter", lambda: now[0]):
+                found = measured(Hasher())
+            self.assertEqual((found.milliseconds, len(hashes)), (5000, 6))
+
+
+class Shell(unittest.TestCase):
+    def asked(self, *words):
+        """What the shell's command asks for, and what it writes."""
+        calls, out = [], io.StringIO()
+
+        def noted(*given):
+            calls.append(given)
+            return iter(tried(linear(1 / 1024), *given))
+
+        argv = ["rigzumal", "calibrate", *words]
+        with mock.patch.object(__main__, "trials", noted), mock.patch.object(sys, "argv", argv):
+            with contextlib.redirect_stdout(out), contextlib.redirect_stderr(io.StringIO()):
+                self.assertEqual(__main__.main(), 0)
+        return calls, out.getvalue()
+
+    def test_each_word_counts(self):
+        calls, said = self.asked()
+        self.assertEqual(calls, [(250, 65536, 4, 1)])
+        self.assertEqual(said, "$argon2id$v=19$m=65536,t=3,p=4\n")
+        words = "--target-ms 70 --memory 32M --lanes 3 --threads 2".split()
+        calls, said = self.asked(*words)
+        self.assertEqual(calls, [(70, 32768, 3, 2)])
+        self.assertEqual(said, "$argon2id$v=19$m=32768,t=4,p=3\n")
+
+
+if __name__ == "__main__":
+    unittest.main()

@@ -1,0 +1,273 @@
+"""Tests of Python's hashers: each kind, size and input, beside what Debian's argon2 program and
+hashlib make."""
+
+import array
+import base64
+import hashlib
+import itertools
+import mmap
+import os
+import pathlib
+import shutil
+import subprocess
+import sys
+import tempfile
+import unittest
+from dataclasses import replace
+
+import rigzumal
+from rigzumal import PasswordHasher, ScryptHasher, Type, _library
+
+# printf password | argon2 somesalt -d -t 2 -k 256 -p 1 -l 32 -e, and the like
+RECORDS = {
+    Type.D: "$argon2d$v=19$m=256,t=2,p=1$c29tZXNhbHQ$JcTui6RIBUtJ78gE5Hi52CO+H5vS6Z9R1uxAB6OhUB8",
+    Type.I: "$argon2i$v=19$m=256,t=2,p=1$c29tZXNhbHQ$iekCn0Y3spW+sCcFanM2xBT63UP2sghkUoHLIUpWRS8",
+    Type.ID: "$argon2id$v=19$m=256,t=2,p=1$c29tZXNhbHQ$nf65EOgLrQMR/uIPnA4rEsF5h7TKyQwu9U1bMCHGi/4",
+}
+TAGS = {
+    (Type.D, 0x10): "bd404868ff00c52e7543c8332e6a772a5724892d7e328d5cf253bbc8e726b371",
+    (Type.D, 0x13): "25c4ee8ba448054b49efc804e478b9d823be1f9bd2e99f51d6ec4007a3a1501f",
+    (Type.I, 0x10): "fd4dd83d762c49bdeaf57c47bdcd0c2f1babf863fdeb490df63ede9975fccf06",
+    (Type.I, 0x13): "89e9029f4637b295beb027056a7336c414fadd43f6b208645281cb214a56452f",
+    (Type.ID, 0x10): "da070e576e50f2f38a3c897cbddc6c7fb4028e870971ff9eae7b4e1879295e6e",
+    (Type.ID, 0x13): "9dfeb910e80bad0311fee20f9c0e2b12c17987b4cac90c2ef54d5b3021c68bfe",
+}
+# -t 1 -k 64 -p 3
+SIZES = {
+    4: "yzTAtA",
+    16: "cl8fPiuL4hfAvkXCqgQ7og",
+    64: "RP24Y0CBwZInc8BZxzQ0oZOv5nw6wDCTlJ/8pIGUpYuCQO5ZnQFONhw21N0/+86u3Y6r5YB+/CQB3+l53sBbAA",
+}
+LONG_SALT = b"a salt of forty-eight bytes, which is a long one"
+OF_LONG_SALT = "NCigmxqF1hZnYFLLxO36Jushq3Zzt0JDBDv+69FNaj0"
+# printf 'pass\0word' | argon2 somesalt -id -t 1 -k 64 -p 1 -l 32 -e
+WITH_NUL = "$argon2id$v=19$m=64,t=1,p=1$c29tZXNhbHQ$6oIEETo0BJ7q/vyz7jFW6wFb/GyfaZJ1ejETi5d+Muo"
+
+LEAST = PasswordHasher(1, 8, 1)
+
+
+def sizes_of(record):
+    """How many bytes the salt and the tag of a record have."""
+    return tuple(len(base64.b64decode(it + "==")) for it in record.split("$")[-2:])
+
+
+class Kinds(unittest.TestCase):
+    def test_a_hasher_has_its_own(self):
+        for kind, record in RECORDS.items():
+            for given in (kind, int(kind)):
+                hasher = PasswordHasher(2, 256, 1, type=given)
+                self.assertEqual(hasher.hash("password", salt=b"somesalt"), record)
+                self.assertEqual(hasher.costs, record.rsplit("$", 2)[0])
+                self.assertTrue(hasher.hash("x").startswith(hasher.costs + "$"))
+                self.assertFalse(replace(hasher, salt_len=8).check_needs_rehash(record))
+            for other in RECORDS.values():
+                hasher = PasswordHasher(2, 256, 1, salt_len=8, type=kind)
+                self.assertEqual(hasher.check_needs_rehash(other), other != record)
+                self.assertTrue(hasher.verify(other, "password"))
+
+    def test_a_raw_tag_has_its_kind_and_version(self):
+        costs = {"time_cost": 2, "memory_cost": 256, "parallelism": 1}
+        for (kind, version), wanted in TAGS.items():
+            given = {"type": kind, "version": version, **costs}
+            self.assertEqual(rigzumal.argon2("password", b"somesalt", **given).hex(), wanted)
+
+    def test_tags_and_salts_have_their_sizes(self):
+        for size, tag in SIZES.items():
+            hasher = PasswordHasher(1, 64, 3, hash_len=size)
+            record = hasher.hash("password", salt=b"somesalt")
+            self.assertEqual(record, f"$argon2id$v=19$m=64,t=1,p=3$c29tZXNhbHQ${tag}")
+        record = PasswordHasher(2, 64, 2).hash("password", salt=LONG_SALT)
+        self.assertEqual(record.rsplit("$", 1)[1], OF_LONG_SALT)
+        for salt, tag in itertools.product((8, 9, 16, 47, 48), (4, 5, 32, 63, 64)):
+            for hasher in (
+                PasswordHasher(1, 8, 1, tag, salt),
+                PasswordHasher(1, 8, 1, tag, salt, secret=b"pepper"),
+                ScryptHasher(1, 1, 1, tag, salt),
+            ):
+                self.assertEqual(sizes_of(hasher.hash("x")), (salt, tag))
+
+
+class Rehash(unittest.TestCase):
+    """A record of any other number is to be made anew, lower or higher."""
+
+    def other_ways(self, hasher, changes):
+        record = hasher.hash("x")
+        self.assertFalse(hasher.check_needs_rehash(record))
+        for name, numbers in changes.items():
+            for number in numbers:
+                other = replace(hasher, **{name: number})
+                self.assertTrue(other.check_needs_rehash(record), (name, number))
+                self.assertTrue(hasher.check_needs_rehash(other.hash("x")), (name, number))
+
+    def test_of_argon2(self):
+        changes = {
+            "time_cost": (1, 3),
+            "memory_cost": (63, 65),
+            "parallelism": (1, 3),
+            "hash_len": (31, 33),
+            "salt_len": (15, 17),
+            "type": (Type.D, Type.I),
+        }
+        self.other_ways(PasswordHasher(2, 64, 2), changes)
+
+    def test_of_scrypt(self):
+        changes = {
+            "log2_n": (3, 5),
+            "block_size": (1, 3),
+            "parallelism": (1, 3),
+            "hash_len": (31, 33),
+            "salt_len": (15, 17),
+        }
+        self.other_ways(ScryptHasher(4, 2, 2), changes)
+
+    def test_of_argon2_cffi(self):
+        from rigzumal import argon2_cffi
+
+        names = "time_cost memory_cost parallelism hash_len salt_len".split()
+        numbers = (2, 64, 2, 32, 16)
+        hasher = argon2_cffi.PasswordHasher(*numbers)
+        record = hasher.hash("x")
+        self.assertFalse(hasher.check_needs_rehash(record))
+        for at, name in enumerate(names):
+            for change in (-1, 1):
+                given = {**dict(zip(names, numbers)), name: numbers[at] + change}
+                other = argon2_cffi.PasswordHasher(**given)
+                self.assertTrue(other.check_needs_rehash(record), given)
+                self.assertTrue(hasher.check_needs_rehash(other.hash("x")), given)
+        for kind in (argon2_cffi.Type.D, argon2_cffi.Type.I):
+            other = argon2_cffi.PasswordHasher(*numbers, type=kind)
+            self.assertTrue(other.check_needs_rehash(record))
+            self.assertTrue(hasher.check_needs_rehash(other.hash("x")))
+
+
+class Inputs(unittest.TestCase):
+    def test_a_zero_byte_ends_no_password(self):
+        hasher = PasswordHasher(1, 64, 1)
+        for password in ("pass\0word", b"pass\0word"):
+            self.assertEqual(hasher.hash(password, salt=b"somesalt"), WITH_NUL)
+            self.assertTrue(hasher.verify(WITH_NUL, password))
+        for wrong in ("pass", "pass\0", "pass\0worD", "\0", ""):
+            with self.assertRaises(rigzumal.VerifyMismatchError):
+                hasher.verify(WITH_NUL, wrong)
+        record = hasher.hash("pass\0word", salt=b"some\0salt")
+        self.assertEqual(sizes_of(record)[0], 9)
+        with self.assertRaises(rigzumal.VerifyMismatchError):
+            hasher.verify(ScryptHasher(4).hash("pass\0word"), "pass")
+
+    def test_what_holds_bytes_is_taken_whole(self):
+        words = array.array("I", [1, 2, 3, 0x04050607])
+        for holds in (
+            b"sixteen of bytes",
+            bytearray(b"sixteen of bytes"),
+            memoryview(b"sixteen of bytes"),
+            memoryview(bytearray(b"a longer one than sixteen")),
+            memoryview(words),
+            memoryview(b"_s_i_x_t_e_e_n__")[::2],
+        ):
+            data = bytes(holds)
+            wanted = LEAST.hash(data, salt=data)
+            self.assertEqual(LEAST.hash(holds, salt=holds), wanted)
+            self.assertTrue(LEAST.verify(wanted, holds))
+            scrypt = ScryptHasher(1, 1, 1)
+            self.assertEqual(scrypt.hash(holds, salt=holds), scrypt.hash(data, salt=data))
+            costs = {"time_cost": 1, "memory_cost": 8, "parallelism": 1}
+            tags = {
+                rigzumal.argon2(it, it, secret=it, associated=it, **costs) for it in (holds, data)
+            }
+            self.assertEqual(len(tags), 1)
+            made = PasswordHasher(1, 8, 1, secret=holds).hash("x", salt=data)
+            self.assertTrue(PasswordHasher(1, 8, 1, secret=data).verify(made, "x"))
+
+    def test_text_that_has_no_utf_8(self):
+        for text in ("\ud800", "\udc80", "pass\udcffword", "\udfff"):
+            for call in (LEAST.hash, lambda it: LEAST.verify(WITH_NUL, it)):
+                with self.assertRaises(ValueError):
+                    call(text)
+
+    def test_text_is_its_utf_8(self):
+        record = LEAST.hash("p\xe4ss\U0001f600")
+        self.assertTrue(LEAST.verify(record, "p\xe4ss\U0001f600".encode()))
+
+    def test_salts_of_scrypt_of_every_length_are_hashlibs(self):
+        for size in (0, 1, 63, 64, 65, 127, 128, 129, 255, 256, 257, 5000):
+            salt = bytes(it * 61 % 253 for it in range(size))
+            key = rigzumal.scrypt(b"password", salt, log2_n=1, r=1, p=1)
+            wanted = hashlib.scrypt(b"password", salt=salt, n=2, r=1, p=1, dklen=32)
+            self.assertEqual(key, wanted)
+
+    def test_each_part_counts(self):
+        costs = {"time_cost": 1, "memory_cost": 8, "parallelism": 1}
+        for size in (8, 48, 64, 65, 128, 129, 256, 1000):
+            data = bytes(size)
+            tags = {rigzumal.argon2(data, data, secret=data, associated=data, **costs)}
+            for at in range(4):
+                parts = [data] * 4
+                parts[at] = data[:-1] + b"\1"
+                password, salt, secret, associated = parts
+                tags.add(
+                    rigzumal.argon2(password, salt, secret=secret, associated=associated, **costs)
+                )
+            self.assertEqual(len(tags), 5)
+
+
+class Parts(unittest.TestCase):
+    def test_each_number_is_in_its_place(self):
+        record = "$argon2d$v=16$m=2048,t=7,p=5$c29tZXNhbHQ$nf65EA"
+        found = rigzumal.parts(record)
+        self.assertEqual(found, rigzumal.Parts("argon2d", 16, 2048, 7, 5, 8, 4))
+        self.assertEqual(found.costs, ("argon2d", 16, 2048, 7, 5))
+        found = rigzumal.parts("$scrypt$ln=4,r=3,p=2$YmVucyBzYWx0$nf65EA")
+        self.assertEqual(found, rigzumal.Parts("scrypt", 0, 4, 3, 2, 9, 4))
+
+
+class Faults(unittest.TestCase):
+    def test_each_number_has_its_exception(self):
+        kinds = {
+            rigzumal.VerifyMismatchError: [10],
+            rigzumal.OutOfMemoryError: [8],
+            rigzumal.NoRandomError: [26],
+            rigzumal.InvalidRecordError: [1, 2, 3, 4, 5, 6, 7, 9],
+            rigzumal.InvalidNumbersError: [*range(11, 26), 27, 255],
+        }
+        for kind, numbers in kinds.items():
+            for number in numbers:
+                with self.assertRaises(rigzumal.RigzumalError) as raised:
+                    _library.raise_fault(number)
+                self.assertIs(type(raised.exception), kind, number)
+                self.assertEqual(raised.exception.number, number)
+        self.assertIsNone(_library.raise_fault(0))
+
+
+class Library(unittest.TestCase):
+    def loaded(self, **env):
+        """The library that a new process loads, or what it says."""
+        script = "import rigzumal; print(open('/proc/self/maps').read())"
+        command = [sys.executable, "-c", script]
+        env = {**os.environ, **env}
+        done = subprocess.run(command, capture_output=True, text=True, env=env)
+        names = {it.split()[-1] for it in done.stdout.splitlines() if "librigzumal" in it}
+        return names or {done.stderr.splitlines()[-1]}
+
+    def test_the_one_that_is_named_is_loaded(self):
+        with tempfile.TemporaryDirectory() as room:
+            named = pathlib.Path(room) / "librigzumal-of-mine.so"
+            shutil.copy(_library._path(), named)
+            self.assertEqual(self.loaded(RIGZUMAL_LIBRARY=str(named)), {str(named)})
+            (said,) = self.loaded(RIGZUMAL_LIBRARY=str(named) + ".not")
+            self.assertTrue(said.startswith("ImportError: librigzumal.so.1 can't be loaded"), said)
+        self.assertEqual(self.loaded(RIGZUMAL_LIBRARY=""), {str(_library._path())})
+
+    def test_memory_is_given_back(self):
+        area = 16 * mmap.PAGESIZE * 256
+        PasswordHasher(1, 65536, 1).hash("x")
+        self.assertEqual(rigzumal.trim(), 4 * area)
+        self.assertEqual(rigzumal.trim(), 0)
+        LEAST.hash("x")
+        self.assertEqual(rigzumal.trim(), 0)
+        PasswordHasher(1, 1024, 1).hash("x")
+        self.assertEqual(rigzumal.trim(), area)
+
+
+if __name__ == "__main__":
+    os.environ["PYTHONPATH"] = os.pathsep.join(filter(None, sys.path))
+    unittest.main()
