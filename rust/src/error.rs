@@ -1,0 +1,101 @@
+//! What is refused, and why.
+
+use crate::ffi;
+use std::fmt;
+
+macro_rules! errors {
+    ($($(#[$doc:meta])* $name:ident = $number:literal,)*) => {
+        /// A refusal: nothing was written. The numbers are those of `rigzumal.h`.
+        #[derive(Clone, Copy, Debug, PartialEq, Eq, Hash)]
+        #[non_exhaustive]
+        pub enum Error {
+            $($(#[$doc])* $name,)*
+            /// A fault that a newer library knows.
+            Other(i32),
+        }
+
+        impl Error {
+            /// The fault's number in `rigzumal.h`.
+            #[must_use]
+            pub fn number(self) -> i32 {
+                match self {
+                    $(Error::$name => $number,)*
+                    Error::Other(number) => number,
+                }
+            }
+
+            fn of_number(number: i32) -> Error {
+                match number {
+                    $($number => Error::$name,)*
+                    _ => Error::Other(number),
+                }
+            }
+        }
+    };
+}
+
+errors! {
+    /// A text doesn't begin with `$`, or a field is missing or too many.
+    Shape = 1,
+    /// A text's name is none of argon2d, argon2i, argon2id and scrypt.
+    Scheme = 2,
+    /// A text's version is not one that can be read: 19, in a record 16 too.
+    Version = 3,
+    /// A text's numbers are not written in the form of the scheme.
+    Params = 4,
+    /// A text's number is outside its range.
+    Range = 5,
+    /// The salt is not base64, or its size is outside its range: 8 to 48 bytes, of scrypt 1 to 48.
+    Salt = 6,
+    /// The tag is not base64, or its size is outside its range: 4 to 64 bytes.
+    Tag = 7,
+    /// There is too little memory.
+    Memory = 8,
+    /// A text has over 512 bytes.
+    TooLong = 9,
+    /// The record is one of another password.
+    Mismatch = 10,
+    /// A text doesn't fit into its room.
+    NoRoom = 11,
+    /// A number names no kind of Argon2.
+    NoKind = 12,
+    /// A number names no version of Argon2.
+    NoVersion = 13,
+    /// Not 1 to 255 lanes.
+    Lanes = 14,
+    /// The memory isn't 8 KiB a lane to 2 GiB.
+    Cost = 15,
+    /// There is no pass.
+    Passes = 16,
+    /// A raw tag hasn't 4 to 2^32 - 1 bytes.
+    TagSize = 17,
+    /// An input has 2^32 bytes or more.
+    InputSize = 18,
+    /// N isn't 2 to the power of 1 to 24 and below that of 16 r, or the table is over 2 GiB.
+    ScryptCost = 19,
+    /// r isn't 1 to 255.
+    BlockSize = 20,
+    /// p isn't 1 to 255.
+    Blocks = 21,
+    /// A raw key hasn't 1 to 2^32 - 1 bytes.
+    KeySize = 22,
+    /// The system gave no random bytes for a salt.
+    NoRandom = 26,
+}
+
+impl Error {
+    pub(crate) fn check(number: i32) -> Result<(), Error> {
+        match number {
+            0 => Ok(()),
+            _ => Err(Error::of_number(number)),
+        }
+    }
+}
+
+impl fmt::Display for Error {
+    fn fmt(&self, to: &mut fmt::Formatter<'_>) -> fmt::Result {
+        to.write_str(ffi::meaning(self.number()))
+    }
+}
+
+impl std::error::Error for Error {}

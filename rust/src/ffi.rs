@@ -1,0 +1,119 @@
+//! The calls of librigzumal, and all that is unsafe. rigzumal.h says what a caller owes: a pointer
+//! that comes with a size reaches that many bytes, texts end with a zero byte, and what is written
+//! overlaps nothing that is read. Slices, `CStr` and borrows are just that.
+
+use crate::{Argon2, Error, Parts, Scrypt};
+use std::ffi::{c_char, c_int, CStr, CString};
+use std::ptr;
+
+/// Into so many bytes every record fits, with its zero byte.
+const TEXT_SIZE: usize = 513;
+
+#[rustfmt::skip]
+extern "C" {
+    fn rigzumal_version() -> *const c_char;
+    fn rigzumal_trim() -> usize;
+    fn rigzumal_strerror(fault: c_int) -> *const c_char;
+    fn rigzumal_record_fault(record: *const c_char) -> c_int;
+    fn rigzumal_parts(parts: *mut [u32; 7], record: *const c_char) -> c_int;
+    fn rigzumal_record_threads(text: *mut u8, text_size: usize, tag_size: usize,
+        costs: *const c_char, salt: *const u8, salt_size: usize,
+        password: *const u8, password_size: usize, threads: u32) -> c_int;
+    fn rigzumal_record_with_secret_threads(text: *mut u8, text_size: usize, tag_size: usize,
+        costs: *const c_char, salt: *const u8, salt_size: usize,
+        password: *const u8, password_size: usize,
+        secret: *const u8, secret_size: usize, threads: u32) -> c_int;
+    fn rigzumal_check_threads(record: *const c_char,
+        password: *const u8, password_size: usize, threads: u32) -> c_int;
+    fn rigzumal_check_with_secret_threads(record: *const c_char,
+        password: *const u8, password_size: usize,
+        secret: *const u8, secret_size: usize, threads: u32) -> c_int;
+    fn rigzumal_argon2_threads(tag: *mut u8, tag_size: usize, numbers: *const [u32; 5],
+        password: *const u8, password_size: usize, salt: *const u8, salt_size: usize,
+        secret: *const u8, secret_size: usize,
+        associated: *const u8, associated_size: usize, threads: u32) -> c_int;
+    fn rigzumal_scrypt(key: *mut u8, key_size: usize, numbers: *const [u32; 3],
+        password: *const u8, password_size: usize, salt: *const u8, salt_size: usize) -> c_int;
+}
+
+/// A pointer with its size.
+fn pair(data: &[u8]) -> (*const u8, usize) {
+    (data.as_ptr(), data.len())
+}
+
+/// A text of the library's.
+fn text_of(text: *const c_char) -> &'static str {
+    // SAFETY: both calls that are read here answer a constant text, and never null.
+    unsafe { CStr::from_ptr(text) }.to_str().unwrap_or_default()
+}
+
+pub(crate) fn version() -> &'static str {
+    // SAFETY: it may be called at any time, as the next two.
+    text_of(unsafe { rigzumal_version() })
+}
+
+pub(crate) fn meaning(fault: c_int) -> &'static str {
+    // SAFETY: it takes any number.
+    text_of(unsafe { rigzumal_strerror(fault) })
+}
+
+pub(crate) fn trim() -> usize {
+    // SAFETY: memory that is in use is not given back.
+    unsafe { rigzumal_trim() }
+}
+
+pub(crate) fn record_fault(record: &CStr) -> Result<(), Error> {
+    // SAFETY: the text ends with a zero byte.
+    Error::check(unsafe { rigzumal_record_fault(record.as_ptr()) })
+}
+
+pub(crate) fn parts(record: &CStr) -> Result<Parts, Error> {
+    let mut numbers = [0; 7];
+    // SAFETY: struct rigzumal_parts is seven numbers.
+    Error::check(unsafe { rigzumal_parts(&mut numbers, record.as_ptr()) })?;
+    Ok(Parts::from_numbers(numbers))
+}
+
+#[rustfmt::skip]
+pub(crate) fn record(it: &crate::NewRecord<'_>, password: &[u8]) -> Result<CString, Error> {
+    let mut text = vec![0; TEXT_SIZE];
+    let (out, size, costs) = (text.as_mut_ptr(), it.tag_len, it.costs.as_ptr());
+    let ((salt, n), (pw, len)) = (it.salt.map_or((ptr::null(), it.salt_len), pair), pair(password));
+    // SAFETY: each pointer reaches its size, but for a salt that is null, which is drawn.
+    Error::check(unsafe { match it.secret.map(pair) {
+        None => rigzumal_record_threads(out, TEXT_SIZE, size, costs, salt, n, pw, len, it.threads),
+        Some((key, key_len)) => rigzumal_record_with_secret_threads(
+            out, TEXT_SIZE, size, costs, salt, n, pw, len, key, key_len, it.threads),
+    }})?;
+    text.truncate(text.iter().position(|byte| *byte == 0).unwrap_or_default());
+    Ok(CString::new(text).unwrap_or_default())
+}
+
+#[rustfmt::skip]
+pub(crate) fn check(record: &CStr, password: &[u8], secret: Option<&[u8]>, threads: u32)
+    -> Result<(), Error> {
+    let (text, (pw, len)) = (record.as_ptr(), pair(password));
+    // SAFETY: the text ends with a zero byte, and each pointer reaches its size.
+    Error::check(unsafe { match secret.map(pair) {
+        None => rigzumal_check_threads(text, pw, len, threads),
+        Some((key, key_len)) =>
+            rigzumal_check_with_secret_threads(text, pw, len, key, key_len, threads),
+    }})
+}
+
+#[rustfmt::skip]
+pub(crate) fn argon2(it: &Argon2<'_>, pw: &[u8], salt: &[u8], tag: &mut [u8]) -> Result<(), Error> {
+    let ((pw, len), (salt, n), (key, key_len), (data, data_len)) =
+        (pair(pw), pair(salt), pair(it.secret), pair(it.associated));
+    // SAFETY: each pointer reaches its size, and the tag is borrowed alone.
+    Error::check(unsafe { rigzumal_argon2_threads(tag.as_mut_ptr(), tag.len(), &it.numbers(),
+        pw, len, salt, n, key, key_len, data, data_len, it.threads) })
+}
+
+#[rustfmt::skip]
+pub(crate) fn scrypt(it: Scrypt, pw: &[u8], salt: &[u8], key: &mut [u8]) -> Result<(), Error> {
+    let ((pw, len), (salt, n)) = (pair(pw), pair(salt));
+    // SAFETY: each pointer reaches its size, and the key is borrowed alone.
+    Error::check(unsafe {
+        rigzumal_scrypt(key.as_mut_ptr(), key.len(), &it.numbers(), pw, len, salt, n) })
+}

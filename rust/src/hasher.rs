@@ -1,0 +1,206 @@
+//! What makes records and verifies them.
+
+use crate::{ffi, Algorithm, Error, Parts, Record, Scheme};
+use std::ffi::{CStr, CString};
+use std::fmt;
+
+/// By which function a new record is made, and its costs.
+///
+/// Its `Display` is the front of a record: `$argon2id$v=19$m=65536,t=3,p=4`.
+#[derive(Clone, Copy, Debug, PartialEq, Eq, Hash)]
+pub enum Costs {
+    /// Argon2, version 0x13.
+    Argon2 {
+        /// The kind.
+        algorithm: Algorithm,
+        /// KiB: 8 a lane to 2097152.
+        memory: u32,
+        /// 1 or more.
+        passes: u32,
+        /// 1 to 255.
+        lanes: u32,
+    },
+    /// scrypt.
+    Scrypt {
+        /// N is 2 to this power: 1 to 23.
+        log2_n: u32,
+        /// The block size: 1 to 255.
+        r: u32,
+        /// The parallelization: 1 to 255.
+        p: u32,
+    },
+}
+
+impl Costs {
+    /// Argon2id with so many KiB, passes and lanes.
+    #[must_use]
+    pub fn argon2id(memory: u32, passes: u32, lanes: u32) -> Costs {
+        Costs::Argon2 { algorithm: Algorithm::Argon2id, memory, passes, lanes }
+    }
+
+    /// Whether a record is of these, whatever its salt and the size of its tag.
+    fn are_of(self, parts: &Parts) -> bool {
+        let wanted = match self {
+            Costs::Argon2 { algorithm, memory, passes, lanes } => {
+                (Scheme::from(algorithm), 0x13, memory, passes, lanes)
+            }
+            Costs::Scrypt { log2_n, r, p } => (Scheme::Scrypt, 0, log2_n, r, p),
+        };
+        wanted == (parts.scheme, parts.version, parts.memory, parts.passes, parts.lanes)
+    }
+}
+
+impl Default for Costs {
+    /// RFC 9106's second recommendation: Argon2id with 64 MiB, three passes and four lanes.
+    fn default() -> Self {
+        Costs::argon2id(65536, 3, 4)
+    }
+}
+
+impl fmt::Display for Costs {
+    fn fmt(&self, to: &mut fmt::Formatter<'_>) -> fmt::Result {
+        match self {
+            Costs::Argon2 { algorithm, memory, passes, lanes } => {
+                write!(to, "${}$v=19$m={memory},t={passes},p={lanes}", algorithm.name())
+            }
+            Costs::Scrypt { log2_n, r, p } => write!(to, "$scrypt$ln={log2_n},r={r},p={p}"),
+        }
+    }
+}
+
+/// What a new record is made of besides its password, as the library takes it.
+pub(crate) struct NewRecord<'a> {
+    pub(crate) costs: &'a CStr,
+    /// The salt, or none for one of so many bytes that the library draws.
+    pub(crate) salt: Option<&'a [u8]>,
+    pub(crate) salt_len: usize,
+    pub(crate) tag_len: usize,
+    pub(crate) secret: Option<&'a [u8]>,
+    pub(crate) threads: u32,
+}
+
+/// Makes records and verifies them.
+///
+/// It is `Send` and `Sync`: one is enough for all threads of a program.
+///
+/// ```
+/// use rigzumal::{Costs, Error, Hasher};
+/// let hasher = Hasher::new(Costs::argon2id(256, 2, 1));
+/// let record = hasher.hash_password(b"correct horse")?;
+/// assert_eq!(hasher.verify_password(b"correct horse", &record), Ok(()));
+/// assert_eq!(hasher.verify_password(b"another", &record), Err(Error::Mismatch));
+/// assert!(!hasher.needs_rehash(&record));
+/// assert!(Hasher::default().needs_rehash(&record));
+/// # Ok::<(), Error>(())
+/// ```
+#[derive(Clone, Default)]
+pub struct Hasher {
+    costs: Costs,
+    salt_len: Option<usize>,
+    tag_len: Option<usize>,
+    secret: Option<Box<[u8]>>,
+    threads: u32,
+}
+
+impl Hasher {
+    /// A hasher with drawn salts of 16 bytes, tags of 32, no secret and one thread.
+    #[must_use]
+    pub fn new(costs: Costs) -> Hasher {
+        Hasher { costs, ..Hasher::default() }
+    }
+
+    /// The same with drawn salts of so many bytes: 8 to 48, of scrypt 1 to 48.
+    #[must_use]
+    pub fn salt_len(self, bytes: usize) -> Hasher {
+        Hasher { salt_len: Some(bytes), ..self }
+    }
+
+    /// The same with tags of so many bytes: 4 to 64.
+    #[must_use]
+    pub fn tag_len(self, bytes: usize) -> Hasher {
+        Hasher { tag_len: Some(bytes), ..self }
+    }
+
+    /// The same with a secret beside each password, which a program keeps apart from its records:
+    /// K of RFC 9106, section 3.1. Such a hasher verifies records of this secret alone, and none of
+    /// scrypt: [`Error::Scheme`].
+    #[must_use]
+    pub fn secret(self, secret: &[u8]) -> Hasher {
+        Hasher { secret: Some(secret.into()), ..self }
+    }
+
+    /// The same with up to so many threads for the lanes of each record. They make one login faster
+    /// on an idle machine; a service does more logins a second without.
+    #[must_use]
+    pub fn threads(self, threads: u32) -> Hasher {
+        Hasher { threads, ..self }
+    }
+
+    fn tag_size(&self) -> usize {
+        self.tag_len.unwrap_or(32)
+    }
+
+    fn salt_size(&self) -> usize {
+        self.salt_len.unwrap_or(16)
+    }
+
+    fn make(&self, password: &[u8], salt: Option<&[u8]>) -> Result<Record, Error> {
+        let costs = CString::new(self.costs.to_string()).map_err(|_| Error::Shape)?;
+        let it = NewRecord {
+            costs: &costs,
+            salt,
+            salt_len: self.salt_size(),
+            tag_len: self.tag_size(),
+            secret: self.secret.as_deref(),
+            threads: self.threads,
+        };
+        ffi::record(&it, password).map(Record::of_library)
+    }
+
+    /// A new record of the password, with a salt that the system's getrandom gives.
+    ///
+    /// # Errors
+    /// [`Error::Range`], [`Error::Salt`] or [`Error::Tag`] for a cost or a size;
+    /// [`Error::InputSize`]; [`Error::Memory`]; [`Error::NoRandom`].
+    pub fn hash_password(&self, password: &[u8]) -> Result<Record, Error> {
+        self.make(password, None)
+    }
+
+    /// A new record of the password with this salt, which is to be fresh.
+    ///
+    /// # Errors
+    /// Those of [`hash_password`](Hasher::hash_password); [`Error::Shape`] if the salt is empty.
+    pub fn hash_password_with_salt(&self, password: &[u8], salt: &[u8]) -> Result<Record, Error> {
+        self.make(password, Some(salt))
+    }
+
+    /// Whether the record is one of the password, whatever its costs.
+    ///
+    /// # Errors
+    /// [`Error::Mismatch`] if it is one of another; [`Error::InputSize`]; [`Error::Memory`].
+    pub fn verify_password(&self, password: &[u8], record: &Record) -> Result<(), Error> {
+        ffi::check(record.as_c_str(), password, self.secret.as_deref(), self.threads)
+    }
+
+    /// Whether the record is of another scheme, other costs or other sizes than a new one.
+    #[must_use]
+    pub fn needs_rehash(&self, record: &Record) -> bool {
+        let sizes = |it: &Parts| (it.salt_len as usize, it.tag_len as usize);
+        record.parts().map_or(true, |parts| {
+            !self.costs.are_of(&parts) || sizes(&parts) != (self.salt_size(), self.tag_size())
+        })
+    }
+}
+
+impl fmt::Debug for Hasher {
+    /// The costs and sizes, and whether there is a secret.
+    fn fmt(&self, to: &mut fmt::Formatter<'_>) -> fmt::Result {
+        to.debug_struct("Hasher")
+            .field("costs", &self.costs)
+            .field("salt_len", &self.salt_size())
+            .field("tag_len", &self.tag_size())
+            .field("has_secret", &self.secret.is_some())
+            .field("threads", &self.threads)
+            .finish()
+    }
+}

@@ -1,0 +1,204 @@
+//! What a hasher's settings do, and what it shows.
+
+use rigzumal::{verify, Algorithm, Costs, Error, Hasher, Record};
+use std::collections::HashSet;
+use std::process::Command;
+use std::sync::atomic::{AtomicBool, Ordering};
+use std::{env, fs, thread};
+
+fn least() -> Hasher {
+    Hasher::new(Costs::argon2id(8, 1, 1))
+}
+
+#[test]
+fn salts_are_drawn() {
+    let salts: HashSet<String> = (0..50)
+        .map(|_| least().hash_password(b"x").unwrap().as_str().rsplit('$').nth(1).unwrap().into())
+        .collect();
+    assert_eq!(salts.len(), 50);
+}
+
+#[test]
+fn sizes_are_those_asked_for() {
+    for salt in [8, 9, 16, 47, 48] {
+        for tag in [4, 5, 32, 63, 64] {
+            for hasher in [least(), least().secret(b"pepper"), Hasher::new(scrypt(1, 1, 1))] {
+                let hasher = hasher.salt_len(salt as usize).tag_len(tag as usize);
+                let parts = hasher.hash_password(b"x").unwrap().parts().unwrap();
+                assert_eq!((parts.salt_len, parts.tag_len), (salt, tag));
+            }
+        }
+    }
+}
+
+fn scrypt(log2_n: u32, r: u32, p: u32) -> Costs {
+    Costs::Scrypt { log2_n, r, p }
+}
+
+fn argon2(algorithm: Algorithm, memory: u32, passes: u32, lanes: u32) -> Costs {
+    Costs::Argon2 { algorithm, memory, passes, lanes }
+}
+
+/// Any other number is of another record, lower or higher.
+#[test]
+fn what_is_of_other_costs_is_to_be_made_anew() {
+    let of = |costs| Hasher::new(costs);
+    let id = Algorithm::Argon2id;
+    let hashers = [
+        of(argon2(id, 64, 2, 2)),
+        of(argon2(Algorithm::Argon2d, 64, 2, 2)),
+        of(argon2(Algorithm::Argon2i, 64, 2, 2)),
+        of(argon2(id, 63, 2, 2)),
+        of(argon2(id, 65, 2, 2)),
+        of(argon2(id, 64, 1, 2)),
+        of(argon2(id, 64, 3, 2)),
+        of(argon2(id, 64, 2, 1)),
+        of(argon2(id, 64, 2, 3)),
+        of(argon2(id, 64, 2, 2)).salt_len(15),
+        of(argon2(id, 64, 2, 2)).salt_len(17),
+        of(argon2(id, 64, 2, 2)).tag_len(31),
+        of(argon2(id, 64, 2, 2)).tag_len(33),
+        of(scrypt(4, 2, 2)),
+        of(scrypt(3, 2, 2)),
+        of(scrypt(5, 2, 2)),
+        of(scrypt(4, 1, 2)),
+        of(scrypt(4, 3, 2)),
+        of(scrypt(4, 2, 1)),
+        of(scrypt(4, 2, 3)),
+    ];
+    for (i, made_by) in hashers.iter().enumerate() {
+        let record = made_by.hash_password(b"x").unwrap();
+        assert_eq!(verify(b"x", &record), Ok(()));
+        for (j, hasher) in hashers.iter().enumerate() {
+            assert_eq!(hasher.needs_rehash(&record), i != j, "{hasher:?} of {record:?}");
+        }
+    }
+    let made = hashers[0].hash_password(b"x").unwrap();
+    let old: Record = made.as_str().replace("v=19", "v=16").parse().unwrap();
+    assert!(hashers[0].needs_rehash(&old));
+}
+
+#[test]
+fn a_secret_counts() {
+    let hasher = least().secret(b"pepper");
+    let record = hasher.hash_password(b"password").unwrap();
+    assert_eq!(hasher.verify_password(b"password", &record), Ok(()));
+    assert_eq!(hasher.verify_password(b"Password", &record), Err(Error::Mismatch));
+    for other in [least(), least().secret(b""), least().secret(b"Pepper")] {
+        assert_eq!(other.verify_password(b"password", &record), Err(Error::Mismatch));
+    }
+    assert_eq!(verify(b"password", &record), Err(Error::Mismatch));
+    let record = least().hash_password(b"password").unwrap();
+    assert_eq!(least().secret(b"").verify_password(b"password", &record), Ok(()));
+    let scrypt = Hasher::new(scrypt(1, 1, 1));
+    let record = scrypt.hash_password(b"x").unwrap();
+    assert_eq!(hasher.verify_password(b"x", &record), Err(Error::Scheme));
+    assert_eq!(scrypt.secret(b"x").hash_password(b"x"), Err(Error::Scheme));
+}
+
+#[test]
+fn every_byte_of_a_password_counts() {
+    for size in [0, 1, 64, 127, 128, 129, 255, 256, 257, 5000] {
+        let password = vec![b'x'; size];
+        let record = least().hash_password(&password).unwrap();
+        assert_eq!(verify(&password, &record), Ok(()));
+        for at in 0..size.min(300) {
+            let mut other = password.clone();
+            other[size - 1 - at] = b'y';
+            assert_eq!(verify(&other, &record), Err(Error::Mismatch));
+        }
+        let mut longer = password.clone();
+        longer.push(0);
+        assert_eq!(verify(&longer, &record), Err(Error::Mismatch));
+    }
+}
+
+#[test]
+fn nothing_secret_is_shown() {
+    let hasher = least().secret(b"pepper");
+    let record = hasher.hash_password(b"hunter2").unwrap();
+    let (salt, tag) = {
+        let mut fields = record.as_str().rsplit('$');
+        let tag = fields.next().unwrap();
+        (fields.next().unwrap(), tag)
+    };
+    for said in [format!("{hasher:?}"), format!("{record:?}"), format!("{:?}", Error::Mismatch)] {
+        for secret in ["pepper", "hunter2", salt, tag, "112, 101"] {
+            assert!(!said.contains(secret), "{said}");
+        }
+    }
+    assert_eq!(format!("{record:?}"), "Record($argon2id$v=19$m=8,t=1,p=1$..)");
+}
+
+#[test]
+fn threads_and_memory() {
+    let hasher = Hasher::new(Costs::argon2id(8192, 1, 4));
+    let salt = b"sixteen of salt.";
+    let record = hasher.hash_password_with_salt(b"x", salt).unwrap();
+    for threads in [0, 1, 2, 4, 300] {
+        let other = hasher.clone().threads(threads);
+        assert_eq!(other.hash_password_with_salt(b"x", salt).as_ref(), Ok(&record));
+        assert_eq!(other.verify_password(b"x", &record), Ok(()));
+        assert_eq!(other.verify_password(b"y", &record), Err(Error::Mismatch));
+    }
+    assert!(rigzumal::trim() > 0);
+}
+
+/// How many threads this process has for most of the time that a hash with so many takes: one that
+/// was joined may be listed for a moment more.
+fn usual_threads_with(threads: u32) -> usize {
+    let hasher = Hasher::new(Costs::argon2id(65536, 2, 4)).threads(threads);
+    let is_over = AtomicBool::new(false);
+    let mut times = [0; 64];
+    thread::scope(|scope| {
+        scope.spawn(|| {
+            hasher.hash_password(b"x").unwrap();
+            is_over.store(true, Ordering::Relaxed);
+        });
+        while !is_over.load(Ordering::Relaxed) {
+            times[fs::read_dir("/proc/self/task").unwrap().count()] += 1;
+        }
+    });
+    (0..times.len()).max_by_key(|count| times[*count]).unwrap()
+}
+
+const CHILD: &str = "RIGZUMAL_TEST_CHILD";
+
+/// A process of its own for a test, which finds itself in it by the variable.
+fn child_of(test: &str, limits: &str) -> String {
+    let exe = env::current_exe().unwrap();
+    let script = format!("{limits} exec \"$0\" --exact {test} --nocapture --test-threads 1");
+    let done = Command::new("sh").args(["-c", &script]).arg(exe).env(CHILD, "1").output().unwrap();
+    assert!(done.status.success(), "{}", String::from_utf8_lossy(&done.stderr));
+    String::from_utf8(done.stdout).unwrap()
+}
+
+#[test]
+fn threads_are_those_asked_for() {
+    if env::var_os(CHILD).is_none() {
+        let said = child_of("threads_are_those_asked_for", "");
+        assert!(said.contains("the threads were counted"), "{said}");
+        return;
+    }
+    let alone = usual_threads_with(1);
+    if thread::available_parallelism().unwrap().get() > 1 {
+        assert!(usual_threads_with(4) > alone);
+    }
+    assert_eq!(usual_threads_with(0), alone);
+    println!("the threads were counted");
+}
+
+#[test]
+fn want_of_memory_is_an_error() {
+    if env::var_os(CHILD).is_none() {
+        let said = child_of("want_of_memory_is_an_error", "ulimit -v 400000;");
+        assert!(said.contains("too little, three times"), "{said}");
+        return;
+    }
+    let hasher = Hasher::new(Costs::argon2id(1 << 20, 1, 1));
+    assert_eq!(hasher.hash_password(b"x"), Err(Error::Memory));
+    assert_eq!(hasher.secret(b"pepper").hash_password(b"x"), Err(Error::Memory));
+    let record: Record = "$argon2id$v=19$m=1048576,t=1,p=3$c29tZXNhbHQ$yzTAtA".parse().unwrap();
+    assert_eq!(verify(b"password", &record), Err(Error::Memory));
+    println!("too little, three times");
+}

@@ -1,0 +1,203 @@
+//! The standards' values, records of other programs, and what is refused.
+
+use rigzumal::{
+    verify, Algorithm, Argon2, Costs, Error, Hasher, Parts, Record, Scheme, Scrypt, Version,
+};
+
+fn hex(data: &[u8]) -> String {
+    data.iter().fold(String::new(), |text, byte| text + &format!("{byte:02x}"))
+}
+
+#[test]
+fn tags_are_those_of_rfc_9106() {
+    let wanted = [
+        (Algorithm::Argon2d, "512b391b6f1162975371d30919734294f868e3be3984f3c1a13a4db9fabe4acb"),
+        (Algorithm::Argon2i, "c814d9d1dc7f37aa13f0d77f2494bda1c8de6b016dd388d29952a4c4672b6ce8"),
+        (Algorithm::Argon2id, "0d640df58d78766c08c037a34a8b53c9d01ef0452d75b65eb52520e96b01e659"),
+    ];
+    for (algorithm, tag) in wanted {
+        for threads in [0, 1, 4] {
+            let argon2 = Argon2 {
+                algorithm,
+                version: Version::V0x13,
+                memory: 32,
+                passes: 3,
+                lanes: 4,
+                secret: &[3; 8],
+                associated: &[4; 12],
+                threads,
+            };
+            let mut out = [0; 32];
+            assert_eq!(argon2.hash_password_into(&[1; 32], &[2; 16], &mut out), Ok(()));
+            assert_eq!(hex(&out), tag);
+        }
+    }
+}
+
+/// By `argon2 somesalt -v 10 -t 2 -k 256 -p 1 -r`.
+#[test]
+fn old_tags_are_those_of_the_argon2_program() {
+    let wanted = [
+        (Algorithm::Argon2d, "bd404868ff00c52e7543c8332e6a772a5724892d7e328d5cf253bbc8e726b371"),
+        (Algorithm::Argon2i, "fd4dd83d762c49bdeaf57c47bdcd0c2f1babf863fdeb490df63ede9975fccf06"),
+        (Algorithm::Argon2id, "da070e576e50f2f38a3c897cbddc6c7fb4028e870971ff9eae7b4e1879295e6e"),
+    ];
+    for (algorithm, tag) in wanted {
+        let version = Version::V0x10;
+        let argon2 =
+            Argon2 { algorithm, version, memory: 256, passes: 2, lanes: 1, ..Argon2::default() };
+        let mut out = [0; 32];
+        assert_eq!(argon2.hash_password_into(b"password", b"somesalt", &mut out), Ok(()));
+        assert_eq!(hex(&out), tag);
+    }
+}
+
+/// RFC 7914, section 12: the first, the second's numbers with fewer passes apart, and the third.
+#[test]
+fn keys_are_those_of_rfc_7914() {
+    let mut key = [0; 64];
+    assert_eq!(Scrypt { log2_n: 4, r: 1, p: 1 }.hash_password_into(b"", b"", &mut key), Ok(()));
+    assert!(
+        hex(&key).starts_with("77d6576238657b203b19ca42c18a0497f16b4844e3074ae8dfdffa3fede21442")
+    );
+    let scrypt = Scrypt { log2_n: 10, r: 8, p: 16 };
+    assert_eq!(scrypt.hash_password_into(b"password", b"NaCl", &mut key), Ok(()));
+    assert!(
+        hex(&key).starts_with("fdbabe1c9d3472007856e7190d01e9fe7c6ad7cbc8237830e77376634b373162")
+    );
+    let scrypt = Scrypt { log2_n: 14, r: 8, p: 1 };
+    assert_eq!(scrypt.hash_password_into(b"pleaseletmein", b"SodiumChloride", &mut key), Ok(()));
+    assert!(
+        hex(&key).starts_with("7023bdcb3afd7348461c06cd81fd38ebfda8fbba904f8e3ea9b543f6545da1f2")
+    );
+}
+
+/// Of the reference library's own tests; the last is passlib's.
+const RECORDS: [&str; 3] = [
+    "$argon2id$v=19$m=256,t=2,p=1$c29tZXNhbHQ$nf65EOgLrQMR/uIPnA4rEsF5h7TKyQwu9U1bMCHGi/4",
+    "$argon2i$v=19$m=256,t=2,p=1$c29tZXNhbHQ$iekCn0Y3spW+sCcFanM2xBT63UP2sghkUoHLIUpWRS8",
+    "$argon2i$m=256,t=2,p=1$c29tZXNhbHQ$/U3YPXYsSb3q9XxHvc0MLxur+GP960kN9j7emXX8zwY",
+];
+
+#[test]
+fn the_right_password_alone_is_verified() {
+    for text in RECORDS {
+        let record: Record = text.parse().unwrap();
+        assert_eq!(record.as_str(), text);
+        assert_eq!(record.to_string(), text);
+        assert_eq!(verify(b"password", &record), Ok(()));
+        for wrong in [&b"Password"[..], b"", b"password\0", b"passwor", b"\xff"] {
+            assert_eq!(verify(wrong, &record), Err(Error::Mismatch));
+            assert_eq!(Hasher::default().verify_password(wrong, &record), Err(Error::Mismatch));
+        }
+    }
+}
+
+#[test]
+fn a_new_record_is_the_reference_librarys() {
+    let hasher = Hasher::new(Costs::argon2id(256, 2, 1));
+    let record = hasher.hash_password_with_salt(b"password", b"somesalt").unwrap();
+    assert_eq!(record.as_str(), RECORDS[0]);
+    let costs = Costs::Argon2 { algorithm: Algorithm::Argon2i, memory: 256, passes: 2, lanes: 1 };
+    let record = Hasher::new(costs).hash_password_with_salt(b"password", b"somesalt").unwrap();
+    assert_eq!(record.as_str(), RECORDS[1]);
+}
+
+#[test]
+fn parts_are_in_their_places() {
+    let record: Record = "$argon2d$v=16$m=2048,t=7,p=5$c29tZXNhbHQ$nf65EA".parse().unwrap();
+    let wanted = Parts {
+        scheme: Scheme::Argon2d,
+        version: 16,
+        memory: 2048,
+        passes: 7,
+        lanes: 5,
+        salt_len: 8,
+        tag_len: 4,
+    };
+    assert_eq!(record.parts(), Ok(wanted));
+    let record: Record = "$scrypt$ln=4,r=3,p=2$YmVucyBzYWx0$nf65EA".parse().unwrap();
+    let found = record.parts().unwrap();
+    assert_eq!((found.scheme, found.version), (Scheme::Scrypt, 0));
+    assert_eq!((found.memory, found.passes, found.lanes), (4, 3, 2));
+}
+
+#[test]
+fn texts_are_refused_by_their_first_fault() {
+    let good = RECORDS[0];
+    for (text, fault) in [
+        (String::new(), Error::Shape),
+        (format!("{good}\0"), Error::Shape),
+        (good.replace("2id", "2x"), Error::Scheme),
+        (good.replace("v=19", "v=18"), Error::Version),
+        (good.replace("m=", "m=0"), Error::Params),
+        (good.replace("m=256", "m=7"), Error::Range),
+        (good.replace("c29tZXNhbHQ", "c29t"), Error::Salt),
+        (good[..good.len() - 1].to_owned(), Error::Tag),
+        (good.repeat(9), Error::TooLong),
+    ] {
+        assert_eq!(text.parse::<Record>(), Err(fault), "{text}");
+        assert_eq!(Record::try_from(text.as_str()), Err(fault), "{text}");
+    }
+}
+
+#[test]
+fn numbers_are_refused() {
+    let mut out = [0x5a; 32];
+    let argon2 = Argon2 { memory: 64, passes: 1, lanes: 1, ..Argon2::default() };
+    for (it, fault) in [
+        (Argon2 { lanes: 0, ..argon2 }, Error::Lanes),
+        (Argon2 { lanes: 256, memory: 4096, ..argon2 }, Error::Lanes),
+        (Argon2 { memory: 7, ..argon2 }, Error::Cost),
+        (Argon2 { memory: 2_097_153, ..argon2 }, Error::Cost),
+        (Argon2 { passes: 0, ..argon2 }, Error::Passes),
+    ] {
+        assert_eq!(it.hash_password_into(b"x", b"somesalt", &mut out), Err(fault));
+    }
+    for size in 0..4 {
+        let out = &mut out[..size];
+        assert_eq!(argon2.hash_password_into(b"x", b"somesalt", out), Err(Error::TagSize));
+    }
+    for (log2_n, r, p, fault) in [
+        (0, 1, 1, Error::ScryptCost),
+        (16, 1, 1, Error::ScryptCost),
+        (4, 0, 1, Error::BlockSize),
+        (4, 1, 256, Error::Blocks),
+    ] {
+        let scrypt = Scrypt { log2_n, r, p };
+        assert_eq!(scrypt.hash_password_into(b"x", b"", &mut out), Err(fault));
+    }
+    let scrypt = Scrypt { log2_n: 4, r: 1, p: 1 };
+    assert_eq!(scrypt.hash_password_into(b"x", b"", &mut []), Err(Error::KeySize));
+    assert_eq!(out, [0x5a; 32]);
+    let hasher = Hasher::new(Costs::argon2id(8, 1, 1));
+    for (hasher, fault) in [
+        (Hasher::new(Costs::argon2id(7, 1, 1)), Error::Range),
+        (hasher.clone().tag_len(3), Error::Tag),
+        (hasher.clone().tag_len(65), Error::Tag),
+        (hasher.clone().salt_len(7), Error::Salt),
+        (hasher.clone().salt_len(49), Error::Salt),
+    ] {
+        assert_eq!(hasher.hash_password(b"x"), Err(fault), "{hasher:?}");
+    }
+    assert_eq!(hasher.hash_password_with_salt(b"x", b"short"), Err(Error::Salt));
+    assert_eq!(hasher.hash_password_with_salt(b"x", b""), Err(Error::Shape));
+}
+
+#[test]
+fn errors_have_the_numbers_and_words_of_the_library() {
+    for (fault, number, words) in [
+        (Error::Shape, 1, "field is missing"),
+        (Error::Range, 5, "outside its range"),
+        (Error::Memory, 8, "out of memory"),
+        (Error::Mismatch, 10, "another password"),
+        (Error::KeySize, 22, "key has not"),
+        (Error::NoRandom, 26, "no random bytes"),
+        (Error::Other(99), 99, "no such fault"),
+    ] {
+        assert_eq!(fault.number(), number);
+        let said: Box<dyn std::error::Error> = Box::new(fault);
+        assert!(said.to_string().contains(words), "{said}");
+    }
+    assert_eq!(rigzumal::library_version(), env!("CARGO_PKG_VERSION"));
+}
