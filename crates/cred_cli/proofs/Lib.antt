@@ -8,6 +8,7 @@ pub mod Lines
 pub mod Names
 pub mod Openings
 pub mod Programs
+pub mod Prompts
 pub mod Readings
 pub mod Runs
 pub mod Simulation

@@ -1,5 +1,5 @@
 -- How the program ends.
-use Rattle.std.proofs.Common.{◌≡◌, ℕ, List, Option, Some, None, Bool, IfSome, inr, refl, sym}
+use Rattle.std.proofs.Common.{◌≡◌, ℕ, List, [], Option, Some, None, Bool, IfSome, inr, refl, sym}
 use Rattle.std.specs.FinMap as map
 use Rattle.std.proofs.KnownBytes.{Appends-nil}
 use Rattle.cred_book.specs.Accounts.{Accounts, most_accounts}
@@ -8,9 +8,11 @@ use Rattle.cred_cli.specs.declared.fault.ScriptFault.TheVariants.{Memory}
 use Rattle.cred_cli.specs.Statuses.{status_number, status_of}
 use Rattle.cred_cli.specs.Commands.{Runs}
 use Rattle.cred_cli.specs.Outcome.{FailsWithin, HasCause, ScriptFails, StandsAfter}
-use Rattle.cred_cli.specs.Script.{events_of}
+use Rattle.cred_cli.specs.Prompt.{IsPrompt}
+use Rattle.cred_cli.specs.Script.{events_of, script_start}
 use Rattle.cred_cli.specs.Watched.{Reading, Writing}
 use Rattle.cred_cli.proofs.Names.{book_at-zero}
+use Rattle.cred_cli.proofs.Prompts.{no_calls}
 use Rattle.cred_cli.proofs.Readings.{if_known}
 use Rattle.cred_cli.proofs.Runs.{answers_before-zero}
 
@@ -25,16 +27,23 @@ pub script_unbegun : (longest capacity : ℕ) (known before : Option (List ℕ))
 script_unbegun longest capacity known before book = if_known known (λ bytes. FailsWithin longest capacity book bytes known before before book Memory) (λ bytes is. (0, inr refl, nothing_done capacity book bytes before))
 
 -- there was no memory to begin with
-pub no_memory : (r : Reading) (before : Option (List ℕ)) (failed : Bool) (status : ℕ) → status ≡ status_number (status_of Memory) → Runs r (record { before = before; now = before; failed = failed }) status
-no_memory r before failed status is =
-    inr (Memory, is, record { stands = if_known r.input _ (λ bs known. (map.empty, (0, inr refl, nothing_done most_accounts map.empty bs before))); cause = tt })
+pub no_memory : (r : Reading) (before : Option (List ℕ)) (failed : Bool) (name status : ℕ) → r.log ≡ [] → status ≡ status_number (status_of Memory) → Runs r (record { before = before; now = before; failed = failed; name = name }) status
+no_memory r before failed name status unread is = inr (
+  Memory,
+  is,
+  record {
+    stands = if_known r.input _ (λ bs known. (map.empty, (0, inr refl, nothing_done most_accounts map.empty bs before)));
+    cause = tt;
+    prompt = no_calls most_accounts map.empty name before r.input r.log unread;
+  },
+)
 
 -- the script met a fault
 pub run_fails : (book : Accounts) (r : Reading) (w : Writing) (accounts : Accounts) (fault : ScriptFault) (status : ℕ) →
     book ≡ map.empty → status ≡ status_number (status_of fault) → IfSome r.input (λ bs. ScriptFails most_accounts book bs r.left w.before w.now accounts fault) → HasCause r.failed w.failed fault →
-    Runs r w status
-run_fails book r w accounts fault status empty is fails cause =
-    inr (fault, is, record { stands = known r.input fails; cause = cause })
+    IfSome r.input (λ bs. IsPrompt most_accounts (script_start book bs w.before) w.name r.log) → Runs r w status
+run_fails book r w accounts fault status empty is fails cause prompt =
+    inr (fault, is, record { stands = known r.input fails; cause = cause; prompt = rw empty at prompt })
   where
     known : (bytes : Option (List ℕ)) → IfSome bytes (λ bs. ScriptFails most_accounts book bs r.left w.before w.now accounts fault) → IfSome bytes (λ bs. (accounts : Accounts) × ScriptFails most_accounts map.empty bs r.left w.before w.now accounts fault)
     known None fails = tt

@@ -22,20 +22,28 @@ use Rattle.cred_cli.specs.Statuses.{status_number, status_of}
 use Rattle.cred_cli.specs.Events.{record_field, setting_field}
 use Rattle.cred_cli.specs.Outcome.{FrontWritten, HasCause, ScriptFails, longest_script}
 use Rattle.cred_cli.specs.History.{Shown}
-use Rattle.cred_cli.specs.Script.{out}
+use Rattle.cred_cli.specs.Prompt.{IsPrompt}
+use Rattle.cred_cli.specs.Script.{out, script_start}
 use Rattle.cred_cli.specs.Texts.{line_of}
 use Rattle.cred_cli.specs.Watched.{Reading, Writing}
+
+-- whenever more of a script on an empty book was asked for, what had come was answered
+abbrev pub RunsPrompt : Reading → Writing → Type 0
+RunsPrompt r w = IfSome r.input (λ bytes. IsPrompt most_accounts
+    (script_start map.empty bytes w.before) w.name r.log)
 
 -- a script on an empty book was answered whole
 pub record RunsWhole (r : Reading) (w : Writing) : Type 0 where
   pub written : IfSome r.input (λ bytes. Appends w.before w.now (out most_accounts map.empty bytes))
   pub short : IfSome r.input (λ bytes. length bytes ≤ longest_script)
+  pub prompt : RunsPrompt r w
 
 -- or it met a fault, and its book is let go
 pub record RunFails (r : Reading) (w : Writing) (fault : ScriptFault) : Type 0 where
   pub stands : IfSome r.input (λ bytes. (accounts : Accounts)
       × ScriptFails most_accounts map.empty bytes r.left w.before w.now accounts fault)
   pub cause : HasCause r.failed w.failed fault
+  pub prompt : RunsPrompt r w
 
 -- `run`
 abbrev pub Runs : Reading → Writing → ℕ → Type 0

@@ -10,7 +10,7 @@ use Rattle.cred_cli.specs.declared.progress.Progress.{Progress}
 use Rattle.cred_cli.specs.declared.run.Run.{Run}
 use Rattle.cred_cli.specs.declared.script.End.{End}
 use Rattle.cred_cli.specs.Outcome.{FailsWithin, IsAnswered, StandsAfter}
-use Rattle.cred_cli.specs.Script.{events_of, line_ends}
+use Rattle.cred_cli.specs.Script.{ScriptStart, events_of, line_ends}
 use Rattle.cred_cli.specs.Steps.{LineFails}
 use Rattle.cred_cli.specs.Tickets.{HoldTickets}
 use Rattle.cred_cli.specs.Watched.{Reading}
@@ -56,12 +56,6 @@ TakesLine capacity line old new r = (book : Accounts) (events : List Event) (i :
     → MatchResult r (λ _. StandsAfter capacity book events (suc i) before new.written new.accounts
     × HoldTickets capacity book events (suc i) new.slots)
     (LineFails capacity book events i before new.written new.accounts)
-
--- a script at its start: the book, its bytes, and what was written before it
-pub record ScriptStart : Type 0 where
-  pub book : Accounts
-  pub bytes : List ℕ
-  pub before : Option (List ℕ)
 
 -- the whole lines of the front are answered, and the start of the next is kept
 pub record IsAt (capacity : ℕ) (script : ScriptStart) (front : List ℕ) (s : Standing) : Type 0 where

@@ -1,6 +1,7 @@
 -- The definitions that the contracts of the script engine cite.
 pub mod Answers
 pub mod Arguments
+pub mod Calls
 pub mod Statuses
 pub mod Commands
 pub mod Events
@@ -9,6 +10,7 @@ pub mod Faults
 pub mod Feeding
 pub mod History
 pub mod Outcome
+pub mod Prompt
 pub mod Refusals
 pub mod Script
 pub mod Steps

@@ -1,10 +1,20 @@
 -- What a script is answered.
 use Rattle.std.specs.Prelude.{ℕ, zero, suc, ◌==◌, if◌then◌else◌, List, [], ◌∷◌, ◌++◌, length, map}
+use Rattle.std.specs.Prelude.{Option}
 use Rattle.cred_book.specs.Accounts.{Accounts}
 use Rattle.cred_cli.specs.declared.event.Event.{Event}
 use Rattle.cred_cli.specs.Events.{event_of}
 use Rattle.cred_cli.specs.History.{answer_at}
 use Rattle.cred_cli.specs.Texts.{line_of}
+
+-- a script at its start: the book, its bytes, and what was written before it
+pub record ScriptStart : Type 0 where
+  pub book : Accounts
+  pub bytes : List ℕ
+  pub before : Option (List ℕ)
+
+abbrev pub script_start : Accounts → List ℕ → Option (List ℕ) → ScriptStart
+script_start book bytes before = record { book = book; bytes = bytes; before = before }
 
 abbrev pub onto_first : ℕ → List (List ℕ) → List (List ℕ)
 onto_first c [] = (c ∷ []) ∷ []

@@ -8,7 +8,7 @@ ghost use Rattle.cred_cli.specs.Events.{IsSound};
 ghost use Rattle.cred_cli.specs.History.{Done, Refused, Shown};
 ghost use Rattle.cred_cli.specs.Steps.{WriteFails, begin_step, commit_step, step};
 ghost use Rattle.cred_cli.specs.Texts.{line_of, reply_line};
-ghost use Rattle.cred_cli.specs.Watched.{failed_of, inner_of};
+ghost use Rattle.cred_cli.specs.Watched.{failed_of, inner_of, name_of};
 
 use crate::event::Event;
 use crate::fault::ScriptFault;
@@ -40,6 +40,7 @@ impl AnswerLine {
         ensures done { OnOk result
             (Appends (W.contents (inner_of writer.old)) (W.contents (inner_of writer.new))
             (line_bytes self)) }
+        ensures named { name_of writer.new ≡ name_of writer.old }
         ensures fails { IfErr result
             (WriteFails (W.contents (inner_of writer.old)) (W.contents (inner_of writer.new))
             (line_bytes self) (failed_of writer.new)) }

@@ -60,13 +60,13 @@ impl Event {
     }
 }
 
-fn is_too_long(line: &[u8]) -> bool
+pub fn is_too_long(line: &[u8]) -> bool
     ensures { result ≡ nat_lt longest_line (length line.now) }
 {
     line.len() > LONGEST_LINE
 }
 
-fn first_pieces(line: &[u8]) -> ArrayVec<&[u8], MOST_PIECES>
+pub fn first_pieces(line: &[u8]) -> ArrayVec<&[u8], MOST_PIECES>
     ensures { map (λ s. s.now) result.items ≡ take most_pieces (pieces 32 line.now) }
 {
     let mut rest = Pieces::new(line, b' ');

@@ -17,13 +17,13 @@ pub(crate) fn key(text: &[u8]) -> Result<Key, Refusal>
     Key::parse(text).ok_or(Refusal::Key)
 }
 
-pub(crate) fn name(text: &[u8]) -> Result<Name, Refusal>
+pub fn name(text: &[u8]) -> Result<Name, Refusal>
     ensures { result ≡ name_field text.now }
 {
     Name::new(text).map_err(|refusal| Refusal::Book(refusal))
 }
 
-pub(crate) fn password(text: &[u8]) -> Result<Password, Refusal>
+pub fn password(text: &[u8]) -> Result<Password, Refusal>
     ensures { result ≡ password_field text.now }
 {
     parse_password(text).ok_or(Refusal::Password)
@@ -40,14 +40,14 @@ fn parse_password(text: &[u8]) -> Option<Password>
     }
 }
 
-pub(crate) fn setting(text: &[u8]) -> Result<Setting, Refusal>
+pub fn setting(text: &[u8]) -> Result<Setting, Refusal>
     ensures value { result ≡ setting_field text.now }
     ensures current { IfOk result (λ setting. is_current setting.scheme ≡ true) }
 {
     parse_setting(text).map_err(|fault| Refusal::Text(fault))
 }
 
-pub(crate) fn stored(text: &[u8]) -> Result<Record, Refusal>
+pub fn stored(text: &[u8]) -> Result<Record, Refusal>
     ensures { result ≡ record_field text.now }
 {
     parse_record(text).map_err(|fault| Refusal::Text(fault))

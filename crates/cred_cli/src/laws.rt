@@ -1,13 +1,17 @@
 //! Laws of the definitions of a history and of a line, which show that they say what they should.
 
-ghost use Rattle.std.specs.Prelude.{◌≡◌, ◌≤◌, ℕ, List, length, take};
+ghost use Rattle.std.specs.Prelude.{◌≡◌, ◌+◌, ◌≤◌, ◌++◌, ℕ, List, length, take, Some};
 ghost use Rattle.std.specs.List.{join_with_byte};
 ghost use Rattle.std.specs.FinMap as map;
 ghost use Rattle.cred_book.specs.Accounts.{Accounts};
 ghost use Rattle.cred_cli.specs.declared.event.Event.{Event};
+ghost use Rattle.cred_cli.specs.Calls.{Call};
 ghost use Rattle.cred_cli.specs.EventLines.{IsLineOf};
 ghost use Rattle.cred_cli.specs.Events.{event_of};
 ghost use Rattle.cred_cli.specs.History.{book_at, deeds_before, is_among, names_at};
+ghost use Rattle.cred_cli.specs.Prompt.{IsPrompt, IsPromptAt};
+ghost use Rattle.cred_cli.specs.Script.{ScriptStart, answers_before, events_of, line_ends};
+ghost use Rattle.cred_cli.specs.Script.{script_start};
 
 /// The law that the names that a history counts are those of the book that it leaves, at every
 /// place.
@@ -31,4 +35,23 @@ pub fn history_is_a_front()
 pub fn line_is_its_events()
     ensures { (line : List ℕ) → (words : List (List ℕ)) × (line ≡ join_with_byte 32 words)
         × IsLineOf (event_of line) words }
+{}
+
+/// The law that a prompt call on a reader found what was written before and then the answers to the
+/// whole lines of the bytes that had come, with the book after them, whatever these bytes are; and
+/// that there are no more prompt calls than bytes, and one.
+pub fn prompt_calls_are_answered()
+    ensures stands { (capacity : ℕ) (book accounts : Accounts) (front rest before now : List ℕ)
+        (name beside : ℕ)
+        → IsPromptAt capacity (script_start book (front ++ rest) (Some before)) name (record {
+          left = Some rest;
+          beside = beside;
+          written = Some now;
+          accounts = accounts;
+        })
+        → (now ≡ before
+        ++ answers_before capacity book (events_of (front ++ rest)) (line_ends front))
+        × (accounts ≡ book_at capacity book (events_of (front ++ rest)) (line_ends front)) }
+    ensures few { (capacity : ℕ) (script : ScriptStart) (name : ℕ) (calls : List Call)
+        → IsPrompt capacity script name calls → length calls ≤ length script.bytes + 1 }
 {}

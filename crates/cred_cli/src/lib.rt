@@ -8,10 +8,11 @@
 
 mod answer;
 mod arguments;
+mod call_log;
 mod event;
 mod exit_status;
 mod fault;
-mod fields;
+pub mod fields;
 mod key;
 mod laws;
 mod limit;
@@ -31,10 +32,16 @@ mod watched;
 mod writing;
 
 pub use answer::reply_line;
+pub use call_log::CallLog;
+pub use event::{first_pieces, is_too_long};
 pub use fault::ScriptFault;
-pub use laws::{history_is_a_front, line_is_its_events, names_are_the_books};
+pub use laws::{
+    history_is_a_front, line_is_its_events, names_are_the_books, prompt_calls_are_answered,
+};
 pub use process::run_program;
 pub use program::command;
+pub use progress::LineStart;
+pub use refusal::Refusal;
 pub use script::{End, run_script};
 pub use service::serve;
 pub use tools::Tools;

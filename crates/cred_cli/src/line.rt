@@ -1,9 +1,9 @@
 //! One line of a script: what it asks for is done, and answered.
 
-ghost use Rattle.std.specs.Prelude.{false, IfErr};
+ghost use Rattle.std.specs.Prelude.{◌≡◌, false, IfErr};
 ghost use Rattle.cred_cli.specs.Feeding.{TakesLine, between};
 ghost use Rattle.cred_cli.specs.Outcome.{HasCause};
-ghost use Rattle.cred_cli.specs.Watched.{failed_of, inner_of};
+ghost use Rattle.cred_cli.specs.Watched.{failed_of, inner_of, name_of};
 
 use crate::answer::do_event;
 use crate::event::Event;
@@ -27,6 +27,7 @@ pub(crate) fn answer_line<T: Threads + Wait + Sync, K: Keeper, W: Write>(
     ensures answered { TakesLine K.capacity line.now
         (between (W.contents (inner_of writer.old)) (K.book keeper.old) tickets.old)
         (between (W.contents (inner_of writer.new)) (K.book keeper.new) tickets.new) result }
+    ensures named { name_of writer.new ≡ name_of writer.old }
     ensures cause { IfErr result (HasCause false (failed_of writer.new)) }
 {
     let answer = do_event(tools, keeper, tickets, Event::of_line(line))?;

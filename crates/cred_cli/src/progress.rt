@@ -14,7 +14,7 @@ const KEPT: usize = LONGEST_LINE + 1;
 
 /// The line that is being read, as far as it is kept.
 #[derive(Drop)]
-pub(crate) struct LineStart {
+pub struct LineStart {
     bytes: [u8; KEPT],
     len: usize,
 }
@@ -31,7 +31,7 @@ impl Model for LineStart {
 }
 
 impl LineStart {
-    pub(crate) fn new() -> LineStart
+    pub fn new() -> LineStart
         ensures { result ≡ [] }
     {
         LineStart {
@@ -40,7 +40,7 @@ impl LineStart {
         }
     }
 
-    pub(crate) fn push(&mut self, byte: u8)
+    pub fn push(&mut self, byte: u8)
         ensures { self.new ≡ take most_kept (self.old ++ byte ∷ []) }
     {
         if self.len < KEPT {
@@ -49,13 +49,13 @@ impl LineStart {
         }
     }
 
-    pub(crate) fn clear(&mut self)
+    pub fn clear(&mut self)
         ensures { self.new ≡ [] }
     {
         self.len = 0;
     }
 
-    pub(crate) fn bytes(&self) -> &[u8]
+    pub fn bytes(&self) -> &[u8]
         ensures { result.now ≡ self.now }
     {
         &self.bytes[..self.len]

@@ -11,7 +11,7 @@ use cred_phc::PhcError;
 
 /// Why a line changes nothing; its answer is `bad N WORD`.
 #[derive(Clone, Copy, Debug, PartialEq, Eq)]
-pub(crate) enum Refusal {
+pub enum Refusal {
     /// The line has over 1024 bytes.
     Long,
     /// No line has this first word with this number of pieces.
@@ -31,7 +31,7 @@ pub(crate) enum Refusal {
 }
 
 impl Refusal {
-    pub(crate) fn number(self) -> u8
+    pub fn number(self) -> u8
         ensures { result ≡ error_number self }
     {
         match self {
@@ -46,7 +46,7 @@ impl Refusal {
         }
     }
 
-    pub(crate) fn word(self) -> &'static str
+    pub fn word(self) -> &'static str
         ensures { result.now ≡ error_word self }
     {
         match self {
@@ -62,7 +62,7 @@ impl Refusal {
     }
 
     /// Its answer with the line end. It stands ready, so that a refused line takes no memory.
-    pub(crate) fn line(self) -> &'static [u8]
+    pub fn line(self) -> &'static [u8]
         ensures { result.now ≡ line_of (Refused self) }
     {
         match self {

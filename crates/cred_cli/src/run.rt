@@ -3,9 +3,12 @@
 
 ghost use Rattle.std.specs.Prelude.{◌≡◌, ◌+◌, ◌≤◌, false, [], ◌∷◌, length, Some};
 ghost use Rattle.std.specs.Prelude.{IfErr, IfOk, IfSome, OnOk};
-ghost use Rattle.cred_cli.specs.Feeding.{Finishes, IsAt, Plays, ScriptStart, Takes, standing};
+ghost use Rattle.cred_cli.specs.Feeding.{Finishes, IsAt, Plays, Takes, standing};
 ghost use Rattle.cred_cli.specs.Outcome.{FailsWithin, HasCause, IsAnswered};
-ghost use Rattle.cred_cli.specs.Watched.{IsNew, calls_of, failed_of, inner_of, reading};
+ghost use Rattle.cred_cli.specs.Prompt.{IsPrompt};
+ghost use Rattle.cred_cli.specs.Script.{ScriptStart, script_start};
+ghost use Rattle.cred_cli.specs.Watched.{IsNew, calls_of, failed_of, inner_of, name_of};
+ghost use Rattle.cred_cli.specs.Watched.{reading, log_of};
 
 use crate::fault::ScriptFault;
 use crate::limit::Limit;
@@ -43,6 +46,9 @@ pub(crate) fn answer_all<T: Threads + Wait + Sync, K: Keeper, R: Read, W: Write>
         (W.contents (inner_of writer.old)) (W.contents (inner_of writer.new))
         (K.book keeper.new) fault)) }
     ensures cause { IfErr result (HasCause (failed_of reader.new) (failed_of writer.new)) }
+    ensures prompt { IfSome (R.remaining (inner_of reader.old)) (λ bytes. IsPrompt K.capacity
+        (script_start (K.book keeper.old) bytes (W.contents (inner_of writer.old)))
+        (name_of writer.old) (log_of reader.new)) }
     ensures calls { calls_of reader.new ≤ limit + 1 }
     ensures few { IfSome (R.remaining (inner_of reader.old))
         (λ bytes. calls_of reader.new ≤ length bytes + 1) }
@@ -74,6 +80,7 @@ impl Run {
             (standing (W.contents (inner_of writer.new)) (K.book keeper.new) self.new) result }
         ensures taken { OnOk result (self.new.progress.taken ≡ self.old.progress.taken + 1) }
         ensures limit { self.new.progress.limit ≡ self.old.progress.limit }
+        ensures named { name_of writer.new ≡ name_of writer.old }
         ensures cause { IfErr result (HasCause false (failed_of writer.new)) }
     {
         if self.progress.limit.is_reached(self.progress.taken) {
@@ -111,6 +118,7 @@ impl Run {
         ensures taken { OnOk result (self.new.progress.taken
             ≡ self.old.progress.taken + length bytes.now) }
         ensures limit { self.new.progress.limit ≡ self.old.progress.limit }
+        ensures named { name_of writer.new ≡ name_of writer.old }
         ensures cause { IfErr result (HasCause false (failed_of writer.new)) }
     {
         for byte in bytes {
@@ -152,12 +160,16 @@ impl Run {
         reader: &mut Watched<R>,
         writer: &mut Watched<W>,
     ) -> Result<End, ScriptFault>
-        requires new_reader { calls_of reader.old ≡ 0 }
+        requires new_reader { IsNew reader.old }
         requires new_progress { self.old.progress.taken ≡ 0 }
         ensures ended { Plays K.capacity (reading R.remaining reader.old reader.new)
             (standing (W.contents (inner_of writer.old)) (K.book keeper.old) self.old)
             (standing (W.contents (inner_of writer.new)) (K.book keeper.new) self.new) result }
         ensures cause { IfErr result (HasCause (failed_of reader.new) (failed_of writer.new)) }
+        ensures prompt { (script : ScriptStart)
+            → R.remaining (inner_of reader.old) ≡ Some script.bytes → IsAt K.capacity script []
+            (standing (W.contents (inner_of writer.old)) (K.book keeper.old) self.old)
+            → IsPrompt K.capacity script (name_of writer.old) (log_of reader.new) }
         ensures calls { calls_of reader.new ≤ self.old.progress.limit + 1 }
         ensures few { (script : ScriptStart)
             → R.remaining (inner_of reader.old) ≡ Some script.bytes → IsAt K.capacity script []
@@ -166,7 +178,7 @@ impl Run {
     {
         let mut buffer = [0; CHUNK];
         for _call in 0..u64::MAX {
-            match reader.read(&mut buffer) {
+            match reader.read_beside(keeper, writer, &mut buffer) {
                 Ok(0) => {
                     let lines = self.finish(tools, keeper, writer)?;
                     return Ok(End { lines });

@@ -3,7 +3,10 @@
 ghost use Rattle.std.specs.Prelude.{◌≤◌, length, IfErr, IfOk, IfSome, OnOk};
 ghost use Rattle.cred_cli.specs.Outcome.{HasCause, IsAnswered, ScriptFails, longest_script};
 ghost use Rattle.cred_cli.specs.Outcome.{most_calls};
-ghost use Rattle.cred_cli.specs.Watched.{IsNew, calls_of, failed_of, inner_of};
+ghost use Rattle.cred_cli.specs.Prompt.{IsPrompt};
+ghost use Rattle.cred_cli.specs.Script.{script_start};
+ghost use Rattle.cred_cli.specs.Watched.{IsNew, calls_of, failed_of, inner_of, name_of};
+ghost use Rattle.cred_cli.specs.Watched.{log_of};
 
 use crate::fault::ScriptFault;
 use crate::limit::Limit;
@@ -24,9 +27,9 @@ pub struct End {
 }
 
 /// Reads a script of at most 1048576 bytes to its end, does what each line asks of the keeper's
-/// book, and writes an answer line for each, whole, before the reader is called again. At most
-/// `workers` threads hash. No call was made on the reader or the writer before. The writer is one
-/// that holds nothing back, as it is never flushed.
+/// book, and writes an answer line for each, whole, before the reader is called again. The reader
+/// isn't called after its end. At most `workers` threads hash. No call was made on the reader or
+/// the writer before. The writer is one that holds nothing back, as it is never flushed.
 ///
 /// Errors: `Read` or `Write` if a call on the reader or the writer failed; `Memory` if it runs out;
 /// `TooLong` if the script has more bytes.
@@ -50,6 +53,9 @@ pub fn run_script<T: Threads + Wait + Sync, K: Keeper, R: Read, W: Write>(
         (W.contents (inner_of writer.old)) (W.contents (inner_of writer.new))
         (K.book keeper.new) fault)) }
     ensures cause { IfErr result (HasCause (failed_of reader.new) (failed_of writer.new)) }
+    ensures prompt { IfSome (R.remaining (inner_of reader.old)) (λ bytes. IsPrompt K.capacity
+        (script_start (K.book keeper.old) bytes (W.contents (inner_of writer.old)))
+        (name_of writer.old) (log_of reader.new)) }
     ensures calls { calls_of reader.new ≤ most_calls }
 {
     let tools = Tools { rt, alloc, workers };

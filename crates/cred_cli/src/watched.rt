@@ -1,11 +1,15 @@
 //! A reader or a writer that counts the calls on it, and keeps in mind whether one failed.
 
-ghost use Rattle.std.specs.Prelude.{◌≡◌, ◌||◌, ◌+◌, ◌-◌, ◌^◌, ◌<◌, min, true, length, IfOk, OnOk};
+ghost use Rattle.std.specs.Prelude.{◌≡◌, ◌||◌, ◌+◌, ◌-◌, ◌^◌, ◌<◌, ◌∷◌};
+ghost use Rattle.std.specs.Prelude.{min, true, length, IfOk, OnOk};
 ghost use Rattle.std.specs.Prelude.{OnErr};
 ghost use Rattle.std.specs.Io.{ReadsAtMost, WritesAtMost};
 ghost use Rattle.std.specs.Io.KnownBytes.{Keeps, ReadConsumes, WriteAppends};
-ghost use Rattle.cred_cli.specs.Watched.{IsNew, calls_of, failed_of, inner_of};
+ghost use Rattle.cred_cli.specs.Watched.{IsNew, calls_of, failed_of, inner_of, name_of};
+ghost use Rattle.cred_cli.specs.Watched.{log_of};
 
+use crate::call_log::CallLog;
+use cred_book::Keeper;
 use std::io;
 use std::io::{Read, Write};
 
@@ -15,6 +19,7 @@ pub struct Watched<X> {
     inner: X,
     calls: u64,
     failed: bool,
+    log: CallLog,
 }
 
 impl<X> Watched<X> {
@@ -27,6 +32,7 @@ impl<X> Watched<X> {
             inner,
             calls: 0,
             failed: false,
+            log: CallLog::new(),
         }
     }
 
@@ -55,11 +61,43 @@ impl<X> Watched<X> {
     /// Counts a call, and keeps in mind whether it failed.
     fn note(&mut self, failed: bool)
         ensures inner { self.new.inner ≡ self.old.inner }
+        ensures log { self.new.log ≡ self.old.log }
         ensures calls { self.new.calls ≡ min (self.old.calls + 1) (2 ^ 64 - 1) }
         ensures failed { self.new.failed ≡ (self.old.failed || failed) }
     {
         self.calls = self.calls.saturating_add(1);
         self.failed |= failed;
+    }
+}
+
+impl<R: Read> Watched<R> {
+    /// Reads as [`Read::read`] does, and logs how the writer and the keeper stood then, with which
+    /// it does nothing.
+    pub fn read_beside<K: Keeper, W: Write>(
+        &mut self,
+        keeper: &K,
+        writer: &Watched<W>,
+        buf: &mut [u8],
+    ) -> io::Result<usize>
+        ensures bound { ReadsAtMost result buf.new }
+        ensures bytes { ReadConsumes (R.remaining (inner_of self.old))
+            (R.remaining (inner_of self.new)) result buf.new }
+        ensures logged { log_of self.new ≡ (record {
+          left = R.remaining (inner_of self.old);
+          beside = name_of writer.now;
+          written = W.contents (inner_of writer.now);
+          accounts = K.book keeper.now;
+        }) ∷ log_of self.old }
+        ensures calls { calls_of self.new ≡ min (calls_of self.old + 1) (2 ^ 64 - 1) }
+        ensures failed { OnErr result (failed_of self.new ≡ true) }
+        ensures kept { OnOk result (failed_of self.new ≡ failed_of self.old) }
+    {
+        self.log = self
+            .log
+            .and(keeper, &self.inner, &writer.log, &writer.inner);
+        let taken = self.inner.read(buf);
+        self.note(taken.is_err());
+        taken
     }
 }
 
@@ -87,6 +125,7 @@ impl<W: Write> Write for Watched<W> {
         ensures bound { WritesAtMost result buf.now }
         ensures bytes { WriteAppends (W.contents self.old.inner)
             (W.contents self.new.inner) result buf.now }
+        ensures named { self.new.log.name ≡ self.old.log.name }
         ensures calls { self.new.calls ≡ min (self.old.calls + 1) (2 ^ 64 - 1) }
         ensures failed { OnErr result (self.new.failed ≡ true) }
         ensures none { IfOk result (λ n. n ≡ 0 → 0 < length buf.now → self.new.failed ≡ true) }
@@ -104,6 +143,7 @@ impl<W: Write> Write for Watched<W> {
 
     fn flush(&mut self) -> io::Result<()>
         ensures bytes { Keeps (W.contents self.old.inner) (W.contents self.new.inner) }
+        ensures named { self.new.log.name ≡ self.old.log.name }
         ensures calls { self.new.calls ≡ min (self.old.calls + 1) (2 ^ 64 - 1) }
         ensures failed { OnErr result (self.new.failed ≡ true) }
         ensures kept { OnOk result (self.new.failed ≡ self.old.failed) }

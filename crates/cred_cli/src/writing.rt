@@ -3,7 +3,7 @@
 ghost use Rattle.std.specs.Prelude.{◌≡◌, IfErr, OnOk};
 ghost use Rattle.std.specs.Io.KnownBytes.{Appends};
 ghost use Rattle.cred_cli.specs.Steps.{WriteFails};
-ghost use Rattle.cred_cli.specs.Watched.{failed_of, inner_of};
+ghost use Rattle.cred_cli.specs.Watched.{failed_of, inner_of, name_of};
 
 use crate::fault::ScriptFault;
 use crate::watched::Watched;
@@ -16,6 +16,7 @@ use std::io::Write;
 pub fn write_whole<W: Write>(writer: &mut Watched<W>, bytes: &[u8]) -> Result<(), ScriptFault>
     ensures done { OnOk result
         (Appends (W.contents (inner_of writer.old)) (W.contents (inner_of writer.new)) bytes.now) }
+    ensures named { name_of writer.new ≡ name_of writer.old }
     ensures fails { IfErr result
         (WriteFails (W.contents (inner_of writer.old)) (W.contents (inner_of writer.new)) bytes.now
         (failed_of writer.new)) }

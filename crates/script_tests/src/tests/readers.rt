@@ -1,7 +1,7 @@
 //! Readers that fail, that give too much or little at once, and one that waits for its answers.
 use super::{empty_book, hold, hold_bytes, hold_end, hold_shown, run_on_book};
 use cred_book::BookError;
-use cred_cli::{End, ScriptFault, Watched, run_script};
+use cred_cli::{End, ScriptFault, Watched, run_script, serve};
 use std::alloc::Global;
 use std::cell::Cell;
 use std::io;
@@ -156,33 +156,61 @@ impl<'a> Write for Counting<'a> {
     }
 }
 
-/// Runs a script of six lines, which is read so many bytes a call.
-fn judge_asking<R: Threads + Wait + Sync + Abort>(
-    rt: &R,
-    alloc: Global,
-    script: &[u8],
-    most: usize,
-) {
-    let answered = Cell::new(0);
-    let mut book = empty_book(rt, alloc);
-    let mut reader = Watched::new(Asking {
-        rest: script,
-        most,
-        asked: 0,
-        answered: &answered,
-    });
-    let mut writer = Watched::new(Counting {
-        answered: &answered,
-    });
-    let end = run_script(rt, alloc, 1, &mut book, &mut reader, &mut writer);
-    hold_end(rt, most, end, Ok(End { lines: 6 }));
-    hold(rt, most, answered.get() == 6);
+/// A script of six lines.
+const SIX_LINES: &[u8] = b"account a\nshow a\n\nshow b\naccount b\nshow b\n";
+
+/// How often six lines are read, so many bytes a call: the last call gives none.
+fn calls_of(most: usize) -> u64 {
+    if most == 0 {
+        return 1;
+    }
+    1 + SIX_LINES.len().div_ceil(most) as u64
 }
 
 #[test]
 fn answered_before_the_next_call(rt: HostRuntime) {
-    let script = b"account a\nshow a\n\nshow b\naccount b\nshow b\n";
-    for most in 1..=script.len() {
-        judge_asking(&rt, rt.alloc(), script, most);
+    for most in 1..=SIX_LINES.len() {
+        let answered = Cell::new(0);
+        let mut book = empty_book(&rt, rt.alloc());
+        let mut reader = Watched::new(Asking {
+            rest: SIX_LINES,
+            most,
+            asked: 0,
+            answered: &answered,
+        });
+        let mut writer = Watched::new(Counting {
+            answered: &answered,
+        });
+        let end = run_script(&rt, rt.alloc(), 1, &mut book, &mut reader, &mut writer);
+        hold_end(&rt, most, end, Ok(End { lines: 6 }));
+        hold(
+            &rt,
+            most,
+            answered.get() == 6 && reader.calls() == calls_of(most),
+        );
+    }
+}
+
+#[test]
+fn served_before_the_next_call(rt: HostRuntime) {
+    for most in 1..=SIX_LINES.len() {
+        let answered = Cell::new(0);
+        let mut book = empty_book(&rt, rt.alloc());
+        let mut reader = Watched::new(Asking {
+            rest: SIX_LINES,
+            most,
+            asked: 0,
+            answered: &answered,
+        });
+        let mut writer = Watched::new(Counting {
+            answered: &answered,
+        });
+        let end = serve(&rt, rt.alloc(), 1, &mut book, &mut reader, &mut writer);
+        hold_end(&rt, most, end, Ok(End { lines: 6 }));
+        hold(
+            &rt,
+            most,
+            answered.get() == 6 && reader.calls() == calls_of(most),
+        );
     }
 }

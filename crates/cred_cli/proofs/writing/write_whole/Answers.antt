@@ -1,4 +1,4 @@
-use Rattle.std.proofs.Common.{rules, refl, arith, ◌<◌, length, take, ◌++◌}
+use Rattle.std.proofs.Common.{rules, refl, arith, ◌∙◌, ◌<◌, length, take, ◌++◌}
 use Rattle.std.proofs.lemmas.Bool.Decides.{nat_tests}
 use Rattle.std.proofs.lemmas.List.{take_rest}
 use Rattle.std.proofs.KnownBytes.{Appends-trans, Appends-kept}
@@ -16,8 +16,8 @@ returns-in-Ok-eq0-clause-fails g c =
 
 pub loop-rest-preserved : goal.loop-rest-preserved
 loop-rest-preserved g c =
-    let (front, cut, written) = c.loop-rest.invariant in
-    rw take_rest (front ++ take c.in-Ok.n c.loop-rest.rest.now, cut_later _ _ _ c.in-Ok.n cut, Appends-trans _ _ _ _ _ written c.in-Ok.ensures.bytes)
+    let (front, cut, written, named) = c.loop-rest.invariant in
+    rw take_rest (front ++ take c.in-Ok.n c.loop-rest.rest.now, cut_later _ _ _ c.in-Ok.n cut, Appends-trans _ _ _ _ _ written c.in-Ok.ensures.bytes, c.write.ensures.named ∙ named)
 
 pub returns-in-Err-clause-fails : goal.returns-in-Err-clause-fails
 returns-in-Err-clause-fails g c =

@@ -5,12 +5,13 @@ use Rattle.cred_cli.proofs.Feeds.{cut_at, front_more}
 use Rattle.cred_cli.proofs.run.Run.take_bytes.Goals as goal
 
 pub loop-byte-init : goal.loop-byte-init
-loop-byte-init g c = record { fed = λ script front rest cut at. rw append-nil at; limit = refl; taken = omega arith }
+loop-byte-init g c = record { fed = λ script front rest cut at. rw append-nil at; named = refl; limit = refl; taken = omega arith }
 
 pub loop-byte-preserved : goal.loop-byte-preserved
 loop-byte-preserved g c = record {
   fed = λ script front rest cut at. rw (front_more front c.args.bytes.now c.loop-byte.byte-index (omega arith))
       (c.in_ok-take_byte.ensures.fed script (front ++ take c.loop-byte.byte-index c.args.bytes.now) _ (cut_at script.bytes front c.args.bytes.now rest c.loop-byte.byte-index cut (omega arith)) (c.loop-byte.invariant.fed script front rest cut at));
+  named = c.in_ok-take_byte.ensures.named ∙ c.loop-byte.invariant.named;
   limit = c.in_ok-take_byte.ensures.limit ∙ c.loop-byte.invariant.limit;
   taken = omega (arith, c.in_ok-take_byte.ensures.taken, c.loop-byte.invariant.taken);
 }

@@ -1,0 +1,27 @@
+-- What stood as a reader was called.
+use Rattle.std.specs.Prelude.{ℕ, List, Option, refl}
+use Rattle.std.specs.Coded.{Coded, code_by, coded×, coded_list, coded_option, coded_ℕ}
+use Rattle.std.specs.FinMap as map
+use Rattle.cred_phc.specs.contracts.Record as stored
+use Rattle.cred_book.specs.Accounts.{Accounts}
+
+-- the bytes that the reader had left, the name of the writer beside it, the bytes that this one
+-- held, and the keeper's book
+pub record Call : Type 0 where
+  pub left : Option (List ℕ)
+  pub beside : ℕ
+  pub written : Option (List ℕ)
+  pub accounts : Accounts
+
+-- how the logic stores bytes that may be unknown, a book, and a call
+abbrev pub bytes_code : Coded (Option (List ℕ))
+bytes_code = coded_option (coded_list coded_ℕ)
+
+abbrev pub accounts_code : Coded Accounts
+accounts_code = map.code (coded_list coded_ℕ) (coded_option stored.the_row.coded)
+
+abbrev pub call_code : Coded Call
+call_code = code_by ((Option (List ℕ) × ℕ) × (Option (List ℕ) × Accounts))
+    (coded× (coded× bytes_code coded_ℕ) (coded× bytes_code accounts_code))
+    (λ call. ((call.left, call.beside), (call.written, call.accounts)))
+    (λ p. record { left = p.0.0; beside = p.0.1; written = p.1.0; accounts = p.1.1 }) (λ _. refl)
