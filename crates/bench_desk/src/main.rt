@@ -3,11 +3,11 @@
 //! often each does, how many upgrades are made, `hashed` if these aren't settled or `kept` if each
 //! is kept for a millisecond under the lock, and `figures` if times are to be printed too.
 //!
-//! Or they are `soak` and a number of operations: these are done in four threads at desks of both
-//! kinds, and what is left of each desk is compared with what its sessions were told.
+//! `soak` and a number of operations may follow, or stand alone: these are done in four threads at
+//! desks of both kinds, and what is left of each desk is compared with what its sessions were told.
 #![tactic(auto)]
 
-use anyhow::{Context, Result};
+use anyhow::{Context, Result, bail};
 use figures::Ran;
 use load::{Beside, Load};
 use soak::soak;
@@ -80,14 +80,33 @@ fn has(words: &[String], wanted: &str) -> bool {
     words.iter().any(|word| word.as_str() == wanted)
 }
 
+/// The number of operations after the word `soak`, which is taken from the words with it.
+fn take_soak(words: &mut Vec<String>) -> Result<Option<u64>> {
+    let Some(place) = words.iter().position(|word| word.as_str() == "soak") else {
+        return Ok(None);
+    };
+    let operations = match words.get(place.saturating_add(1)) {
+        Some(number) => number.as_str().parse::<u64>()?,
+        None => bail!("how many operations?"),
+    };
+    words.truncate(place);
+    Ok(Some(operations))
+}
+
 fn main(rt: HostRuntime) -> Result<()> {
     let alloc = rt.alloc();
-    let words: Vec<String> = env::args(&rt)?.skip(1).collect(alloc)?;
-    if has(&words, "soak") {
-        let operations = words.get(1).context("how many operations?")?;
-        let soaked = soak(&rt, alloc, operations.as_str().parse::<u64>()?)?;
-        println!(rt; "{soaked}; every journal leads to its book, and all counts agree")?;
-        return Ok(());
+    let mut words: Vec<String> = env::args(&rt)?.skip(1).collect(alloc)?;
+    let has_figures = has(&words, "figures");
+    if let Some(operations) = take_soak(&mut words)? {
+        let soaked = soak(&rt, alloc, operations)?;
+        println!(rt; "{soaked}: every journal leads to its book, and all counts agree")?;
+        if has_figures {
+            let [changes, additions, unkept] = soaked.figures();
+            println!(rt; "{changes} changes, {additions} additions, {unkept} refused by a writer")?;
+        }
+        if words.is_empty() {
+            return Ok(());
+        }
     }
     let asked = Asked::of(&words)?;
     let ran = asked.run(&rt, alloc)?;

@@ -44,7 +44,7 @@ fn run_named<J: Naming + Send + Sync, R: Threads + Wait + Clock + Sync>(
     let mut back = Vec::with_capacity(alloc, usize::from(sessions)).ok()?;
     let pause = load.beside.pause();
     let made = KeptDesk::<J, Slow<R>>::new(rt, alloc, opened, book, sessions, Slow { rt, pause });
-    let (desk, sessions) = made.ok()?;
+    let (desk, handed, sessions) = made.ok()?;
     for session in sessions {
         let _ = seats.push((session, None));
     }
@@ -53,13 +53,8 @@ fn run_named<J: Naming + Send + Sync, R: Threads + Wait + Clock + Sync>(
         let _ = back.push(session);
         let _ = figures.push(came_to);
     }
-    match desk.close(rt, back) {
-        Ok(kept) => Ran::of(&figures, kept.closed.journal.len() as u64),
-        Err((desk, back, _)) => {
-            let _left = desk.give_up(rt, &back);
-            None
-        }
-    }
+    let finished = desk.finish(rt, handed, back);
+    Ran::of(&figures, finished.remains.journal.len() as u64)
 }
 
 /// Lets the first thread upgrade and the others verify, and leaves what each came to beside its

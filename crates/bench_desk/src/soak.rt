@@ -1,6 +1,6 @@
 //! A soak: sessions in threads do operations of every kind at one desk after another, each on the
-//! book that the one before left. Once a desk is closed, its journal, its book and all counts are
-//! compared.
+//! book that the one before left. Once a desk is ended, in one way or another, its journal, its
+//! book and all counts are compared.
 
 use anyhow::{Context, Result};
 use cred_book::Book;
@@ -23,6 +23,35 @@ const SESSIONS: u8 = 4;
 /// How many operations are done at one desk at most: so many as its journal is to have room for.
 const TURNS: u64 = 50_000;
 
+/// The desks that are served in turn.
+const KINDS: [Kind; 6] = [
+    Kind::Kept(Ending::Close),
+    Kind::Plain(Ending::Close),
+    Kind::Kept(Ending::Finish),
+    Kind::Plain(Ending::GiveUp),
+    Kind::Kept(Ending::GiveUp),
+    Kind::Kept(Ending::End),
+];
+
+/// A desk, and how it ends.
+#[derive(Clone, Copy)]
+enum Kind {
+    Kept(Ending),
+    Plain(Ending),
+}
+
+#[derive(Clone, Copy)]
+enum Ending {
+    /// With all sessions.
+    Close,
+    /// Without the last session, which is lost.
+    Finish,
+    /// Without counts.
+    GiveUp,
+    /// Once all is handed out.
+    End,
+}
+
 /// What a desk is served with.
 #[derive(Clone, Copy)]
 struct Round<'a> {
@@ -31,6 +60,7 @@ struct Round<'a> {
     seed: u64,
     /// How many operations all its sessions do.
     turns: u64,
+    ending: Ending,
 }
 
 /// What was done at all desks.
@@ -56,15 +86,18 @@ impl Soaked {
 
 impl fmt::Display for Soaked {
     fn fmt<W: fmt::Write>(&self, f: &mut fmt::Formatter<W>) -> fmt::Result {
-        write!(
-            f,
-            "{} operations at {} desks: {} changes, {} additions, {} refused by a writer",
-            self.operations, self.desks, self.changes, self.additions, self.unkept
-        )
+        write!(f, "{} operations at {} desks", self.operations, self.desks)
     }
 }
 
-/// Does so many operations, at a kept desk and a plain one in turn.
+impl Soaked {
+    /// What isn't the same in each run, since threads meet otherwise.
+    pub(crate) fn figures(&self) -> [u64; 3] {
+        [self.changes, self.additions, self.unkept]
+    }
+}
+
+/// Does so many operations, at desks of each kind in turn.
 pub(crate) fn soak<R: Threads + Wait + Sync>(
     rt: &R,
     alloc: Global,
@@ -79,17 +112,20 @@ pub(crate) fn soak<R: Threads + Wait + Sync>(
         additions: 0,
         unkept: 0,
     };
-    for desk in 0..operations.div_ceil(TURNS) {
-        let left = operations.saturating_sub(desk.saturating_mul(TURNS));
+    let turns = operations.div_ceil(KINDS.len() as u64).clamp(1, TURNS);
+    for desk in 0..operations.div_ceil(turns) {
+        let left = operations.saturating_sub(desk.saturating_mul(turns));
+        let kind = KINDS[(desk % KINDS.len() as u64) as usize];
+        let (Kind::Kept(ending) | Kind::Plain(ending)) = kind;
         let round = Round {
             pool: &pool,
             seed: desk,
-            turns: left.min(TURNS),
+            turns: left.min(turns),
+            ending,
         };
-        let ended = if desk % 2 == 0 {
-            kept::serve(rt, alloc, &book, &round)
-        } else {
-            plain::serve(rt, alloc, &book, &round)
+        let ended = match kind {
+            Kind::Kept(_) => kept::serve(rt, alloc, &book, &round),
+            Kind::Plain(_) => plain::serve(rt, alloc, &book, &round),
         };
         let ended = ended.context("serving a desk")?;
         ended.judge(&book, round.turns)?;

@@ -1,28 +1,27 @@
 -- Beginnings of one list, and books after entries.
-use Rattle.std.proofs.Common.{◌≡◌, ℕ, ◌+◌, ◌<◌, List, [], ◌∷◌, ◌++◌, length, Bool, true, false, Option, Some, None, inl, inr, is_some, refl, ap, subst, arith, length-append, get_or, sym, ◌∙◌}
+use Rattle.std.proofs.Common.{◌≡◌, ℕ, ◌+◌, ◌<◌, List, [], ◌∷◌, ◌++◌, length, Bool, true, false, MatchBool, Option, Some, None, inl, inr, is_some, refl, ap, subst, arith, length-append, get_or, sym, ◌∙◌}
 use Rattle.std.proofs.lemmas.Bool.{cases_eq}
 use Rattle.std.proofs.lemmas.List.{get_or_read, append_assoc}
 use mathlib.Core.List.{IsPrefix}
 use Rattle.std.specs.FinMap as map
 use Rattle.cred_phc.specs.Values.{RecordValue}
-use Rattle.cred_book.specs.Accounts.{Accounts, most_accounts}
+use Rattle.cred_book.specs.Accounts.{Accounts, with_entry}
 use Rattle.cred_book.proofs.Kept.{with_known, with_new}
 use Rattle.cred_desk.specs.declared.entry.AccountState.{AccountState}
-use Rattle.cred_desk.specs.declared.entry.AccountState.TheVariants as state
 use Rattle.cred_desk.specs.declared.entry.Entry.{Entry}
 use Rattle.cred_desk.specs.Commits.{list_after, weight}
-use Rattle.cred_desk.specs.Histories.{put, with_state, after, FollowsAt, IsAllowed, IsLegal, IsListed, IsMade}
-use Rattle.cred_desk.specs.Published.{with_room}
+use Rattle.cred_desk.specs.Histories.{put, after, FollowsAt, IsAllowed, IsLegal, IsListed, IsMade}
 use Rattle.grow_log.specs.Beginnings.{IsLonger}
-use Rattle.grow_log.proofs.Prefixes.{prefix_length, prefix_whole}
+use Rattle.grow_log.proofs.Prefixes.{prefix_whole}
 
 -- a longer list is no beginning of a shorter one
 pub longer_ends : (xs ys : List Entry) → IsLonger xs ys → IsPrefix ys xs → ⊥
 longer_ends xs ys longer p = omega (arith, longer.1, ap length (p.1), length-append ys p.0)
 
--- of two beginnings of one another both are one
-pub begins_both : (xs ys : List Entry) → IsPrefix xs ys → IsPrefix ys xs → xs ≡ ys
-begins_both xs ys p q = prefix_whole xs ys p (prefix_length ys xs q)
+-- of two beginnings of one list, those that are as long as one another are one
+pub same_length : (begins : Bool) (xs ys : List Entry) → MatchBool begins (IsPrefix xs ys) (IsLonger ys xs) → length xs ≡ length ys → xs ≡ ys
+same_length true xs ys p len = prefix_whole xs ys p (omega (arith, len))
+same_length false xs ys longer len = absurd (omega (arith, longer.1, len))
 
 -- the book after one entry more
 pub after_snoc : (book : Accounts) (list : List Entry) (entry : Entry) → after book (list ++ entry ∷ []) ≡ put (after book list) entry
@@ -34,28 +33,17 @@ pub listed_snoc : (loads : Bool) (book : Accounts) (list : List Entry) (entry : 
 listed_snoc loads book [] entry listed allowed = (allowed, tt)
 listed_snoc loads book (e ∷ list) entry listed allowed = (listed.0, listed_snoc loads (put book e) list entry listed.1 allowed)
 
--- an entry that may come next is put in a book as it stands, whose name is there or has room
-module _ (book : Accounts) (name : List ℕ) where
-  room_for_known : (now : AccountState) → map.contains_key book name ≡ true → with_room book name now ≡ with_state book name now
-  room_for_known (state.Record stored) known = with_known book name (Some stored) known
-  room_for_known state.NoRecord known = with_known book name None known
-  room_for_known state.NoAccount known = refl
-
-  room_for_new : (now : AccountState) → map.contains_key book name ≡ false → map.len book < most_accounts → with_room book name now ≡ with_state book name now
-  room_for_new (state.Record stored) absent room = with_new book name (Some stored) absent room
-  room_for_new state.NoRecord absent room = with_new book name None absent room
-  room_for_new state.NoAccount absent room = refl
-
 there : (found : Option (Option RecordValue)) (now : AccountState) → FollowsAt found now → is_some found ≡ true
 there None now follows = absurd follows
 there (Some old) now follows = refl
 
-pub with_allowed : (loads : Bool) (book : Accounts) (entry : Entry) → IsAllowed loads book entry → with_room book entry.name entry.now ≡ put book entry
-with_allowed false book entry made = room_for_known book entry.name entry.now (there (map.get book entry.name) entry.now made)
-with_allowed true book entry (inl made) = room_for_known book entry.name entry.now (there (map.get book entry.name) entry.now made)
-with_allowed true book entry (inr (inl admitted)) = room_for_new book entry.name entry.now admitted.0 admitted.1
-with_allowed true book entry (inr (inr (inl loaded))) = room_for_known book entry.name entry.now loaded.0
-with_allowed true book entry (inr (inr (inr deleted))) = room_for_known book entry.name entry.now deleted.0
+-- where an entry may come next there is room for its name, if the name isn't there
+pub put_allowed : (loads : Bool) (book : Accounts) (entry : Entry) (stored : Option RecordValue) → IsAllowed loads book entry → with_entry book entry.name stored ≡ map.insert book entry.name stored
+put_allowed false book entry stored made = with_known book entry.name stored (there (map.get book entry.name) entry.now made)
+put_allowed true book entry stored (inl made) = with_known book entry.name stored (there (map.get book entry.name) entry.now made)
+put_allowed true book entry stored (inr (inl admitted)) = with_new book entry.name stored admitted.0 admitted.1
+put_allowed true book entry stored (inr (inr (inl loaded))) = with_known book entry.name stored loaded.0
+put_allowed true book entry stored (inr (inr (inr deleted))) = with_known book entry.name stored deleted.0
 
 -- what operations alone made goes on with what one of them makes
 pub legal_snoc : (book : Accounts) (list new : List Entry) (entry : Entry) → new ≡ list ++ entry ∷ [] → IsMade (after book list) entry → IsLegal book list → IsLegal book new

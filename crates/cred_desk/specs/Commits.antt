@@ -1,5 +1,5 @@
 -- What a commit answers, and what becomes of the list.
-use Rattle.std.specs.Prelude.{ℕ, List, [], ◌∷◌, ◌++◌, if◌then◌else◌, Option, Some, None}
+use Rattle.std.specs.Prelude.{◌≡◌, ℕ, List, [], ◌∷◌, ◌++◌, if◌then◌else◌, Option, Some, None}
 use Rattle.cred_phc.specs.Values.{IsPassword}
 use Rattle.cred_book.specs.Accounts.{Accounts}
 use Rattle.cred_book.specs.Commits.{judgement}
@@ -8,7 +8,8 @@ use Rattle.cred_book.specs.declared.reply.Reply.{Reply}
 use Rattle.cred_book.specs.declared.request.Request.{Request}
 use Rattle.cred_book.specs.declared.request.Request.TheVariants.{Enrol, Verify, Change, Upgrade}
 use Rattle.cred_book.specs.declared.request.Request.TheVariants.{Remove}
-use Rattle.cred_desk.specs.Histories.{entry}
+use Rattle.cred_desk.specs.Histories.{IsAllowed, IsListed, after, entry, put}
+use Rattle.cred_desk.specs.Naming.{Naming}
 use Rattle.cred_desk.specs.declared.entry.Entry.{Entry}
 
 -- the answer at this book
@@ -25,13 +26,19 @@ abbrev pub list_after : List Entry → Option Entry → List Entry
 list_after list None = list
 list_after list (Some entry) = list ++ entry ∷ []
 
+-- an entry may come next in a copy of the book that lacks the one before it, if any, and leads it to
+-- the book after this list
+abbrev pub LeadsTo : Naming → Accounts → Option Entry → Entry → List Entry → Type 0
+LeadsTo name copy last entry list = IsListed name.loads copy (list_after [] last)
+    × IsAllowed name.loads (after copy (list_after [] last)) entry
+    × (put (after copy (list_after [] last)) entry ≡ after name.opening list)
+
 -- how many changes it is
 abbrev pub weight : Option Entry → ℕ
 weight None = 0
 weight (Some entry) = 1
 
--- ---- the passwords of a request
-
+-- the passwords of a request are ones
 abbrev pub HavePasswords : Request → Type 0
 HavePasswords (Enrol name pw setting) = IsPassword pw
 HavePasswords (Verify name pw) = IsPassword pw

@@ -3,7 +3,6 @@ pub mod Changes
 pub mod Commits
 pub mod Histories
 pub mod Naming
-pub mod Published
 pub mod Refusals
 pub mod Standing
 pub use Rattle.cred_book.specs.Accounts

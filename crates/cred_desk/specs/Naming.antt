@@ -5,20 +5,27 @@ use Rattle.cred_book.specs.Accounts.{Accounts}
 
 -- the members of `Naming`, with those of `Ledger` above it
 abbrev pub Naming : Type 0
-Naming = record { name : ℕ; parts : ℕ; list : Book; opening : Accounts; loads : Bool }
+Naming = record {
+  name : ℕ;
+  parts : ℕ;
+  list : Book;
+  handouts : ℕ;
+  opening : Accounts;
+  loads : Bool;
+}
 
--- what a clause sees of a list that was opened, before it has a name
+-- what a clause sees of a list that was opened, before it has a name: which one it is, and which
+-- ledgers count what its sessions do and what is handed out
 pub record NewList : Type 0 where
-  -- which list it is
   pub list : Book
-  -- which ledger counts what its sessions do
   pub ledger : ℕ
   pub sessions : ℕ
+  pub handouts : ℕ
 
 -- the name is that of this list
 abbrev pub IsNamed : Naming → NewList → Type 0
 IsNamed name opened = (opened.list ≡ name.list) × (opened.ledger ≡ name.name)
-    × (opened.sessions ≡ name.parts)
+    × (opened.sessions ≡ name.parts) × (opened.handouts ≡ name.handouts)
 
 -- its list starts from this book, and has so many sessions
 abbrev pub StartsAt : Naming → Accounts → ℕ → Type 0

@@ -55,8 +55,4 @@ ClosesAt book old new work (Err (back, error.NoAccount)) = ⊥
 -- why a desk isn't closed, by how many sessions it has and those handed in: some are missing
 abbrev pub IsMissed : ℕ → List Standing → DeskError → Type 0
 IsMissed all given error.Session = length given ≢ all
-IsMissed all given error.Memory = ⊥
-IsMissed all given error.Sessions = ⊥
-IsMissed all given error.Reader = ⊥
-IsMissed all given error.NoAccount = ⊥
-IsMissed all given error.Older = ⊥
+IsMissed all given _ = ⊥

@@ -1,43 +1,53 @@
 //! What lies behind a desk's lock: the publisher of its book, the recorder of its entries, and the
 //! count of all that its sessions made.
 
-ghost use Rattle.std.specs.Prelude.{◌≡◌, ◌≢◌, ◌+◌, ◌++◌, ◌≤◌, [], All, IfErr, IfOk, IfSome};
-ghost use Rattle.std.specs.Prelude.{MatchResult, None, length, true, vec_capacity};
+ghost use Rattle.std.specs.Prelude.{◌≡◌, ◌≢◌, ◌+◌, ◌<◌, ◌^◌, ◌++◌, ◌∷◌, ◌≤◌, [], All, IfErr};
+ghost use Rattle.std.specs.Prelude.{IfOk, MatchResult, None, length, vec_capacity};
 ghost use mathlib.Core.List.{IsPrefix};
 ghost use Rattle.cred_book.specs.declared.error.BookError.TheVariants.{Memory as memory};
 ghost use Rattle.cred_desk.specs.Changes.{refusal_of};
 ghost use Rattle.cred_desk.specs.Commits.{entry_of, list_after, reply_of, weight};
-ghost use Rattle.cred_desk.specs.Histories.{IsListed, after};
+ghost use Rattle.cred_desk.specs.Histories.{IsAllowed, IsListed, after};
 ghost use Rattle.cred_desk.specs.Standing.{IsMissed, IsUncounted};
 
 mod additions;
-mod endings;
 
-use crate::closed::Checkpoint;
+use crate::change::judge;
+use crate::closed::Remains;
+use crate::entry::Entry;
 use crate::error::DeskError;
+use crate::handed::Handed;
 use crate::naming::Naming;
 use crate::publisher::Publisher;
 use crate::recorder::Recorder;
 use crate::session::Session;
-use crate::tally::Tallies;
-use crate::told::Told;
-use crate::writer::{EntryWriter, KeepError, refusal};
-use cred_book::{Reply, Worked};
+use crate::tally::{Counting, Tallies};
+use crate::told::{Heard, Told};
+use crate::writer::{EntryWriter, KeepError};
+use cred_book::{BookError, Reply, Worked};
 use std::marker::Model;
 use std::sync::Wait;
 use std::sync::ledger::{Book as Total, Share};
 
 /// Settles one work after another, and counts the entries. Contracts see it as its list.
 pub(crate) struct Clerk<J: Naming, W: EntryWriter> {
-    publisher: Publisher<J>,
+    pub(crate) publisher: Publisher<J>,
     /// Has each entry before anybody sees it.
-    recorder: Recorder<J, W>,
-    total: Total<J>,
+    pub(crate) recorder: Recorder<J, W>,
+    pub(crate) total: Total<J>,
     /// What the sessions' shares are merged into.
-    spare: Share<J>,
-    sessions: u8,
+    pub(crate) spare: Share<J>,
+    pub(crate) sessions: u8,
     /// Empty, with room for each session.
-    tallies: Tallies,
+    pub(crate) tallies: Tallies,
+}
+
+/// What a clerk leaves.
+#[derive(Drop)]
+pub(crate) struct Estate<J: Naming> {
+    pub(crate) remains: Remains,
+    pub(crate) counting: Counting<J>,
+    pub(crate) tallies: Tallies,
 }
 
 impl<J: Naming, W: EntryWriter> Model for Clerk<J, W> {
@@ -60,34 +70,6 @@ impl<J: Naming, W: EntryWriter> Model for Clerk<J, W> {
 }
 
 impl<J: Naming, W: EntryWriter> Clerk<J, W> {
-    /// One who has settled nothing.
-    pub(crate) fn new(
-        publisher: Publisher<J>,
-        recorder: Recorder<J, W>,
-        total: Total<J>,
-        spare: Share<J>,
-        sessions: u8,
-        tallies: Tallies,
-    ) -> Clerk<J, W>
-        requires list { publisher ≡ [] }
-        requires recorder { recorder ≡ [] }
-        requires total { (total.total ≡ 0) × (spare.parts ≡ 0) × (spare.amount ≡ 0) }
-        requires empty { (tallies.counts.items ≡ []) × (tallies.additions.items ≡ []) }
-        requires room { (sessions ≤ vec_capacity tallies.counts)
-            × (sessions ≤ vec_capacity tallies.additions) }
-        requires name { J.parts ≡ sessions }
-        ensures { result ≡ [] }
-    {
-        Clerk {
-            publisher,
-            recorder,
-            total,
-            spare,
-            sessions,
-            tallies,
-        }
-    }
-
     /// Commits the work for the session, which knows the list after it from then on.
     ///
     /// Errors: `Memory` if it runs out for a change; the writer's own. The list stays then, the
@@ -116,18 +98,16 @@ impl<J: Naming, W: EntryWriter> Clerk<J, W> {
         ensures error { IfErr result (λ e. refusal_of e.1 ≡ memory) }
     {
         self.publisher.covers(session.known());
-        match self.publisher.commit(rt, work, &mut self.recorder) {
-            Ok((reply, entry)) => {
-                if entry.is_some() {
-                    session.count_change(&mut self.total);
-                }
-                Ok((reply, self.tell(session)))
-            }
-            Err((work, error)) => {
-                self.tell(session);
-                Err((work, refusal(error)))
-            }
+        let (reply, entry) = judge(self.publisher.book(), &work);
+        let Some(entry) = entry else {
+            return Ok((reply, self.tell(session)));
+        };
+        if let Err(error) = keep_and_show(rt, &mut self.publisher, &mut self.recorder, entry) {
+            self.tell(session);
+            return Err((work, error));
         }
+        session.count_change(&mut self.total);
+        Ok((reply, self.tell(session)))
     }
 
     /// Tells the session the present list.
@@ -146,17 +126,23 @@ impl<J: Naming, W: EntryWriter> Clerk<J, W> {
         present
     }
 
-    /// Hands out the entries after those, if they are what was handed out before.
-    pub(crate) fn checkpoint(&mut self, handed: &Told<J>) -> Option<Checkpoint<J>>
-        requires { W.lasts ≡ true }
+    /// Finds that what somebody was told is a beginning of the list.
+    pub(crate) fn meet(&mut self, heard: &Heard<J>)
+        ensures begins { IsPrefix heard.now self.new }
+        ensures same { self.new ≡ self.old }
+    {
+        self.publisher.covers_heard(heard);
+    }
+
+    /// Hands out the entries after those that were handed out before.
+    pub(crate) fn checkpoint(&mut self, handed: &mut Handed<J>) -> Vec<Entry>
         ensures same { self.new ≡ self.old }
         ensures listed { IsListed J.loads J.opening self.old }
-        ensures entries { IfSome result (λ c. c.told ≡ handed.now ++ c.entries.items) }
-        ensures told { IfSome result (λ c. c.told ≡ self.new) }
+        ensures entries { handed.new ≡ handed.old ++ result.items }
+        ensures whole { handed.new ≡ self.new }
     {
         let told = self.publisher.told();
-        let entries = self.recorder.hand_out(told.front(), handed.front())?;
-        Some(Checkpoint { entries, told })
+        self.recorder.hand_out(handed, told.front())
     }
 
     /// Looks whether these are all sessions of the desk. None knows more than the journal.
@@ -175,6 +161,43 @@ impl<J: Naming, W: EntryWriter> Clerk<J, W> {
         Ok(())
     }
 
+    /// Lets nobody in to the book from now on, waits for those that read it, and takes all apart.
+    pub(crate) fn end<R: Wait>(self, rt: &R, handed: Handed<J>) -> (Estate<J>, W)
+        ensures listed { IsListed J.loads J.opening self }
+        ensures rest { self ≡ handed ++ result.0.remains.journal.items }
+        ensures book { result.0.remains.book ≡ after J.opening self }
+        ensures kept { W.keeps result.1 self }
+        ensures entries { (result.0.counting.entries ≡ length self)
+            × (result.0.counting.total.total ≡ length self) }
+        ensures none { (result.0.counting.all.parts ≡ 0) × (result.0.counting.all.amount ≡ 0) }
+        ensures empty { (result.0.tallies.counts.items ≡ [])
+            × (result.0.tallies.additions.items ≡ []) }
+        ensures room { (J.parts ≤ vec_capacity result.0.tallies.counts)
+            × (J.parts ≤ vec_capacity result.0.tallies.additions) }
+    {
+        let Clerk {
+            publisher,
+            recorder,
+            total,
+            spare,
+            sessions: _,
+            tallies,
+        } = self;
+        let counting = Counting {
+            entries: publisher.front().len(),
+            total,
+            all: spare,
+        };
+        let (journal, writer) = recorder.into_rest(handed);
+        let book = publisher.finish(rt);
+        let left = Estate {
+            remains: Remains { book, journal },
+            counting,
+            tallies,
+        };
+        (left, writer)
+    }
+
     /// Finds that none of these sessions knows more than the journal.
     pub(crate) fn cover(&mut self, sessions: &[Session<J>])
         ensures same { self.new ≡ self.old }
@@ -182,6 +205,31 @@ impl<J: Naming, W: EntryWriter> Clerk<J, W> {
     {
         cover_all(&mut self.publisher, sessions);
     }
+}
+
+/// Has an entry kept, and then shown: once the writer has it, nothing can fail.
+///
+/// Errors: `Memory` if it runs out, or if the list has 2^64 - 1 entries; the writer's own. Nothing
+/// changes then.
+fn keep_and_show<J: Naming, W: EntryWriter, R: Wait>(
+    rt: &R,
+    publisher: &mut Publisher<J>,
+    recorder: &mut Recorder<J, W>,
+    entry: Entry,
+) -> Result<(), KeepError<W::Error>>
+    requires recorded { recorder.old ≡ publisher.old }
+    requires allowed { IsAllowed J.loads (after J.opening publisher.old) entry }
+    ensures recorded { recorder.new ≡ publisher.new }
+    ensures list { MatchResult result (λ _. publisher.new ≡ publisher.old ++ entry ∷ [])
+        (λ e. (publisher.new ≡ publisher.old) × (refusal_of e ≡ memory)) }
+    ensures fits { IfOk result (λ _. length publisher.new < 2 ^ 64) }
+{
+    if publisher.is_full() {
+        return Err(KeepError::Book(BookError::Memory));
+    }
+    recorder.take(&entry)?;
+    publisher.show(rt, entry);
+    Ok(())
 }
 
 /// Finds that no session knows more than the publisher's list.

@@ -5,8 +5,12 @@ ghost use Rattle.std.specs.FinMap as map;
 ghost use Rattle.std.specs.Slice.Iter.{iter_rest};
 
 use crate::entry::Entry;
+use crate::error::DeskError;
+use crate::handed::Handed;
+use crate::kept_desk::KeptDesk;
 use crate::naming::Naming;
-use crate::told::Told;
+use crate::session::Session;
+use crate::writer::EntryWriter;
 use cred_book::{Book, Name};
 use cred_phc::Record;
 use std::{fmt, slice};
@@ -52,7 +56,7 @@ impl fmt::Debug for Closed {
 #[derive(Drop)]
 pub struct Remains {
     pub book: Book,
-    /// All changes, in order.
+    /// All changes that weren't handed out, in order.
     pub journal: Vec<Entry>,
 }
 
@@ -70,21 +74,22 @@ impl fmt::Debug for Remains {
 /// What is left of a kept desk that was closed with all its sessions.
 #[derive(Drop)]
 pub struct Kept<W> {
+    /// Its journal is what wasn't handed out.
     pub closed: Closed,
     /// How many entries each session added (admissions, loads and deletions), in the order of the
     /// counts.
     pub additions: Vec<u64>,
-    /// It keeps the journal.
+    /// It keeps all entries.
     pub writer: W,
 }
 
-/// What a desk that lives on hands out of its journal.
-#[derive(Drop)]
-pub struct Checkpoint<J: Naming> {
-    /// The entries since the last one, in order.
-    pub entries: Vec<Entry>,
-    /// The whole list up to here.
-    pub told: Told<J>,
+/// A desk that isn't closed, with all that was handed in.
+pub struct Unclosed<J: Naming, W: EntryWriter> {
+    pub desk: KeptDesk<J, W>,
+    pub handed: Handed<J>,
+    pub sessions: Vec<Session<J>>,
+    /// `Session`: some are missing.
+    pub error: DeskError,
 }
 
 /// What is left of a desk that lived on, whatever became of its sessions.

@@ -6,12 +6,14 @@ ghost use mathlib.Core.List.{IsPrefix};
 ghost use Rattle.cred_book.specs.Calls.{Admits, Loads};
 ghost use Rattle.cred_book.specs.Commits.{Commits};
 ghost use Rattle.cred_desk.specs.Commits.{entry_of, list_after, reply_of};
-ghost use Rattle.cred_desk.specs.Histories.{IsLawful, IsLegal, after, entry};
+ghost use Rattle.cred_book.specs.declared.error.BookError.TheVariants.{Memory as memory};
+ghost use Rattle.cred_desk.specs.Histories.{IsAllowed, IsLawful, IsLegal, IsMade, after, entry};
 ghost use Rattle.cred_desk.specs.Naming.{IsNamed, StartsAt};
 ghost use Rattle.cred_desk.specs.Refusals.{IsRefusedToMake};
 ghost use Rattle.cred_desk.specs.Standing.{IsNew};
 ghost use Rattle.cred_desk.specs.declared.error.DeskError.TheVariants as error;
 
+use crate::change::judge;
 use crate::entry::{AccountState, Entry};
 use crate::error::DeskError;
 use crate::making::{MOST_SESSIONS, Made, make};
@@ -19,7 +21,6 @@ use crate::naming::{Naming, Opened};
 use crate::publisher::Publisher;
 use crate::session::Session;
 use crate::told::Told;
-use crate::writer::Unkept;
 use cred_book::{Book, BookError, Keeper, Name, Reply, Request, Ticket, Worked};
 use cred_phc::Record;
 use std::alloc::Global;
@@ -85,6 +86,7 @@ impl<J: Naming> Committer<J> {
             sessions,
             total: _,
             spare: _,
+            handouts: _,
         } = make(rt, alloc, opened, book, sessions)?;
         Ok((Committer { publisher }, sessions))
     }
@@ -109,10 +111,31 @@ impl<J: Naming> Committer<J> {
             (λ e. (e.0 ≡ work) × (e.1 ≡ error.Memory) × (self.new ≡ self.old)) }
         ensures plain { entry_of (after J.opening self.old) work ≡ None → IsOk result }
     {
-        match self.publisher.commit(rt, work, &mut Unkept) {
-            Ok((reply, _entry)) => Ok((reply, self.publisher.told())),
-            Err((work, _)) => Err((work, DeskError::Memory)),
+        let (reply, entry) = judge(self.publisher.book(), &work);
+        if let Some(entry) = entry {
+            if self.add(rt, entry).is_err() {
+                return Err((work, DeskError::Memory));
+            }
         }
+        Ok((reply, self.publisher.told()))
+    }
+
+    /// Adds an entry.
+    ///
+    /// Errors: `Memory` if the list has 2^64 - 1 entries. Nothing changes then.
+    fn add<R: Wait>(&mut self, rt: &R, entry: Entry) -> Result<(), BookError>
+        requires { IsAllowed J.loads (after J.opening self.old) entry }
+        ensures list { MatchResult result (λ _. self.new ≡ self.old ++ entry ∷ [])
+            (λ e. (self.new ≡ self.old) × (e ≡ memory)) }
+        ensures lawful { IsLawful J.opening self.new }
+        ensures legal { IsMade (after J.opening self.old) entry → IsLegal J.opening self.old
+            → IsLegal J.opening self.new }
+    {
+        if self.publisher.is_full() {
+            return Err(BookError::Memory);
+        }
+        self.publisher.show(rt, entry);
+        Ok(())
     }
 
     /// Finds that what the session knows is a beginning of the list. So whatever a session reads is
@@ -124,7 +147,7 @@ impl<J: Naming> Committer<J> {
         self.publisher.covers(session.known());
     }
 
-    /// Lets the sessions in to no book from now on. It waits for those that read it.
+    /// Lets go of the book. It waits for those that read it.
     pub fn end<R: Wait>(self, rt: &R) {
         let Committer { publisher } = self;
         publisher.finish(rt);
@@ -151,9 +174,7 @@ impl<J: Naming> Keeper for Committer<J> {
             return Err(BookError::Full);
         }
         let now = AccountState::NoRecord;
-        self.publisher
-            .publish(rt, Entry { name, now }, &mut Unkept)
-            .map_err(|_| BookError::Memory)
+        self.add(rt, Entry { name, now })
     }
 
     #[tactic(auto, using(crate::proofs::Lists::after_snoc))]
@@ -165,11 +186,9 @@ impl<J: Naming> Keeper for Committer<J> {
             (λ _. self.new ≡ self.old) }
         ensures lawful { IsLawful J.opening self.new }
     {
-        self.show(name)?;
+        self.publisher.book().show(name)?;
         let now = AccountState::Record(stored);
-        self.publisher
-            .publish(rt, Entry { name: *name, now }, &mut Unkept)
-            .map_err(|_| BookError::Memory)
+        self.add(rt, Entry { name: *name, now })
     }
 
     fn show(&self, name: &Name) -> Result<Option<Record>, BookError> {
@@ -190,8 +209,8 @@ impl<J: Naming> Keeper for Committer<J> {
         ensures lawful { IsLawful J.opening self.new }
         ensures legal { IsLegal J.opening self.old → IsLegal J.opening self.new }
     {
-        match self.publisher.commit(rt, worked, &mut Unkept) {
-            Ok((reply, _entry)) => Ok(reply),
+        match self.commit_told(rt, worked) {
+            Ok((reply, _told)) => Ok(reply),
             Err((worked, _)) => Err((worked, BookError::Memory)),
         }
     }

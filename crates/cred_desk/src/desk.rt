@@ -10,8 +10,9 @@ ghost use Rattle.cred_desk.specs.Refusals.{IsRefusedToMake};
 ghost use Rattle.cred_desk.specs.Standing.{IsMissed, IsNew};
 ghost use Rattle.cred_desk.specs.declared.error.DeskError.TheVariants as error;
 
-use crate::closed::{Closed, Kept, Remains};
+use crate::closed::{Closed, Kept, Remains, Unclosed};
 use crate::error::DeskError;
+use crate::handed::Handed;
 use crate::kept_desk::KeptDesk;
 use crate::naming::{Naming, Opened};
 use crate::session::Session;
@@ -21,7 +22,7 @@ use cred_book::{Book, Reply, Worked};
 use std::alloc::Global;
 use std::fmt;
 use std::marker::Model;
-use std::sync::Wait;
+use std::sync::{Mutex, Wait};
 
 /// Keeps a book that sessions read while they change it, and a journal of all changes. It isn't
 /// `Drop`: end it by `close` or `end`.
@@ -29,6 +30,23 @@ use std::sync::Wait;
 /// It is a kept desk whose writer keeps nothing, and whose naming allows no additions.
 pub struct Desk<J: Naming> {
     desk: KeptDesk<J, Unkept>,
+    /// Behind a lock since sessions share the desk, and a token can't be shared. Nobody takes it.
+    handed: Mutex<Unhanded<J>>,
+}
+
+/// The token of a desk that hands nothing out.
+struct Unhanded<J: Naming> {
+    handed: Handed<J>,
+}
+
+impl<J: Naming> Model for Unhanded<J> {
+    ghost use Rattle.std.specs.Prelude.{◌≡◌, []};
+
+    ghost Value = { Unit {0} };
+
+    ghost view = { λ _. tt };
+
+    ghost invariant = { λ u. u.handed ≡ [] };
 }
 
 impl<J: Naming> Model for Desk<J> {
@@ -70,7 +88,10 @@ impl<J: Naming> Desk<J> {
             (IsRefusedToMake (nat_le 1 sessions && nat_le sessions 128)) }
     {
         match KeptDesk::new(rt, alloc, opened, book, sessions, Unkept) {
-            Ok((desk, seats)) => Ok((Desk { desk }, seats)),
+            Ok((desk, handed, seats)) => {
+                let handed = Mutex::new(Unhanded { handed });
+                Ok((Desk { desk, handed }, seats))
+            }
             Err((_unkept, error)) => Err(error),
         }
     }
@@ -120,8 +141,9 @@ impl<J: Naming> Desk<J> {
             (λ e. IsMissed J.parts sessions.items e.2) }
         ensures back { IfErr result (λ e. e.1.items ≡ sessions.items) }
     {
-        let Desk { desk } = self;
-        match desk.close(rt, sessions) {
+        let Desk { desk, handed } = self;
+        let Unhanded { handed } = handed.into_inner();
+        match desk.close(rt, handed, sessions) {
             Ok(
                 Kept {
                     closed,
@@ -129,7 +151,17 @@ impl<J: Naming> Desk<J> {
                     writer: _,
                 },
             ) => Ok(closed),
-            Err((desk, sessions, error)) => Err((Desk { desk }, sessions, error)),
+            Err(
+                Unclosed {
+                    desk,
+                    handed,
+                    sessions,
+                    error,
+                },
+            ) => {
+                let handed = Mutex::new(Unhanded { handed });
+                Err((Desk { desk, handed }, sessions, error))
+            }
         }
     }
 
@@ -145,14 +177,16 @@ impl<J: Naming> Desk<J> {
         ensures book { result.book ≡ after J.opening result.journal.items }
         ensures known { All (λ s. IsPrefix s.known result.journal.items) sessions.now }
     {
-        let Desk { desk } = self;
-        let (remains, _unkept) = desk.give_up(rt, sessions);
+        let Desk { desk, handed } = self;
+        let Unhanded { handed } = handed.into_inner();
+        let (remains, _unkept) = desk.give_up(rt, handed, sessions);
         remains
     }
 
-    /// Lets the sessions in to no book from now on. It waits for those that read it.
+    /// Lets go of the desk. It waits for those that read the book.
     pub fn end<R: Wait>(self, rt: &R) {
-        let Desk { desk } = self;
-        let _unkept = desk.end(rt);
+        let Desk { desk, handed } = self;
+        let Unhanded { handed } = handed.into_inner();
+        let _unkept = desk.end(rt, handed);
     }
 }

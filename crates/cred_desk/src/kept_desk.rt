@@ -1,28 +1,28 @@
 //! A desk whose entries a writer of its owner's keeps, and at which people sign up.
 
-ghost use Rattle.std.specs.Prelude.{◌≡◌, ◌+◌, ◌++◌, ◌&&◌, [], All, Err, IfErr, IfOk, IfSome};
+ghost use Rattle.std.specs.Prelude.{◌≡◌, ◌+◌, ◌++◌, ◌&&◌, [], All, IfErr, IfOk, List};
 ghost use Rattle.std.specs.Prelude.{MatchResult, None, Some, false, length, map, nat_le, sum, true};
-ghost use Rattle.std.specs.Prelude.{List, vec_len};
+ghost use Rattle.std.specs.Prelude.{vec_len};
 ghost use mathlib.Core.List.{IsPrefix};
-ghost use Rattle.cred_book.specs.Calls.{Admits, Loads};
 ghost use Rattle.cred_book.specs.declared.error.BookError.TheVariants.{Memory as memory};
-ghost use Rattle.cred_desk.specs.Changes.{Adds, IsAt, RefusesDeletion, Settles, refusal_of};
-ghost use Rattle.cred_desk.specs.Histories.{IsAdmitted, IsDeleted, IsListed, IsLoaded, after};
-ghost use Rattle.cred_desk.specs.Histories.{deletion, entry};
+ghost use Rattle.cred_desk.specs.Changes.{Adds, IsAt, Settles, refusal_of};
+ghost use Rattle.cred_desk.specs.Histories.{IsListed, after, deletion, entry};
 ghost use Rattle.cred_desk.specs.Naming.{IsNamed, StartsAt};
 ghost use Rattle.cred_desk.specs.Refusals.{IsRefusedToMake};
 ghost use Rattle.cred_desk.specs.Standing.{IsMissed, IsNew, IsUncounted};
 ghost use Rattle.cred_desk.specs.declared.entry.Entry.{Entry as DeskEntry};
 
 use crate::clerk::Clerk;
-use crate::closed::{Checkpoint, Finished, Kept, Remains};
+use crate::closed::{Closed, Finished, Kept, Remains, Unclosed};
+use crate::entry::Entry;
 use crate::error::DeskError;
+use crate::handed::{Cut, Handed};
 use crate::making::{MOST_SESSIONS, Made, make};
 use crate::naming::{Naming, Opened};
 use crate::recorder::Recorder;
 use crate::session::Session;
 use crate::tally::Tallies;
-use crate::told::Told;
+use crate::told::{Heard, Told};
 use crate::writer::{EntryWriter, KeepError, Unsettled};
 use cred_book::{Book, Name, Reply, Worked};
 use cred_phc::Record;
@@ -34,8 +34,10 @@ use std::sync::{Mutex, MutexGuard, Wait};
 /// writer keeps is the journal, or while an entry is added the journal with that entry.
 ///
 /// If its naming allows loads, names are admitted and deleted, and records loaded, while sessions
-/// live. Each of these adds an entry, and counts as an addition. It isn't `Drop`: end it by `close`
-/// or `give_up`.
+/// live. Each of these adds an entry, and counts as an addition.
+///
+/// It isn't `Drop`: end it by `close`, `finish`, `give_up` or `end`. Each of these takes the one
+/// token of what the desk handed out. So the token can't be lost, and a session can.
 pub struct KeptDesk<J: Naming, W: EntryWriter> {
     clerk: Mutex<Clerk<J, W>>,
 }
@@ -48,7 +50,7 @@ impl<J: Naming, W: EntryWriter> fmt::Debug for KeptDesk<J, W> {
 
 impl<J: Naming, W: EntryWriter> KeptDesk<J, W> {
     /// Copies the book, and shows it to so many sessions, 1 to 128 of them. The writer is one that
-    /// keeps no entry yet.
+    /// keeps no entry yet. The token says that nothing was handed out yet.
     ///
     /// Errors: those of `Desk::new`. The writer comes back.
     pub fn new<R: Wait>(
@@ -58,12 +60,13 @@ impl<J: Naming, W: EntryWriter> KeptDesk<J, W> {
         book: &Book,
         sessions: u8,
         writer: W,
-    ) -> Result<(KeptDesk<J, W>, Vec<Session<J>>), (W, DeskError)>
+    ) -> Result<(KeptDesk<J, W>, Handed<J>, Vec<Session<J>>), (W, DeskError)>
         requires name { IsNamed J.Naming opened }
         requires opening { StartsAt J.Naming book.now sessions }
         requires kept { W.keeps writer [] }
+        ensures handed { IfOk result (λ made. made.1 ≡ []) }
         ensures sessions { IfOk result
-            (λ made. (vec_len made.1 ≡ sessions) × All IsNew made.1.items) }
+            (λ made. (vec_len made.2 ≡ sessions) × All IsNew made.2.items) }
         ensures few { IfOk result (λ _. (nat_le 1 sessions && nat_le sessions 128) ≡ true) }
         ensures refused { IfErr result (λ e. (e.0 ≡ writer)
             × IsRefusedToMake (nat_le 1 sessions && nat_le sessions 128) e.1) }
@@ -81,12 +84,20 @@ impl<J: Naming, W: EntryWriter> KeptDesk<J, W> {
                     sessions: seats,
                     total,
                     spare,
+                    handouts,
                 },
             ) => {
-                let recorder = Recorder::new(alloc, publisher.front(), writer);
-                let clerk = Clerk::new(publisher, recorder, total, spare, sessions, tallies);
+                let (cut, handed) = Cut::open(handouts, publisher.front());
+                let clerk = Clerk {
+                    publisher,
+                    recorder: Recorder::new(alloc, cut, writer),
+                    total,
+                    spare,
+                    sessions,
+                    tallies,
+                };
                 let clerk = Mutex::new(clerk);
-                Ok((KeptDesk { clerk }, seats))
+                Ok((KeptDesk { clerk }, handed, seats))
             }
             Err(error) => Err((writer, error)),
         }
@@ -132,8 +143,7 @@ impl<J: Naming, W: EntryWriter> KeptDesk<J, W> {
         name: Name,
     ) -> Result<Told<J>, KeepError<W::Error>>
         requires loads { J.loads ≡ true }
-        ensures done { Adds J.loads J.opening session.old session.new IsAdmitted
-            (λ book e. Admits book book name (Err e)) (entry name None) result }
+        ensures done { Adds J.Naming session.old session.new (entry name None) result }
         ensures known { IsPrefix session.old.known session.new.known }
     {
         let mut clerk = self.clerk.lock(rt);
@@ -156,8 +166,7 @@ impl<J: Naming, W: EntryWriter> KeptDesk<J, W> {
         stored: Record,
     ) -> Result<Told<J>, KeepError<W::Error>>
         requires loads { J.loads ≡ true }
-        ensures done { Adds J.loads J.opening session.old session.new IsLoaded
-            (λ book e. Loads book book name stored (Err e)) (entry name (Some stored)) result }
+        ensures done { Adds J.Naming session.old session.new (entry name (Some stored)) result }
         ensures known { IsPrefix session.old.known session.new.known }
     {
         let mut clerk = self.clerk.lock(rt);
@@ -183,8 +192,7 @@ impl<J: Naming, W: EntryWriter> KeptDesk<J, W> {
         name: Name,
     ) -> Result<Told<J>, KeepError<W::Error>>
         requires loads { J.loads ≡ true }
-        ensures done { Adds J.loads J.opening session.old session.new IsDeleted
-            (λ book e. RefusesDeletion book name e) (deletion name) result }
+        ensures done { Adds J.Naming session.old session.new (deletion name) result }
         ensures known { IsPrefix session.old.known session.new.known }
     {
         let mut clerk = self.clerk.lock(rt);
@@ -193,137 +201,158 @@ impl<J: Naming, W: EntryWriter> KeptDesk<J, W> {
         deleted
     }
 
-    /// Gives the book, the journal, the writer, and how many changes and additions each session
-    /// made, if all sessions of the desk are handed in, in any order. It waits for those that read
-    /// the book.
+    /// Waits for the lock, and tells the session the list as it stands: whatever anybody was told
+    /// by then, and more if there is more. So a session that its owner held back can take the place
+    /// of one that a thread lost.
+    pub fn tell<R: Wait>(&self, rt: &R, session: &mut Session<J>, heard: &Heard<J>) -> Told<J>
+        ensures present { IsPrefix heard.now result }
+        ensures told { result ≡ session.new.known }
+        ensures at { IsAt J.loads J.opening session.old session.new }
+        ensures count { IsUncounted session.old session.new }
+    {
+        let mut clerk = self.clerk.lock(rt);
+        clerk.meet(heard);
+        let told = clerk.tell(session);
+        MutexGuard::unlock(clerk);
+        told
+    }
+
+    /// Waits for the lock, and hands out the entries after those that were handed out before. The
+    /// desk lets go of them.
+    pub fn checkpoint<R: Wait>(&self, rt: &R, handed: &mut Handed<J>) -> Vec<Entry>
+        ensures entries { handed.new ≡ handed.old ++ result.items }
+        ensures listed { IsListed J.loads J.opening handed.new }
+    {
+        let mut clerk = self.clerk.lock(rt);
+        let entries = clerk.checkpoint(handed);
+        MutexGuard::unlock(clerk);
+        entries
+    }
+
+    /// Gives the book, the entries that weren't handed out, the writer, and how many changes and
+    /// additions each session made, if all sessions of the desk are handed in, in any order. It
+    /// waits for those that read the book.
     ///
-    /// Errors: `Session` if some are missing. The desk and the sessions come back.
+    /// Errors: `Session` if some are missing. All that was handed in comes back.
     pub fn close<R: Wait>(
         self,
         rt: &R,
+        handed: Handed<J>,
         sessions: Vec<Session<J>>,
-    ) -> Result<Kept<W>, (KeptDesk<J, W>, Vec<Session<J>>, DeskError)>
-        requires { W.lasts ≡ false }
+    ) -> Result<Kept<W>, Unclosed<J, W>>
         ensures listed { IfOk result (λ kept.
-            IsListed J.loads J.opening kept.closed.journal.items) }
+            IsListed J.loads J.opening (handed ++ kept.closed.journal.items)) }
         ensures book { IfOk result (λ kept.
-            kept.closed.book ≡ after J.opening kept.closed.journal.items) }
+            kept.closed.book ≡ after J.opening (handed ++ kept.closed.journal.items)) }
         ensures known { IfOk result (λ kept.
-            All (λ s. IsPrefix s.known kept.closed.journal.items) sessions.items) }
+            All (λ s. IsPrefix s.known (handed ++ kept.closed.journal.items)) sessions.items) }
         ensures counts { IfOk result (λ kept.
             kept.closed.counts.items ≡ map (λ s. s.count) sessions.items) }
         ensures additions { IfOk result (λ kept.
             kept.additions.items ≡ map (λ s. s.additions) sessions.items) }
         ensures total { IfOk result (λ kept.
             sum kept.closed.counts.items + sum kept.additions.items
-            ≡ length kept.closed.journal.items) }
+            ≡ length (handed ++ kept.closed.journal.items)) }
         ensures settled { IfOk result (λ kept. J.loads ≡ false → sum kept.additions.items ≡ 0) }
-        ensures kept { IfOk result (λ kept. W.keeps kept.writer kept.closed.journal.items) }
+        ensures kept { IfOk result (λ kept.
+            W.keeps kept.writer (handed ++ kept.closed.journal.items)) }
         ensures all { MatchResult result (λ _. vec_len sessions ≡ J.parts)
-            (λ e. IsMissed J.parts sessions.items e.2) }
-        ensures back { IfErr result (λ e. e.1.items ≡ sessions.items) }
+            (λ e. IsMissed J.parts sessions.items e.error) }
+        ensures back { IfErr result
+            (λ e. (e.sessions.items ≡ sessions.items) × (e.handed ≡ handed)) }
     {
         let KeptDesk { clerk } = self;
         let mut clerk = clerk.into_inner();
         match clerk.look(&sessions) {
-            Ok(()) => Ok(clerk.close(rt, sessions)),
+            Ok(()) => {
+                let (left, writer) = clerk.end(rt, handed);
+                let Tallies { counts, additions } = left.tallies.written(&sessions);
+                let _none = left.counting.missing(sessions);
+                let Remains { book, journal } = left.remains;
+                let closed = Closed {
+                    book,
+                    journal,
+                    counts,
+                };
+                Ok(Kept {
+                    closed,
+                    additions,
+                    writer,
+                })
+            }
             Err(error) => {
                 let clerk = Mutex::new(clerk);
-                Err((KeptDesk { clerk }, sessions, error))
+                Err(Unclosed {
+                    desk: KeptDesk { clerk },
+                    handed,
+                    sessions,
+                    error,
+                })
             }
         }
     }
 
-    /// Gives the book, the journal and the writer without counts, if a session is lost. These are
-    /// sessions that are still there: the journal begins with what each of them knows. It waits for
-    /// those that read the book.
-    ///
-    /// The writer keeps this journal, with no session handed in too.
-    pub fn give_up<R: Wait>(self, rt: &R, sessions: &[Session<J>]) -> (Remains, W)
-        requires { W.lasts ≡ false }
-        ensures listed { IsListed J.loads J.opening result.0.journal.items }
-        ensures book { result.0.book ≡ after J.opening result.0.journal.items }
-        ensures known { All (λ s. IsPrefix s.known result.0.journal.items) sessions.now }
-        ensures kept { W.keeps result.1 result.0.journal.items }
-    {
-        let KeptDesk { clerk } = self;
-        let mut clerk = clerk.into_inner();
-        clerk.cover(sessions);
-        clerk.give_up(rt)
-    }
-
-    /// Waits for the lock, and tells the session the list as it stands. A session that its owner
-    /// held back knows what everybody was told by then, and so can take the place of one that a
-    /// thread lost.
-    pub fn tell<R: Wait>(&self, rt: &R, session: &mut Session<J>) -> Told<J>
-        ensures told { result ≡ session.new.known }
-        ensures at { IsAt J.loads J.opening session.old session.new }
-        ensures count { IsUncounted session.old session.new }
-    {
-        let mut clerk = self.clerk.lock(rt);
-        let told = clerk.tell(session);
-        MutexGuard::unlock(clerk);
-        told
-    }
-
-    /// Waits for the lock, and hands out the entries after those that were handed out before: at
-    /// first after those that a new session knows, and then after the last checkpoint's. The desk
-    /// lets go of them.
-    ///
-    /// `None` if the last checkpoint was another. Nothing changes then.
-    pub fn checkpoint<R: Wait>(&self, rt: &R, handed: &Told<J>) -> Option<Checkpoint<J>>
-        requires { W.lasts ≡ true }
-        ensures entries { IfSome result (λ c. c.told ≡ handed.now ++ c.entries.items) }
-        ensures listed { IfSome result (λ c. IsListed J.loads J.opening c.told) }
-    {
-        let mut clerk = self.clerk.lock(rt);
-        let checkpoint = clerk.checkpoint(handed);
-        MutexGuard::unlock(clerk);
-        checkpoint
-    }
-
-    /// Gives the book, the entries after those that were handed out, the writer, and how many of
-    /// all entries were made by sessions that are lost. It waits for those that read the book.
-    ///
-    /// Errors: the desk and the sessions come back if the last checkpoint was another.
+    /// Gives the book, the entries that weren't handed out, the writer, and how many of all entries
+    /// were made by sessions that aren't handed in. It waits for those that read the book.
     pub fn finish<R: Wait>(
         self,
         rt: &R,
-        handed: &Told<J>,
+        handed: Handed<J>,
         sessions: Vec<Session<J>>,
-    ) -> Result<Finished<W>, (KeptDesk<J, W>, Vec<Session<J>>)>
-        ensures listed { IfOk result (λ f.
-            IsListed J.loads J.opening (handed.now ++ f.remains.journal.items)) }
-        ensures book { IfOk result (λ f.
-            f.remains.book ≡ after J.opening (handed.now ++ f.remains.journal.items)) }
-        ensures known { IfOk result (λ f.
-            All (λ s. IsPrefix s.known (handed.now ++ f.remains.journal.items)) sessions.items) }
-        ensures total { IfOk result (λ f. sum (map (λ s. s.count) sessions.items)
-            + sum (map (λ s. s.additions) sessions.items) + f.missing
-            ≡ length (handed.now ++ f.remains.journal.items)) }
-        ensures all { IfOk result (λ f. vec_len sessions ≡ J.parts → f.missing ≡ 0) }
-        ensures kept { IfOk result (λ f.
-            W.keeps f.writer (handed.now ++ f.remains.journal.items)) }
-        ensures back { IfErr result (λ e. e.1.items ≡ sessions.items) }
+    ) -> Finished<W>
+        ensures listed { IsListed J.loads J.opening (handed ++ result.remains.journal.items) }
+        ensures book { result.remains.book
+            ≡ after J.opening (handed ++ result.remains.journal.items) }
+        ensures known { All (λ s. IsPrefix s.known (handed ++ result.remains.journal.items))
+            sessions.items }
+        ensures total { sum (map (λ s. s.count) sessions.items)
+            + sum (map (λ s. s.additions) sessions.items) + result.missing
+            ≡ length (handed ++ result.remains.journal.items) }
+        ensures all { vec_len sessions ≡ J.parts → result.missing ≡ 0 }
+        ensures kept { W.keeps result.writer (handed ++ result.remains.journal.items) }
     {
         let KeptDesk { clerk } = self;
         let mut clerk = clerk.into_inner();
         clerk.cover(&sessions);
-        match clerk.finish(rt, handed, sessions) {
-            Ok(finished) => Ok(finished),
-            Err((clerk, sessions)) => {
-                let clerk = Mutex::new(clerk);
-                Err((KeptDesk { clerk }, sessions))
-            }
+        let (left, writer) = clerk.end(rt, handed);
+        Finished {
+            remains: left.remains,
+            missing: left.counting.missing(sessions),
+            writer,
         }
     }
 
-    /// Lets the sessions in to no book from now on, and gives the writer. It waits for those that
-    /// read the book.
-    pub fn end<R: Wait>(self, rt: &R) -> W
-        ensures { (list : List DeskEntry) × IsListed J.loads J.opening list × W.keeps result list }
+    /// Gives the book, the entries that weren't handed out, and the writer, without counts. These
+    /// are sessions that are still there: the list begins with what each of them knows. It waits
+    /// for those that read the book.
+    ///
+    /// The list is the whole one with no session handed in too: the writer keeps it.
+    pub fn give_up<R: Wait>(
+        self,
+        rt: &R,
+        handed: Handed<J>,
+        sessions: &[Session<J>],
+    ) -> (Remains, W)
+        ensures listed { IsListed J.loads J.opening (handed ++ result.0.journal.items) }
+        ensures book { result.0.book ≡ after J.opening (handed ++ result.0.journal.items) }
+        ensures known { All (λ s. IsPrefix s.known (handed ++ result.0.journal.items))
+            sessions.now }
+        ensures kept { W.keeps result.1 (handed ++ result.0.journal.items) }
     {
         let KeptDesk { clerk } = self;
-        clerk.into_inner().end(rt)
+        let mut clerk = clerk.into_inner();
+        clerk.cover(sessions);
+        let (left, writer) = clerk.end(rt, handed);
+        (left.remains, writer)
+    }
+
+    /// Gives the writer alone. It waits for those that read the book.
+    pub fn end<R: Wait>(self, rt: &R, handed: Handed<J>) -> W
+        ensures { (rest : List DeskEntry) × IsListed J.loads J.opening (handed ++ rest)
+            × W.keeps result (handed ++ rest) }
+    {
+        let KeptDesk { clerk } = self;
+        let (_left, writer) = clerk.into_inner().end(rt, handed);
+        writer
     }
 }

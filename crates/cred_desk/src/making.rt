@@ -14,7 +14,7 @@ use crate::session::Session;
 use cred_book::Book;
 use std::alloc::{AllocError, Global};
 use std::sync::Wait;
-use std::sync::ledger::{Book as Total, Share};
+use std::sync::ledger::{Blank, Book as Total, Share};
 
 /// How many sessions a desk or a committer has at most.
 pub(crate) const MOST_SESSIONS: u8 = 128;
@@ -25,6 +25,8 @@ pub(crate) struct Made<J: Naming> {
     pub(crate) sessions: Vec<Session<J>>,
     pub(crate) total: Total<J>,
     pub(crate) spare: Share<J>,
+    /// For the count of what is handed out.
+    pub(crate) handouts: Blank,
 }
 
 /// Copies the book, and shows it to so many sessions.
@@ -45,9 +47,11 @@ pub(crate) fn make<J: Naming, R: Wait>(
         (λ made. (vec_len made.sessions ≡ sessions) × All IsNew made.sessions.items) }
     ensures count { IfOk result
         (λ made. (made.total.total ≡ 0) × (made.spare.parts ≡ 0) × (made.spare.amount ≡ 0)) }
+    ensures handouts { IfOk result
+        (λ made. (made.handouts.name ≡ J.handouts) × (made.handouts.parts ≡ 1)) }
     ensures refused { IfErr result (λ e. IsRefusedToMake true e) }
 {
-    let (history, blank) = opened.named::<J>();
+    let (history, blank, handouts) = opened.named::<J>();
     let Some(history) = history else {
         return Err(DeskError::Memory);
     };
@@ -59,6 +63,7 @@ pub(crate) fn make<J: Naming, R: Wait>(
             sessions,
             total,
             spare,
+            handouts,
         }),
         Err(error) => {
             drop(writer.take(rt));

@@ -1,8 +1,8 @@
 //! What readers see: the book, beside the list of entries that led to it.
 
-ghost use Rattle.std.specs.Prelude.{◌≡◌, IfOk, Some};
-ghost use Rattle.cred_desk.specs.Histories.{after};
-ghost use Rattle.cred_desk.specs.Published.{with_step};
+ghost use Rattle.std.specs.Prelude.{◌≡◌, IfOk};
+ghost use Rattle.cred_desk.specs.Commits.{LeadsTo};
+ghost use Rattle.cred_desk.specs.Histories.{IsAllowed, after, put};
 
 use crate::entry::{AccountState, Entry};
 use crate::list::Front;
@@ -57,21 +57,22 @@ pub(crate) struct Step<J: Naming> {
 impl<J: Naming> Shown<J> {
     /// Becomes what is shown next.
     fn advance(&mut self, step: &Step<J>)
-        ensures book { self.new.book
-            ≡ with_step (with_step self.old.book step.now.last) (Some step.now.entry) }
+        requires { LeadsTo J.Naming self.old.book step.now.last step.now.entry step.now.front }
+        ensures book { self.new.book ≡ after J.opening step.now.front }
         ensures front { self.new.front ≡ step.now.front }
     {
         if let Some(last) = &step.last {
-            apply(&mut self.book, last);
+            apply::<J>(&mut self.book, last);
         }
-        apply(&mut self.book, &step.entry);
+        apply::<J>(&mut self.book, &step.entry);
         self.front = step.front.again();
     }
 }
 
-/// Makes the change in a book. Without room for a new name nothing changes.
-fn apply(book: &mut Book, change: &Entry)
-    ensures { book.new ≡ with_step book.old (Some change.entry.now) }
+/// Makes a change in a book that allows it, so that there is room for a new name.
+fn apply<J: Naming>(book: &mut Book, change: &Entry)
+    requires { IsAllowed J.loads book.old change.now }
+    ensures { book.new ≡ put book.old change.entry.now }
 {
     match change.now {
         AccountState::Record(stored) => book.put(&change.name, Some(stored)),
@@ -80,7 +81,7 @@ fn apply(book: &mut Book, change: &Entry)
     }
 }
 
-/// Takes in an entry. The writer's log of entries would take memory, so it stays empty: the copies
+/// Takes in nothing. The writer's log of entries would take memory, so it stays empty: the copies
 /// are changed where they lie.
 impl<J: Naming> Absorb<Entry> for Shown<J> {
     type State = ();
@@ -91,8 +92,7 @@ impl<J: Naming> Absorb<Entry> for Shown<J> {
 
     ghost never_fails = { Unit {0} };
 
-    fn absorb_first(&mut self, change: &Entry, _other: &Shown<J>) -> Result<(), AllocError> {
-        apply(&mut self.book, change);
+    fn absorb_first(&mut self, _change: &Entry, _other: &Shown<J>) -> Result<(), AllocError> {
         Ok(())
     }
 }
@@ -130,8 +130,7 @@ pub(crate) type BookWriter<J> = Writer<Shown<J>, Entry, (), Published<J>>;
 /// Shows readers the book with the step's entry, and its list. It waits for those that still read
 /// the copy from before, and takes no memory.
 pub(crate) fn show<J: Naming, R: Wait>(writer: &mut BookWriter<J>, rt: &R, step: Step<J>)
-    requires { with_step (with_step writer.old.desk.spare.value.book step.last) (Some step.entry)
-        ≡ after J.opening step.front }
+    requires { LeadsTo J.Naming writer.old.desk.spare.value.book step.last step.entry step.front }
     ensures front { writer.new.desk.shown.value.front ≡ step.front }
     ensures book { writer.new.desk.shown.value.book ≡ after J.opening step.front }
     ensures spare { writer.new.desk.spare.value.book ≡ writer.old.desk.shown.value.book }
@@ -140,8 +139,7 @@ pub(crate) fn show<J: Naming, R: Wait>(writer: &mut BookWriter<J>, rt: &R, step:
         &mut writer.desk,
         (rt, step),
         |desk, (rt, step)|
-            requires { with_step (with_step desk.spare.value.book step.last) (Some step.entry)
-                ≡ after J.opening step.front }
+            requires { LeadsTo J.Naming desk.spare.value.book step.last step.entry step.front }
         {
             let (open, mut spare) = desk.open(rt);
             spare.advance(&step);

@@ -1,20 +1,15 @@
 //! The one who changes the published book.
 
-ghost use Rattle.std.specs.Prelude.{◌≡◌, ◌<◌, ◌^◌, ◌++◌, ◌∷◌, [], None, IfErr, IfOk, IfSome, IsOk};
-ghost use Rattle.std.specs.Prelude.{MatchResult, length};
+ghost use Rattle.std.specs.Prelude.{◌≡◌, ◌+◌, ◌<◌, ◌^◌, ◌++◌, ◌∷◌, [], MatchBool, length};
 ghost use mathlib.Core.List.{IsPrefix};
-ghost use Rattle.cred_desk.specs.Changes.{IsRefusedBy};
-ghost use Rattle.cred_desk.specs.Commits.{entry_of, list_after, reply_of};
 ghost use Rattle.cred_desk.specs.Histories.{IsAllowed, IsLegal, IsListed, IsMade, after};
 
-use crate::change::judge;
 use crate::entry::Entry;
 use crate::list::{Front, History};
 use crate::naming::Naming;
 use crate::published::{BookWriter, Shown, Step, show};
-use crate::told::Told;
-use crate::writer::{EntryWriter, Unrecorded};
-use cred_book::{Book, Reply, Worked};
+use crate::told::{Heard, Told};
+use cred_book::Book;
 use left_right::Absorb;
 use std::marker::Model;
 use std::sync::Wait;
@@ -34,10 +29,10 @@ impl<J: Naming> Model for Publisher<J>
 where
     Shown<J>: Absorb<Entry, State = ()>,
 {
-    ghost use Rattle.std.specs.Prelude.{◌≡◌, List};
+    ghost use Rattle.std.specs.Prelude.{◌≡◌, List, []};
     ghost use Rattle.cred_desk.specs.declared.entry.Entry.{Entry};
+    ghost use Rattle.cred_desk.specs.Commits.{list_after};
     ghost use Rattle.cred_desk.specs.Histories.{IsListed, after};
-    ghost use Rattle.cred_desk.specs.Published.{with_step};
 
     ghost Value = { List Entry };
 
@@ -46,7 +41,8 @@ where
     ghost invariant = { λ p. record {
       shown_list : p.writer.desk.shown.value.front ≡ p.history;
       shown_book : p.writer.desk.shown.value.book ≡ after J.opening p.history;
-      spare_book : with_step p.writer.desk.spare.value.book p.last
+      spare_listed : IsListed J.loads p.writer.desk.spare.value.book (list_after [] p.last);
+      spare_book : after p.writer.desk.spare.value.book (list_after [] p.last)
           ≡ after J.opening p.history;
       listed : IsListed J.loads J.opening p.history;
     } };
@@ -92,6 +88,14 @@ impl<J: Naming> Publisher<J> {
         self.history.covers(known);
     }
 
+    /// The same of what somebody was told.
+    pub(crate) fn covers_heard(&mut self, heard: &Heard<J>)
+        ensures begins { IsPrefix heard.now self.new }
+        ensures same { self.new ≡ self.old }
+    {
+        self.history.covers_trace(&heard.trace);
+    }
+
     /// The present list, for sessions to learn.
     pub(crate) fn told(&self) -> Told<J>
         ensures told { result ≡ self.now }
@@ -100,32 +104,24 @@ impl<J: Naming> Publisher<J> {
         Told::new(self.front().again())
     }
 
-    /// Hands an entry to the writer, and then adds it to the list and the published book. Nothing
-    /// of that can fail once the writer has it.
-    ///
-    /// Errors: `Memory` if the list has 2^64 entries; the writer's own. Nothing changes then.
+    /// Whether it has as many entries as can be counted, 2^64 - 1.
+    pub(crate) fn is_full(&self) -> bool
+        ensures { MatchBool result (Unit {0}) (length self.now + 1 < 2 ^ 64) }
+    {
+        self.front().len() == u64::MAX
+    }
+
+    /// Adds an entry to the list and the published book. Nothing of that can fail.
     #[tactic(auto, using(crate::proofs::Lists::legal_snoc))]
-    pub(crate) fn publish<R: Wait, W: EntryWriter>(
-        &mut self,
-        rt: &R,
-        entry: Entry,
-        writer: &mut W,
-    ) -> Result<(), Unrecorded<W::Error>>
-        requires { IsAllowed J.loads (after J.opening self.old) entry }
-        ensures done { MatchResult result (λ _. self.new ≡ self.old ++ entry ∷ [])
-            (λ _. self.new ≡ self.old) }
-        ensures fits { IfOk result (λ _. length self.new < 2 ^ 64) }
-        ensures asked { IfErr result (IsRefusedBy writer.old writer.new) }
-        ensures kept { W.keeps writer.old self.old → W.keeps writer.new self.new }
+    pub(crate) fn show<R: Wait>(&mut self, rt: &R, entry: Entry)
+        requires allowed { IsAllowed J.loads (after J.opening self.old) entry }
+        requires room { length self.old + 1 < 2 ^ 64 }
+        ensures list { self.new ≡ self.old ++ entry ∷ [] }
         ensures legal { IsMade (after J.opening self.old) entry → IsLegal J.opening self.old
             → IsLegal J.opening self.new }
         ensures listed { IsListed J.loads J.opening self.new }
     {
         let last = self.last;
-        if self.front().len() == u64::MAX {
-            return Err(Unrecorded::Memory);
-        }
-        writer.write(&entry).map_err(Unrecorded::Writer)?;
         self.history.add(&entry);
         let step = Step {
             last,
@@ -134,38 +130,6 @@ impl<J: Naming> Publisher<J> {
         };
         show(&mut self.writer, rt, step);
         self.last = Some(entry);
-        Ok(())
-    }
-
-    /// Does the whole operation, if the record is the one that was copied, and otherwise nothing,
-    /// and gives the entry that it made.
-    ///
-    /// Errors: those of `publish`, if a change is due. Nothing changes then, and the work comes
-    /// back.
-    pub(crate) fn commit<R: Wait, W: EntryWriter>(
-        &mut self,
-        rt: &R,
-        work: Worked,
-        writer: &mut W,
-    ) -> Result<(Reply, Option<Entry>), (Worked, Unrecorded<W::Error>)>
-        ensures reply { IfOk result (λ done. done.0 ≡ reply_of (after J.opening self.old) work) }
-        ensures entry { IfOk result (λ done. done.1 ≡ entry_of (after J.opening self.old) work) }
-        ensures list { IfOk result (λ done. self.new ≡ list_after self.old done.1) }
-        ensures fits { IfOk result (λ done. IfSome done.1 (λ _. length self.new < 2 ^ 64)) }
-        ensures refused { IfErr result (λ e. (e.0 ≡ work) × (self.new ≡ self.old)) }
-        ensures asked { IfErr result (λ e. IsRefusedBy writer.old writer.new e.1) }
-        ensures plain { entry_of (after J.opening self.old) work ≡ None → IsOk result }
-        ensures kept { W.keeps writer.old self.old → W.keeps writer.new self.new }
-        ensures legal { IsLegal J.opening self.old → IsLegal J.opening self.new }
-        ensures listed { IsListed J.loads J.opening self.new }
-    {
-        let (reply, entry) = judge(self.book(), &work);
-        if let Some(change) = &entry {
-            if let Err(error) = self.publish(rt, *change, writer) {
-                return Err((work, error));
-            }
-        }
-        Ok((reply, entry))
     }
 
     /// Lets nobody in to the book from now on, waits for those that read it, and gives the book.

@@ -1,10 +1,12 @@
-//! How many changes and additions each session made.
+//! How many changes and additions sessions made, each and all together.
 
-ghost use Rattle.std.specs.Prelude.{◌≡◌, ◌≤◌, [], IfOk, false, length, map, sum, vec_capacity};
+ghost use Rattle.std.specs.Prelude.{◌≡◌, ◌+◌, ◌≤◌, [], IfOk, false, length, map, sum};
+ghost use Rattle.std.specs.Prelude.{vec_capacity, vec_len};
 
 use crate::naming::Naming;
 use crate::session::Session;
 use std::alloc::{AllocError, Global};
+use std::sync::ledger::{Book as Total, Share};
 
 /// A number for each session, in the order in which the sessions are handed in.
 #[derive(Drop)]
@@ -26,27 +28,60 @@ impl Tallies {
             additions: Vec::with_capacity(alloc, sessions)?,
         })
     }
-}
 
-/// Writes how many changes each session settled.
-pub(crate) fn write_counts<J: Naming>(counts: &mut Vec<u64>, sessions: &[Session<J>])
-    requires empty { counts.old.items ≡ [] }
-    requires room { length sessions.now ≤ vec_capacity counts.old }
-    ensures { counts.new.items ≡ map (λ s. s.count) sessions.now }
-{
-    for session in sessions {
-        counts.push_reserved(session.count());
+    /// What each of these sessions made.
+    pub(crate) fn written<J: Naming>(self, sessions: &[Session<J>]) -> Tallies
+        requires empty { (self.counts.items ≡ []) × (self.additions.items ≡ []) }
+        requires room { (length sessions.now ≤ vec_capacity self.counts)
+            × (length sessions.now ≤ vec_capacity self.additions) }
+        ensures counts { result.counts.items ≡ map (λ s. s.count) sessions.now }
+        ensures additions { result.additions.items ≡ map (λ s. s.additions) sessions.now }
+        ensures allowed { J.loads ≡ false → sum result.additions.items ≡ 0 }
+    {
+        let Tallies {
+            mut counts,
+            mut additions,
+        } = self;
+        for session in sessions {
+            counts.push_reserved(session.count());
+            additions.push_reserved(session.additions());
+        }
+        Tallies { counts, additions }
     }
 }
 
-/// Writes how many entries each session added.
-pub(crate) fn write_additions<J: Naming>(additions: &mut Vec<u64>, sessions: &[Session<J>])
-    requires empty { additions.old.items ≡ [] }
-    requires room { length sessions.now ≤ vec_capacity additions.old }
-    ensures each { additions.new.items ≡ map (λ s. s.additions) sessions.now }
-    ensures allowed { J.loads ≡ false → sum additions.new.items ≡ 0 }
-{
-    for session in sessions {
-        additions.push_reserved(session.additions());
+/// The tokens that count all entries, and how many there are.
+#[derive(Drop)]
+pub(crate) struct Counting<J: Naming> {
+    pub(crate) entries: u64,
+    pub(crate) total: Total<J>,
+    /// What the sessions' shares are merged into: empty.
+    pub(crate) all: Share<J>,
+}
+
+impl<J: Naming> Counting<J> {
+    /// How many of the entries other sessions made than these.
+    pub(crate) fn missing(self, sessions: Vec<Session<J>>) -> u64
+        requires none { (self.all.parts ≡ 0) × (self.all.amount ≡ 0) }
+        requires entries { self.total.total ≡ self.entries }
+        ensures total { sum (map (λ s. s.count) sessions.items)
+            + sum (map (λ s. s.additions) sessions.items) + result ≡ self.entries }
+        ensures all { vec_len sessions ≡ J.parts → result ≡ 0 }
+    {
+        let Counting {
+            entries,
+            mut total,
+            mut all,
+        } = self;
+        let mut left = sessions;
+        let mut made = 0;
+        while let Some(session) = left.pop() {
+            let (share, more) = session.into_share(&mut total);
+            all.merge(share);
+            total.audit(&mut all);
+            made += more;
+        }
+        total.audit(&mut all);
+        entries - made
     }
 }

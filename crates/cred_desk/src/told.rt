@@ -2,8 +2,10 @@
 
 ghost use Rattle.std.specs.Prelude.{◌≡◌, length};
 
-use crate::list::Front;
+use crate::entry::Entry;
+use crate::list::{Entries, Front};
 use crate::naming::Naming;
+use grow_log::Trace;
 use std::fmt;
 use std::marker::Model;
 
@@ -43,9 +45,34 @@ impl<J: Naming> Told<J> {
         self.front.len()
     }
 
+    /// That somebody was told this, for `KeptDesk::tell`.
+    pub fn heard(&self) -> Heard<J>
+        ensures { result ≡ self.now }
+    {
+        Heard {
+            trace: self.front.trace(),
+        }
+    }
+
     pub(crate) fn front(&self) -> &Front<J>
         ensures { result.now ≡ self.now }
     {
         &self.front
     }
+}
+
+/// That somebody was told a list. It has no bytes: contracts alone see the list, so a call that
+/// takes it does the same whatever was told.
+#[derive(Drop)]
+pub struct Heard<J: Naming> {
+    pub(crate) trace: Trace<Entry, Entries<J>>,
+}
+
+impl<J: Naming> Model for Heard<J> {
+    ghost use Rattle.std.specs.Prelude.{List};
+    ghost use Rattle.cred_desk.specs.declared.entry.Entry.{Entry};
+
+    ghost Value = { List Entry };
+
+    ghost view = { λ h. h.trace };
 }

@@ -1,8 +1,6 @@
 //! Who keeps a desk's entries outside of it.
 
 ghost use Rattle.std.specs.Prelude.{◌≡◌};
-ghost use Rattle.cred_book.specs.declared.error.BookError.TheVariants.{Memory as memory};
-ghost use Rattle.cred_desk.specs.Changes.{refusal_of};
 
 use crate::entry::Entry;
 use cred_book::{BookError, Worked};
@@ -13,7 +11,7 @@ use std::fmt;
 
 /// Keeps entries, as a database or a log does.
 pub trait EntryWriter {
-    ghost use Rattle.std.specs.Prelude.{Bool, List, ◌++◌, ◌∷◌, [], IfErr, IfOk, false};
+    ghost use Rattle.std.specs.Prelude.{List, ◌++◌, ◌∷◌, [], IfErr, IfOk};
     ghost use Rattle.cred_desk.specs.declared.entry.Entry.{Entry};
 
     /// Why an entry isn't kept.
@@ -21,10 +19,6 @@ pub trait EntryWriter {
 
     /// What it keeps may be these entries, in this order, since it was handed over.
     ghost keeps: { Self → List Entry → Type 0 };
-
-    /// Whether its desk lives on without the entries that it handed out (`KeptDesk::checkpoint`),
-    /// and is ended by `KeptDesk::finish`.
-    ghost lasts: { Bool } = { false };
 
     /// Keeps an entry, after those that it keeps. If that fails it keeps what it kept.
     fn write(&mut self, new: &Entry) -> Result<(), Self::Error>
@@ -79,43 +73,6 @@ impl<E: fmt::Display> fmt::Display for KeepError<E> {
 }
 
 impl<E: fmt::Debug + fmt::Display + Drop> Error for KeepError<E> {}
-
-/// Why an entry isn't added to a list or kept.
-#[derive(Drop)]
-pub(crate) enum Unrecorded<E> {
-    /// No memory, or a list of 2^64 entries.
-    Memory,
-    /// The writer's own.
-    Writer(E),
-}
-
-impl<E> From<AllocError> for Unrecorded<E> {
-    fn from(_error: AllocError) -> Self {
-        Unrecorded::Memory
-    }
-}
-
-impl<E> Unrecorded<E> {
-    /// As callers are told.
-    pub(crate) fn told(self) -> KeepError<E>
-        ensures { refusal_of result ≡ memory }
-    {
-        match self {
-            Unrecorded::Memory => KeepError::Book(BookError::Memory),
-            Unrecorded::Writer(error) => KeepError::Writer(error),
-        }
-    }
-}
-
-/// Why an entry isn't published that a recorder keeps.
-pub(crate) fn refusal<E>(error: Unrecorded<Unrecorded<E>>) -> KeepError<E>
-    ensures { refusal_of result ≡ memory }
-{
-    match error {
-        Unrecorded::Memory => KeepError::Book(BookError::Memory),
-        Unrecorded::Writer(unkept) => unkept.told(),
-    }
-}
 
 /// Work that a desk didn't settle, and why.
 #[derive(Drop)]

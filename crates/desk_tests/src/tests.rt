@@ -8,6 +8,7 @@ mod kept;
 mod kept_scene;
 mod lasting;
 mod lost;
+mod many_entries;
 mod refused;
 mod refused_names;
 mod scene;

@@ -1,6 +1,6 @@
 //! A day of the service: it opens what is kept, lets the doors do their work, and closes the desk.
 
-ghost use Rattle.std.specs.Prelude.{◌≡◌, ◌+◌, true};
+ghost use Rattle.std.specs.Prelude.{◌≡◌, ◌+◌, ◌++◌, true};
 ghost use Rattle.cred_desk.specs.Histories.{after};
 ghost use Rattle.cred_desk.specs.Naming.{IsNamed, StartsAt};
 ghost use Rattle.example_login_service.specs.declared.visits.TheConstants.{DOORS};
@@ -10,7 +10,7 @@ use crate::file_writer::{FileWriter, open_book};
 use crate::office::{Door, Office, decoy};
 use crate::visits::{DOORS, Day};
 use cred_book::Book;
-use cred_desk::{DeskError, Entry, Kept, KeptDesk, Naming, Opened, Session};
+use cred_desk::{DeskError, Entry, Handed, Kept, KeptDesk, Naming, Opened, Session, Unclosed};
 use cred_file::FileBook;
 use cred_phc::{Record, Scheme};
 use rand::make_rng;
@@ -44,7 +44,7 @@ impl<S: Alter> Served<S> {
 #[derive(Drop)]
 pub(crate) struct Ended<S: Alter> {
     pub(crate) file: FileBook<S>,
-    /// All changes of the day.
+    /// All changes of the day, of which none was handed out before.
     pub(crate) journal: Vec<Entry>,
     /// Why the desk was given up, if it was.
     pub(crate) error: Option<DeskError>,
@@ -109,7 +109,7 @@ fn serve_named<J: Naming + Send + Sync, R: Threads + Wait + Sync, S: Alter + Dro
 {
     let writer = FileWriter::new(file);
     let made = KeptDesk::<J, FileWriter<J, S>>::new(rt, alloc, opened, book, DOORS, writer);
-    let (desk, sessions) = match made {
+    let (desk, handed, sessions) = match made {
         Ok(made) => made,
         Err((_, error)) => return Err(error.into()),
     };
@@ -117,12 +117,12 @@ fn serve_named<J: Naming + Send + Sync, R: Threads + Wait + Sync, S: Alter + Dro
         Ok((back, doors)) => Ok(Served {
             accounts: book.len(),
             doors,
-            ended: end(rt, desk, back),
+            ended: end(rt, desk, handed, back),
         }),
         Err(error) => {
             // The sessions are gone. What was kept stays kept.
             let lost: Vec<Session<J>> = Vec::new(alloc);
-            let _left = desk.give_up(rt, &lost);
+            let _left = desk.give_up(rt, handed, &lost);
             Err(error)
         }
     }
@@ -206,11 +206,12 @@ fn hand_in<J: Naming>(
 fn end<J: Naming, R: Wait, S: Alter + Drop>(
     rt: &R,
     desk: KeptDesk<J, FileWriter<J, S>>,
+    handed: Handed<J>,
     sessions: Vec<Session<J>>,
 ) -> Ended<S>
-    ensures { result.file.0 ≡ after J.opening result.journal.items }
+    ensures { result.file.0 ≡ after J.opening (handed ++ result.journal.items) }
 {
-    match desk.close(rt, sessions) {
+    match desk.close(rt, handed, sessions) {
         Ok(kept) => {
             let Kept {
                 closed,
@@ -223,8 +224,15 @@ fn end<J: Naming, R: Wait, S: Alter + Drop>(
                 error: None,
             }
         }
-        Err((desk, left, error)) => {
-            let (remains, writer) = desk.give_up(rt, &left);
+        Err(
+            Unclosed {
+                desk,
+                handed,
+                sessions,
+                error,
+            },
+        ) => {
+            let (remains, writer) = desk.give_up(rt, handed, &sessions);
             Ended {
                 file: writer.into_book(),
                 journal: remains.journal,

@@ -7,6 +7,7 @@ ghost use Rattle.grow_log.specs.Links.{entries_of};
 
 use crate::naming::LogName;
 use crate::rule::Links;
+use crate::trace::Trace;
 use std::marker::{Model, PhantomData};
 
 /// A beginning of the log, which contracts see as its entries.
@@ -45,12 +46,11 @@ impl<T, N: LogName<T>> Beginning<T, N> {
         }
     }
 
-    /// What was seen.
-    pub(crate) fn seen(&self) -> Links<T>
-        ensures entries { entries_of result.log ≡ self.now }
-        ensures book { result.book ≡ N.book }
+    /// That the log begins with it, for contracts alone.
+    pub fn trace(&self) -> Trace<T, N>
+        ensures { result ≡ self.now }
     {
-        self.seen.again()
+        Trace::of(self.seen.again())
     }
 
     /// How many entries it has.

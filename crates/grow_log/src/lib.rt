@@ -11,7 +11,9 @@ mod link;
 mod log;
 mod naming;
 mod rule;
+mod trace;
 
 pub use beginning::Beginning;
 pub use log::GrowLog;
 pub use naming::{LogName, NewLog};
+pub use trace::Trace;

@@ -8,6 +8,7 @@ ghost use Rattle.grow_log.specs.Links.{head_of};
 use crate::beginning::Beginning;
 use crate::naming::LogName;
 use crate::rule::{Adding, Asks, Begin, Fill, Links, Look, Nothing, Place, Reserve, Update};
+use crate::trace::Trace;
 use logbook::{Pen, Word};
 use std::marker::Model;
 
@@ -72,6 +73,14 @@ impl<T, N: LogName<T>> GrowLog<T, N> {
 
     /// Finds that what somebody holds is a beginning of this log.
     pub fn covers(&mut self, known: &Beginning<T, N>)
+        ensures begins { IsPrefix known.now self.new }
+        ensures same { self.new ≡ self.old }
+    {
+        self.covers_trace(&known.trace());
+    }
+
+    /// The same of what contracts alone see.
+    pub fn covers_trace(&mut self, known: &Trace<T, N>)
         ensures begins { IsPrefix known.now self.new }
         ensures same { self.new ≡ self.old }
     {

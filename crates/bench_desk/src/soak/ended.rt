@@ -25,6 +25,10 @@ impl Keeper {
             refused: 0,
         }
     }
+
+    pub(crate) fn book(&self) -> &Book {
+        &self.book
+    }
 }
 
 impl EntryWriter for Keeper {
@@ -62,9 +66,10 @@ fn is_same(one: &Book, other: &Book) -> bool {
             .all(|(left, right)| left == right)
 }
 
-/// A desk that was closed.
+/// A desk that was ended.
 #[derive(Drop)]
 pub(crate) struct Ended {
+    /// The whole journal, what was handed out before the end too, and what each session counted.
     pub(crate) closed: Closed,
     /// How many entries each session added; none at a plain desk.
     pub(crate) additions: Vec<u64>,
@@ -72,6 +77,9 @@ pub(crate) struct Ended {
     pub(crate) tallies: Vec<Tally>,
     /// None at a plain desk.
     pub(crate) keeper: Option<Keeper>,
+    /// How many entries a lost session made, and how many the desk missed.
+    pub(crate) lost: u64,
+    pub(crate) missing: u64,
 }
 
 impl Ended {
@@ -132,6 +140,9 @@ impl Ended {
         let total = self.total();
         if total.changes.saturating_add(total.additions) != self.closed.journal.len() as u64 {
             bail!("the counts don't add up to the journal");
+        }
+        if self.missing != self.lost {
+            bail!("the desk missed another number of entries than a lost session made");
         }
         Ok(())
     }

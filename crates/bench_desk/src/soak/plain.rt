@@ -6,9 +6,9 @@ ghost use Rattle.cred_desk.specs.Naming.{IsNamed, StartsAt};
 use super::ended::Ended;
 use super::pool::Pool;
 use super::seat::{Seat, Settle, Settled, Tally, hand_in, seats};
-use super::{Round, SESSIONS};
+use super::{Ending, Round, SESSIONS};
 use cred_book::{Book, Worked};
-use cred_desk::{Desk, Naming, Opened, Session};
+use cred_desk::{Closed, Desk, Naming, Opened, Remains, Session};
 use std::alloc::Global;
 use std::marker::Brand;
 use std::sync::Wait;
@@ -40,18 +40,48 @@ fn serve_named<J: Naming + Send + Sync, R: Threads + Wait + Sync>(
         desk.end(rt);
         return None;
     };
+    let closed = match round.ending {
+        Ending::GiveUp => give_up(rt, alloc, desk, &sessions)?,
+        Ending::Close | Ending::Finish | Ending::End => close(rt, desk, sessions)?,
+    };
+    Some(Ended {
+        closed,
+        additions: Vec::new(alloc),
+        tallies,
+        keeper: None,
+        lost: 0,
+        missing: 0,
+    })
+}
+
+/// Closes the desk. None if that is refused.
+fn close<J: Naming, R: Wait>(rt: &R, desk: Desk<J>, sessions: Vec<Session<J>>) -> Option<Closed> {
     match desk.close(rt, sessions) {
-        Ok(closed) => Some(Ended {
-            closed,
-            additions: Vec::new(alloc),
-            tallies,
-            keeper: None,
-        }),
+        Ok(closed) => Some(closed),
         Err((desk, _sessions, _error)) => {
             desk.end(rt);
             None
         }
     }
+}
+
+/// Gives the desk up, with what its sessions counted.
+fn give_up<J: Naming, R: Wait>(
+    rt: &R,
+    alloc: Global,
+    desk: Desk<J>,
+    sessions: &[Session<J>],
+) -> Option<Closed> {
+    let Remains { book, journal } = desk.give_up(rt, sessions);
+    let mut counts = Vec::with_capacity(alloc, sessions.len()).ok()?;
+    for session in sessions {
+        counts.push(session.count()).ok()?;
+    }
+    Some(Closed {
+        book,
+        journal,
+        counts,
+    })
 }
 
 /// Lets each session do its turns in a thread of its own.

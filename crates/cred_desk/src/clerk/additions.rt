@@ -1,20 +1,18 @@
 //! What a clerk adds for those who keep the book: names, records and deletions.
 
-ghost use Rattle.std.specs.Prelude.{◌≡◌, ◌+◌, ◌++◌, ◌∷◌, [], Err, MatchResult, None, Some, true};
+ghost use Rattle.std.specs.Prelude.{◌≡◌, ◌+◌, ◌++◌, ◌∷◌, [], MatchResult, None, Some, true};
 ghost use mathlib.Core.List.{IsPrefix};
-ghost use Rattle.cred_book.specs.Calls.{Admits, Loads};
 ghost use Rattle.cred_book.specs.declared.error.BookError.TheVariants.{Memory as memory};
-ghost use Rattle.cred_desk.specs.Changes.{Adds, RefusesDeletion, refusal_of};
-ghost use Rattle.cred_desk.specs.Histories.{IsAdmitted, IsAllowed, IsDeleted, IsListed, IsLoaded};
-ghost use Rattle.cred_desk.specs.Histories.{after, deletion, entry};
+ghost use Rattle.cred_desk.specs.Changes.{Adds, refusal_of};
+ghost use Rattle.cred_desk.specs.Histories.{IsAllowed, IsListed, after, deletion, entry};
 ghost use Rattle.cred_desk.specs.Standing.{IsUncounted};
 
-use super::Clerk;
+use super::{Clerk, keep_and_show};
 use crate::entry::{AccountState, Entry};
 use crate::naming::Naming;
 use crate::session::Session;
 use crate::told::Told;
-use crate::writer::{EntryWriter, KeepError, refusal};
+use crate::writer::{EntryWriter, KeepError};
 use cred_book::{BookError, Name};
 use cred_phc::Record;
 use std::sync::Wait;
@@ -32,10 +30,7 @@ impl<J: Naming, W: EntryWriter> Clerk<J, W> {
         name: Name,
     ) -> Result<Told<J>, KeepError<W::Error>>
         requires { J.loads ≡ true }
-        ensures done { Adds J.loads J.opening session.old session.new IsAdmitted
-            (λ book e. Admits book book name (Err e)) (entry name None) result }
-        ensures list { MatchResult result (λ _. self.new ≡ self.old ++ entry name None ∷ [])
-            (λ _. self.new ≡ self.old) }
+        ensures done { Adds J.Naming session.old session.new (entry name None) result }
         ensures known { IsPrefix session.old.known session.new.known }
     {
         if self.publisher.book().show(&name).is_ok() {
@@ -61,10 +56,7 @@ impl<J: Naming, W: EntryWriter> Clerk<J, W> {
         stored: Record,
     ) -> Result<Told<J>, KeepError<W::Error>>
         requires { J.loads ≡ true }
-        ensures done { Adds J.loads J.opening session.old session.new IsLoaded
-            (λ book e. Loads book book name stored (Err e)) (entry name (Some stored)) result }
-        ensures list { MatchResult result
-            (λ _. self.new ≡ self.old ++ entry name (Some stored) ∷ []) (λ _. self.new ≡ self.old) }
+        ensures done { Adds J.Naming session.old session.new (entry name (Some stored)) result }
         ensures known { IsPrefix session.old.known session.new.known }
     {
         if self.publisher.book().show(&name).is_err() {
@@ -86,10 +78,7 @@ impl<J: Naming, W: EntryWriter> Clerk<J, W> {
         name: Name,
     ) -> Result<Told<J>, KeepError<W::Error>>
         requires { J.loads ≡ true }
-        ensures done { Adds J.loads J.opening session.old session.new IsDeleted
-            (λ book e. RefusesDeletion book name e) (deletion name) result }
-        ensures list { MatchResult result (λ _. self.new ≡ self.old ++ deletion name ∷ [])
-            (λ _. self.new ≡ self.old) }
+        ensures done { Adds J.Naming session.old session.new (deletion name) result }
         ensures known { IsPrefix session.old.known session.new.known }
     {
         if self.publisher.book().show(&name).is_err() {
@@ -125,16 +114,12 @@ impl<J: Naming, W: EntryWriter> Clerk<J, W> {
             (λ _. session.new.additions ≡ session.old.additions) }
     {
         self.publisher.covers(session.known());
-        match self.publisher.publish(rt, entry, &mut self.recorder) {
-            Ok(()) => {
-                session.count_addition(&mut self.total);
-                Ok(self.tell(session))
-            }
-            Err(error) => {
-                self.tell(session);
-                Err(refusal(error))
-            }
+        if let Err(error) = keep_and_show(rt, &mut self.publisher, &mut self.recorder, entry) {
+            self.tell(session);
+            return Err(error);
         }
+        session.count_addition(&mut self.total);
+        Ok(self.tell(session))
     }
 
     /// The refusal of an addition. The session knows the list at which it was refused.

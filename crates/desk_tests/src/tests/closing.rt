@@ -87,13 +87,13 @@ fn make_and_end<J: Naming, R: Wait>(
 #[test]
 fn numbers_of_sessions(rt: HostRuntime) {
     let book = book_of(&rt, rt.alloc(), NONE_STANDS).expect(&rt, "a book");
-    let table = [
-        (0, Some(DeskError::Sessions)),
-        (1, None),
-        (128, None),
-        (129, Some(DeskError::Sessions)),
-    ];
-    for (sessions, want) in table {
+    for sessions in 0..=u8::MAX {
+        let can_be_had = (1..=128).contains(&sessions);
+        let want = if can_be_had {
+            None
+        } else {
+            Some(DeskError::Sessions)
+        };
         let opened = Opened::new(sessions);
         let found = make_and_end::<Brand, _>(&rt, rt.alloc(), opened, &book, sessions);
         assert_eq!(rt; found, want, "{sessions}");

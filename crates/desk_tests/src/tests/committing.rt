@@ -3,7 +3,7 @@ ghost use Rattle.std.specs.Prelude.{◌≡◌, true};
 ghost use Rattle.cred_desk.specs.Naming.{IsNamed, StartsAt};
 
 use super::scene::{Answer, begin, close, read, worked};
-use super::{Accounts, book_of, enrol, name, stored, upgrade, verify};
+use super::{Accounts, book_of, enrol, name, remove, stored, upgrade, verify};
 use cred_book::{Book, BookError, Keeper, Name, Reply, Ticket};
 use cred_desk::{Committer, DeskError, Naming, Opened, Session};
 use cred_phc::Record;
@@ -21,10 +21,10 @@ const OTHER: Accounts<'static> = &[("zed", None)];
 
 type Shows = [Result<Option<Record>, BookError>; 4];
 
-type Changes = [Result<(), BookError>; 4];
+type Changes = [Result<(), BookError>; 5];
 
 /// The calls of any keeper: what it shows at a, and at b before and after them and in between, and
-/// what they answer.
+/// what they answer. The last load is over a record that stands.
 fn keep<R: Wait, K: Keeper>(
     rt: &R,
     keeper: &mut K,
@@ -39,9 +39,10 @@ fn keep<R: Wait, K: Keeper>(
     let empty = keeper.show(&b);
     let loaded = keeper.load(rt, &b, record);
     let after = keeper.show(&b);
+    let over = keeper.load(rt, &b, record);
     (
         [first, before, empty, after],
-        [early, admitted, again, loaded],
+        [early, admitted, again, loaded, over],
     )
 }
 
@@ -97,7 +98,7 @@ fn commit_and_read<J: Naming, R: Threads + Wait + Abort + Sync>(
     committer: &mut Committer<J>,
     session: &mut Session<J>,
     early: &mut Option<Ticket>,
-) -> [Answer; 4] {
+) -> [Answer; 5] {
     let mut open = None;
     begin(session, &mut open, verify(rt, "b"));
     let copied = read(&open);
@@ -108,7 +109,9 @@ fn commit_and_read<J: Naming, R: Threads + Wait + Abort + Sync>(
         Some(work) => close(session, work),
         None => Answer::Failed,
     };
-    [copied, unknown, upgraded, closed]
+    begin(session, &mut open, remove(rt, "a"));
+    let removed = commit(rt, alloc, committer, session, &mut open);
+    [copied, unknown, upgraded, closed, removed]
 }
 
 /// What the calls of a committer and of its session answered.
@@ -117,7 +120,7 @@ struct Outcome {
     shown: Shows,
     kept: Changes,
     verified: Option<Reply>,
-    read: [Answer; 4],
+    read: [Answer; 5],
 }
 
 /// All calls on a committer, between a session's first beginning and its last.
@@ -180,7 +183,7 @@ fn committer_is_read_and_ended(rt: HostRuntime) {
     let absent = Err(BookError::NoAccount);
     assert_eq!(rt;
         outcome.kept,
-        [absent, Ok(()), Err(BookError::Exists), Ok(())]
+        [absent, Ok(()), Err(BookError::Exists), Ok(()), Ok(())]
     );
     assert_eq!(rt; outcome.verified, Some(Reply::Yes));
     let replies = [
@@ -188,10 +191,11 @@ fn committer_is_read_and_ended(rt: HostRuntime) {
         Answer::Replied(Reply::NoAccount),
         Answer::Replied(Reply::Upgraded),
         Answer::Replied(Reply::Changed { now }),
+        Answer::Replied(Reply::Removed),
     ];
     assert_eq!(rt; outcome.read, replies);
     let ended = [Answer::Refused(DeskError::Reader), Answer::Failed];
-    assert!(rt; late == ended || late == [Answer::Done, Answer::Copied(now)]);
+    assert!(rt; late == ended || late == [Answer::Done, Answer::Copied(None)]);
 }
 
 /// Makes a committer with this number of sessions, and ends it.
@@ -218,7 +222,8 @@ fn make_and_end<J: Naming, R: Wait>(
 #[test]
 fn numbers_of_sessions(rt: HostRuntime) {
     let book = book_of(&rt, rt.alloc(), A_ALONE).expect(&rt, "a book");
-    for (sessions, want) in [(0, None), (128, None), (129, Some(DeskError::Sessions))] {
+    for sessions in 0..=u8::MAX {
+        let want = (sessions > 128).then_some(DeskError::Sessions);
         let opened = Opened::new(sessions);
         let found = make_and_end::<Brand, _>(&rt, rt.alloc(), opened, &book, sessions);
         assert_eq!(rt; found, want, "{sessions}");

@@ -1,14 +1,14 @@
 //! A kept desk at which names are taken away, beside all other kinds of change, and the desk that
 //! is opened on what it kept.
 
-use super::kept_scene::{DONE, FULL, LOG_FULL, Log, NO_ACCOUNT, Step, judge, replied, serve};
+use super::kept_scene::{DONE, FULL, LOG_FULL, NO_ACCOUNT, Step, judge, replied, serve};
 use super::scene::Answer;
 use super::{
     NONE_STANDS, ONE_STANDS, book_of, change, deletion, enrol, entry, name, remove, stored,
     upgrade, verify,
 };
 use cred_book::{Book, Reply};
-use cred_desk::{AccountState, DeskError};
+use cred_desk::{AccountState, DeskError, Entry};
 use std::alloc::Global;
 use std::process::Abort;
 use test_samples::{A, A_SETTING, B, B_SETTING};
@@ -18,12 +18,12 @@ const C: &str =
     "$argon2id$v=19$m=256,t=2,p=1$c29tZXNhbHQ$gDtqOITe98Nz/qtXYCa3i4YhZKLmbzlEcxv5kGzWG0U";
 
 /// How many names a book has room for.
-const MOST_ACCOUNTS: usize = 4096;
+pub(super) const MOST_ACCOUNTS: usize = 4096;
 
 /// The book with all entries that a log keeps.
-fn replayed<R: Abort>(rt: &R, book: &Book, log: &Log) -> Book {
+pub(super) fn replayed<R: Abort>(rt: &R, book: &Book, entries: &[Entry]) -> Book {
     let mut book = book.copy().expect(rt, "a book");
-    for entry in &log.entries {
+    for entry in entries {
         match entry.now {
             AccountState::Record(record) => book.put(&entry.name, Some(record)),
             AccountState::NoRecord => book.put(&entry.name, None),
@@ -34,7 +34,7 @@ fn replayed<R: Abort>(rt: &R, book: &Book, log: &Log) -> Book {
 }
 
 /// Whether two books have the same names with the same records.
-fn is_same(one: &Book, other: &Book) -> bool {
+pub(super) fn is_same(one: &Book, other: &Book) -> bool {
     one.len() == other.len()
         && one
             .iter()
@@ -76,7 +76,12 @@ fn deletions_are_kept(rt: HostRuntime) {
     ];
     judge(&rt, &kept, &journal, 4, 4);
     assert_eq!(rt; kept.closed.book.len(), 1);
-    assert!(rt; is_same(&kept.closed.book, &replayed(&rt, &book, &kept.writer)));
+    assert!(rt;
+        is_same(
+            &kept.closed.book,
+            &replayed(&rt, &book, &kept.writer.entries)
+        )
+    );
 }
 
 /// On the book that the log kept, a deleted name is new again.
@@ -87,7 +92,7 @@ fn deleted_names_come_back(rt: HostRuntime) {
     let first = [(Step::Delete(a), DONE), (Step::Delete(b), DONE)];
     let kept = serve(&rt, rt.alloc(), &book, 2, &first);
     judge(&rt, &kept, &[deletion(&rt, "a"), deletion(&rt, "b")], 0, 2);
-    let restored = replayed(&rt, &book, &kept.writer);
+    let restored = replayed(&rt, &book, &kept.writer.entries);
     assert_eq!(rt; restored.len(), 0);
     let second = [
         (

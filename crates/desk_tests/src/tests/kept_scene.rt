@@ -5,7 +5,9 @@ ghost use Rattle.cred_desk.specs.Naming.{IsNamed, StartsAt};
 
 use super::scene::{Answer, begin, close, read, worked};
 use cred_book::{Book, BookError, Name, Reply, Request, Ticket};
-use cred_desk::{Entry, EntryWriter, KeepError, Kept, KeptDesk, Naming, Opened, Session};
+use cred_desk::{
+    Entry, EntryWriter, Handed, KeepError, Kept, KeptDesk, Naming, Opened, Session, Unclosed,
+};
 use cred_phc::Record;
 use std::alloc::Global;
 use std::marker::Brand;
@@ -163,15 +165,33 @@ fn serve_named<J: Naming, R: Threads + Wait + Sync>(
     requires empty { log.entries.items ≡ [] }
 {
     let made = KeptDesk::<J, Log>::new(rt, alloc, opened, book, 1, log);
-    let (desk, mut sessions) = made.ok()?;
+    let (desk, handed, mut sessions) = made.ok()?;
     let slip = match sessions.first_mut() {
         Some(session) => take_all(rt, alloc, &desk, session, lines),
         None => None,
     };
-    match desk.close(rt, sessions) {
-        Ok(kept) => Some((kept, slip)),
-        Err((desk, back, _)) => {
-            let _remains = desk.give_up(rt, &back);
+    let kept = close_kept(rt, desk, handed, sessions)?;
+    Some((kept, slip))
+}
+
+/// Closes the desk, or gives it up if that is refused.
+pub(super) fn close_kept<J: Naming, W: EntryWriter + Drop, R: Wait>(
+    rt: &R,
+    desk: KeptDesk<J, W>,
+    handed: Handed<J>,
+    sessions: Vec<Session<J>>,
+) -> Option<Kept<W>> {
+    match desk.close(rt, handed, sessions) {
+        Ok(kept) => Some(kept),
+        Err(
+            Unclosed {
+                desk,
+                handed,
+                sessions,
+                error: _,
+            },
+        ) => {
+            let _remains = desk.give_up(rt, handed, &sessions);
             None
         }
     }

@@ -3,7 +3,7 @@
 ghost use Rattle.std.specs.Prelude.{◌≡◌, [], true};
 ghost use Rattle.cred_desk.specs.Naming.{IsNamed, StartsAt};
 
-use super::kept_scene::Log;
+use super::kept_scene::{Log, close_kept};
 use super::{NONE_STANDS, book_of, deletion, entry, name, stored};
 use cred_book::{Book, Name};
 use cred_desk::{Kept, KeptDesk, Naming, Opened, Session};
@@ -80,18 +80,13 @@ fn served<J: Naming, R: Wait + Abort>(
     requires empty { log.entries.items ≡ [] }
 {
     let made = KeptDesk::<J, Log>::new(rt, alloc, opened, book, 1, log);
-    let (desk, mut sessions) = made.ok()?;
+    let (desk, handed, mut sessions) = made.ok()?;
     let done = match sessions.first_mut() {
         Some(session) => come_and_go(rt, &desk, session),
         None => false,
     };
-    match desk.close(rt, sessions) {
-        Ok(kept) => Some((kept, done)),
-        Err((desk, back, _)) => {
-            let _remains = desk.give_up(rt, &back);
-            None
-        }
-    }
+    let kept = close_kept(rt, desk, handed, sessions)?;
+    Some((kept, done))
 }
 
 #[test]

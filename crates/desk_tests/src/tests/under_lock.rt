@@ -169,9 +169,9 @@ fn read_under_lock<J: Naming + Send + Sync, R: Threads + Wait + Abort + Sync>(
         go_on,
     };
     let made = KeptDesk::<J, Turnstile<R>>::new(rt, alloc, opened, book, 2, turnstile);
-    let (desk, mut sessions) = made.ok()?;
+    let (desk, handed, mut sessions) = made.ok()?;
     let answers = settle_and_read(rt, alloc, &desk, &mut sessions, (asked, going));
-    let _remains = desk.give_up(rt, &sessions);
+    let _remains = desk.give_up(rt, handed, &sessions);
     Some(answers)
 }
 
@@ -221,12 +221,12 @@ fn loaded_dear<J: Naming, R: Threads + Wait + Abort + Sync>(
     requires loads { J.loads ≡ true }
 {
     let made = KeptDesk::<J, Careless>::new(rt, alloc, opened, book, 1, Careless);
-    let (desk, mut sessions) = made.ok()?;
+    let (desk, handed, mut sessions) = made.ok()?;
     let answers = match sessions.first_mut() {
         Some(session) => load_dear(rt, alloc, &desk, session),
         None => None,
     };
-    let _remains = desk.give_up(rt, &sessions);
+    let _remains = desk.give_up(rt, handed, &sessions);
     answers
 }
 
@@ -324,12 +324,12 @@ fn timed<J: Naming, R: Threads + Wait + CpuClock + Abort + Sync>(
     requires opening { StartsAt J.Naming book.now 1 }
 {
     let made = KeptDesk::<J, Careless>::new(rt, alloc, opened, book, 1, Careless);
-    let (desk, mut sessions) = made.ok()?;
+    let (desk, handed, mut sessions) = made.ok()?;
     let quickest = match sessions.first_mut() {
         Some(session) => time_all(rt, alloc, &desk, session),
         None => None,
     };
-    let _remains = desk.give_up(rt, &sessions);
+    let _remains = desk.give_up(rt, handed, &sessions);
     quickest
 }
 

@@ -6,5 +6,5 @@ use Rattle.cred_desk.proofs.committer.CommitterKeeper.admit.Goals as goal
 pub returns-clause-book : goal.returns-clause-book
 returns-clause-book g c = search (rules, after_snoc)
 
-pub publish-requires : goal.publish-requires
-publish-requires g c = search (rules, after_snoc)
+pub add-requires : goal.add-requires
+add-requires g c = search (rules, after_snoc)

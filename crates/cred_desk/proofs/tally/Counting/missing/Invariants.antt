@@ -1,5 +1,5 @@
 use Rattle.std.proofs.Common.{◌≡◌, ◌+◌, map, sum, vec_len}
-use Rattle.cred_desk.proofs.clerk.endings.merge_shares.Given as goal
+use Rattle.cred_desk.proofs.tally.Counting.missing.Given as goal
 
 -- what was merged, with what is left, is all
 abbrev pub invariant-loop-session : goal.invariant-loop-session

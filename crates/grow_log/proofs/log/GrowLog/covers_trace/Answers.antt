@@ -3,7 +3,7 @@ use mathlib.Core.List.{IsPrefix}
 use Rattle.grow_log.specs.Links.{entries_of}
 use Rattle.grow_log.proofs.Adding.{looks_moves}
 use Rattle.grow_log.proofs.Links.{entries_prefix}
-use Rattle.grow_log.proofs.log.GrowLog.covers.Goals as goal
+use Rattle.grow_log.proofs.log.GrowLog.covers_trace.Goals as goal
 
 pub compare_exchange-requires : goal.compare_exchange-requires
 compare_exchange-requires g c =

@@ -1,9 +1,0 @@
-use Rattle.std.proofs.Common.{◌≡◌, ◌≤◌, false, length, map, sum, take, vec_capacity}
-use Rattle.cred_desk.proofs.tally.write_additions.Given as goal
-
--- the additions of the sessions so far, with room for the others
-abbrev pub invariant-loop-session : goal.invariant-loop-session
-invariant-loop-session g l =
-    (l.additions.items ≡ map (λ s. s.additions) (take l.session-index l.sessions))
-    × (length l.sessions ≤ vec_capacity l.additions)
-    × (g.J.Naming.loads ≡ false → sum l.additions.items ≡ 0)
