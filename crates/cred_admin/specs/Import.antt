@@ -153,10 +153,11 @@ tally how book text = tally_from how book nothing_yet 1 (import_lines text)
 abbrev pub tally_of : Gathered → Tally
 tally_of g = record { accounts = g.accounts; kept = g.kept; bad = g.bad.items }
 
--- a call on the reader failed, or there was no memory, or there are too many lines for any book
-abbrev pub GatherFails : Option (List ℕ) → Bool → ImportFault → Type 0
-GatherFails input failed fault.Read = failed ≡ true
-GatherFails input failed fault.Memory = ⊤
-GatherFails input failed fault.Full = (text : List ℕ) × IfSome input (λ bytes. text ≡ bytes)
-    × (register_capacity < length (import_lines text))
-GatherFails input failed (fault.Lines bad) = ⊥
+-- a call on the reader failed, or there was no memory, or there are too many accounts for any book
+abbrev pub GatherFails : Existing → Accounts → Option (List ℕ) → Bool → ImportFault → Type 0
+GatherFails how book input failed fault.Read = failed ≡ true
+GatherFails how book input failed fault.Memory = ⊤
+GatherFails how book input failed fault.Full = (text : List ℕ)
+    × IfSome input (λ bytes. text ≡ bytes)
+    × (register_capacity < map.len (tally how book text).accounts)
+GatherFails how book input failed (fault.Lines bad) = ⊥

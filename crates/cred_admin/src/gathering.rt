@@ -70,7 +70,7 @@ pub fn gather<R: Read>(
         × IfSome (R.remaining (inner_of reader.old)) (λ bytes. text ≡ bytes)
         × (tally_of g ≡ tally how book.now text)) }
     ensures fault { IfErr result
-        (GatherFails (R.remaining (inner_of reader.old)) (failed_of reader.new)) }
+        (GatherFails how book.now (R.remaining (inner_of reader.old)) (failed_of reader.new)) }
 {
     let text = read_all(alloc, reader)?;
     gather_lines(alloc, book, how, &text)
@@ -101,7 +101,7 @@ fn gather_lines(
 ) -> Result<Gathered, ImportFault>
     ensures done { IfOk result (λ g. tally_of g ≡ tally how book.now text.now) }
     ensures fault { IfErr result (λ e. (e ≡ ImportFault.Memory) ⊎ ((e ≡ ImportFault.Full)
-        × (register_capacity < length (import_lines text.now)))) }
+        × (register_capacity < map.len (tally how book.now text.now).accounts))) }
 {
     let mut found = Gathered::new(alloc);
     let mut lines = Pieces::new(text, b'\n');
@@ -153,7 +153,8 @@ impl Gathered {
         ensures done { OnOk result (tally_of self.new
             ≡ with_line how book.now (tally_of self.old) number (entry_of line.now)) }
         ensures fault { IfErr result (λ e. (e ≡ ImportFault.Memory) ⊎ ((e ≡ ImportFault.Full)
-            × (register_capacity ≤ map.len self.old.accounts))) }
+            × (register_capacity < map.len
+            (with_line how book.now (tally_of self.old) number (entry_of line.now)).accounts))) }
     {
         match entry_of(line) {
             Ok((name, stored)) => self.take_entry(book, how, number, name, stored),
@@ -173,7 +174,8 @@ impl Gathered {
         ensures done { OnOk result (tally_of self.new
             ≡ with_entry how book.now (tally_of self.old) number (name, stored)) }
         ensures fault { IfErr result (λ e. (e ≡ ImportFault.Memory) ⊎ ((e ≡ ImportFault.Full)
-            × (register_capacity ≤ map.len self.old.accounts))) }
+            × (register_capacity < map.len
+            (with_entry how book.now (tally_of self.old) number (name, stored)).accounts))) }
     {
         if book.contains(&name) {
             return self.pass(how, number);

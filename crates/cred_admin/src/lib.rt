@@ -25,7 +25,7 @@ pub use edit_reply::{EditReply, answer_edit};
 pub use entry::LineFault;
 pub use fault::Fault;
 pub use gathering::{BadLine, Existing, Gathered, ImportFault, gather};
-pub use listing::{export, list};
+pub use listing::{a_piece_has_64_kib, export, list};
 pub use new_password::{EmptyPassword, NewPassword};
 pub use setting::{NewSetting, setting_of};
 pub use showing::{Part, show};

@@ -6,6 +6,7 @@ ghost use Rattle.cred_phc.specs.Values.{RecordValue};
 ghost use Rattle.cred_cli.specs.Outcome.{FrontWritten};
 ghost use Rattle.cred_cli.specs.Watched.{failed_of, inner_of, writing};
 ghost use Rattle.cred_admin.specs.Listing.{IsPiece, Prints, line_text, name_line, passwd_line};
+ghost use Rattle.cred_admin.specs.declared.listing.TheConstants.{PIECE};
 
 use crate::fault::Fault;
 use crate::printing::write_whole;
@@ -18,6 +19,11 @@ use std::io::Write;
 
 /// Lines are kept until they come to so many bytes, and then written.
 const PIECE: usize = 65536;
+
+/// The law that a piece has 64 KiB, as the contracts that take it from the constant have it.
+pub fn a_piece_has_64_kib()
+    ensures { PIECE ≡ 65536 }
+{}
 
 /// What a line tells of an account.
 #[derive(Clone, Copy)]

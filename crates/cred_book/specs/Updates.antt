@@ -1,45 +1,129 @@
--- A store of records that many clients change by conditional updates, such as a table in a
--- database; and beside it the history of one thread, which does whole operations one by one.
-use Rattle.std.specs.Prelude.{◌≡◌, ◌↔◌, ⊤, List, [], ◌∷◌, Bool, true, if◌then◌else◌}
+-- A store of rows that many clients change by conditional updates, such as a table of a database;
+-- and beside it the history of one thread, which does whole operations one by one. A row is
+-- whatever the store keeps at a key: a record or none, or a text of any scheme.
+use Rattle.std.specs.Prelude.{◌≡◌, ◌↔◌, ◌⊎◌, ⊤, ℕ, List, [], ◌∷◌, Bool, true, if◌then◌else◌}
 use Rattle.std.specs.Prelude.{Option, Some, None}
 use Rattle.std.specs.FinMap as map
 use Rattle.cred_phc.specs.Values.{RecordValue}
 use Rattle.cred_book.specs.Accounts.{Accounts}
-use Rattle.cred_book.specs.Works.{Task, name_of, seq, whole}
+use Rattle.cred_book.specs.Names.{name_cmp}
+use Rattle.cred_book.specs.Works.{Task, name_of, whole}
 use Rattle.cred_book.specs.declared.reply.Reply.{Reply}
 use Rattle.cred_book.specs.declared.reply.Reply.TheVariants as reply
 use Rattle.cred_book.specs.declared.request.Request.{Request}
 
--- a client's update of one account: the request, with the copy of the record that it is to replace;
--- the reply and the record after, as the client worked them out; and whether the store did it
-pub record Update : Type 0 where
-  pub task : Task
-  pub reply : Reply
-  pub after : Option RecordValue
+-- the rows of a store, by the bytes of their keys
+abbrev pub Rows : Type 0 → Type 0
+Rows V = map.FinMap name_cmp V
+
+-- what is to be done at one key, whatever stands there: the reply, and the row after. `None` is no
+-- row, so that what makes a row puts `Some` in the place of `None`
+pub record Operation (V R : Type 0) : Type 0 where
+  pub key : List ℕ
+  pub act : Option V → R × Option V
+
+-- this row, or none, is put at a key in place of what stands there
+abbrev pub with_row : {V : Type 0} → Rows V → List ℕ → Option V → Rows V
+with_row rows key None = map.remove rows key
+with_row rows key (Some row) = map.insert rows key row
+
+-- ---- the store
+
+-- a client's update of one row: the operation, with the copy of the row that it is to replace; the
+-- reply and the row after, as the client worked them out; and whether the store did it
+pub record Update (V R : Type 0) : Type 0 where
+  pub operation : Operation V R
+  pub copy : Option V
+  pub reply : R
+  pub after : Option V
   pub is_done : Bool
 
 -- the client did the whole operation at its copy, wherever it had that from
-abbrev pub IsWorked : Update → Type 0
-IsWorked update =
-    ◌≡◌ {A = Reply × Option RecordValue} (update.reply, update.after)
-    (whole update.task.0 update.task.1)
+abbrev pub IsWorked : {V R : Type 0} → Update V R → Type 0
+IsWorked {V = V} {R = R} update =
+    ◌≡◌ {A = R × Option V} (update.reply, update.after) (update.operation.act update.copy)
 
--- the record that stands at the update's name, if the store has the name
-abbrev pub standing : Accounts → Update → Option (Option RecordValue)
-standing store update = map.get store (name_of update.task.0)
+-- the row that stands at the update's key
+abbrev pub standing : {V R : Type 0} → Rows V → Update V R → Option V
+standing rows update = map.get rows update.operation.key
 
 -- what the store owes: it does an update only if the copy stands
-abbrev pub IsConditional : Accounts → Update → Type 0
-IsConditional store update = update.is_done ≡ true → standing store update ≡ Some update.task.1
+abbrev pub IsConditional : {V R : Type 0} → Rows V → Update V R → Type 0
+IsConditional rows update = update.is_done ≡ true → standing rows update ≡ update.copy
 
--- and what it needn't: it does each such update, so none fails by a conflict or a lost connection
-abbrev pub IsExact : Accounts → Update → Type 0
-IsExact store update = (update.is_done ≡ true) ↔ (standing store update ≡ Some update.task.1)
+-- and what it needn't: it does each such update, so none fails by a lost connection
+abbrev pub IsExact : {V R : Type 0} → Rows V → Update V R → Type 0
+IsExact rows update = (update.is_done ≡ true) ↔ (standing rows update ≡ update.copy)
 
--- the store after an update; one that isn't done changes nothing
-abbrev pub updated : Accounts → Update → Accounts
-updated store update =
-    if update.is_done then map.insert store (name_of update.task.0) update.after else store
+-- the rows after an update; one that isn't done changes nothing
+abbrev pub updated : {V R : Type 0} → Rows V → Update V R → Rows V
+updated rows update =
+    if update.is_done then with_row rows update.operation.key update.after else rows
+
+-- the updates of all clients in the order in which the store came to them; no other comes between
+-- the look at the copy and the writing
+abbrev pub IsLog : {V R : Type 0} → Rows V → List (Update V R) → Type 0
+IsLog rows [] = ⊤
+IsLog rows (update ∷ updates) =
+    IsWorked update × IsConditional rows update × IsLog (updated rows update) updates
+
+unfoldable pub store_after : {V R : Type 0} → Rows V → List (Update V R) → Rows V
+store_after rows [] = rows
+store_after rows (update ∷ updates) = store_after (updated rows update) updates
+
+-- the operations of the updates that were done, and the replies to these
+unfoldable pub operations_done : {V R : Type 0} → List (Update V R) → List (Operation V R)
+operations_done [] = []
+operations_done (update ∷ updates) = if update.is_done
+    then update.operation ∷ operations_done updates else operations_done updates
+
+unfoldable pub replies_done : {V R : Type 0} → List (Update V R) → List R
+replies_done [] = []
+replies_done (update ∷ updates) =
+    if update.is_done then update.reply ∷ replies_done updates else replies_done updates
+
+-- one of the updates at this key was done
+unfoldable pub HasDone : {V R : Type 0} → List ℕ → List (Update V R) → Type 0
+HasDone key [] = ⊥
+HasDone key (update ∷ updates) =
+    ((update.is_done ≡ true) × (update.operation.key ≡ key)) ⊎ HasDone key updates
+
+-- ---- the history of one thread
+
+-- one whole operation: the reply, and the rows after
+unfoldable pub outcome_on : {V R : Type 0} → Rows V → Operation V R → R × Rows V
+outcome_on rows operation = (
+  (operation.act (map.get rows operation.key)).0,
+  with_row rows operation.key (operation.act (map.get rows operation.key)).1,
+)
+
+unfoldable pub seq_replies : {V R : Type 0} → Rows V → List (Operation V R) → List R
+seq_replies rows [] = []
+seq_replies rows (operation ∷ operations) =
+    (outcome_on rows operation).0 ∷ seq_replies (outcome_on rows operation).1 operations
+
+unfoldable pub seq_after : {V R : Type 0} → Rows V → List (Operation V R) → Rows V
+seq_after rows [] = rows
+seq_after rows (operation ∷ operations) = seq_after (outcome_on rows operation).1 operations
+
+-- ---- requests, in a store whose rows have a record or none
+
+abbrev pub outcome_at : Request → Option (Option RecordValue) → Reply × Option (Option RecordValue)
+outcome_at request None = (reply.NoAccount, None)
+outcome_at request (Some now) = ((whole request now).0, Some (whole request now).1)
+
+abbrev pub operation_of : Request → Operation (Option RecordValue) Reply
+operation_of request = record { key = name_of request; act = outcome_at request }
+
+-- a ticket's update, as it is worked out at its copy
+abbrev pub update_of : Task → Bool → Update (Option RecordValue) Reply
+update_of task is_done = record {
+  operation = operation_of task.0;
+  copy = Some task.1;
+  reply = (outcome_at task.0 (Some task.1)).0;
+  after = (outcome_at task.0 (Some task.1)).1;
+  is_done = is_done;
+}
 
 -- what stands instead of the copy is told
 abbrev pub refusal : Option (Option RecordValue) → Reply
@@ -47,38 +131,5 @@ refusal None = reply.NoAccount
 refusal (Some now) = reply.Changed now
 
 -- the reply to an update
-abbrev pub answer : Accounts → Update → Reply
-answer store update = if update.is_done then update.reply else refusal (standing store update)
-
--- the updates of all clients in the order in which the store came to them; no other comes between
--- the look at the copy and the writing
-abbrev pub IsLog : Accounts → List Update → Type 0
-IsLog store [] = ⊤
-IsLog store (update ∷ updates) =
-    IsWorked update × IsConditional store update × IsLog (updated store update) updates
-
-unfoldable pub store_after : Accounts → List Update → Accounts
-store_after store [] = store
-store_after store (update ∷ updates) = store_after (updated store update) updates
-
--- the requests of the updates that were done, and the replies to these
-unfoldable pub requests_done : List Update → List Request
-requests_done [] = []
-requests_done (update ∷ updates) =
-    if update.is_done then update.task.0 ∷ requests_done updates else requests_done updates
-
-unfoldable pub replies_done : List Update → List Reply
-replies_done [] = []
-replies_done (update ∷ updates) =
-    if update.is_done then update.reply ∷ replies_done updates else replies_done updates
-
--- ---- the history of one thread
-
-unfoldable pub seq_replies : Accounts → List Request → List Reply
-seq_replies book [] = []
-seq_replies book (request ∷ requests) =
-    (seq book request).0 ∷ seq_replies (seq book request).1 requests
-
-unfoldable pub seq_after : Accounts → List Request → Accounts
-seq_after book [] = book
-seq_after book (request ∷ requests) = seq_after (seq book request).1 requests
+abbrev pub answer : Accounts → Update (Option RecordValue) Reply → Reply
+answer book update = if update.is_done then update.reply else refusal (standing book update)

@@ -1,17 +1,18 @@
 //! Laws about the definitions that contracts cite. A law is a function that does nothing; its
 //! contract is what holds.
 
-ghost use Rattle.std.specs.Prelude.{◌≡◌, ◌↔◌, List, MatchOption, Option, true, false, ℕ};
+ghost use Rattle.std.specs.Prelude.{◌≡◌, ◌↔◌, Bool, List, MatchOption, Option, true, false, ℕ};
 ghost use Rattle.std.specs.FinMap as map;
 ghost use Rattle.cred_phc.specs.Values.{RecordValue};
 ghost use Rattle.cred_book.specs.Accounts.{Accounts};
 ghost use Rattle.cred_book.specs.Changes.{change_of, judged_book};
 ghost use Rattle.cred_book.specs.Commits.{commit_outcome, judgement};
 ghost use Rattle.cred_book.specs.Passwords.{IsPasswordAt, IsPasswordOf};
-ghost use Rattle.cred_book.specs.Updates.{Update, IsConditional, IsExact, IsLog, IsWorked, answer};
-ghost use Rattle.cred_book.specs.Updates.{refusal, replies_done, requests_done, seq_after};
-ghost use Rattle.cred_book.specs.Updates.{seq_replies, standing, store_after, updated};
-ghost use Rattle.cred_book.specs.Works.{Task, makes_change, whole};
+ghost use Rattle.cred_book.specs.Updates.{HasDone, IsConditional, IsExact, IsLog, Rows, Update};
+ghost use Rattle.cred_book.specs.Updates.{answer, operation_of, operations_done, outcome_on};
+ghost use Rattle.cred_book.specs.Updates.{replies_done, seq_after, seq_replies, standing};
+ghost use Rattle.cred_book.specs.Updates.{store_after, update_of, updated};
+ghost use Rattle.cred_book.specs.Works.{Task, makes_change, seq, whole};
 
 use crate::reply::Reply;
 use crate::request::Request;
@@ -44,23 +45,38 @@ pub fn yes_is_the_password()
         → IsPasswordAt book name pw }
 {}
 
-/// For a store, such as a table in a database, that does a client's update only if the record
-/// still equals the client's copy, and compares and writes in one step. The replies to the updates
-/// that it does are those of one thread that does the same whole operations in the same order, and
-/// the records at the end are the same. An update that isn't done changes nothing. One whose reply
-/// makes no change needs only a second look at the record. A store that does every update whose
-/// copy still matches answers as [`Book`](crate::Book) commits.
-pub fn updates_are_one_history()
-    ensures replies { (store : Accounts) (updates : List Update) → IsLog store updates
-        → replies_done updates ≡ seq_replies store (requests_done updates) }
-    ensures store { (store : Accounts) (updates : List Update) → IsLog store updates
-        → store_after store updates ≡ seq_after store (requests_done updates) }
-    ensures refused { (store : Accounts) (update : Update) → update.is_done ≡ false
-        → (answer store update ≡ refusal (standing store update))
-        × (updated store update ≡ store) }
-    ensures look { (store : Accounts) (update : Update)
-        → IsWorked update → IsConditional store update
-        → makes_change update.reply ≡ false → updated store update ≡ store }
-    ensures commit { (store : Accounts) (update : Update) → IsWorked update → IsExact store update
-        → commit_outcome store update.task ≡ (answer store update, updated store update) }
+/// For a store of rows, such as a table in a database, whose clients do any operations: each is any
+/// function from the row at its key, or from there being none, to a reply and the row after. The
+/// store does a client's update only if the row still equals the client's copy, and compares and
+/// writes in one step. To make a row is to replace that there is none, and so is a copy of it.
+///
+/// The replies to the updates that it does are those of one thread that does the same whole
+/// operations in the same order, and the rows at the end are the same. An update whose row after is
+/// its copy needs only a second look at the row. A store that does every update whose copy still
+/// stands refuses one only if another at the same key was done since the copy was taken: so of
+/// clients that begin anew some client always gets on.
+pub fn updates_are_one_history<V, R>()
+    ensures replies { (store : Rows V) (updates : List (Update V R)) → IsLog store updates
+        → replies_done updates ≡ seq_replies store (operations_done updates) }
+    ensures store { (store : Rows V) (updates : List (Update V R)) → IsLog store updates
+        → store_after store updates ≡ seq_after store (operations_done updates) }
+    ensures look { (store : Rows V) (update : Update V R) → IsConditional store update
+        → update.after ≡ update.copy → updated store update ≡ store }
+    ensures refused { (update : Update V R) (store : Rows V) (between : List (Update V R))
+        → standing store update ≡ update.copy → IsExact (store_after store between) update
+        → update.is_done ≡ false → HasDone update.operation.key between }
+{}
+
+/// The five requests are such operations, on rows that each have a record or none. A request that
+/// makes no change leaves its copy. A store that does every update whose copy still stands answers
+/// as [`Book`](crate::Book) commits.
+pub fn requests_are_operations()
+    ensures whole { (book : Accounts) (request : Request)
+        → outcome_on book (operation_of request) ≡ seq book request }
+    ensures look { (task : Task) (is_done : Bool)
+        → makes_change (update_of task is_done).reply ≡ false
+        → (update_of task is_done).after ≡ (update_of task is_done).copy }
+    ensures commit { (book : Accounts) (task : Task) (is_done : Bool)
+        → IsExact book (update_of task is_done) → commit_outcome book task
+        ≡ (answer book (update_of task is_done), updated book (update_of task is_done)) }
 {}

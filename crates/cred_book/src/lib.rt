@@ -24,7 +24,9 @@ pub use book::Book;
 pub use change::Change;
 pub use error::BookError;
 pub use keeper::Keeper;
-pub use laws::{change_is_committed, updates_are_one_history, yes_is_the_password};
+pub use laws::{
+    change_is_committed, requests_are_operations, updates_are_one_history, yes_is_the_password,
+};
 pub use name::Name;
 pub use outcome::Hashing;
 pub use register::Register;

@@ -204,3 +204,14 @@ few_from (e ∷ es) = omega (arith, grown (fin.contains_key (fin.from_entries {R
 
 pub len_joined : (old more : Accounts) → fin.len (joined old more) ≤ fin.len old + fin.len more
 len_joined old more = omega (arith, few_from (fin.entries more ++ fin.entries old), length-append (fin.entries more) (fin.entries old), len-entries more, len-entries old)
+
+-- ---- what an empty book becomes
+
+no_entries : (es : Entries) → length es ≡ 0 → es ≡ []
+no_entries [] none = refl
+no_entries (e ∷ es) none = absurd cc
+
+pub joined_empty : (more : Accounts) → joined fin.empty more ≡ more
+joined_empty more =
+    let none : length (fin.entries (fin.empty {K = List ℕ} {X = Option RecordValue} {R = name_cmp})) ≡ 0 = omega (arith, len-entries (fin.empty {K = List ℕ} {X = Option RecordValue} {R = name_cmp}), len-empty name_cmp (Option RecordValue)) in
+    ap (λ es. fin.from_entries {R = name_cmp} (fin.entries more ++ es)) (no_entries _ none) ∙ ap (λ es. fin.from_entries {R = name_cmp} es) (append-nil (fin.entries more)) ∙ sym (again more)

@@ -5,6 +5,7 @@ pub mod Keeping
 pub mod Removing
 pub mod Within
 pub mod Joined
+pub mod Copied
 pub mod Judged
 pub mod Creating
 pub mod Shuffled

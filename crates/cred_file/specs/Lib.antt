@@ -8,6 +8,7 @@ pub mod Together
 pub mod Opening
 pub mod Drafts
 pub mod Failures
+pub mod Copies
 pub use Rattle.cred_book.specs.Accounts
 pub use Rattle.cred_book.specs.Calls
 pub use Rattle.cred_book.specs.Commits

@@ -1,5 +1,6 @@
 //! A book that is kept in the table of a database.
 
+mod copying;
 mod edits;
 mod entering;
 

@@ -3,7 +3,7 @@ use Rattle.std.specs.Prelude.{◌≡◌, ℕ, ◌+◌, ◌<◌, ◌==◌, if◌t
 use Rattle.std.specs.Prelude.{IfSome, Result, Ok, Err}
 use Rattle.std.specs.FinMap as map
 use Rattle.cred_book.specs.Accounts.{Accounts, register_capacity}
-use Rattle.cred_admin.specs.Import.{Tally, import_lines, tally}
+use Rattle.cred_admin.specs.Import.{Tally, tally}
 use Rattle.cred_admin.specs.declared.gathering.Existing.{Existing}
 use Rattle.cred_admin.specs.declared.gathering.ImportFault.{ImportFault}
 use Rattle.cred_admin.specs.declared.gathering.ImportFault.TheVariants as fault
@@ -33,6 +33,6 @@ Imports how r old new (Err (fault.Lines bad)) =
     × (bad.items ≡ (tally how old text).bad) × (0 < length bad.items) × (new ≡ old)
 Imports how r old new (Err fault.Full) =
     (text : List ℕ) × IfSome r.input (λ bytes. text ≡ bytes)
-    × (register_capacity < map.len old + length (import_lines text)) × (new ≡ old)
+    × (register_capacity < map.len old + map.len (tally how old text).accounts) × (new ≡ old)
 Imports how r old new (Err fault.Memory) = new ≡ old
 Imports how r old new (Err fault.Read) = (r.failed ≡ true) × (new ≡ old)

@@ -1,9 +1,15 @@
 -- Definitions that contracts cite: what an order makes of a kept book, and how it ends.
+pub mod Copying
 pub mod Importing
 pub mod Orders
 pub use Rattle.cred_admin.specs.Edits
 pub use Rattle.cred_admin.specs.Import
 pub use Rattle.cred_admin.specs.Seen
+pub use Rattle.cred_cli.specs.Calls
 pub use Rattle.cred_cli.specs.Outcome
+pub use Rattle.cred_cli.specs.Prompt
+pub use Rattle.cred_cli.specs.Script
 pub use Rattle.cred_cli.specs.Watched
+pub use Rattle.cred_file.specs.Copies
 pub use Rattle.cred_file.specs.Keeps
+pub use Rattle.cred_file.specs.Opening

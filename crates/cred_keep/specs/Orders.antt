@@ -18,6 +18,8 @@ use Rattle.cred_admin.specs.declared.status.Status.{Status}
 use Rattle.cred_admin.specs.declared.status.Status.TheVariants.{Done, Io, Memory, Database, Data}
 use Rattle.cred_cli.specs.Outcome.{FailsWithin, HasCause, IsAnswered, longest_script}
 use Rattle.cred_cli.specs.Outcome.{longest_service}
+use Rattle.cred_cli.specs.Prompt.{IsPrompt}
+use Rattle.cred_cli.specs.Script.{script_start}
 use Rattle.cred_cli.specs.declared.fault.ScriptFault.{ScriptFault}
 use Rattle.cred_cli.specs.declared.fault.ScriptFault.TheVariants as script
 use Rattle.cred_cli.specs.declared.script.End.{End}
@@ -95,13 +97,20 @@ status_of_open _ = Database
 
 -- ---- what it does
 
+-- whenever more of a script was asked for, what had come was done and answered; and none is asked
+-- for after its end
+abbrev pub RunsPrompt : Seen → Type 0
+RunsPrompt s = IfSome s.reading.input (λ bytes. IsPrompt register_capacity
+    (script_start s.old bytes s.writing.before) s.writing.name s.reading.log)
+
 -- all lines were answered, of at most so many bytes, or they met a fault
 abbrev pub RunsWithin : ℕ → Seen → Result End ScriptFault → Type 0
 RunsWithin longest s (Ok end) = IfSome s.reading.input (λ bytes. (length bytes ≤ longest)
     × IsAnswered register_capacity s.old bytes s.writing.before s.writing.now s.new end.lines)
+    × RunsPrompt s
 RunsWithin longest s (Err e) = HasCause s.reading.failed s.writing.failed e
     × IfSome s.reading.input (λ bytes. FailsWithin longest register_capacity s.old bytes
-    s.reading.left s.writing.before s.writing.now s.new e)
+    s.reading.left s.writing.before s.writing.now s.new e) × RunsPrompt s
 
 -- a command, of which this holds at its end, ends so
 abbrev pub Commands : (Result Status Fault → Type 0) → Result Status Failure → Type 0

@@ -3,6 +3,7 @@
 //! `cred_file`'s.
 #![tactic(auto)]
 
+mod copying;
 mod editing;
 mod failure;
 mod importing;
@@ -11,8 +12,9 @@ mod performing;
 mod report;
 mod script;
 
+pub use copying::{CopyFault, copy_book, copy_into, count_accounts};
 pub use failure::Failure;
 pub use order::Order;
 pub use performing::{perform, serve};
-pub use report::{NAME_RULE, refuse};
+pub use report::{NAME_RULE, explain, refuse};
 pub use script::{run_on_file, serve_on_file};

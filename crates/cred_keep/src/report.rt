@@ -35,7 +35,7 @@ pub(crate) fn advise<F: Write>(faults: &mut F, status: Status) {
 
 /// Says why an order failed; the book's lost change is named if the database failed. Whether
 /// `faults` takes its text changes nothing.
-pub(crate) fn explain<F: Write>(faults: &mut F, failure: &Failure, lost: Option<&Lost>) {
+pub fn explain<F: Write>(faults: &mut F, failure: &Failure, lost: Option<&Lost>) {
     let _ = match failure {
         Failure::Database => tell_database_failed(faults, lost),
         Failure::Command(fault) => tell_command(faults, fault),

@@ -4,7 +4,10 @@ ghost use Rattle.std.specs.Prelude.{◌≡◌, ◌+◌, ◌≤◌, IfErr, IfOk, 
 ghost use Rattle.cred_book.specs.Accounts.{register_capacity};
 ghost use Rattle.cred_cli.specs.Outcome.{FailsWithin, HasCause, IsAnswered, ScriptFails};
 ghost use Rattle.cred_cli.specs.Outcome.{longest_script, longest_service, most_calls};
-ghost use Rattle.cred_cli.specs.Watched.{IsNew, calls_of, failed_of, inner_of};
+ghost use Rattle.cred_cli.specs.Prompt.{IsPrompt};
+ghost use Rattle.cred_cli.specs.Script.{script_start};
+ghost use Rattle.cred_cli.specs.Watched.{IsNew, calls_of, failed_of, inner_of, name_of};
+ghost use Rattle.cred_cli.specs.Watched.{log_of};
 ghost use Rattle.cred_file.specs.Keeps.{IsOrWith, IsTableOf, LeavesOnly};
 ghost use Rattle.sqlite.specs.State.{HasCleanDisk};
 ghost use Rattle.sqlite.specs.Held.{state};
@@ -40,6 +43,9 @@ pub fn run_on_file<T: Threads + Wait + Sync, S: Alter, R: Read, W: Write>(
         ScriptFails register_capacity book.old.0 bytes (R.remaining (inner_of reader.new))
         (W.contents (inner_of writer.old)) (W.contents (inner_of writer.new)) book.new.0 fault)) }
     ensures cause { IfErr result (HasCause (failed_of reader.new) (failed_of writer.new)) }
+    ensures prompt { IfSome (R.remaining (inner_of reader.old)) (λ bytes. IsPrompt register_capacity
+        (script_start book.old.0 bytes (W.contents (inner_of writer.old)))
+        (name_of writer.old) (log_of reader.new)) }
     ensures calls { calls_of reader.new ≤ most_calls }
     ensures crash { HasCleanDisk (state S.Store book.new.1.1)
         → LeavesOnly (state S.Store book.new.1.1) (IsOrWith book.new.0 book.new.1.0) }
@@ -75,6 +81,9 @@ pub fn serve_on_file<T: Threads + Wait + Sync, S: Alter, R: Read, W: Write>(
         (R.remaining (inner_of reader.new)) (W.contents (inner_of writer.old))
         (W.contents (inner_of writer.new)) book.new.0 fault)) }
     ensures cause { IfErr result (HasCause (failed_of reader.new) (failed_of writer.new)) }
+    ensures prompt { IfSome (R.remaining (inner_of reader.old)) (λ bytes. IsPrompt register_capacity
+        (script_start book.old.0 bytes (W.contents (inner_of writer.old)))
+        (name_of writer.old) (log_of reader.new)) }
     ensures calls { IfSome (R.remaining (inner_of reader.old))
         (λ bytes. calls_of reader.new ≤ length bytes + 1) }
     ensures crash { HasCleanDisk (state S.Store book.new.1.1)

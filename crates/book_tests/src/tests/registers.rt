@@ -4,7 +4,7 @@ use super::calls::{Call, DONE, keep};
 use super::limits::numbered;
 use super::{name, stored};
 use crate::small::SmallBook;
-use cred_book::{BookError, Name, Register};
+use cred_book::{Book, BookError, Name, Register};
 use cred_phc::Record;
 use std::alloc::Global;
 use test_samples::{A, B};
@@ -96,6 +96,39 @@ fn judge(alloc: Global, record: Record) -> Result<(Option<u32>, bool, usize), Bo
 fn refused_register(rt: HostRuntime) {
     let one_lane = stored(&rt, A);
     assert_eq!(rt; judge(rt.alloc(), one_lane), Ok((None, true, 63)));
+}
+
+/// How many names a copy of 64 has, and whether it shows the last one's record.
+fn copied(alloc: Global, record: Record) -> Result<(usize, bool), BookError> {
+    let mut register = Register::new(alloc);
+    let _missing = fill(&mut register, record)?;
+    let copy = register.copy()?;
+    Ok((copy.len(), copy.show(&numbered(63)?) == Ok(Some(record))))
+}
+
+#[test]
+fn a_register_is_copied(rt: HostRuntime) {
+    let one_lane = stored(&rt, A);
+    assert_eq!(rt; copied(rt.alloc(), one_lane), Ok((64, true)));
+}
+
+/// How many names the book of so many has, and whether it shows the first one's record.
+fn book_of(alloc: Global, count: u32, record: Record) -> Result<(usize, bool), BookError> {
+    let mut register = Register::new(alloc);
+    for i in 0..count {
+        register.enter(numbered(i)?, Some(record))?;
+    }
+    let book = Book::from_register(alloc, &register)?;
+    Ok((book.len(), book.show(&numbered(0)?) == Ok(Some(record))))
+}
+
+#[test]
+fn a_register_becomes_a_book(rt: HostRuntime) {
+    let one_lane = stored(&rt, A);
+    assert_eq!(rt; book_of(rt.alloc(), 1, one_lane), Ok((1, true)));
+    assert_eq!(rt; book_of(rt.alloc(), 4096, one_lane), Ok((4096, true)));
+    let refused = book_of(rt.alloc(), 4097, one_lane);
+    assert_eq!(rt; refused, Err(BookError::Full));
 }
 
 /// The names of a register, in the order in which they are listed.

@@ -1,17 +1,13 @@
-use Rattle.std.proofs.Common.{ap, length, arith, Option}
-use Rattle.std.specs.FinMap as map
-use Rattle.cred_phc.specs.Values.{RecordValue}
-use Rattle.cred_book.specs.Names.{name_cmp}
+use Rattle.std.proofs.Common.{ap, arith}
+use Rattle.std.proofs.lemmas.Result.{err_from_is_err_and}
 use Rattle.cred_admin.specs.Import.{Tally, entry_of, tally_from, tally_of, whole_lines}
-use Rattle.cred_admin.proofs.Tallies.{grows, tally_end, tally_more}
+use Rattle.cred_admin.proofs.Tallies.{fault_of_line, grows, tally_end, tally_more}
 use Rattle.cred_admin.proofs.gathering.gather_lines.Goals as goal
 
 pub loop-number-init : goal.loop-number-init
 loop-number-init c = record {
   goes = λ i. tally_from c.args.how c.args.book.now (c.new-found.ensures i) 1 (whole_lines (c.new-lines.ensures i));
   kept = omega (arith, ap (λ (t : Tally). t.kept) c.new-found.ensures);
-  few = omega (arith, ap (λ (t : Tally). map.len t.accounts) c.new-found.ensures, map.len-empty name_cmp (Option RecordValue));
-  left = omega (arith, ap (λ lines. length (whole_lines lines)) c.new-lines.ensures);
 }
 
 pub loop-number-preserved : goal.loop-number-preserved
@@ -22,8 +18,6 @@ loop-number-preserved c =
     record {
       goes = tally_more _ _ _ _ _ _ _ _ _ was.goes c.in-Some.ensures done;
       kept = omega (arith, was.kept, ap (λ (t : Tally). t.kept) done, more.kept);
-      few = omega (arith, was.few, ap (λ (t : Tally). map.len t.accounts) done, more.few);
-      left = omega (arith, was.left, ap length c.in-Some.ensures);
     }
 
 pub returns-in-None-clause-done : goal.returns-in-None-clause-done
@@ -31,3 +25,8 @@ returns-in-None-clause-done c = tally_end _ _ _ _ _ _ c.loop-number.invariant.go
 
 pub returns-in-None-next_line-clause-done : goal.returns-in-None-next_line-clause-done
 returns-in-None-next_line-clause-done c = tally_end _ _ _ _ _ _ c.loop-number.invariant.goes c.in-None-next_line.ensures
+
+pub returns-in_err-take_line-in-Some-clause-fault : goal.returns-in_err-take_line-in-Some-clause-fault
+returns-in_err-take_line-in-Some-clause-fault c =
+    let told = err_from_is_err_and c.from_residual.result c.from_residual.ensures.1 in
+    rw (told.1, told.2) (fault_of_line _ _ _ _ _ _ _ _ _ c.loop-number.invariant.goes c.in-Some.ensures c.in_err-take_line-in-Some.field-0.0 c.in_err-take_line-in-Some.ensures.fault)

@@ -1,6 +1,5 @@
-use Rattle.std.proofs.Common.{◌≡◌, ◌<◌, ◌+◌, suc, length}
-use Rattle.std.specs.FinMap as map
-use Rattle.cred_admin.specs.Import.{import_lines, tally, tally_from, tally_of, whole_lines}
+use Rattle.std.proofs.Common.{◌≡◌, ◌<◌}
+use Rattle.cred_admin.specs.Import.{tally, tally_from, tally_of, whole_lines}
 use Rattle.cred_admin.proofs.gathering.gather_lines.Given as goal
 
 -- the lines that are left, behind what those before them come to, come to the whole
@@ -8,6 +7,4 @@ abbrev pub invariant-loop-number : goal.invariant-loop-number
 invariant-loop-number l = record {
   goes : tally_from l.fn.how l.fn.book (tally_of l.found) l.number (whole_lines l.lines) ≡ tally l.fn.how l.fn.book l.fn.text;
   kept : l.found.kept < l.number;
-  few : map.len l.found.accounts < l.number;
-  left : l.number + length (whole_lines l.lines) ≡ suc (length (import_lines l.fn.text));
 }

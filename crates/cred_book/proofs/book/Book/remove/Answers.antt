@@ -1,4 +1,4 @@
-use Rattle.std.proofs.Common.{sym, ◌∙◌}
+use Rattle.std.proofs.Common.{sym}
 use Rattle.cred_book.proofs.Kept.{is_absent, kept_remove, remove_there}
 use Rattle.cred_book.proofs.Registered.{remove_absent}
 use Rattle.cred_book.proofs.book.Book.remove.Goals as goal

@@ -1,0 +1,27 @@
+-- A copy of a book, as its accounts are entered into an empty one.
+use Rattle.std.proofs.Common.{◌≡◌, ◌⊎◌, inl, inr, ◌≤◌, None, subst, sym, ◌∙◌}
+use Rattle.std.specs.FinMap as fin
+use Rattle.sqlite.specs.Held.{Held, state}
+use Rattle.sqlite.specs.State.{State, HasCleanDisk}
+use Rattle.sqlite.specs.Store.{Ghosts}
+use Rattle.sqlite.specs.Tree.{Trees}
+use Rattle.cred_book.specs.Accounts.{Accounts, register_capacity}
+use Rattle.cred_file.specs.Copies.{MayCopy}
+use Rattle.cred_file.specs.Keeps.{HoldsBook, IsTableOf, Keeps, LeavesOnly}
+
+-- the table stands for the copy, and a crash leaves it
+pub keeps_copy : {S : Type 0} (g : Ghosts S) (new : Held S) (book : Accounts) → fin.len book ≤ register_capacity → (HasCleanDisk (state g new) → IsTableOf (state g new) book) → Keeps g new book None
+keeps_copy g new book low made = record {
+  table = λ clean none. made clean;
+  left = λ clean. (made clean).left;
+  few = λ b is. subst (λ b. fin.len b ≤ register_capacity) (sym is) low;
+}
+
+either : (db : Trees) (first after copy : Accounts) → first ≡ fin.empty → after ≡ copy → (book : Accounts) → (book ≡ first) ⊎ (book ≡ after) → HoldsBook db book → HoldsBook db fin.empty ⊎ HoldsBook db copy
+either db first after copy none all book (inl is) holds = inl (subst (λ b. HoldsBook db b) (is ∙ none) holds)
+either db first after copy none all book (inr is) holds = inr (subst (λ b. HoldsBook db b) (is ∙ all) holds)
+
+-- a crash leaves an empty book, or all of it
+pub may_copy : (old new : State) (first after copy : Accounts) → first ≡ fin.empty → after ≡ copy → LeavesOnly new (λ b. (b ≡ first) ⊎ (b ≡ after)) → MayCopy old new copy
+may_copy old new first after copy none all left db may =
+    let found = left db may in inr (either db first after copy none all found.0 found.1 found.2)

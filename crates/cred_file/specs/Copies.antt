@@ -1,0 +1,29 @@
+-- Why a copy of a book isn't begun, and what a crash leaves of one.
+use Rattle.std.specs.Prelude.{◌≡◌, ◌≢◌, ◌⊎◌, ℕ}
+use Rattle.std.specs.FinMap as fin
+use Rattle.sqlite.specs.Held.{Held, state}
+use Rattle.sqlite.specs.State.{State}
+use Rattle.sqlite.specs.Store.{Ghosts}
+use Rattle.sqlite.specs.Tree.{Trees}
+use Rattle.cred_book.specs.Accounts.{Accounts}
+use Rattle.cred_file.specs.declared.fault.OpenFault.{OpenFault}
+use Rattle.cred_file.specs.declared.fault.OpenFault.TheVariants as fault
+use Rattle.cred_file.specs.Keeps.{HoldsBook}
+use Rattle.cred_file.specs.Schema.{no_schema}
+
+-- There is a table already, and the connection is as it was; or there was no memory, or the
+-- database failed.
+abbrev pub IsUncopied : {S : Type 0} → Ghosts S → Held S → Held S → OpenFault → Type 0
+IsUncopied g old new fault.NotEmpty = ((state g old).now.schema ≢ no_schema) × (new ≡ old)
+IsUncopied g old new fault.NoBook = ⊥
+IsUncopied g old new (fault.NoName id) = ⊥
+IsUncopied g old new (fault.NoRecord id why) = ⊥
+IsUncopied g old new (fault.Twice id) = ⊥
+IsUncopied g old new fault.TooMany = ⊥
+IsUncopied g old new fault.Memory = (state g old).now.schema ≡ no_schema
+IsUncopied g old new (fault.Database e) = (state g old).now.schema ≡ no_schema
+
+-- a crash leaves what it could leave before, an empty book, or the whole copy
+abbrev pub MayCopy : State → State → Accounts → Type 0
+MayCopy old new book = (db : Trees) → new.may_leave db
+    → old.may_leave db ⊎ (HoldsBook db fin.empty ⊎ HoldsBook db book)
