@@ -1,0 +1,147 @@
+-- A commit that doesn't find the record changed is the whole operation.
+use Rattle.std.proofs.Common.{◌≡◌, ℕ, List, [], ◌∷◌, ◌++◌, Option, Some, None, Ok, Err, Bool, true, false, not, if◌then◌else◌, refl, sym, ap, ◌∙◌}
+use Rattle.std.specs.FinMap as map
+use Rattle.cred_phc.specs.Ranges.{is_current}
+use Rattle.cred_phc.specs.Values.{RecordValue, record_of}
+use Rattle.cred_book.specs.Accounts.{Accounts}
+use Rattle.cred_book.specs.Commits.{Commits, commit_outcome, commit_outcome_if}
+use Rattle.cred_book.specs.Works.{Task, is_for_current, name_of, new_record, right, same, same_scheme, seq, seq_at, whole}
+use Rattle.cred_book.specs.declared.error.BookError.{BookError}
+use Rattle.cred_book.specs.declared.error.BookError.TheVariants as error
+use Rattle.cred_book.specs.declared.reply.Reply.{Reply}
+use Rattle.cred_book.specs.declared.reply.Reply.TheVariants as reply
+use Rattle.cred_book.specs.declared.request.Request.{Request}
+use Rattle.cred_book.specs.declared.request.Request.TheVariants as request
+use Rattle.cred_book.proofs.Commitments.{committed_found}
+use Rattle.cred_cli.specs.History.{Answer, Replied}
+use Rattle.cred_cli.specs.Texts.{line_of, reply_line}
+use Rattle.cred_many.specs.declared.ask.Ask.{Ask}
+use Rattle.cred_many.specs.declared.ask.Ask.TheVariants.{Account, Load, Show, Whole, Login, Reset, Bad}
+use Rattle.cred_many.specs.Asks.{Entry, IsJobOf, IsResetOf, IsSound}
+use Rattle.cred_many.specs.Served.{done, login_reply, reset_at, told_reply}
+use Rattle.cred_many.specs.Steps.{is_changed}
+use Rattle.cred_many.proofs.Serving.{IsDone, done_at}
+
+chosen : (b : Bool) (x y : Reply) → is_changed x ≡ false → is_changed y ≡ false → is_changed (if b then x else y) ≡ false
+chosen true x y p q = p
+chosen false x y p q = q
+
+picked : (b : Bool) (x y : Reply × Option RecordValue) → is_changed x.0 ≡ false → is_changed y.0 ≡ false → is_changed (if b then x else y).0 ≡ false
+picked true x y p q = p
+picked false x y p q = q
+
+picked_not : (b : Bool) (x y : Reply × Option RecordValue) → is_changed x.0 ≡ false → is_changed y.0 ≡ false → is_changed (if not b then x else y).0 ≡ false
+picked_not true x y p q = q
+picked_not false x y p q = p
+
+pub whole_unchanged : (r : Request) (now : Option RecordValue) → is_changed (whole r now).0 ≡ false
+whole_unchanged (request.Enrol name pw setting) None = refl
+whole_unchanged (request.Enrol name pw setting) (Some stored) = refl
+whole_unchanged (request.Verify name pw) None = refl
+whole_unchanged (request.Verify name pw) (Some stored) = chosen (right stored pw) _ _ refl refl
+whole_unchanged (request.Change name pw more setting) None = refl
+whole_unchanged (request.Change name pw more setting) (Some stored) = picked (right stored pw) _ _ refl refl
+whole_unchanged (request.Upgrade name pw setting) None = refl
+whole_unchanged (request.Upgrade name pw setting) (Some stored) =
+    picked_not (right stored pw) _ _ refl (picked (same_scheme stored.setting.scheme setting.scheme) _ _ refl refl)
+whole_unchanged (request.Remove name pw) None = refl
+whole_unchanged (request.Remove name pw) (Some stored) = picked (right stored pw) _ _ refl refl
+
+module _ (book new : Accounts) (work : Task) (r : Reply) where
+  -- a commit that doesn't find the record changed is the whole operation
+  whole_if : (now : Option RecordValue) → is_changed r ≡ false → (is_copy : Bool) → (r, new) ≡ commit_outcome_if book work now is_copy → (r, new) ≡ seq_at book work.0 (Some now)
+  whole_if now is_not true is = is
+  whole_if now is_not false is = let said : is_changed r ≡ true = ap (λ o. is_changed o.0) is in absurd cc
+
+  whole_at : (entry : Option (Option RecordValue)) → map.get book (name_of work.0) ≡ entry → is_changed r ≡ false → (r, new) ≡ commit_outcome book work → (r, new) ≡ seq book work.0
+  unfolding seq
+  whole_at None found is_not is = is ∙ committed_found book work (name_of work.0) refl None found ∙ ap (seq_at book work.0) (sym found)
+  whole_at (Some now) found is_not is =
+      whole_if now is_not (same now work.1) (is ∙ committed_found book work (name_of work.0) refl (Some now) found) ∙ ap (seq_at book work.0) (sym found)
+
+  pub commits_whole : Commits book new work (Ok r) → is_changed r ≡ false → (r, new) ≡ seq book work.0
+  commits_whole is is_not = whole_at (map.get book (name_of work.0)) refl is_not is
+
+  -- one that does changes nothing
+  stays_if : (now : Option RecordValue) → is_changed r ≡ true → (is_copy : Bool) → (r, new) ≡ commit_outcome_if book work now is_copy → new ≡ book
+  stays_if now changed true is = let said : is_changed r ≡ false = ap (λ o. is_changed o.0) is ∙ whole_unchanged work.0 now in absurd cc
+  stays_if now changed false is = ap (λ o. o.1) is
+
+  stays_at : (entry : Option (Option RecordValue)) → map.get book (name_of work.0) ≡ entry → is_changed r ≡ true → (r, new) ≡ commit_outcome book work → new ≡ book
+  stays_at None found changed is = ap (λ o. o.1) (is ∙ committed_found book work (name_of work.0) refl None found)
+  stays_at (Some now) found changed is = stays_if now changed (same now work.1) (is ∙ committed_found book work (name_of work.0) refl (Some now) found)
+
+  pub commits_still : Commits book new work (Ok r) → is_changed r ≡ true → new ≡ book
+  commits_still is changed = stays_at (map.get book (name_of work.0)) refl changed is
+
+pub refused_still : (book new : Accounts) (work : Task) (e : Task × BookError) → Commits book new work (Err e) → new ≡ book
+refused_still book new work (back, error.Memory) h = h.1
+refused_still book new work (back, error.Exists) h = absurd h
+refused_still book new work (back, error.Full) h = absurd h
+refused_still book new work (back, error.Name) h = absurd h
+refused_still book new work (back, error.NoAccount) h = absurd h
+
+-- ---- what is hashed for a line
+
+-- a record of version 0x10 is never made
+pub job_current : (ask : Ask) (r : Request) → IsSound ask → ((copy : Option RecordValue) → IsJobOf ask (r, copy)) → is_for_current r ≡ true
+job_current (Whole q) r sound job = ap is_for_current (job None) ∙ sound
+job_current (Login name pw setting) r sound job = ap is_for_current (job None) ∙ sound
+job_current (Reset name pw setting) r sound job = ap (λ t. is_for_current t.0) (job None) ∙ sound
+job_current (Account name) r sound job = absurd (job None)
+job_current (Load name stored) r sound job = absurd (job None)
+job_current (Show name) r sound job = absurd (job None)
+job_current (Bad why) r sound job = absurd (job None)
+
+job_whole : (ask : Ask) (r : Request) → ((copy : Option RecordValue) → IsJobOf ask (r, copy)) → (capacity : ℕ) (book later : Accounts) (found : Reply)
+    → (found, later) ≡ seq book r → (Replied (told_reply ask found), later) ≡ done capacity book ask
+job_whole (Whole q) r job capacity book later found is = ap (λ o. (Replied o.0, o.1)) (is ∙ ap (seq book) (job None))
+job_whole (Login name pw setting) r job capacity book later found is = ap (λ o. (Replied (login_reply o.0), o.1)) (is ∙ ap (seq book) (job None))
+job_whole (Reset name pw setting) r job capacity book later found is =
+    let some : Option RecordValue = Some (record_of setting []) in
+    let one : some ≡ None = ap (λ t. t.1) (job some) in absurd cc
+job_whole (Account name) r job capacity book later found is = absurd (job None)
+job_whole (Load name stored) r job capacity book later found is = absurd (job None)
+job_whole (Show name) r job capacity book later found is = absurd (job None)
+job_whole (Bad why) r job capacity book later found is = absurd (job None)
+
+pub done_whole : (capacity : ℕ) (book later : Accounts) (e : Entry) (work : Task) (found : Reply) (tag answer : List ℕ)
+    → ((copy : Option RecordValue) → IsJobOf e.ask (work.0, copy)) → Commits book later work (Ok found) → is_changed found ≡ false → tag ≡ e.tag
+    → answer ≡ reply_line (told_reply e.ask found) → IsDone capacity book later e (tag ++ 32 ∷ answer)
+done_whole capacity book later e work found tag answer job commits is_not tag_is answer_is =
+    let whole = job_whole e.ask work.0 job capacity book later found (commits_whole book later work found commits is_not) in
+    done_at capacity book later e tag answer (ap (λ o. o.1) whole) tag_is (answer_is ∙ ap (λ o. line_of o.0) whole)
+
+-- ---- resets
+
+pub reset_stored : (ask : Ask) (name : List ℕ) (task : Task) → IsResetOf ask name task → (whole task.0 task.1).1 ≡ None → ⊥
+reset_stored (Reset n pw setting) name task job none =
+    let made : Some (new_record setting pw) ≡ None = ap (λ t. (whole t.0 t.1).1) (sym job.1) ∙ none in absurd cc
+reset_stored (Whole q) name task job none = job
+reset_stored (Login n pw setting) name task job none = job
+reset_stored (Account n) name task job none = job
+reset_stored (Load n stored) name task job none = job
+reset_stored (Show n) name task job none = job
+reset_stored (Bad why) name task job none = job
+
+job_reset : (ask : Ask) (name : List ℕ) (task : Task) (stored : RecordValue) → IsResetOf ask name task → Some stored ≡ (whole task.0 task.1).1
+    → (capacity : ℕ) (book later : Accounts) (found : Reply) → (Replied found, later) ≡ reset_at book name stored (map.get book name) → (Replied found, later) ≡ done capacity book ask
+job_reset (Reset n pw setting) name task stored job is capacity book later found done_is =
+    let made : stored ≡ new_record setting pw = some_inj (is ∙ ap (λ t. (whole t.0 t.1).1) job.1) in
+    done_is ∙ ap (λ r. reset_at book name r (map.get book name)) made ∙ ap (λ m. reset_at book m (new_record setting pw) (map.get book m)) job.0
+  where
+    some_inj : {A : Type 0} {x y : A} → Some x ≡ Some y → x ≡ y
+    some_inj e = cc
+job_reset (Whole q) name task stored job is capacity book later found done_is = absurd job
+job_reset (Login n pw setting) name task stored job is capacity book later found done_is = absurd job
+job_reset (Account n) name task stored job is capacity book later found done_is = absurd job
+job_reset (Load n there) name task stored job is capacity book later found done_is = absurd job
+job_reset (Show n) name task stored job is capacity book later found done_is = absurd job
+job_reset (Bad why) name task stored job is capacity book later found done_is = absurd job
+
+pub done_reset : (capacity : ℕ) (book later : Accounts) (e : Entry) (name : List ℕ) (task : Task) (stored : RecordValue) (found : Reply) (tag answer : List ℕ)
+    → IsResetOf e.ask name task → Some stored ≡ (whole task.0 task.1).1 → (Replied found, later) ≡ reset_at book name stored (map.get book name) → tag ≡ e.tag
+    → answer ≡ reply_line found → IsDone capacity book later e (tag ++ 32 ∷ answer)
+done_reset capacity book later e name task stored found tag answer job is done_is tag_is answer_is =
+    let whole = job_reset e.ask name task stored job is capacity book later found done_is in
+    done_at capacity book later e tag answer (ap (λ o. o.1) whole) tag_is (answer_is ∙ ap (λ o. line_of o.0) whole)

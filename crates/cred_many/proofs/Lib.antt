@@ -1,0 +1,6 @@
+-- Lemmas: lines that came, writes in a row, commits, and a history that goes on.
+pub mod Commits
+pub mod Draws
+pub mod Lines
+pub mod Serving
+pub mod Writes

@@ -1,0 +1,178 @@
+-- The lines that a reader comes to are lines of its input.
+use Rattle.std.proofs.Common.{◌≡◌, ◌≢◌, ℕ, suc, ◌+◌, ◌<◌, ◌≤◌, List, [], ◌∷◌, ◌++◌, length, take, drop, get_or, Option, Some, None, IfSome, true, false, if◌then◌else◌, nat_lt, slice_get, refl, sym, ap, ◌∙◌, arith, append_assoc, append-nil, inl, inr, codes, subst, take-append-drop}
+use Rattle.std.proofs.lemmas.Bool.Decides.{eqb_tells, nat_tests}
+use Rattle.std.specs.Bool.{◌==◌}
+use Rattle.std.proofs.lemmas.Bool.{cases_lt}
+use Rattle.std.proofs.lemmas.List.{length-append, length-take, take_all, take_more}
+use Rattle.std.proofs.Math.Seq.{drop-cons}
+use Rattle.cred_phc.specs.Pieces.{pieces}
+use Rattle.cred_phc.specs.Values.{SettingValue}
+use Rattle.cred_cli.specs.declared.refusal.Refusal.TheVariants as refusal
+use Rattle.cred_cli.specs.Events.{longest_line, most_kept, most_pieces}
+use Rattle.cred_cli.specs.Feeding.{unfinished_from}
+use Rattle.cred_cli.specs.Script.{line_ends, lines_of}
+use Rattle.cred_cli.proofs.Feeds.{none_kept, some_kept, take-kept}
+use Rattle.cred_cli.proofs.Lines.{length-whole_from, lines_of-ended, lines_of-line_end, lines_of-unfinished, unfinished_from-end, unfinished_from-more, whole_from}
+use Rattle.cred_cli.proofs.Readings.{if_known}
+use Rattle.cred_many.specs.declared.ask.Ask.TheVariants.{Bad}
+use Rattle.cred_many.specs.Asks.{Tagged, entry_of, tag_of, tagged, tagged_by, tagged_of, untagged}
+use Rattle.cred_many.specs.Reading.{GoesOn, HasCome, IsAt, IsAtEnd, IsBefore, IsCome, Place, place}
+use Rattle.cred_many.specs.Service.{Service, drawn_setting}
+
+longer : (line : List ℕ) → longest_line < length line → nat_lt longest_line (length line) ≡ true
+longer line long = grind (arith, nat_tests)
+
+too_long : (drawn : SettingValue) (line : List ℕ) → longest_line < length line → tagged_of drawn line ≡ untagged refusal.Long
+unfolding tagged_of
+too_long drawn line long = ap (λ test. if test then untagged refusal.Long else tagged drawn (pieces 32 line)) (longer line long)
+
+-- no more of a line is kept than shows that it is too long
+tagged_of-kept : (drawn : SettingValue) (line : List ℕ) → tagged_of drawn (take most_kept line) ≡ tagged_of drawn line
+tagged_of-kept drawn line = elim (cases_lt longest_line (length line)) [
+  | inl long ↦ too_long drawn (take most_kept line) (rw length-take (omega (arith, long))) ∙ sym (too_long drawn line long)
+  | inr short ↦ ap (tagged_of drawn) (take_all most_kept line (omega (arith, short)))
+]
+
+-- so what is kept of the line is read as the line
+pub kept_came : (s : Service) (input : Option (List ℕ)) (at : Place) (drawn : SettingValue) → drawn ≡ drawn_setting s at.number
+    → IfSome input (λ all. HasCome all at) → IfSome input (λ all. IsCome s all (entry_of at.number drawn at.start))
+kept_came s None at drawn is came = tt
+kept_came s (Some all) at drawn is (line, there, kept) =
+    (line, there, ap (entry_of at.number drawn) kept ∙ entry_kept ∙ ap (λ d. entry_of at.number d line) is)
+  where
+    entry_kept : entry_of at.number drawn (take most_kept line) ≡ entry_of at.number drawn line
+    entry_kept = ap (λ t. record { number = at.number; tag = t.0; ask = t.1 }) (tagged_of-kept drawn line)
+
+get_seam : (front : List (List ℕ)) (line : List ℕ) (more : List (List ℕ)) → slice_get (front ++ line ∷ more) (length front) ≡ Some line
+get_seam [] line more = refl
+get_seam (l ∷ ls) line more = get_seam ls line more
+
+come_at : (all : List ℕ) (at : Place) (line : List ℕ) (before more : List (List ℕ)) → lines_of all ≡ before ++ line ∷ more → at.number ≡ length before → at.start ≡ take most_kept line → HasCome all at
+come_at all at line before more cut number kept =
+    (line, ap (λ lines. slice_get lines at.number) cut ∙ ap (slice_get (before ++ line ∷ more)) number ∙ get_seam before line more, kept)
+
+-- the line that ends here has come
+pub line_came : (input : Option (List ℕ)) (at : Place) → IsBefore input at (10 ∷ []) → IfSome input (λ all. HasCome all at)
+line_came input at before = if_known input _ (λ all known.
+    let (rest, here) = before all known in
+    come_at all at (unfinished_from [] here.front) (whole_from [] here.front) (lines_of rest) (ap lines_of here.cut ∙ lines_of-line_end here.front rest)
+    (here.number_is ∙ sym (length-whole_from [] here.front)) here.start_is)
+
+module _ (input : Option (List ℕ)) (at : Place) (ended : IsAtEnd input at) where
+  whole_front : (all : List ℕ) (known : input ≡ Some all) → (ended all known).front ≡ all
+  whole_front all known = sym ((ended all known).cut ∙ append-nil (ended all known).front)
+
+  -- so has the last one, if it has no end
+  pub last_came : 0 < length at.start → IfSome input (λ all. HasCome all at)
+  last_came some = if_known input _ (λ all known.
+      let here = ended all known in
+      let whole : here.front ≡ all = whole_front all known in
+      let left : 0 < length (unfinished_from [] all) = rw whole at (some_kept at.start (unfinished_from [] here.front) here.start_is some) in
+      come_at all at (unfinished_from [] all) (whole_from [] all) [] (lines_of-unfinished all left)
+      (here.number_is ∙ ap line_ends whole ∙ sym (length-whole_from [] all)) (here.start_is ∙ ap (λ f. take most_kept (unfinished_from [] f)) whole))
+
+  -- and then all have
+  pub count_with_last : 0 < length at.start → (n : ℕ) → n ≡ at.number + 1 → IfSome input (λ all. n ≡ length (lines_of all))
+  count_with_last some n next = if_known input _ (λ all known.
+      let here = ended all known in
+      let whole : here.front ≡ all = whole_front all known in
+      let left : 0 < length (unfinished_from [] all) = rw whole at (some_kept at.start (unfinished_from [] here.front) here.start_is some) in
+      let count : length (lines_of all) ≡ length (whole_from [] all) + 1 =
+      ap length (lines_of-unfinished all left) ∙ length-append (whole_from [] all) (unfinished_from [] all ∷ []) in
+      let number : at.number ≡ line_ends all = here.number_is ∙ ap line_ends whole in
+      omega (arith, next, count, number, length-whole_from [] all))
+
+  -- as they have if the last one has an end
+  pub count_ended : length at.start ≡ 0 → IfSome input (λ all. at.number ≡ length (lines_of all))
+  count_ended none = if_known input _ (λ all known.
+      let here = ended all known in
+      let whole : here.front ≡ all = whole_front all known in
+      let left : unfinished_from [] all ≡ [] = rw whole at (none_kept at.start (unfinished_from [] here.front) here.start_is none) in
+      here.number_is ∙ ap line_ends whole ∙ sym (length-whole_from [] all) ∙ sym (ap length (lines_of-ended all left)))
+
+line_ends-more : (front : List ℕ) (b : ℕ) → b ≢ 10 → line_ends (front ++ b ∷ []) ≡ line_ends front
+line_ends-more front b ne =
+    sym (length-whole_from [] (front ++ b ∷ [])) ∙ ap length (whole_more [] front b ne) ∙ length-whole_from [] front
+  where
+    whole_more : (start front : List ℕ) (b : ℕ) → b ≢ 10 → whole_from start (front ++ b ∷ []) ≡ whole_from start front
+    whole_more start [] b ne = elim (eqb_tells b 10) [
+      | inl w ↦ absurd (ne w.1)
+      | inr w ↦ rw w.0 refl
+    ]
+    whole_more start (c ∷ cs) b ne = elim (eqb_tells c 10) [
+      | inl w ↦ rw w.0 (ap (λ ls. start ∷ ls) (whole_more [] cs b ne))
+      | inr w ↦ rw w.0 (whole_more (start ++ c ∷ []) cs b ne)
+    ]
+
+line_ends-end : (front : List ℕ) → line_ends (front ++ 10 ∷ []) ≡ suc (line_ends front)
+line_ends-end [] = refl
+line_ends-end (c ∷ cs) = elim (eqb_tells c 10) [
+  | inl w ↦ rw w.0 (ap suc (line_ends-end cs))
+  | inr w ↦ rw w.0 (line_ends-end cs)
+]
+
+-- a byte of a line
+pub byte_taken : (input : Option (List ℕ)) (old new : Place) (b : ℕ) → b ≢ 10 → new.start ≡ take most_kept (old.start ++ b ∷ []) → new.number ≡ old.number → GoesOn input old (b ∷ []) new
+byte_taken input old new b ne pushed same = λ all rest known at. record {
+  front = at.front ++ b ∷ [];
+  cut = at.cut ∙ sym (append_assoc at.front (b ∷ []) rest);
+  start_is = pushed ∙ rw (at.start_is, unfinished_from-more [] at.front b ne) (take-kept most_kept (unfinished_from [] at.front) b);
+  number_is = same ∙ at.number_is ∙ sym (line_ends-more at.front b ne);
+}
+
+-- a line end
+pub end_taken : (input : Option (List ℕ)) (old new : Place) → new.start ≡ [] → new.number ≡ old.number + 1 → GoesOn input old (10 ∷ []) new
+end_taken input old new cleared next = λ all rest known at. record {
+  front = at.front ++ 10 ∷ [];
+  cut = at.cut ∙ sym (append_assoc at.front (10 ∷ []) rest);
+  start_is = cleared ∙ sym (ap (take most_kept) (unfinished_from-end [] at.front));
+  number_is = omega (arith, next, at.number_is, line_ends-end at.front);
+}
+
+-- ---- a line, read
+
+pub long_read : (drawn : SettingValue) (line tag : List ℕ) → tag ≡ codes "*" → nat_lt longest_line (length line) ≡ true → (tag, Bad refusal.Long) ≡ tagged_of drawn line
+unfolding tagged_of
+long_read drawn line tag star long = rw (long, star) refl
+
+first_pieces_tell : (drawn : SettingValue) (line : List (List ℕ)) → tagged drawn (take most_pieces line) ≡ tagged drawn line
+first_pieces_tell drawn [] = refl
+first_pieces_tell drawn (a ∷ []) = refl
+first_pieces_tell drawn (a ∷ b ∷ []) = refl
+first_pieces_tell drawn (a ∷ b ∷ c ∷ []) = refl
+first_pieces_tell drawn (a ∷ b ∷ c ∷ d ∷ []) = refl
+first_pieces_tell drawn (a ∷ b ∷ c ∷ d ∷ e ∷ []) = refl
+first_pieces_tell drawn (a ∷ b ∷ c ∷ d ∷ e ∷ f ∷ []) = refl
+first_pieces_tell drawn (a ∷ b ∷ c ∷ d ∷ e ∷ f ∷ g ∷ []) = refl
+first_pieces_tell drawn (a ∷ b ∷ c ∷ d ∷ e ∷ f ∷ g ∷ h ∷ more) = many (tag_of a)
+  where
+    many : (t : Option (List ℕ)) → tagged_by drawn t (b ∷ c ∷ d ∷ e ∷ f ∷ g ∷ h ∷ []) ≡ tagged_by drawn t (b ∷ c ∷ d ∷ e ∷ f ∷ g ∷ h ∷ more)
+    many None = refl
+    many (Some tag) = refl
+
+pub short_read : (drawn : SettingValue) (line : List ℕ) (kept : List (List ℕ)) (t : Tagged) → nat_lt longest_line (length line) ≡ false → kept ≡ take most_pieces (pieces 32 line) → t ≡ tagged drawn kept → t ≡ tagged_of drawn line
+unfolding tagged_of
+short_read drawn line kept t short first is = rw short (is ∙ ap (tagged drawn) first ∙ first_pieces_tell drawn (pieces 32 line))
+
+-- ---- bytes in turn
+
+pub seam : (bytes rest : List ℕ) (i : ℕ) → i < length bytes → bytes ++ rest ≡ take i bytes ++ ((get_or bytes i 0 ∷ []) ++ (drop (suc i) bytes ++ rest))
+seam bytes rest i within =
+    ap (λ xs. xs ++ rest) (sym (take-append-drop i bytes) ∙ ap (λ xs. take i bytes ++ xs) (drop-cons bytes i 0 within))
+    ∙ append_assoc (take i bytes) (get_or bytes i 0 ∷ drop (suc i) bytes) rest
+
+module _ (input : Option (List ℕ)) (old now : Place) (bytes : List ℕ) (i : ℕ) (within : i < length bytes) (on : GoesOn input old (take i bytes) now) where
+  -- the next of some bytes comes next
+  pub bytes_before : IsBefore input old bytes → IsBefore input now (get_or bytes i 0 ∷ [])
+  bytes_before before = λ all known.
+      let (rest, at) = before all known in
+      (drop (suc i) bytes ++ rest, on all _ known (subst (IsAt all old) (seam bytes rest i within) at))
+
+  pub bytes_on : (new : Place) → GoesOn input now (get_or bytes i 0 ∷ []) new → GoesOn input old (take (i + 1) bytes) new
+  bytes_on new next = λ all rest known at.
+      let cut : take (i + 1) bytes ++ rest ≡ take i bytes ++ ((get_or bytes i 0 ∷ []) ++ rest) =
+      ap (λ xs. xs ++ rest) (take_more bytes i 0 within) ∙ append_assoc (take i bytes) (get_or bytes i 0 ∷ []) rest in
+      next all rest known (on all _ known (subst (IsAt all old) cut at))
+
+pub bytes_all : (input : Option (List ℕ)) (old new : Place) (bytes : List ℕ) (i : ℕ) → length bytes ≤ i → GoesOn input old (take i bytes) new → GoesOn input old bytes new
+bytes_all input old new bytes i whole on = λ all rest known at. on all rest known (subst (λ xs. IsAt all old (xs ++ rest)) (sym (take_all i bytes whole)) at)

@@ -1,0 +1,217 @@
+-- A history that goes on by one line.
+use Rattle.std.proofs.Common.{◌≡◌, ◌⊎◌, inl, inr, ℕ, zero, suc, ◌+◌, ◌<◌, List, [], ◌∷◌, ◌++◌, Option, Some, None, Result, Ok, Err, IfSome, subst, Bool, true, false, not, if◌then◌else◌, refl, sym, ap, ◌∙◌, append_assoc, append-nil, arith, map, take, drop, slice_get, nat_lt, length}
+use Rattle.std.specs.Bool.{◌==◌}
+use Rattle.std.specs.List.{All}
+use Rattle.std.proofs.Math.Logic.{∥∥₁_map}
+use Rattle.std.proofs.lemmas.Bool.Decides.{eqb_tells, nat_tests}
+use Rattle.std.proofs.lemmas.List.Elements.{All-nil, All-push}
+use Rattle.std.specs.Io.KnownBytes.{Appends}
+use Rattle.std.proofs.KnownBytes.{Appends-nil, Appends-trans}
+use Rattle.cred_book.specs.Accounts.{Accounts}
+use Rattle.cred_book.specs.declared.error.BookError.TheVariants as error
+use Rattle.cred_cli.specs.Outcome.{FrontWritten}
+use Rattle.cred_cli.specs.Texts.{line_of}
+use Rattle.cred_cli.specs.declared.refusal.Refusal.{Refusal}
+use Rattle.cred_cli.specs.declared.refusal.Refusal.TheVariants as refusal
+use Rattle.cred_many.specs.declared.ask.Ask.{Ask}
+use Rattle.cred_many.specs.declared.ask.Ask.TheVariants.{Bad}
+use Rattle.cred_many.specs.declared.fault.ServiceFault.{ServiceFault}
+use Rattle.cred_many.specs.declared.fault.ServiceFault.TheVariants as fault
+use Rattle.cred_many.specs.declared.open.Open.{Open}
+use Rattle.cred_many.specs.Asks.{Entry, entry}
+use Rattle.cred_many.specs.Reading.{IsCome}
+use Rattle.cred_many.specs.Served.{HasServed, IsFor, IsOwed, IsServed, answers, book_after, done, entry_numbers, is_torn, line_at, numbers, once_below, times}
+use Rattle.cred_many.specs.Service.{Service}
+use Rattle.cred_many.specs.Steps.{IsConcluded}
+
+-- ---- the list grows
+
+book_after-snoc : (capacity : ℕ) (book : Accounts) (list : List Entry) (e : Entry)
+    → book_after capacity book (list ++ e ∷ []) ≡ (done capacity (book_after capacity book list) e.ask).1
+unfolding book_after
+book_after-snoc capacity book [] e = refl
+book_after-snoc capacity book (x ∷ xs) e = book_after-snoc capacity (done capacity book x.ask).1 xs e
+
+answers-snoc : (capacity : ℕ) (book : Accounts) (list : List Entry) (e : Entry)
+    → answers capacity book (list ++ e ∷ []) ≡ answers capacity book list ++ line_at capacity (book_after capacity book list) e
+unfolding answers book_after
+answers-snoc capacity book [] e = append-nil (line_at capacity book e)
+answers-snoc capacity book (x ∷ xs) e =
+    ap (λ l. line_at capacity book x ++ l) (answers-snoc capacity (done capacity book x.ask).1 xs e)
+    ∙ sym (append_assoc (line_at capacity book x) (answers capacity (done capacity book x.ask).1 xs) (line_at capacity (book_after capacity (done capacity book x.ask).1 xs) e))
+
+-- the line itself is owed
+pub owed_own : (s : Service) (input : Option (List ℕ)) (e : Entry) → IfSome input (λ bytes. IsCome s bytes e) → IfSome input (λ bytes. IsOwed s bytes e)
+owed_own s None e h = tt
+owed_own s (Some bytes) e h = (e, h, record { number = refl; tag = refl; ask = inl refl })
+
+-- so is that it is given up
+pub owed_given_up : (s : Service) (input : Option (List ℕ)) (e : Entry) (why : Refusal) → IfSome input (λ bytes. IsCome s bytes e)
+    → (why ≡ refusal.Book error.Memory) ⊎ (why ≡ refusal.Busy) → IfSome input (λ bytes. IsOwed s bytes (entry e.number e.tag (Bad why)))
+owed_given_up s None e why h given = tt
+owed_given_up s (Some bytes) e why h (inl memory) = (e, h, record { number = refl; tag = refl; ask = inr (inl (ap Bad memory)) })
+owed_given_up s (Some bytes) e why h (inr busy) = (e, h, record { number = refl; tag = refl; ask = inr (inr (ap Bad busy)) })
+
+owed_all : (s : Service) (input : Option (List ℕ)) (list : List Entry) (e : Entry) → IfSome input (λ bytes. All (IsOwed s bytes) list)
+    → IfSome input (λ bytes. IsOwed s bytes e) → IfSome input (λ bytes. All (IsOwed s bytes) (list ++ e ∷ []))
+owed_all s None list e all owed = tt
+owed_all s (Some bytes) list e all owed = All-push (IsOwed s bytes) list e all owed
+
+owed_none : (s : Service) (input : Option (List ℕ)) → IfSome input (λ bytes. All (IsOwed s bytes) [])
+owed_none s None = tt
+owed_none s (Some bytes) = All-nil (IsOwed s bytes)
+
+-- ---- each number once
+
+times-append : (k : ℕ) (xs ys : List ℕ) → times k (xs ++ ys) ≡ times k xs + times k ys
+times-append k [] ys = omega arith
+times-append k (x ∷ xs) ys = let r = times-append k xs ys in omega (arith, r)
+
+entry_numbers-snoc : (list : List Entry) (e : Entry) → entry_numbers (list ++ e ∷ []) ≡ entry_numbers list ++ e.number ∷ []
+entry_numbers-snoc [] e = refl
+entry_numbers-snoc (x ∷ xs) e = ap (λ ns. x.number ∷ ns) (entry_numbers-snoc xs e)
+
+-- an open line is taken out
+removal : (k n : ℕ) (left : List Open) (place : ℕ) → slice_get (numbers left) place ≡ Some n
+    → times k (numbers left) ≡ times k (n ∷ []) + times k (numbers (take place left ++ drop (suc place) left))
+removal k n [] place is = absurd cc
+removal k n (o ∷ os) zero is =
+    let same : o.number ≡ n = cc in
+    let one : times k (o.number ∷ []) ≡ times k (n ∷ []) = ap (λ m. times k (m ∷ [])) same in
+    omega (arith, one)
+removal k n (o ∷ os) (suc place) is = let r = removal k n os place is in omega (arith, r)
+
+pub once_answered : (list : List Entry) (e : Entry) (left : List Open) (place came k : ℕ) → slice_get (numbers left) place ≡ Some e.number
+    → times k (entry_numbers list) + times k (numbers left) ≡ once_below came k
+    → times k (entry_numbers (list ++ e ∷ [])) + times k (numbers (take place left ++ drop (place + 1) left)) ≡ once_below came k
+once_answered list e left place came k is once =
+    let r = removal k e.number left place is in
+    let a : times k (entry_numbers (list ++ e ∷ [])) ≡ times k (entry_numbers list) + times k (e.number ∷ []) =
+    ap (times k) (entry_numbers-snoc list e) ∙ times-append k (entry_numbers list) (e.number ∷ []) in
+    let next : place + 1 ≡ suc place = omega arith in
+    let b : times k (numbers (take place left ++ drop (place + 1) left)) ≡ times k (numbers (take place left ++ drop (suc place) left)) =
+    ap (λ m. times k (numbers (take place left ++ drop m left))) next in
+    omega (arith, r, a, b, once)
+
+one_more : (came k : ℕ) → once_below (came + 1) k ≡ once_below came k + times k (came ∷ [])
+one_more came k = elim (eqb_tells came k) [
+  | inl w ↦ rw w.0 (let below : nat_lt k (came + 1) ≡ true = grind (arith, nat_tests, w.1) in let not_below : nat_lt k came ≡ false = grind (arith, nat_tests, w.1) in rw (below, not_below) refl)
+  | inr w ↦ rw w.0 (let same : nat_lt k (came + 1) ≡ nat_lt k came = grind (arith, nat_tests, w.1) in rw same (omega arith))
+]
+
+pub once_opened : (ns : List ℕ) (left more : List ℕ) (n came k : ℕ) → more ≡ left ++ n ∷ [] → n ≡ came
+    → times k ns + times k left ≡ once_below came k → times k ns + times k more ≡ once_below (came + 1) k
+once_opened ns left more n came k opened is once =
+    let a : times k more ≡ times k left + times k (n ∷ []) = ap (times k) opened ∙ times-append k left (n ∷ []) in
+    let b : times k (n ∷ []) ≡ times k (came ∷ []) = ap (λ m. times k (m ∷ [])) is in
+    omega (arith, a, b, once, one_more came k)
+
+-- ---- a history that goes on
+
+pub served_first : (capacity : ℕ) (s : Service) (now : Option (List ℕ)) (book : Accounts) (left : List ℕ) → left ≡ [] → book ≡ s.opening → now ≡ s.before
+    → IsServed capacity s now book None left 0
+unfolding answers book_after
+served_first capacity s now book left none is same = rw none (record {
+  list = [];
+  owed = owed_none s s.input;
+  once = λ k. grind (arith, nat_tests);
+  book_is = is;
+  text = rw same (Appends-nil s.before);
+})
+
+module _ (capacity : ℕ) (s : Service) (old now : Option (List ℕ)) (book later : Accounts) (e : Entry) (left : List Open) (place came : ℕ)
+    (served : IsServed capacity s old book None (numbers left) came) (owed : IfSome s.input (λ bytes. IsOwed s bytes e))
+    (there : slice_get (numbers left) place ≡ Some e.number) (later_is : later ≡ (done capacity book e.ask).1) where
+  after_is : later ≡ book_after capacity s.opening (served.list ++ e ∷ [])
+  after_is = later_is ∙ ap (λ b. (done capacity b e.ask).1) served.book_is ∙ sym (book_after-snoc capacity s.opening served.list e)
+
+  once_is : (k : ℕ) → times k (entry_numbers (served.list ++ e ∷ [])) + times k (numbers (take place left ++ drop (place + 1) left)) ≡ once_below came k
+  once_is k = once_answered served.list e left place came k there (served.once k)
+
+  served_more : Appends old now (line_at capacity book e) → IsServed capacity s now later None (numbers (take place left ++ drop (place + 1) left)) came
+  served_more written = record {
+    list = served.list ++ e ∷ [];
+    owed = owed_all s s.input served.list e served.owed owed;
+    once = once_is;
+    book_is = after_is;
+    text = rw answers-snoc (Appends-trans s.before old now _ _ served.text (rw served.book_is at written));
+  }
+
+  served_torn : FrontWritten old now (line_at capacity book e) → IsServed capacity s now later (Some fault.Write) (numbers (take place left ++ drop (place + 1) left)) came
+  served_torn (n, short, written) = record {
+    list = served.list ++ e ∷ [];
+    owed = owed_all s s.input served.list e served.owed owed;
+    once = once_is;
+    book_is = after_is;
+    text = record {
+      front = served.list;
+      last = e;
+      split = refl;
+      cut = n;
+      short = rw served.book_is at short;
+      text = Appends-trans s.before old now _ _ served.text (rw served.book_is at written);
+    };
+  }
+
+  -- whether its answer was written whole or the writer failed
+  served_on : (f : Option ServiceFault) → IsConcluded (line_at capacity book e) old now f → IsServed capacity s now later f (numbers (take place left ++ drop (place + 1) left)) came
+  served_on None written = served_more written
+  served_on (Some fault.Write) torn = served_torn torn
+  served_on (Some fault.Read) h = absurd h
+  served_on (Some fault.Memory) h = absurd h
+  served_on (Some fault.Threads) h = absurd h
+  served_on (Some fault.Keeper) h = absurd h
+  served_on (Some fault.TooLong) h = absurd h
+  served_on (Some fault.Lost) h = absurd h
+
+-- ---- a step
+
+-- what a line asks for was done, and its answer's text stands ready
+pub record IsDone (capacity : ℕ) (book later : Accounts) (e : Entry) (text : List ℕ) : Type 0 where
+  pub book_is : later ≡ (done capacity book e.ask).1
+  pub text_is : text ≡ line_at capacity book e
+
+pub done_at : (capacity : ℕ) (book later : Accounts) (e : Entry) (tag answer : List ℕ) → later ≡ (done capacity book e.ask).1 → tag ≡ e.tag
+    → answer ≡ line_of (done capacity book e.ask).0 → IsDone capacity book later e (tag ++ 32 ∷ answer)
+done_at capacity book later e tag answer later_is tag_is answer_is = record {
+  book_is = later_is;
+  text_is = rw (tag_is, answer_is) refl;
+}
+
+-- the line is answered
+pub answered : (capacity : ℕ) (s : Service) (old now : Option (List ℕ)) (book later : Accounts) (e : Entry) (left rest : List Open) (place came : ℕ) (text : List ℕ) (was f : Option ServiceFault)
+    → was ≡ None → IfSome s.input (λ bytes. IsOwed s bytes e) → slice_get (numbers left) place ≡ Some e.number → rest ≡ take place left ++ drop (place + 1) left
+    → IsDone capacity book later e text → IsConcluded text old now f
+    → ∥ IsServed capacity s old book was (numbers left) came ∥₁ → ∥ IsServed capacity s now later f (numbers rest) came ∥₁
+answered capacity s old now book later e left rest place came text was f none owed there rest_is d concluded served =
+    ∥∥₁_map served (λ h. subst (λ r. IsServed capacity s now later f (numbers r) came) (sym rest_is)
+    (served_on capacity s old now book later e left place came (rw none at h) owed there d.book_is f (rw d.text_is at concluded)))
+
+-- nothing was done, and perhaps nothing more is answered
+pub still : (capacity : ℕ) (s : Service) (now : Option (List ℕ)) (book later : Accounts) (left rest : List Open) (came : ℕ) (was f : Option ServiceFault)
+    → was ≡ None → is_torn f ≡ false → later ≡ book → numbers rest ≡ numbers left
+    → ∥ IsServed capacity s now book was (numbers left) came ∥₁ → ∥ IsServed capacity s now later f (numbers rest) came ∥₁
+still capacity s now book later left rest came was f none torn book_is left_is served =
+    ∥∥₁_map served (λ h. on (rw none at h))
+  where
+    on : IsServed capacity s now book None (numbers left) came → IsServed capacity s now later f (numbers rest) came
+    on h = record {
+      list = h.list;
+      owed = h.owed;
+      once = λ k. ap (λ ns. times k (entry_numbers h.list) + times k ns) left_is ∙ h.once k;
+      book_is = book_is ∙ h.book_is;
+      text = rw torn h.text;
+    }
+
+-- a line comes
+pub opened : (capacity : ℕ) (s : Service) (now : Option (List ℕ)) (book : Accounts) (left rest : List ℕ) (n came next : ℕ) (was : Option ServiceFault)
+    → rest ≡ left ++ n ∷ [] → n ≡ came → next ≡ came + 1
+    → ∥ IsServed capacity s now book was left came ∥₁ → ∥ IsServed capacity s now book was rest next ∥₁
+opened capacity s now book left rest n came next was more is next_is served =
+    ∥∥₁_map served (λ h. rw next_is (record {
+      list = h.list;
+      owed = h.owed;
+      once = λ k. once_opened (entry_numbers h.list) left rest n came k more is (h.once k);
+      book_is = h.book_is;
+      text = h.text;
+    }))

@@ -1,0 +1,32 @@
+-- A text that is written in parts.
+use Rattle.std.proofs.Common.{◌≡◌, ℕ, zero, suc, ◌+◌, List, [], ◌∷◌, ◌++◌, length, take, Option, Bool, Result, Ok, Err, OnErr, IfErr, ap, arith, refl}
+use Rattle.std.proofs.lemmas.List.{length-append, take-append-le}
+use Rattle.std.specs.Io.KnownBytes.{Appends}
+use Rattle.std.proofs.KnownBytes.{Appends-trans}
+use Rattle.cred_cli.specs.Outcome.{FrontWritten}
+use Rattle.cred_cli.specs.Steps.{WriteFails}
+use Rattle.cred_cli.specs.declared.fault.ScriptFault.{ScriptFault}
+
+-- a front of the first part is one of the whole
+pub front_more : (a b : Option (List ℕ)) (xs ys : List ℕ) → FrontWritten a b xs → FrontWritten a b (xs ++ ys)
+front_more a b xs ys (n, short, written) =
+    (n, omega (arith, short, length-append xs ys), rw (take-append-le n xs ys (omega (arith, short))) written)
+
+take-behind : (xs ys : List ℕ) (n m : ℕ) → m ≡ length xs + n → take m (xs ++ ys) ≡ xs ++ take n ys
+take-behind [] ys n m is = let none : m ≡ n = omega (arith, is) in ap (λ k. take k ys) none
+take-behind (x ∷ xs) ys n zero is = absurd (omega (arith, is))
+take-behind (x ∷ xs) ys n (suc m) is = ap (λ l. x ∷ l) (take-behind xs ys n m (omega (arith, is)))
+
+-- a front of the second part, behind the first
+pub front_behind : (a b c : Option (List ℕ)) (xs ys : List ℕ) → Appends a b xs → FrontWritten b c ys → FrontWritten a c (xs ++ ys)
+front_behind a b c xs ys first (n, short, written) =
+    (length xs + n, omega (arith, short, length-append xs ys), rw (take-behind xs ys n (length xs + n) refl) (Appends-trans a b c xs (take n ys) first written))
+
+-- what holds anyway holds at an error
+pub on_err_from : {T E : Type 0} (r : Result T E) (P : Type 0) → P → OnErr r P
+on_err_from (Ok x) P h = tt
+on_err_from (Err e) P h = h
+
+pub on_write_fails : (r : Result (Unit {0}) ScriptFault) (a b : Option (List ℕ)) (bytes : List ℕ) (failed : Bool) (Q : Type 0) → IfErr r (WriteFails a b bytes failed) → (FrontWritten a b bytes → Q) → OnErr r Q
+on_write_fails (Ok x) a b bytes failed Q h f = tt
+on_write_fails (Err e) a b bytes failed Q h f = f h.2

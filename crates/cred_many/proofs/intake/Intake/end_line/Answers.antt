@@ -1,0 +1,17 @@
+use Rattle.std.proofs.Common.{rules}
+use Rattle.cred_many.specs.Reading.{place}
+use Rattle.cred_many.proofs.Draws.{salts_on, setting_drawn}
+use Rattle.cred_many.proofs.Lines.{kept_came}
+use Rattle.cred_many.proofs.intake.Intake.end_line.Goals as goal
+
+pub read-line-requires-clause-came : goal.read-line-requires-clause-came
+read-line-requires-clause-came g c =
+    let s = g.J.Naming.service in
+    let drawn = setting_drawn s c.args.self.now.number c.draw_salt-salt.result _ _ c.args.self.now.drawn c.draw_salt-salt.ensures _ c.setting-drawn.result c.args.self.now.costs_are c.setting-drawn.ensures.setting in
+    rw c.bytes.ensures (kept_came s s.input (place c.args.self.now.start c.args.self.now.number) c.setting-drawn.result drawn c.requires)
+
+pub invariant_of-self : goal.invariant_of-self
+invariant_of-self g c = record {
+  costs_are = c.args.self.now.costs_are;
+  drawn = salts_on g.J.Naming.service c.args.self.now.number c.draw_salt-salt.result _ _ c.args.self.now.drawn c.draw_salt-salt.ensures c.in-Some.next (search rules);
+}

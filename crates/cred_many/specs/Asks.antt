@@ -1,0 +1,183 @@
+-- What a tagged line asks for.
+use Rattle.std.specs.Prelude.{◌≡◌, ℕ, List, [], ◌∷◌, Bool, ◌&&◌, ◌||◌, if◌then◌else◌, length, nat_le}
+use Rattle.std.specs.Prelude.{nat_lt, codes, Option, Some, None, Result, Ok, Err, true}
+use Rattle.std.specs.List.{list_all}
+use Rattle.std.specs.Str.{bytes_eq}
+use Rattle.cred_phc.specs.Pieces.{pieces}
+use Rattle.cred_phc.specs.Ranges.{between, is_current}
+use Rattle.cred_phc.specs.Reading.{◌>>=◌}
+use Rattle.cred_phc.specs.Values.{SettingValue}
+use Rattle.cred_book.specs.Works.{Task, is_for_current}
+use Rattle.cred_book.specs.declared.request.Request.TheVariants as request
+use Rattle.cred_cli.specs.Events.{longest_line, name_field, password_field, record_field}
+use Rattle.cred_cli.specs.Events.{setting_field}
+use Rattle.cred_cli.specs.declared.refusal.Refusal.{Refusal}
+use Rattle.cred_cli.specs.declared.refusal.Refusal.TheVariants as refusal
+use Rattle.cred_many.specs.declared.ask.Ask.{Ask}
+use Rattle.cred_many.specs.declared.ask.Ask.TheVariants.{Account, Load, Show, Whole, Login, Reset}
+use Rattle.cred_many.specs.declared.ask.Ask.TheVariants.{Bad}
+use Rattle.cred_many.specs.declared.asking.Making.{Making}
+use Rattle.cred_many.specs.declared.asking.Making.TheVariants as making
+use Rattle.cred_many.specs.declared.asking.Checking.{Checking}
+use Rattle.cred_many.specs.declared.asking.Checking.TheVariants as checking
+
+-- ---- what needs no hash
+
+-- `account NAME`
+abbrev pub account_ask : List (List ℕ) → Result Ask Refusal
+account_ask (x ∷ []) = name_field x >>= λ name. Ok (Account name)
+account_ask _ = Err refusal.Line
+
+-- `load NAME RECORD`
+abbrev pub load_ask : List (List ℕ) → Result Ask Refusal
+load_ask (x ∷ text ∷ []) =
+    name_field x >>= λ name. record_field text >>= λ stored. Ok (Load name stored)
+load_ask _ = Err refusal.Line
+
+-- `show NAME`
+abbrev pub show_ask : List (List ℕ) → Result Ask Refusal
+show_ask (x ∷ []) = name_field x >>= λ name. Ok (Show name)
+show_ask _ = Err refusal.Line
+
+-- ---- what needs one
+
+abbrev pub checked : Checking → List ℕ → List ℕ → Ask
+checked checking.Verify name pw = Whole (request.Verify name pw)
+checked checking.Remove name pw = Whole (request.Remove name pw)
+
+-- `verify NAME PW` and `remove NAME PW`
+abbrev pub checked_ask : Checking → List (List ℕ) → Result Ask Refusal
+checked_ask kind (x ∷ p ∷ []) =
+    name_field x >>= λ name. password_field p >>= λ pw. Ok (checked kind name pw)
+checked_ask kind _ = Err refusal.Line
+
+abbrev pub made : Making → List ℕ → List ℕ → SettingValue → Ask
+made making.Enrol name pw setting = Whole (request.Enrol name pw setting)
+made making.Login name pw setting = Login name pw setting
+made making.Upgrade name pw setting = Whole (request.Upgrade name pw setting)
+made making.Reset name pw setting = Reset name pw setting
+
+abbrev pub made_by : Making → List ℕ → List ℕ → Result SettingValue Refusal → Result Ask Refusal
+made_by kind x p setting =
+    name_field x >>= λ name. password_field p >>= λ pw. setting >>= λ s. Ok (made kind name pw s)
+
+-- `login NAME PW`, with the setting that is drawn
+abbrev pub login_ask : SettingValue → List (List ℕ) → Result Ask Refusal
+login_ask drawn (x ∷ p ∷ []) = made_by making.Login x p (Ok drawn)
+login_ask drawn _ = Err refusal.Line
+
+-- `enrol NAME PW`, `upgrade NAME PW` and `reset NAME NEW`, each with a setting or without one
+abbrev pub made_ask : Making → SettingValue → List (List ℕ) → Result Ask Refusal
+made_ask kind drawn (x ∷ p ∷ []) = made_by kind x p (Ok drawn)
+made_ask kind drawn (x ∷ p ∷ text ∷ []) = made_by kind x p (setting_field text)
+made_ask kind drawn _ = Err refusal.Line
+
+abbrev pub changed_by : List ℕ → List ℕ → List ℕ → Result SettingValue Refusal → Result Ask Refusal
+changed_by x p q setting =
+    name_field x >>= λ name. password_field p >>= λ pw. password_field q >>= λ new.
+    setting >>= λ s. Ok (Whole (request.Change name pw new s))
+
+-- `change NAME PW NEW`, with a setting or without one
+abbrev pub change_ask : SettingValue → List (List ℕ) → Result Ask Refusal
+change_ask drawn (x ∷ p ∷ q ∷ []) = changed_by x p q (Ok drawn)
+change_ask drawn (x ∷ p ∷ q ∷ text ∷ []) = changed_by x p q (setting_field text)
+change_ask drawn _ = Err refusal.Line
+
+abbrev pub hashed_ask : SettingValue → List ℕ → List (List ℕ) → Result Ask Refusal
+hashed_ask drawn word fields =
+    if bytes_eq word (codes "verify") then checked_ask checking.Verify fields
+    else if bytes_eq word (codes "login") then login_ask drawn fields
+    else if bytes_eq word (codes "enrol") then made_ask making.Enrol drawn fields
+    else if bytes_eq word (codes "change") then change_ask drawn fields
+    else if bytes_eq word (codes "upgrade") then made_ask making.Upgrade drawn fields
+    else if bytes_eq word (codes "remove") then checked_ask checking.Remove fields
+    else if bytes_eq word (codes "reset") then made_ask making.Reset drawn fields
+    else Err refusal.Line
+
+-- a line gives a setting, or it has the one that is drawn
+abbrev pub ask_of : SettingValue → List (List ℕ) → Result Ask Refusal
+ask_of drawn [] = Err refusal.Line
+ask_of drawn (word ∷ fields) =
+    if bytes_eq word (codes "account") then account_ask fields
+    else if bytes_eq word (codes "load") then load_ask fields
+    else if bytes_eq word (codes "show") then show_ask fields
+    else hashed_ask drawn word fields
+
+-- a setting isn't of the version of old records
+abbrev pub IsSound : Ask → Type 0
+IsSound (Whole r) = is_for_current r ≡ true
+IsSound (Login name pw setting) = is_current setting.scheme ≡ true
+IsSound (Reset name pw setting) = is_current setting.scheme ≡ true
+IsSound _ = Unit {0}
+
+-- it is done without hashing
+abbrev pub NeedsNoHash : Ask → Type 0
+NeedsNoHash (Whole r) = ⊥
+NeedsNoHash (Login name pw setting) = ⊥
+NeedsNoHash (Reset name pw setting) = ⊥
+NeedsNoHash _ = Unit {0}
+
+-- what is hashed for it: a login is an upgrade, and a reset hashes as the first record does
+abbrev pub IsJobOf : Ask → Task → Type 0
+IsJobOf (Whole r) task = task.0 ≡ r
+IsJobOf (Login name pw setting) task = task.0 ≡ request.Upgrade name pw setting
+IsJobOf (Reset name pw setting) task = task ≡ (request.Enrol name pw setting, None)
+IsJobOf _ task = ⊥
+
+-- it is a reset, and this is what was hashed for it
+abbrev pub IsResetOf : Ask → List ℕ → Task → Type 0
+IsResetOf (Reset name pw setting) there task =
+    (there ≡ name) × (task ≡ (request.Enrol name pw setting, None))
+IsResetOf _ there task = ⊥
+
+-- ---- lines
+
+-- a line by its number, its tag and what it asks for
+pub record Entry : Type 0 where
+  pub number : ℕ
+  pub tag : List ℕ
+  pub ask : Ask
+
+abbrev pub entry : ℕ → List ℕ → Ask → Entry
+entry number tag ask = record { number = number; tag = tag; ask = ask }
+
+-- a small letter or a digit
+abbrev pub is_tag_byte : ℕ → Bool
+is_tag_byte b = (nat_le 97 b && nat_le b 122) || (nat_le 48 b && nat_le b 57)
+
+-- 1 to 20 of them
+abbrev pub tag_of : List ℕ → Option (List ℕ)
+tag_of text =
+    if list_all is_tag_byte text then (if between 1 20 (length text) then Some text else None)
+    else None
+
+-- a tag, and what is asked under it
+abbrev pub Tagged : Type 0
+Tagged = List ℕ × Ask
+
+-- what is refused under no tag
+abbrev pub untagged : Refusal → Tagged
+untagged why = (codes "*", Bad why)
+
+abbrev pub or_bad : Result Ask Refusal → Ask
+or_bad (Ok ask) = ask
+or_bad (Err why) = Bad why
+
+abbrev pub tagged_by : SettingValue → Option (List ℕ) → List (List ℕ) → Tagged
+tagged_by drawn None words = untagged refusal.Line
+tagged_by drawn (Some tag) words = (tag, or_bad (ask_of drawn words))
+
+abbrev pub tagged : SettingValue → List (List ℕ) → Tagged
+tagged drawn [] = untagged refusal.Line
+tagged drawn (first ∷ words) = tagged_by drawn (tag_of first) words
+
+-- a line is cut at every space
+unfoldable pub tagged_of : SettingValue → List ℕ → Tagged
+tagged_of drawn line =
+    if nat_lt longest_line (length line) then untagged refusal.Long
+    else tagged drawn (pieces 32 line)
+
+-- the line of this number
+abbrev pub entry_of : ℕ → SettingValue → List ℕ → Entry
+entry_of number drawn line =
+    entry number (tagged_of drawn line).0 (tagged_of drawn line).1

@@ -1,0 +1,9 @@
+-- The definitions that the contracts of a service cite.
+pub mod Asks
+pub mod Costs
+pub mod Reading
+pub mod Served
+pub mod Service
+pub mod Steps
+pub use Rattle.cred_book.specs.Accounts
+pub use Rattle.cred_phc.specs.Values

@@ -1,0 +1,149 @@
+-- The history of one thread, which does lines one after another, each whole.
+use Rattle.std.specs.Prelude.{◌≡◌, ◌⊎◌, ℕ, ◌<◌, ◌+◌, ◌==◌, List, [], ◌∷◌, ◌++◌, Bool, true, false}
+use Rattle.std.specs.Prelude.{All, if◌then◌else◌, IfSome, MatchBool, nat_lt, Option, Some, None, take}
+use Rattle.std.specs.Prelude.{length, map}
+use Rattle.std.specs.FinMap as fin
+use Rattle.std.specs.Io.KnownBytes.{Appends}
+use Rattle.cred_phc.specs.Values.{RecordValue}
+use Rattle.cred_book.specs.Accounts.{Accounts}
+use Rattle.cred_book.specs.Works.{new_record, seq}
+use Rattle.cred_book.specs.declared.error.BookError.TheVariants as error
+use Rattle.cred_book.specs.declared.reply.Reply.{Reply}
+use Rattle.cred_book.specs.declared.reply.Reply.TheVariants as reply
+use Rattle.cred_book.specs.declared.request.Request.TheVariants as request
+use Rattle.cred_cli.specs.History.{Answer, Done, Replied, Refused, show_answer}
+use Rattle.cred_cli.specs.Texts.{line_of}
+use Rattle.cred_cli.specs.declared.refusal.Refusal.TheVariants as refusal
+use Rattle.cred_many.specs.declared.ask.Ask.{Ask}
+use Rattle.cred_many.specs.declared.ask.Ask.TheVariants.{Account, Load, Show, Whole, Login, Reset}
+use Rattle.cred_many.specs.declared.ask.Ask.TheVariants.{Bad}
+use Rattle.cred_many.specs.declared.fault.ServiceFault.{ServiceFault}
+use Rattle.cred_many.specs.declared.fault.ServiceFault.TheVariants as fault
+use Rattle.cred_many.specs.declared.open.Open.{Open}
+use Rattle.cred_many.specs.Asks.{Entry}
+use Rattle.cred_many.specs.Reading.{IsCome}
+use Rattle.cred_many.specs.Service.{Service}
+
+-- ---- what is done
+
+-- a login is answered as a verify, whatever becomes of the record
+abbrev pub login_reply : Reply → Reply
+login_reply reply.Wrong = reply.No
+login_reply reply.Kept = reply.Yes
+login_reply reply.Upgraded = reply.Yes
+login_reply r = r
+
+-- the reply under which an operation on a record is answered
+abbrev pub told_reply : Ask → Reply → Reply
+told_reply (Login name pw setting) r = login_reply r
+told_reply _ r = r
+
+-- a record takes the place of any other
+abbrev pub reset_at : Accounts → List ℕ → RecordValue → Option (Option RecordValue)
+    → Answer × Accounts
+reset_at book name new None = (Replied reply.NoAccount, book)
+reset_at book name new (Some None) = (Replied reply.Enrolled, fin.insert book name (Some new))
+reset_at book name new (Some (Some old)) =
+    (Replied reply.Replaced, fin.insert book name (Some new))
+
+-- the answer to what is asked, done whole on the book, and the book after
+abbrev pub done : ℕ → Accounts → Ask → Answer × Accounts
+done capacity book (Account name) =
+    if fin.contains_key book name then (Refused (refusal.Book error.Exists), book)
+    else if nat_lt (fin.len book) capacity then (Done, fin.insert book name None)
+    else (Refused (refusal.Book error.Full), book)
+done capacity book (Load name stored) =
+    if fin.contains_key book name then (Done, fin.insert book name (Some stored))
+    else (Refused (refusal.Book error.NoAccount), book)
+done capacity book (Show name) = (show_answer (fin.get book name), book)
+done capacity book (Whole r) = (Replied (seq book r).0, (seq book r).1)
+done capacity book (Login name pw setting) = (
+  Replied (login_reply (seq book (request.Upgrade name pw setting)).0),
+  (seq book (request.Upgrade name pw setting)).1,
+)
+done capacity book (Reset name pw setting) =
+    reset_at book name (new_record setting pw) (fin.get book name)
+done capacity book (Bad why) = (Refused why, book)
+
+-- `TAG ANSWER` with the line end
+abbrev pub tagged_line : List ℕ → Answer → List ℕ
+tagged_line tag answer = tag ++ 32 ∷ line_of answer
+
+-- the answer to a line at this book, as it is written
+abbrev pub line_at : ℕ → Accounts → Entry → List ℕ
+line_at capacity book e = tagged_line e.tag (done capacity book e.ask).0
+
+-- the book after the lines
+unfoldable pub book_after : ℕ → Accounts → List Entry → Accounts
+book_after capacity book [] = book
+book_after capacity book (e ∷ es) = book_after capacity (done capacity book e.ask).1 es
+
+-- their answers
+unfoldable pub answers : ℕ → Accounts → List Entry → List ℕ
+answers capacity book [] = []
+answers capacity book (e ∷ es) =
+    line_at capacity book e ++ answers capacity (done capacity book e.ask).1 es
+
+-- ---- which lines
+
+-- an entry is for a line: it is the line's, or the line is given up for want of memory or since
+-- others were always faster
+pub record IsFor (line e : Entry) : Type 0 where
+  pub number : e.number ≡ line.number
+  pub tag : e.tag ≡ line.tag
+  pub ask : (e.ask ≡ line.ask)
+      ⊎ ((e.ask ≡ Bad (refusal.Book error.Memory)) ⊎ (e.ask ≡ Bad refusal.Busy))
+
+abbrev pub IsOwed : Service → List ℕ → Entry → Type 0
+IsOwed s bytes e = (line : Entry) × IsCome s bytes line × IsFor line e
+
+abbrev pub numbers : List Open → List ℕ
+numbers left = map (λ o. o.number) left
+
+abbrev pub entry_numbers : List Entry → List ℕ
+entry_numbers list = map (λ e. e.number) list
+
+-- how often k stands among the numbers
+abbrev pub times : ℕ → List ℕ → ℕ
+times k [] = 0
+times k (n ∷ ns) = (if n == k then 1 else 0) + times k ns
+
+-- once below the bound, and not above
+abbrev pub once_below : ℕ → ℕ → ℕ
+once_below bound k = if nat_lt k bound then 1 else 0
+
+-- ---- what is written
+
+-- the last line's answer is cut
+pub record IsCut (capacity : ℕ) (opening : Accounts) (before now : Option (List ℕ)) (list : List Entry)
+    : Type 0 where
+  pub front : List Entry
+  pub last : Entry
+  pub split : list ≡ front ++ last ∷ []
+  pub cut : ℕ
+  pub short : cut < length (line_at capacity (book_after capacity opening front) last)
+  pub text : Appends before now (answers capacity opening front
+      ++ take cut (line_at capacity (book_after capacity opening front) last))
+
+abbrev pub is_torn : Option ServiceFault → Bool
+is_torn None = false
+is_torn (Some fault.Write) = true
+is_torn (Some _) = false
+
+-- what is written, and the book, are those of one history of lines that came, in which each that
+-- isn't open stands once
+pub record IsServed (capacity : ℕ) (s : Service) (now : Option (List ℕ)) (book : Accounts)
+    (fault : Option ServiceFault) (left : List ℕ) (came : ℕ) : Type 0 where
+  pub list : List Entry
+  pub owed : IfSome s.input (λ bytes. All (IsOwed s bytes) list)
+  pub once : (k : ℕ) → times k (entry_numbers list) + times k left ≡ once_below came k
+  pub book_is : book ≡ book_after capacity s.opening list
+  pub text : MatchBool (is_torn fault) (IsCut capacity s.opening s.before now list)
+      (Appends s.before now (answers capacity s.opening list))
+
+-- the same at the end: where nothing failed no line is open
+pub record HasServed (capacity : ℕ) (s : Service) (now : Option (List ℕ)) (book : Accounts)
+    (fault : Option ServiceFault) (came : ℕ) : Type 0 where
+  pub left : List ℕ
+  pub served : IsServed capacity s now book fault left came
+  pub none_left : fault ≡ None → left ≡ []

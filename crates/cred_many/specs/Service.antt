@@ -1,0 +1,49 @@
+-- Which service it is.
+use Rattle.std.specs.Prelude.{ℕ, zero, suc, List, [], Option, None}
+use Rattle.std.specs.FinMap as map
+use Rattle.rand_core.specs.Stream.{Stream, fill_bytes}
+use Rattle.cred_phc.specs.declared.scheme.Scheme.{Scheme}
+use Rattle.cred_phc.specs.declared.scheme.Scheme.TheVariants.{Scrypt}
+use Rattle.cred_phc.specs.Values.{SettingValue, setting_of}
+use Rattle.cred_book.specs.Accounts.{Accounts}
+
+-- the book at first, what the reader has to give, what was written before, and with which costs and
+-- from which source of salts settings are drawn
+pub record Service : Type 0 where
+  pub opening : Accounts
+  pub input : Option (List ℕ)
+  pub before : Option (List ℕ)
+  pub costs : Scheme
+  pub salts : Stream
+
+abbrev pub service : Accounts → Option (List ℕ) → Option (List ℕ) → Scheme → Stream → Service
+service opening input before costs salts = record {
+  opening = opening;
+  input = input;
+  before = before;
+  costs = costs;
+  salts = salts;
+}
+
+-- what is left of a source after so many salts of 16 bytes
+abbrev pub salts_after : Stream → ℕ → Stream
+salts_after first zero = first
+salts_after first (suc n) = (fill_bytes 16 (salts_after first n)).1
+
+-- the setting that is drawn for the line of this number
+abbrev pub drawn_setting : Service → ℕ → SettingValue
+drawn_setting s n = setting_of s.costs (fill_bytes 16 (salts_after s.salts n)).0
+
+-- one that nobody asks
+abbrev pub no_service : Service
+no_service = record {
+  opening = map.empty;
+  input = None;
+  before = None;
+  costs = Scrypt 1 1 1;
+  salts = record {
+    u32_after = λ _. 0;
+    u64_after = λ _. 0;
+    bytes_after = λ _ _. [];
+  };
+}

@@ -1,0 +1,78 @@
+//! The costs of new records.
+
+ghost use Rattle.std.specs.Prelude.{◌≡◌, false, IfNone, IfSome, true};
+ghost use Rattle.cred_phc.specs.Ranges.{is_current};
+ghost use Rattle.cred_phc.specs.Values.{setting_of};
+
+use cred_phc::{Scheme, Setting};
+use std::marker::Model;
+
+/// The scheme with its numbers by which records are made where a line gives no setting.
+#[derive(Clone, Copy)]
+pub struct Costs {
+    scheme: Scheme,
+}
+
+impl Model for Costs {
+    ghost use Rattle.cred_phc.specs.declared.scheme.Scheme.{Scheme};
+    ghost use Rattle.cred_many.specs.Costs.{IsForNew};
+
+    ghost Value = { Scheme };
+
+    ghost view = { λ c. c.scheme };
+
+    ghost invariant = { λ c. IsForNew c.scheme };
+
+    ghost inverse = { λ scheme. record { scheme = scheme } };
+}
+
+impl Costs {
+    /// Those of a setting, unless it is of version 0x10, which only old records have.
+    pub fn of(setting: &Setting) -> Option<Costs>
+        ensures same { IfSome result (λ costs. costs ≡ setting.now.scheme) }
+        ensures old { IfNone result (is_current setting.now.scheme ≡ false) }
+    {
+        if !setting.is_current() {
+            return None;
+        }
+        Some(Costs {
+            scheme: setting.scheme(),
+        })
+    }
+
+    /// The scheme with its numbers.
+    pub fn scheme(&self) -> Scheme
+        ensures { result ≡ self.now }
+    {
+        self.scheme
+    }
+
+    /// How many KiB a hash with them takes.
+    pub fn memory(&self) -> u64 {
+        memory_of(&self.scheme)
+    }
+
+    /// A setting with this salt.
+    pub(crate) fn setting(&self, salt: &[u8; 16]) -> Setting
+        ensures setting { result ≡ setting_of self.now salt.now }
+        ensures current { is_current result.scheme ≡ true }
+    {
+        match Setting::new(self.scheme, salt) {
+            Ok(setting) => setting,
+            Err(_) => unreachable!(),
+        }
+    }
+}
+
+/// How many KiB a hash takes: Argon2 `m` (RFC 9106, section 3.1), scrypt 128 `r` times its cost in
+/// bytes (RFC 7914, section 2).
+pub(crate) fn memory_of(scheme: &Scheme) -> u64 {
+    match *scheme {
+        Scheme::Argon2 { m, .. } => u64::from(m),
+        Scheme::Scrypt { ln, r, .. } => {
+            2u64.saturating_pow(u32::from(ln))
+                .saturating_mul(u64::from(r))
+                / 8
+        }
+    }
+}

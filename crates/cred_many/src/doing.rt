@@ -1,0 +1,114 @@
+//! What is done in one go, without hashing.
+
+ghost use Rattle.std.specs.Prelude.{◌≡◌, IfOk, OnErr, OnOk};
+ghost use Rattle.cred_book.specs.declared.error.BookError.{BookError};
+ghost use Rattle.std.specs.FinMap as map;
+ghost use Rattle.cred_cli.specs.History.{Refused, Replied, Shown};
+ghost use Rattle.cred_cli.specs.Texts.{line_of};
+ghost use Rattle.cred_many.specs.Asks.{NeedsNoHash};
+ghost use Rattle.cred_many.specs.Steps.{text_bytes};
+ghost use Rattle.cred_many.specs.Served.{done, reset_at};
+
+use crate::ask::Ask;
+use cred_book::{BookError, Keeper, Name, Reply};
+use cred_cli::Refusal;
+use cred_phc::{Record, write_record};
+use std::alloc::{AllocError, Global};
+use std::sync::Wait;
+
+/// The text of an answer with its line end.
+#[derive(Drop)]
+pub(crate) enum Text {
+    Fixed(&'static [u8]),
+    Made(Vec<u8>),
+}
+
+impl Text {
+    pub(crate) fn bytes(&self) -> &[u8]
+        ensures { result.now ≡ text_bytes self.now }
+    {
+        match self {
+            Text::Fixed(bytes) => bytes,
+            Text::Made(bytes) => bytes,
+        }
+    }
+}
+
+/// Does what needs no hash. If memory runs out the book stays.
+pub(crate) fn do_ask<T: Wait, K: Keeper>(
+    rt: &T,
+    alloc: Global,
+    keeper: &mut K,
+    ask: Ask,
+) -> Result<Text, AllocError>
+    requires { NeedsNoHash ask }
+    ensures answer { IfOk result (λ text.
+        text_bytes text ≡ line_of (done K.capacity (K.book keeper.old) ask).0) }
+    ensures book { OnOk result (K.book keeper.new ≡ (done K.capacity (K.book keeper.old) ask).1) }
+    ensures refused { OnErr result (K.book keeper.new ≡ K.book keeper.old) }
+{
+    match ask {
+        Ask::Account(name) => match keeper.admit(rt, name) {
+            Ok(()) => Ok(Text::Fixed(b"ok\n")),
+            Err(refusal) => refused(refusal),
+        },
+        Ask::Load(name, stored) => match keeper.load(rt, &name, stored) {
+            Ok(()) => Ok(Text::Fixed(b"ok\n")),
+            Err(refusal) => refused(refusal),
+        },
+        Ask::Show(name) => match keeper.show(&name) {
+            Ok(None) => Ok(Text::Fixed(b"none\n")),
+            Ok(Some(stored)) => shown(alloc, &stored),
+            Err(refusal) => refused(refusal),
+        },
+        Ask::Bad(why) => Ok(bad(why)),
+        Ask::Whole(_) | Ask::Login(..) | Ask::Reset(..) => unreachable!(),
+    }
+}
+
+/// Gives the account this record, in place of any other. If memory runs out the book stays.
+pub(crate) fn put_in_place<T: Wait, K: Keeper>(
+    rt: &T,
+    keeper: &mut K,
+    name: &Name,
+    stored: Record,
+) -> Result<Reply, AllocError>
+    ensures done { IfOk result (λ reply. (Replied reply, K.book keeper.new)
+        ≡ reset_at (K.book keeper.old) name.now stored (map.get (K.book keeper.old) name.now)) }
+    ensures refused { OnErr result (K.book keeper.new ≡ K.book keeper.old) }
+{
+    let reply = match keeper.show(name) {
+        Ok(None) => Reply::Enrolled,
+        Ok(Some(_)) => Reply::Replaced,
+        Err(_) => return Ok(Reply::NoAccount),
+    };
+    match keeper.load(rt, name, stored) {
+        Ok(()) => Ok(reply),
+        Err(_) => Err(AllocError),
+    }
+}
+
+fn refused(refusal: BookError) -> Result<Text, AllocError>
+    ensures answer { IfOk result
+        (λ text. text_bytes text ≡ line_of (Refused (Refusal.Book refusal))) }
+    ensures memory { refusal ≡ BookError.Memory → OnOk result ⊥ }
+{
+    match refusal {
+        BookError::Memory => Err(AllocError),
+        _ => Ok(bad(Refusal::Book(refusal))),
+    }
+}
+
+fn bad(why: Refusal) -> Text
+    ensures { text_bytes result ≡ line_of (Refused why) }
+{
+    Text::Fixed(why.line())
+}
+
+fn shown(alloc: Global, stored: &Record) -> Result<Text, AllocError>
+    ensures { IfOk result (λ text. text_bytes text ≡ line_of (Shown (Some stored.now))) }
+{
+    let mut text = write_record(alloc, stored).map_err(|_| AllocError)?;
+    text.push(b'\n')?;
+    Ok(Text::Made(text))
+}

@@ -1,0 +1,36 @@
+//! Why a service ends before all is answered.
+
+use std::alloc::AllocError;
+use thiserror::Error;
+
+/// What ended a service.
+#[derive(Clone, Copy, Debug, PartialEq, Eq, Error)]
+pub enum ServiceFault {
+    /// A call on the reader failed. What came before is answered.
+    #[error("reading failed")]
+    Read,
+    /// A call on the writer failed.
+    #[error("writing failed")]
+    Write,
+    /// There was no memory to begin with.
+    #[error("out of memory")]
+    Memory,
+    /// No thread could be started.
+    #[error("no thread could be started")]
+    Threads,
+    /// The keeper of the book failed; the change that was under way may be kept or not.
+    #[error("the keeper of the book failed")]
+    Keeper,
+    /// More lines came than can be counted.
+    #[error("too many lines")]
+    TooLong,
+    /// A line was lost between two threads.
+    #[error("a line was lost")]
+    Lost,
+}
+
+impl From<AllocError> for ServiceFault {
+    fn from(_error: AllocError) -> Self {
+        ServiceFault::Memory
+    }
+}

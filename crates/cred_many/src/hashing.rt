@@ -1,0 +1,108 @@
+//! The threads that hash.
+
+use crate::budget::Budget;
+use crate::costs::{Costs, memory_of};
+use crate::job::{Hashed, Job};
+use crate::message::Message;
+use crate::naming::Naming;
+use cred_book::{Request, Ticket};
+use cred_phc::{Password, Setting, TagError, tag_alone};
+use cred_pool::NoGate;
+use crossbeam_channel::{Receiver, Sender};
+use std::alloc::Global;
+use std::sync::Wait;
+
+/// The length of the tag of a new record in bytes.
+const NEW_TAG: u8 = 32;
+
+/// Any salt does where nothing is kept.
+const NO_SALT: [u8; 16] = [0; 16];
+
+/// With what the threads hash.
+#[derive(Drop)]
+pub(crate) struct Hashing {
+    pub(crate) alloc: Global,
+    pub(crate) costs: Costs,
+    pub(crate) budget: Budget,
+}
+
+impl Hashing {
+    /// Hashes jobs as long as they come.
+    pub(crate) fn work<J: Naming, T: Wait>(
+        &self,
+        rt: &T,
+        jobs: Receiver<Job<J>>,
+        book: Sender<Message<J>>,
+    ) {
+        for _ in rt.forever() {
+            let Ok(job) = jobs.recv(rt) else {
+                return;
+            };
+            if book.send(rt, self.hashed(rt, job)).is_err() {
+                return;
+            }
+        }
+    }
+
+    /// Hashes a job, once the memory for it is free.
+    fn hashed<J: Naming, T: Wait>(&self, rt: &T, job: Job<J>) -> Message<J> {
+        let kib = self.memory_of(&job.ticket);
+        if !self.budget.take(rt, kib) {
+            return job.without_memory();
+        }
+        let message = self.hash(job);
+        self.budget.give_back(rt, kib);
+        message
+    }
+
+    /// Hashes a job. A name that isn't there, and an account without a record, take a hash too.
+    fn hash<J: Naming>(&self, job: Job<J>) -> Message<J> {
+        if job.ticket.copy().is_none() && self.hash_for_nothing(&job.ticket.request()).is_err() {
+            return job.without_memory();
+        }
+        job.work(self.alloc)
+    }
+
+    /// Hashes the password that would be compared if there were a record.
+    fn hash_for_nothing(&self, request: &Request) -> Result<(), TagError> {
+        let Some(pw) = compared(request) else {
+            return Ok(());
+        };
+        let setting = self.costs.setting(&NO_SALT);
+        tag_alone(self.alloc, &NoGate, &setting, NEW_TAG, pw.bytes())?;
+        Ok(())
+    }
+
+    /// How many KiB the hashes of a ticket take, one after another.
+    fn memory_of(&self, ticket: &Ticket) -> u64 {
+        let standing = match ticket.copy() {
+            Some(stored) => memory_of(&stored.setting().scheme()),
+            None => self.costs.memory(),
+        };
+        match new_setting(&ticket.request()) {
+            Some(setting) => standing.max(memory_of(&setting.scheme())),
+            None => standing,
+        }
+    }
+}
+
+/// The password that is compared with a record's, if one is.
+fn compared(request: &Request) -> Option<Password> {
+    match *request {
+        Request::Enrol { .. } => None,
+        Request::Verify { pw, .. }
+        | Request::Change { pw, .. }
+        | Request::Upgrade { pw, .. }
+        | Request::Remove { pw, .. } => Some(pw),
+    }
+}
+
+/// The setting of a new record, if one may be made.
+fn new_setting(request: &Request) -> Option<Setting> {
+    match *request {
+        Request::Verify { .. } | Request::Remove { .. } => None,
+        Request::Enrol { setting, .. }
+        | Request::Change { setting, .. }
+        | Request::Upgrade { setting, .. } => Some(setting),
+    }
+}

@@ -1,0 +1,96 @@
+//! Lines as they come in.
+
+ghost use Rattle.std.specs.Prelude.{◌≡◌, [], ◌∷◌, ◌+◌, IfSome, OnOk, OnErr, length};
+ghost use Rattle.cred_cli.specs.Script.{lines_of};
+ghost use Rattle.cred_many.specs.Reading.{GoesOn, HasCome, IsAtEnd, IsBefore, place};
+ghost use Rattle.cred_many.specs.Service.{salts_after};
+
+use crate::costs::Costs;
+use crate::fault::ServiceFault;
+use crate::line::Line;
+use crate::naming::Naming;
+use cred_cli::LineStart;
+use cred_phc::draw_salt;
+use rand_core::Rng;
+use std::marker::PhantomData;
+
+/// The line that is coming in, its number, and what draws settings.
+#[derive(Drop)]
+pub(crate) struct Intake<J: Naming, G: Rng> {
+    pub(crate) start: LineStart,
+    /// How many lines came before.
+    pub(crate) number: u64,
+    costs: Costs,
+    salts: G,
+    of: PhantomData<J>,
+
+    ghost costs_are: { costs ≡ J.service.costs },
+    ghost drawn: { G.stream salts ≡ salts_after J.service.salts number },
+}
+
+impl<J: Naming, G: Rng> Intake<J, G> {
+    /// Before the first line.
+    pub(crate) fn new(costs: Costs, salts: G) -> Intake<J, G>
+        requires costs { costs ≡ J.service.costs }
+        requires salts { G.stream salts ≡ J.service.salts }
+        ensures start { result.start ≡ [] }
+        ensures number { result.number ≡ 0 }
+    {
+        Intake {
+            start: LineStart::new(),
+            number: 0,
+            costs,
+            salts,
+            of: PhantomData,
+        }
+    }
+
+    /// Takes one byte. At a line end it gives the line.
+    ///
+    /// Errors: `TooLong` after 2^64 - 1 lines, which take centuries to come.
+    pub(crate) fn take(&mut self, byte: u8) -> Result<Option<Line<J>>, ServiceFault>
+        requires { IsBefore J.service.input (place self.old.start self.old.number) (byte ∷ []) }
+        ensures { OnOk result (GoesOn J.service.input (place self.old.start self.old.number)
+            (byte ∷ []) (place self.new.start self.new.number)) }
+    {
+        if byte != b'\n' {
+            self.start.push(byte);
+            return Ok(None);
+        }
+        let line = self.end_line()?;
+        Ok(Some(line))
+    }
+
+    /// Takes the end of the input, and gives the last line if it has no end of its own.
+    ///
+    /// Errors: `TooLong` after 2^64 - 1 lines.
+    pub(crate) fn finish(&mut self) -> Result<Option<Line<J>>, ServiceFault>
+        requires { IsAtEnd J.service.input (place self.old.start self.old.number) }
+        ensures { OnOk result
+            (IfSome J.service.input (λ all. self.new.number ≡ length (lines_of all))) }
+    {
+        if self.start.bytes().is_empty() {
+            return Ok(None);
+        }
+        let line = self.end_line()?;
+        Ok(Some(line))
+    }
+
+    /// The line that has come, after which the next begins.
+    fn end_line(&mut self) -> Result<Line<J>, ServiceFault>
+        requires { IfSome J.service.input
+            (λ all. HasCome all (place self.old.start self.old.number)) }
+        ensures start { OnOk result (self.new.start ≡ []) }
+        ensures number { OnOk result (self.new.number ≡ self.old.number + 1) }
+    {
+        let Some(next) = self.number.checked_add(1) else {
+            return Err(ServiceFault::TooLong);
+        };
+        let salt = draw_salt(&mut self.salts);
+        let drawn = self.costs.setting(&salt);
+        let line = Line::read(self.number, drawn, self.start.bytes());
+        self.number = next;
+        self.start.clear();
+        Ok(line)
+    }
+}

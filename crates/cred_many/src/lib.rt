@@ -1,0 +1,30 @@
+//! Answers many at once from one kept book, hashing on all processors.
+//!
+//! Lines are tagged, and answered in any order. What is written is the answers of one history, in
+//! which each line is done whole by one thread.
+#![tactic(auto)]
+
+mod ask;
+mod asking;
+mod budget;
+mod costs;
+mod doing;
+mod fault;
+mod hashing;
+mod host;
+mod intake;
+mod job;
+mod line;
+mod message;
+mod naming;
+mod open;
+mod outlet;
+mod output;
+mod reading;
+mod service;
+mod session;
+
+pub use costs::Costs;
+pub use fault::ServiceFault;
+pub use host::Host;
+pub use service::{Means, Served, serve_tagged};

@@ -1,0 +1,145 @@
+//! A line that came, read.
+
+ghost use Rattle.std.specs.Prelude.{◌≡◌, IfSome, codes, map, true};
+ghost use Rattle.std.specs.List.{list_all};
+ghost use Rattle.cred_phc.specs.Ranges.{is_current};
+ghost use Rattle.cred_many.specs.Asks.{IsSound, entry_of, is_tag_byte, tag_of, tagged, tagged_of};
+ghost use Rattle.cred_many.specs.Reading.{IsCome};
+
+use crate::ask::Ask;
+use crate::asking::ask_of;
+use crate::naming::Naming;
+use cred_cli::{Refusal, first_pieces, is_too_long};
+use cred_phc::{Setting, ShortBytes};
+use std::marker::{Model, PhantomData};
+
+/// How many bytes a tag has at most.
+const LONGEST_TAG: usize = 20;
+
+type Tag = ShortBytes<LONGEST_TAG>;
+
+/// A line that came: its number among the lines, from 0 on, its tag and what it asks for.
+#[derive(Drop)]
+pub(crate) struct Line<J: Naming> {
+    number: u64,
+    tag: Tag,
+    ask: Ask,
+    of: PhantomData<J>,
+}
+
+impl<J: Naming> Model for Line<J> {
+    ghost use Rattle.std.specs.Prelude.{IfSome};
+    ghost use Rattle.cred_many.specs.Asks.{Entry, IsSound, entry};
+    ghost use Rattle.cred_many.specs.Reading.{IsCome};
+
+    ghost Value = { Entry };
+
+    ghost view = { λ l. entry l.number l.tag l.ask };
+
+    ghost invariant = { λ l. record {
+      sound : IsSound l.ask;
+      came : IfSome J.service.input
+          (λ bytes. IsCome J.service bytes (entry l.number l.tag l.ask));
+    } };
+}
+
+impl<J: Naming> Line<J> {
+    /// Reads the line of this number, for which this setting is drawn.
+    pub(crate) fn read(number: u64, drawn: Setting, line: &[u8]) -> Line<J>
+        requires current { is_current drawn.scheme ≡ true }
+        requires came { IfSome J.service.input
+            (λ bytes. IsCome J.service bytes (entry_of number drawn line.now)) }
+        ensures { result ≡ entry_of number drawn line.now }
+    {
+        let (tag, ask) = parts(drawn, line);
+        Line {
+            number,
+            tag,
+            ask,
+            of: PhantomData,
+        }
+    }
+
+    /// Its number among the lines, from 0 on.
+    pub(crate) fn number(&self) -> u64
+        ensures { result ≡ self.now.number }
+    {
+        self.number
+    }
+
+    /// Its tag.
+    pub(crate) fn tag(&self) -> &[u8]
+        ensures tag { result.now ≡ self.now.tag }
+        ensures came { IfSome J.service.input (λ bytes. IsCome J.service bytes self.now) }
+    {
+        self.tag.as_slice()
+    }
+
+    /// What it asks for.
+    pub(crate) fn ask(&self) -> Ask
+        ensures ask { result ≡ self.now.ask }
+        ensures sound { IsSound result }
+    {
+        self.ask
+    }
+}
+
+/// The tag of a line and what it asks for. A line without a tag is answered under a star.
+fn parts(drawn: Setting, line: &[u8]) -> (Tag, Ask)
+    requires { is_current drawn.scheme ≡ true }
+    ensures tagged { result ≡ tagged_of drawn line.now }
+    ensures sound { IsSound result.1 }
+{
+    if is_too_long(line) {
+        return (star(), Ask::Bad(Refusal::Long));
+    }
+    tagged(drawn, &first_pieces(line))
+}
+
+fn tagged(drawn: Setting, pieces: &[&[u8]]) -> (Tag, Ask)
+    requires { is_current drawn.scheme ≡ true }
+    ensures tagged { result ≡ tagged drawn (map (λ s. s.now) pieces.now) }
+    ensures sound { IsSound result.1 }
+{
+    let [first, words @ ..] = pieces else {
+        return (star(), Ask::Bad(Refusal::Line));
+    };
+    match tag_of(first) {
+        Some(tag) => match ask_of(drawn, words) {
+            Ok(ask) => (tag, ask),
+            Err(why) => (tag, Ask::Bad(why)),
+        },
+        None => (star(), Ask::Bad(Refusal::Line)),
+    }
+}
+
+fn tag_of(text: &[u8]) -> Option<Tag>
+    ensures { result ≡ tag_of text.now }
+{
+    if !has_tag_bytes(text) {
+        return None;
+    }
+    ShortBytes::new(text, 1)
+}
+
+fn star() -> Tag
+    ensures { result ≡ codes "*" }
+{
+    match ShortBytes::new(b"*", 1) {
+        Some(tag) => tag,
+        None => unreachable!(),
+    }
+}
+
+/// Whether a tag may contain each of the bytes.
+fn has_tag_bytes(bytes: &[u8]) -> bool
+    ensures { result ≡ list_all is_tag_byte bytes.now }
+{
+    bytes.iter().all(|&b| is_tag_byte(b))
+}
+
+fn is_tag_byte(byte: u8) -> bool
+    ensures { result ≡ is_tag_byte byte }
+{
+    matches!(byte, b'a'..=b'z' | b'0'..=b'9')
+}

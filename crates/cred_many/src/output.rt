@@ -1,0 +1,49 @@
+//! Where answers are written.
+
+ghost use Rattle.std.specs.Prelude.{◌≡◌, ◌∷◌, ◌++◌, OnErr, OnOk, None};
+ghost use Rattle.std.specs.Io.KnownBytes.{Appends};
+ghost use Rattle.cred_cli.specs.Outcome.{FrontWritten};
+ghost use Rattle.cred_cli.specs.Watched.{inner_of};
+ghost use Rattle.cred_many.specs.Steps.{IsConcluded};
+
+use crate::fault::ServiceFault;
+use cred_cli::{ScriptFault, Watched, write_whole};
+use std::io::Write;
+
+/// The writer, and why nothing is answered any more.
+#[derive(Drop)]
+pub(crate) struct Output<W: Write> {
+    pub(crate) writer: Watched<W>,
+    pub(crate) fault: Option<ServiceFault>,
+}
+
+impl<W: Write> Output<W> {
+    /// Writes an answer under its tag. If that fails nothing more is answered.
+    pub(crate) fn conclude(&mut self, tag: &[u8], answer: &[u8])
+        requires { self.old.fault ≡ None }
+        ensures { IsConcluded (tag.now ++ 32 ∷ answer.now) (W.contents (inner_of self.old.writer))
+            (W.contents (inner_of self.new.writer)) self.new.fault }
+    {
+        if write_answer(&mut self.writer, tag, answer).is_err() {
+            self.fault = Some(ServiceFault::Write);
+        }
+    }
+}
+
+/// Writes the tag and the answer whole. If that fails a proper prefix of the line is written.
+fn write_answer<W: Write>(
+    writer: &mut Watched<W>,
+    tag: &[u8],
+    answer: &[u8],
+) -> Result<(), ScriptFault>
+    ensures done { OnOk result
+        (Appends (W.contents (inner_of writer.old)) (W.contents (inner_of writer.new))
+        (tag.now ++ 32 ∷ answer.now)) }
+    ensures front { OnErr result
+        (FrontWritten (W.contents (inner_of writer.old)) (W.contents (inner_of writer.new))
+        (tag.now ++ 32 ∷ answer.now)) }
+{
+    write_whole(writer, tag)?;
+    write_whole(writer, b" ")?;
+    write_whole(writer, answer)
+}

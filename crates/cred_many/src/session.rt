@@ -1,0 +1,275 @@
+//! The book that is served, the lines that are open, and the writer of their answers: what one
+//! thread has.
+
+ghost use Rattle.std.specs.Prelude.{◌≡◌, ◌⊎◌, ◌<◌, [], length, IsTrue, None, Option, true};
+ghost use Rattle.cred_cli.specs.Watched.{inner_of};
+ghost use Rattle.cred_cli.specs.declared.refusal.Refusal.TheVariants as refusal;
+ghost use Rattle.cred_book.specs.declared.error.BookError.TheVariants as error;
+ghost use Rattle.cred_book.specs.Works.{is_for_current};
+ghost use Rattle.cred_phc.specs.Values.{RecordValue};
+ghost use Rattle.cred_many.specs.Asks.{IsJobOf, IsResetOf, NeedsNoHash};
+ghost use Rattle.cred_many.specs.Served.{IsServed, numbers, told_reply};
+ghost use Rattle.cred_many.specs.Steps.{is_changed};
+
+use crate::ask::Ask;
+use crate::doing::{do_ask, put_in_place};
+use crate::fault::ServiceFault;
+use crate::host::Host;
+use crate::job::{Hashed, Job};
+use crate::line::Line;
+use crate::naming::Naming;
+use crate::open::OpenLines;
+use crate::output::Output;
+use cred_book::{BookError, Name, Reply, Request, Ticket, Worked};
+use cred_cli::{Refusal, Watched, reply_line};
+use std::alloc::Global;
+use std::io::Write;
+use std::marker::PhantomData;
+use std::sync::Wait;
+
+/// After how many commits that found another record a line is given up.
+const TRIES: u32 = 8;
+
+/// What one thread has of a service. Between two calls on it, what is written and the keeper's book
+/// are those of one history, in which each line that came stands once, unless it is open.
+#[derive(Drop)]
+pub(crate) struct Session<J: Naming, K: Host, W: Write> {
+    pub(crate) keeper: K,
+    pub(crate) output: Output<W>,
+    pub(crate) pending: OpenLines,
+    /// How many lines came.
+    pub(crate) came: u64,
+    pub(crate) of: PhantomData<J>,
+
+    ghost served: { ∥ IsServed K.capacity J.service (W.contents (inner_of output.writer))
+        (K.book keeper) output.fault (numbers pending) came ∥₁ },
+}
+
+impl<J: Naming, K: Host, W: Write> Session<J, K, W> {
+    /// Before the first line.
+    pub(crate) fn new(pending: OpenLines, keeper: K, writer: Watched<W>) -> Session<J, K, W>
+        requires none { pending ≡ [] }
+        requires opening { K.book keeper ≡ J.service.opening }
+        requires before { W.contents (inner_of writer) ≡ J.service.before }
+    {
+        Session {
+            keeper,
+            output: Output {
+                writer,
+                fault: None,
+            },
+            pending,
+            came: 0,
+            of: PhantomData,
+        }
+    }
+
+    /// Takes a line that came, and answers it if it needs no hash.
+    pub(crate) fn take<T: Wait>(&mut self, rt: &T, alloc: Global, line: Line<J>) -> Option<Job<J>> {
+        if self.output.fault.is_some() || !self.admit(line.number()) {
+            return None;
+        }
+        match line.ask() {
+            Ask::Whole(request) => Some(self.job(line, request)),
+            Ask::Login(name, pw, setting) => {
+                Some(self.job(line, Request::Upgrade { name, pw, setting }))
+            }
+            Ask::Reset(name, pw, setting) => {
+                let ticket = Ticket::new(Request::Enrol { name, pw, setting }, None);
+                Some(Job::new(line, ticket))
+            }
+            ask => {
+                self.answer_at_once(rt, alloc, line, ask);
+                None
+            }
+        }
+    }
+
+    /// Opens the line of this number, if it is the next one.
+    fn admit(&mut self, number: u64) -> bool
+        requires { self.old.output.fault ≡ None }
+        ensures { IsTrue result → self.new.output.fault ≡ None }
+    {
+        let Some(next) = self.came.checked_add(1) else {
+            self.output.fault = Some(ServiceFault::TooLong);
+            return false;
+        };
+        if number != self.came {
+            self.output.fault = Some(ServiceFault::Lost);
+            return false;
+        }
+        if self.pending.push(number).is_err() {
+            self.output.fault = Some(ServiceFault::Memory);
+            return false;
+        }
+        self.came = next;
+        true
+    }
+
+    /// The line with a copy of its account's record. A name that isn't there is hashed as an
+    /// account without a record, and its commit says that it isn't there.
+    fn job(&self, line: Line<J>, request: Request) -> Job<J>
+        requires current { is_for_current request ≡ true }
+        requires asked { (copy : Option RecordValue) → IsJobOf line.ask (request, copy) }
+    {
+        let ticket = match self.keeper.begin(request) {
+            Ok(ticket) => ticket,
+            Err((request, _)) => Ticket::new(request, None),
+        };
+        Job::new(line, ticket)
+    }
+
+    /// Does what needs no hash.
+    fn answer_at_once<T: Wait>(&mut self, rt: &T, alloc: Global, line: Line<J>, ask: Ask)
+        requires going { self.old.output.fault ≡ None }
+        requires asked { ask ≡ line.ask }
+        requires light { NeedsNoHash ask }
+    {
+        let Some(place) = self.pending.place_of(line.number()) else {
+            self.output.fault = Some(ServiceFault::Lost);
+            return;
+        };
+        match do_ask(rt, alloc, &mut self.keeper, ask) {
+            Ok(text) => {
+                self.pending.close(place);
+                self.output.conclude(line.tag(), text.bytes());
+            }
+            Err(_) => self.refuse(line),
+        }
+    }
+
+    /// Does the whole operation whose hashing is done, if the record is still the one that was
+    /// copied, and answers it. Otherwise the record is copied again.
+    pub(crate) fn commit<T: Wait>(&mut self, rt: &T, hashed: Hashed<J>) -> Option<Job<J>> {
+        if self.output.fault.is_some() {
+            return None;
+        }
+        let Hashed { line, worked } = hashed;
+        match line.ask() {
+            Ask::Whole(_) | Ask::Login(..) => self.commit_whole(rt, line, worked),
+            Ask::Reset(name, _, _) => {
+                self.reset(rt, line, &name, &worked);
+                None
+            }
+            Ask::Account(_) | Ask::Load(..) | Ask::Show(_) | Ask::Bad(_) => unreachable!(),
+        }
+    }
+
+    fn commit_whole<T: Wait>(&mut self, rt: &T, line: Line<J>, worked: Worked) -> Option<Job<J>>
+        requires going { self.old.output.fault ≡ None }
+        requires asked { (copy : Option RecordValue) → IsJobOf line.ask (worked.0, copy) }
+    {
+        let Some(place) = self.pending.place_of(line.number()) else {
+            self.output.fault = Some(ServiceFault::Lost);
+            return None;
+        };
+        let request = worked.request();
+        let reply = match self.keeper.commit(rt, worked) {
+            Ok(reply) => reply,
+            Err(_) => {
+                self.refuse(line);
+                return None;
+            }
+        };
+        if is_changed(&reply) {
+            return self.try_again(place, line, request);
+        }
+        self.pending.close(place);
+        let answer = reply_line(&told_reply(line.ask(), reply));
+        self.output.conclude(line.tag(), answer);
+        None
+    }
+
+    /// Copies the record again, unless that was done often enough.
+    fn try_again(&mut self, place: usize, line: Line<J>, request: Request) -> Option<Job<J>>
+        requires going { self.old.output.fault ≡ None }
+        requires place { place < length self.old.pending }
+        requires asked { (copy : Option RecordValue) → IsJobOf line.ask (request, copy) }
+    {
+        if self.pending.overtake(place) >= TRIES {
+            self.give_up(line, Refusal::Busy);
+            return None;
+        }
+        let _ask = line.ask();
+        Some(self.job(line, request))
+    }
+
+    /// Puts the record that was made in place of any other.
+    fn reset<T: Wait>(&mut self, rt: &T, line: Line<J>, name: &Name, worked: &Worked)
+        requires going { self.old.output.fault ≡ None }
+        requires asked { IsResetOf line.ask name.now worked.now }
+    {
+        let Some(place) = self.pending.place_of(line.number()) else {
+            self.output.fault = Some(ServiceFault::Lost);
+            return;
+        };
+        let Some(stored) = worked.after() else {
+            unreachable!()
+        };
+        match put_in_place(rt, &mut self.keeper, name, stored) {
+            Ok(reply) => {
+                self.pending.close(place);
+                self.output.conclude(line.tag(), reply_line(&reply));
+            }
+            Err(_) => self.refuse(line),
+        }
+    }
+
+    /// Answers a line for which there was no memory to hash.
+    pub(crate) fn no_memory(&mut self, line: Line<J>) {
+        if self.output.fault.is_none() {
+            self.give_up(line, Refusal::Book(BookError::Memory));
+        }
+    }
+
+    /// Answers a line to which the keeper refused memory, or ends all if it has failed.
+    fn refuse(&mut self, line: Line<J>)
+        requires { self.old.output.fault ≡ None }
+    {
+        if self.keeper.has_failed() {
+            self.output.fault = Some(ServiceFault::Keeper);
+            return;
+        }
+        self.give_up(line, Refusal::Book(BookError::Memory));
+    }
+
+    /// Notes that a line was lost between two threads, unless a fault has ended all already.
+    pub(crate) fn lose(&mut self)
+        ensures fault { self.new.output.fault ≡ None → ⊥ }
+    {
+        if self.output.fault.is_none() {
+            self.output.fault = Some(ServiceFault::Lost);
+        }
+    }
+
+    /// Answers that nothing was done.
+    fn give_up(&mut self, line: Line<J>, why: Refusal)
+        requires going { self.old.output.fault ≡ None }
+        requires why { (why ≡ refusal.Book error.Memory) ⊎ (why ≡ refusal.Busy) }
+    {
+        let Some(place) = self.pending.place_of(line.number()) else {
+            self.output.fault = Some(ServiceFault::Lost);
+            return;
+        };
+        self.pending.close(place);
+        self.output.conclude(line.tag(), why.line());
+    }
+}
+
+/// Whether a commit found another record than the one that was copied.
+fn is_changed(reply: &Reply) -> bool
+    ensures { result ≡ is_changed reply.now }
+{
+    matches!(reply, Reply::Changed { .. })
+}
+
+/// The reply under which what is asked is answered: a login's is that of a verify.
+fn told_reply(ask: Ask, reply: Reply) -> Reply
+    ensures { result ≡ told_reply ask reply }
+{
+    match (ask, reply) {
+        (Ask::Login(..), Reply::Wrong) => Reply::No,
+        (Ask::Login(..), Reply::Kept | Reply::Upgraded) => Reply::Yes,
+        (_, reply) => reply,
+    }
+}
