@@ -23,16 +23,22 @@ from credkeep_tests import Ended, Keep, Room, begun, holds, main, same
 
 # More than a script may have.
 TWO_MIB = 2 * 1024 * 1024
+# After so many seconds a service is ended that hasn't: one that reads ahead of its answers waits for ever.
+LONGEST = 120
 
 
 def service(keep: Keep, *words: str) -> "subprocess.Popen[bytes]":
-    """Starts the program as a service of lines."""
+    """Starts the program as a service of lines, which is killed if it is there for too long."""
     command = [str(keep.program), str(keep.path), "serve", *words]
-    return subprocess.Popen(command, stdin=subprocess.PIPE, stdout=subprocess.PIPE, stderr=subprocess.PIPE)
+    run = subprocess.Popen(command, stdin=subprocess.PIPE, stdout=subprocess.PIPE, stderr=subprocess.PIPE)
+    guard = threading.Timer(LONGEST, run.kill)
+    guard.daemon = True
+    guard.start()
+    return run
 
 
 def asked(run: "subprocess.Popen[bytes]", line: bytes) -> bytes:
-    """The answer to a line, which is awaited."""
+    """The answer to a line, which is awaited: nothing, if the service is killed meanwhile."""
     assert run.stdin and run.stdout
     run.stdin.write(line + b"\n")
     run.stdin.flush()

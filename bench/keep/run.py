@@ -5,8 +5,9 @@
 
 PROGRAM is the built credkeep, by default crates/credkeep/out/credkeep; htpasswd is that of Debian's apache2-utils. Names come in random
 order. The hashes are as cheap as each takes (Argon2id with 8 KiB and one pass, bcrypt with cost 4), so that what is timed is the
-keeping. Each figure is the best of the turns. credkeep syncs at each change, Python's sqlite3 does so too here (WAL, synchronous =
-FULL), and htpasswd never does. The files stand in TMPDIR.
+keeping. Each figure is the best of the turns. credkeep syncs twice at each change, Python's sqlite3 once here (WAL, synchronous =
+FULL), and htpasswd never does. The files stand in TMPDIR, and the first line is what its disk takes for a sync alone: on another disk
+the changes take as much more as its syncs do.
 """
 
 import argparse
@@ -15,6 +16,7 @@ import pathlib
 import random
 import shutil
 import sqlite3
+import statistics
 import subprocess
 import sys
 import tempfile
@@ -62,6 +64,40 @@ def peak_mb(process: int) -> float:
         if line.startswith("VmHWM:"):
             return int(line.split()[1]) / 1024
     sys.exit(f"no peak of process {process}")
+
+
+def disk_sync(folder: pathlib.Path) -> float:
+    """The median seconds of 4 KiB that are written over old ones and synced, in this folder."""
+    path, seconds = folder / "synced", []
+    with open(path, "wb", buffering=0) as file:
+        file.write(bytes(64 * 4096))
+        os.fsync(file.fileno())
+        for at in range(201):
+            start = time.perf_counter()
+            os.pwrite(file.fileno(), os.urandom(4096), at % 64 * 4096)
+            os.fdatasync(file.fileno())
+            seconds.append(time.perf_counter() - start)
+    path.unlink()
+    return statistics.median(seconds)
+
+
+def run_with_peak(*words: str | pathlib.Path, given: pathlib.Path) -> tuple[float, float]:
+    """The seconds of a program on a file, and the most memory that it held, in MB, as was seen each hundredth second."""
+    peak = 0.0
+    with open(given, "rb") as source:
+        start = time.perf_counter()
+        process = subprocess.Popen(words, stdin=source, stdout=subprocess.DEVNULL)
+        while process.poll() is None:
+            try:
+                peak = max(peak, peak_mb(process.pid))
+            except (OSError, SystemExit):
+                # It ended meanwhile.
+                pass
+            time.sleep(0.01)
+        seconds = time.perf_counter() - start
+    if process.returncode:
+        sys.exit(f"{words}: status {process.returncode}")
+    return seconds, peak
 
 
 class Service:
@@ -188,6 +224,7 @@ def ours(sample: Sample, turns: int) -> dict[str, str]:
     check = best(turns, lambda: run(program, book, "check", one, given=PASSWORD))
     listed = best(turns, lambda: run(program, book, "export"))
     return {
+        "the disk: 4 KiB and a sync, us": f"{disk_sync(book.parent) * 1e6:.0f}",
         "open, ms": f"{opened * 1e3:.1f}",
         "of it sqlite's, ms": f"{refused * 1e3:.1f}",
         "of it reading rows, us a row": f"{(opened - refused) * 1e6 / sample.count:.2f}",
@@ -196,7 +233,7 @@ def ours(sample: Sample, turns: int) -> dict[str, str]:
         "verify, two lines, us": f"{verify_s * 1e6:.0f}",
         "change with its sync, us": f"{change_s * 1e6:.0f}",
         "new name with its sync, us": f"{new_s * 1e6:.0f}",
-        "import, lines a second": imported(sample),
+        **imported(sample),
         "export, ms": f"{listed * 1e3:.1f}",
         "one change by a process, ms": f"{change * 1e3:.1f}",
         "one check by a process, ms": f"{check * 1e3:.1f}",
@@ -204,14 +241,20 @@ def ours(sample: Sample, turns: int) -> dict[str, str]:
     }
 
 
-def imported(sample: Sample) -> str:
-    """How many lines a second an import takes in."""
-    fresh = sample.book.with_name("fresh.db")
+def imported(sample: Sample) -> dict[str, str]:
+    """How many lines a second an import takes in, and what memory it takes; the same of a copy."""
+    fresh, copy = sample.book.with_name("fresh.db"), sample.book.with_name("copy.db")
     run(sample.program, fresh, "init")
-    ended = run(sample.program, fresh, "import", given=sample.lines)
-    for path in fresh.parent.glob("fresh.db*"):
+    seconds, peak = run_with_peak(sample.program, fresh, "import", given=sample.lines)
+    copied, copy_peak = run_with_peak(sample.program, fresh, "backup", copy, given=pathlib.Path(os.devnull))
+    for path in [*fresh.parent.glob("fresh.db*"), *fresh.parent.glob("copy.db*")]:
         path.unlink()
-    return f"{sample.count / ended:.0f}"
+    return {
+        "import, lines a second": f"{sample.count / seconds:.0f}",
+        "import: peak memory, MB": f"{peak:.0f}",
+        "backup, ms": f"{copied * 1e3:.1f}",
+        "backup: peak memory, MB": f"{copy_peak:.0f}",
+    }
 
 
 def theirs(sample: Sample, turns: int) -> dict[str, str]:

@@ -20,6 +20,8 @@ Examples:
   credkeep users.db disable bob
   credkeep users.db rename ann anna
   credkeep users.db import < passwd
+  credkeep users.db backup /backup/users.db
+  credkeep users.db restore /backup/users.db
   printf 'account cat\\nshow cat\\n' | credkeep users.db serve
   sqlite3 users.db 'SELECT name FROM account'
 
@@ -45,6 +47,14 @@ const SETTING_HELP: &str = "How the new record is made; if it ends before its sa
 
 const WORKERS_HELP: &str = "How many threads may hash at once, from 1 to 64";
 
+const TAGGED_HELP: &str = "Answers tagged lines: verify, login, enrol, change, reset and others";
+
+const AT_ONCE_HELP: &str = "With --tagged: how many lines are hashed at once [default: as many as \
+there are processors, and as --memory allows]";
+
+const MEMORY_HELP: &str = "With --tagged: how much memory all hashes may take at once, in KiB or \
+as 512M or 2G [default: 2G]";
+
 const EMPTY_HELP: &str = "Takes an empty line as the new password, which is refused otherwise";
 
 const ECHO_HELP: &str = "Asks at a terminal, which shows what is typed; otherwise one is refused";
@@ -55,13 +65,22 @@ const SKIP_HELP: &str = "Leaves accounts that are there as they are, and says ho
 
 const WAIT_HELP: &str = "Tries for so many seconds if another process has the file, from 0 to 3600";
 
+const TO_HELP: &str = "The file of the copy; one that is there is replaced by one step";
+
+const FROM_HELP: &str = "The file of the copy, which is only read";
+
 /// A word or an option of a command.
 #[derive(Clone, Copy)]
 enum Word {
+    To,
+    From,
     Name,
     NewName,
     Setting,
     Workers,
+    Tagged,
+    AtOnce,
+    Memory,
     EmptyPassword,
     Echo,
     Record,
@@ -76,7 +95,7 @@ struct HelpText {
     words: &'static [Word],
 }
 
-static COMMANDS: [HelpText; 16] = [
+static COMMANDS: [HelpText; 19] = [
     HelpText {
         word: "init",
         about: "Begins an empty book, in a new file that its owner alone may read",
@@ -92,9 +111,15 @@ static COMMANDS: [HelpText; 16] = [
     HelpText {
         word: "serve",
         about: "Answers lines of a script for as long as they come, each once its change is on the \
-            disk",
+            disk; with --tagged the lines of many clients, each TAG OPERATION .., in any order",
         usage: "credkeep <FILE> serve [OPTIONS]",
-        words: &[Word::Workers],
+        words: &[
+            Word::Workers,
+            Word::Tagged,
+            Word::AtOnce,
+            Word::Memory,
+            Word::Setting,
+        ],
     },
     HelpText {
         word: "add",
@@ -187,6 +212,27 @@ static COMMANDS: [HelpText; 16] = [
         usage: "credkeep <FILE> import [OPTIONS]",
         words: &[Word::SkipExisting],
     },
+    HelpText {
+        word: "backup",
+        about: "Writes a copy of the book to another file, whole and without a log, also while \
+            the book is served, and says how many accounts it has",
+        usage: "credkeep <FILE> backup <TO>",
+        words: &[Word::To],
+    },
+    HelpText {
+        word: "restore",
+        about: "Puts a copy in the book's place, which no process may have open, and takes the \
+            old log away",
+        usage: "credkeep [--wait <SECONDS>] <FILE> restore <FROM>",
+        words: &[Word::From],
+    },
+    HelpText {
+        word: "verify",
+        about: "Reads all of the book and its log, also while it is served, and says how many \
+            accounts there are, or what is damaged",
+        usage: "credkeep <FILE> verify",
+        words: &[],
+    },
 ];
 
 /// The program, with all its commands.
@@ -227,6 +273,14 @@ fn command_of<'a>(alloc: Global, text: &HelpText) -> Result<Command<'a>, AllocEr
 
 fn arg_of<'a>(alloc: Global, word: Word) -> Arg<'a> {
     match word {
+        Word::To => Arg::new(alloc, "to")
+            .value_name("TO")
+            .help(TO_HELP)
+            .required(true),
+        Word::From => Arg::new(alloc, "from")
+            .value_name("FROM")
+            .help(FROM_HELP)
+            .required(true),
         Word::Name => Arg::new(alloc, "name")
             .value_name("NAME")
             .help(NAME_HELP)
@@ -240,6 +294,12 @@ fn arg_of<'a>(alloc: Global, word: Word) -> Arg<'a> {
             .value_name("TEXT")
             .help(SETTING_HELP),
         Word::Workers => workers(alloc),
+        Word::Tagged => flag(alloc, "tagged", TAGGED_HELP),
+        Word::AtOnce => at_once(alloc),
+        Word::Memory => Arg::new(alloc, "memory")
+            .long("memory")
+            .value_name("SIZE")
+            .help(MEMORY_HELP),
         Word::EmptyPassword => flag(alloc, "empty-password", EMPTY_HELP),
         Word::Echo => flag(alloc, "echo", ECHO_HELP),
         Word::Record => flag(alloc, "record", RECORD_HELP),
@@ -261,6 +321,14 @@ fn workers<'a>(alloc: Global) -> Arg<'a> {
         .help(WORKERS_HELP)
         .value_parser(clap::value_parser!(u8).range(1..=64))
         .default_value("1")
+}
+
+fn at_once<'a>(alloc: Global) -> Arg<'a> {
+    Arg::new(alloc, "at-once")
+        .long("at-once")
+        .value_name("N")
+        .help(AT_ONCE_HELP)
+        .value_parser(clap::value_parser!(u8).range(1..=255))
 }
 
 fn wait<'a>(alloc: Global) -> Arg<'a> {

@@ -3,11 +3,17 @@
 #![tactic(auto)]
 
 mod arguments;
+mod beside;
+mod copies;
 mod files;
+mod log;
 mod order;
+mod part;
 mod program;
 mod progress;
 mod refusal;
+mod snapshot;
+mod tagged;
 mod terminal;
 
 use std::process::ExitCode;

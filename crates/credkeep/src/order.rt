@@ -1,11 +1,13 @@
 //! What the words of the command line ask for.
 
 use crate::arguments::credkeep;
+use crate::tagged::{Tagged, kib_of};
 use crate::terminal::Echo;
 use clap::{ArgMatches, Error};
 use cred_admin::{EmptyPassword, Existing, NewPassword, NewSetting, Part, setting_of};
 use cred_book::{BookError, Name};
 use cred_keep::Order;
+use cred_many::Costs;
 use cred_phc::{PhcError, draw_salt};
 use rand::rngs::StdRng;
 use rand::{Rng, make_rng};
@@ -14,6 +16,9 @@ use std::random::RandomSource;
 
 /// RFC 9106's second recommended choice: Argon2id, 64 MiB, three passes, four lanes.
 const DEFAULT_SETTING: &str = "$argon2id$v=19$m=65536,t=3,p=4";
+
+/// How much memory hashes of tagged lines may take together.
+const DEFAULT_MEMORY: &str = "2G";
 
 /// At most as many threads hash for a command on one account as the default setting has lanes.
 const LANES: u8 = 4;
@@ -24,13 +29,25 @@ pub(crate) struct Asked<'a> {
     pub(crate) file: &'a str,
     /// For how many seconds a busy file is tried.
     pub(crate) wait: u16,
-    pub(crate) act: Act,
+    pub(crate) act: Act<'a>,
 }
 
 #[derive(Drop)]
-pub(crate) enum Act {
+pub(crate) enum Act<'a> {
     /// Begins a book.
     Init,
+    /// Writes a copy of the book.
+    Backup {
+        to: &'a str,
+    },
+    /// Puts a copy in the book's place.
+    Restore {
+        from: &'a str,
+    },
+    /// Reads all of the book, and its log.
+    Verify,
+    /// Answers tagged lines of many clients.
+    Tagged(Tagged),
     /// Does what is asked of a book, with at most so many threads.
     Perform {
         order: Order,
@@ -48,6 +65,8 @@ pub(crate) enum Refusal<'a> {
     Name { text: &'a str, why: BookError },
     /// The text of the setting has this fault.
     Setting(PhcError),
+    /// The text of `--memory` is no size.
+    Size,
     /// The system has no random bytes for a salt.
     Salt,
     /// There is no memory.
@@ -74,15 +93,53 @@ pub(crate) fn asked_by<'a, R: RandomSource + AllocGlobal>(
     let matches = credkeep(rt.alloc())?.try_get_matches_from(words)?;
     let file = matches.get_str("file").unwrap_or("");
     let act = match matches.subcommand() {
-        Some((word, values)) if word != "init" => Act::Perform {
-            order: order_of(rt, word, values)?,
-            workers: values.get_one("workers").unwrap_or(LANES),
-            echo: echo_in(values),
-        },
-        _ => Act::Init,
+        Some((word, values)) => act_of(rt, word, values)?,
+        None => Act::Init,
     };
     let wait = matches.get_one("wait").unwrap_or(0);
     Ok(Asked { file, wait, act })
+}
+
+fn act_of<'a, R: RandomSource + AllocGlobal>(
+    rt: &R,
+    word: &str,
+    values: &ArgMatches<'a>,
+) -> Result<Act<'a>, Refusal<'a>> {
+    match word {
+        "init" => Ok(Act::Init),
+        "backup" => Ok(Act::Backup {
+            to: values.get_str("to").unwrap_or(""),
+        }),
+        "restore" => Ok(Act::Restore {
+            from: values.get_str("from").unwrap_or(""),
+        }),
+        "verify" => Ok(Act::Verify),
+        "serve" if values.get_flag("tagged") => Ok(Act::Tagged(tagged_in(rt, values)?)),
+        _ => Ok(Act::Perform {
+            order: order_of(rt, word, values)?,
+            workers: values.get_one("workers").unwrap_or(LANES),
+            echo: echo_in(values),
+        }),
+    }
+}
+
+/// How tagged lines are answered.
+fn tagged_in<'a, R: RandomSource + AllocGlobal>(
+    rt: &R,
+    values: &ArgMatches<'a>,
+) -> Result<Tagged, Refusal<'a>> {
+    let text = values.get_str("memory").unwrap_or(DEFAULT_MEMORY);
+    let Some(memory) = kib_of(text) else {
+        return Err(Refusal::Size);
+    };
+    let Some(costs) = Costs::of(&new_setting(rt, values)?.setting()) else {
+        return Err(Refusal::Setting(PhcError::Version));
+    };
+    Ok(Tagged {
+        at_once: values.get_one("at-once"),
+        memory,
+        costs,
+    })
 }
 
 fn echo_in(values: &ArgMatches<'_>) -> Echo {

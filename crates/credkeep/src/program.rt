@@ -2,11 +2,18 @@
 
 ghost use Rattle.std.specs.Prelude.{◌≡◌, false};
 
-use crate::files::{Access, Database, look_at, make_file, open_file};
+use crate::copies::{NEW, back_up, restore, verify};
+use crate::files::{
+    Access, Beginning, DamagedLog, Database, FileFault, look_at, look_before_init, open_file,
+};
 use crate::order::{Act, Asked, asked_by};
+use crate::part::{OldLog, Part};
 use crate::progress::{Counted, Telling};
-use crate::refusal::{answer_refusal, refuse_file, refuse_typing, say};
-use crate::terminal::{Typed, asked_for};
+use crate::refusal::{
+    answer_refusal, refuse_file, refuse_typing, refuse_unopened, say, warn_of_others,
+};
+use crate::tagged::serve_tagged;
+use crate::terminal::{Echo, Typed, asked_for};
 use cred_admin::Status;
 use cred_cli::{Tools, Watched};
 use cred_file::{FileBook, OpenFault};
@@ -19,7 +26,10 @@ use std::thread::Threads;
 use std::{env, io};
 
 /// Does what the process's words ask for.
-pub(crate) fn run<T: Threads + Wait + Sync>(host: &HostRuntime, rt: &T) -> Status {
+pub(crate) fn run<T: Threads + Wait + Sync + Copy + Send + 'static>(
+    host: &HostRuntime,
+    rt: &T,
+) -> Status {
     match run_words(host, rt) {
         Ok(status) => status,
         Err(error) if error.kind() == ErrorKind::OutOfMemory => {
@@ -29,7 +39,10 @@ pub(crate) fn run<T: Threads + Wait + Sync>(host: &HostRuntime, rt: &T) -> Statu
     }
 }
 
-fn run_words<T: Threads + Wait + Sync>(host: &HostRuntime, rt: &T) -> io::Result<Status> {
+fn run_words<T: Threads + Wait + Sync + Copy + Send + 'static>(
+    host: &HostRuntime,
+    rt: &T,
+) -> io::Result<Status> {
     let words: Vec<String> = env::args(host)?.collect(host.alloc())?;
     match asked_by(host, &words) {
         Ok(asked) => Ok(act(host, rt, &asked)),
@@ -37,46 +50,104 @@ fn run_words<T: Threads + Wait + Sync>(host: &HostRuntime, rt: &T) -> io::Result
     }
 }
 
-fn act<T: Threads + Wait + Sync>(host: &HostRuntime, rt: &T, asked: &Asked<'_>) -> Status {
-    match before_opening(host, asked) {
-        Ok(typed) => on_file(host, rt, asked, &typed),
-        Err(status) => status,
+fn act<T: Threads + Wait + Sync + Copy + Send + 'static>(
+    host: &HostRuntime,
+    rt: &T,
+    asked: &Asked<'_>,
+) -> Status {
+    match &asked.act {
+        Act::Init => init(host, asked),
+        Act::Backup { to } => back_up(host, asked.file, to),
+        Act::Restore { from } => restore(host, asked.file, from, asked.wait),
+        Act::Verify => verify(host, asked.file),
+        Act::Tagged(tagged) => serve_tagged(host, rt, asked.file, asked.wait, tagged),
+        Act::Perform {
+            order,
+            workers,
+            echo,
+        } => {
+            let tools = Tools {
+                rt,
+                alloc: host.alloc(),
+                workers: *workers,
+            };
+            match before_opening(host, asked.file, order, *echo) {
+                Ok(typed) => on_file(host, &tools, asked, order, &typed),
+                Err(status) => status,
+            }
+        }
     }
 }
 
-/// Makes the file of a book that is to begin, or looks at one that is there and asks for what is to
-/// be typed.
-fn before_opening(host: &HostRuntime, asked: &Asked<'_>) -> Result<Typed, Status> {
-    let (order, echo) = match &asked.act {
-        Act::Init => {
-            return match make_file(host, asked.file) {
-                Ok(()) => Ok(Typed::Nothing),
-                Err(why) => Err(refuse_file(host, asked.file, &why)),
-            };
+/// Begins a book, in a file that is put at its place when it is whole, or in a database that is
+/// there.
+fn init(host: &HostRuntime, asked: &Asked<'_>) -> Status {
+    match look_before_init(host, asked.file) {
+        Ok(Beginning::NewFile) => match begin_beside(host, asked.file) {
+            Ok(status) => status,
+            Err(why) => refuse_file(host, asked.file, &why),
+        },
+        Ok(Beginning::Database) => begin_at(host, asked.file, asked.file, asked.wait),
+        Err(why) => refuse_file(host, asked.file, &why),
+    }
+}
+
+fn begin_beside(host: &HostRuntime, path: &str) -> Result<Status, FileFault> {
+    let new = Part::make(host, path, NEW)?;
+    let status = begin_at(host, path, new.path(), 0);
+    if status != Status::Done {
+        new.remove(host);
+        return Ok(status);
+    }
+    match new.put_at(host, path, OldLog::Kept) {
+        Ok(()) => Ok(Status::Done),
+        Err(why) => {
+            new.remove(host);
+            Err(why)
         }
-        Act::Perform { order, echo, .. } => (order, *echo),
-    };
-    match look_at(host, asked.file) {
+    }
+}
+
+/// Begins a book in the database at `path`, which is to be, or is, that of `file`.
+fn begin_at(host: &HostRuntime, file: &str, path: &str, wait: u16) -> Status {
+    match open_file(host, path, wait, DamagedLog::Refused) {
+        Ok(conn) => {
+            let (conn, status) = begin_in(host.alloc(), conn, host.stderr());
+            close(host, conn, status)
+        }
+        Err(why) => refuse_unopened(host, file, &why),
+    }
+}
+
+/// Looks at the file of a book, and asks for what is to be typed.
+fn before_opening(
+    host: &HostRuntime,
+    path: &str,
+    order: &Order,
+    echo: Echo,
+) -> Result<Typed, Status> {
+    match look_at(host, path) {
         Ok(Access::OwnerAlone) => {}
-        Ok(Access::Others) => warn_of_others(host, asked.file),
-        Err(why) => return Err(refuse_file(host, asked.file, &why)),
+        Ok(Access::Others) => warn_of_others(host, path),
+        Err(why) => return Err(refuse_file(host, path, &why)),
     }
     match asked_for(host, order, echo) {
         Ok(typed) => Ok(typed),
-        Err(why) => Err(refuse_typing(host, asked.file, &why)),
+        Err(why) => Err(refuse_typing(host, path, &why)),
     }
 }
 
 /// Opens the file, does what is asked in its database, and closes it.
 fn on_file<T: Threads + Wait + Sync>(
     host: &HostRuntime,
-    rt: &T,
+    tools: &Tools<'_, T>,
     asked: &Asked<'_>,
+    order: &Order,
     typed: &Typed,
 ) -> Status {
-    let conn = match open_file(host, asked.file, asked.wait) {
+    let conn = match open_file(host, asked.file, asked.wait, DamagedLog::Refused) {
         Ok(conn) => conn,
-        Err(error) => return refuse(&mut host.stderr(), &OpenFault::Database(error)),
+        Err(why) => return refuse_unopened(host, asked.file, &why),
     };
     // Behind what was typed nothing is read.
     let (lines, rest) = match typed {
@@ -85,30 +156,20 @@ fn on_file<T: Threads + Wait + Sync>(
     };
     let input = lines.chain(host.stdin().take(rest));
     let streams = Streams {
-        reader: Counted::new(host, input, telling_of(host, &asked.act)),
+        reader: Counted::new(host, input, telling_of(host, order)),
         writer: host.stdout(),
         faults: host.stderr(),
     };
-    let (conn, status) = act_in(rt, host.alloc(), conn, &asked.act, streams);
+    let (conn, status) = perform_in(tools, conn, order, streams);
     close(host, conn, status)
 }
 
 /// Whether the lines of the input are counted: those of an import, if somebody sees it.
-fn telling_of(host: &HostRuntime, act: &Act) -> Telling {
-    match act {
-        Act::Perform {
-            order: Order::Import { .. },
-            ..
-        } if host.stderr().is_terminal() => Telling::AtTheEnd,
+fn telling_of(host: &HostRuntime, order: &Order) -> Telling {
+    match order {
+        Order::Import { .. } if host.stderr().is_terminal() => Telling::AtTheEnd,
         _ => Telling::Silent,
     }
-}
-
-fn warn_of_others(host: &HostRuntime, path: &str) {
-    let _ = writeln!(
-        host.stderr(),
-        "credkeep: warning: {path}: another user owns it, or others can read or write it"
-    );
 }
 
 /// Where the program reads its input and writes its answer and its faults.
@@ -116,42 +177,6 @@ struct Streams<R, W, F> {
     reader: R,
     writer: W,
     faults: F,
-}
-
-/// Does what is asked in the database, which comes back.
-fn act_in<T, S, R, W, F>(
-    rt: &T,
-    alloc: Global,
-    conn: Connection<S>,
-    act: &Act,
-    streams: Streams<R, W, F>,
-) -> (Connection<S>, Status)
-where
-    T: Threads + Wait + Sync,
-    S: Alter,
-    R: Read + Drop,
-    W: Write + Drop,
-    F: Write + Drop,
-    requires autocommit { conn.in_transaction ≡ false }
-{
-    match act {
-        Act::Init => {
-            let Streams {
-                reader: _reader,
-                writer: _writer,
-                faults,
-            } = streams;
-            begin_in(alloc, conn, faults)
-        }
-        Act::Perform { order, workers, .. } => {
-            let tools = Tools {
-                rt,
-                alloc,
-                workers: *workers,
-            };
-            perform_in(&tools, conn, order, streams)
-        }
-    }
 }
 
 /// Begins a book in the database, which comes back.
@@ -225,7 +250,7 @@ where
 }
 
 /// Copies the log into the file and closes both. If that fails nothing is lost: the log stays.
-fn close(host: &HostRuntime, conn: Database, status: Status) -> Status {
+pub(crate) fn close(host: &HostRuntime, conn: Database, status: Status) -> Status {
     if let Err(error) = conn.close() {
         let _ = writeln!(
             host.stderr(),

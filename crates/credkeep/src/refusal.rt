@@ -1,13 +1,15 @@
 //! What is said if nothing was opened, and the exit status that goes with it.
 
-use crate::files::FileFault;
+use crate::files::{FileFault, Unopened};
 use crate::order::Refusal;
 use crate::terminal::TypingFault;
 use clap::Error;
 use clap::error::ErrorKind as WordsKind;
 use cred_admin::Status;
 use cred_book::BookError;
-use cred_keep::NAME_RULE;
+use cred_file::OpenFault;
+use cred_keep::{NAME_RULE, refuse};
+use sqlite::{Error as DatabaseError, ErrorCode};
 use std::io::Write;
 
 /// What is longer isn't a name.
@@ -26,6 +28,11 @@ pub(crate) fn answer_refusal(host: &HostRuntime, refusal: &Refusal<'_>) -> Statu
             );
             Status::Usage
         }
+        Refusal::Size => say(
+            host,
+            "--memory: a size is a number of KiB, or one with K, M or G behind it",
+            Status::Usage,
+        ),
         Refusal::Memory => say(host, "out of memory", Status::Memory),
         Refusal::Salt => say(host, "the system has no random bytes", Status::Io),
     }
@@ -82,6 +89,25 @@ fn name_cause(text: &str) -> &'static str {
 pub(crate) fn refuse_file(host: &HostRuntime, path: &str, why: &FileFault) -> Status {
     let _ = writeln!(host.stderr(), "credkeep: {path}: {why}");
     why.status()
+}
+
+/// Says why a database wasn't opened.
+pub(crate) fn refuse_unopened(host: &HostRuntime, path: &str, why: &Unopened) -> Status {
+    match why {
+        Unopened::File(FileFault::Busy) => {
+            let busy = DatabaseError::SqliteFailure(ErrorCode::DatabaseBusy);
+            refuse(&mut host.stderr(), &OpenFault::Database(busy))
+        }
+        Unopened::File(why) => refuse_file(host, path, why),
+        Unopened::Database(error) => refuse(&mut host.stderr(), &OpenFault::Database(*error)),
+    }
+}
+
+pub(crate) fn warn_of_others(host: &HostRuntime, path: &str) {
+    let _ = writeln!(
+        host.stderr(),
+        "credkeep: warning: {path}: another user owns it, or others can read or write it"
+    );
 }
 
 /// Says why a terminal gave no passwords.

@@ -1,0 +1,120 @@
+//! The files that lie beside a database: its log, its journal, its folder.
+
+use crate::files::FileFault;
+use crate::log::{LogEnd, LogLook, look_at_log};
+use sqlite::{FileFrom, Files, Wary};
+use sqlite_std_file::OpenError;
+use std::fs::File;
+use std::io::ErrorKind;
+use std::os::unix::fs::MetadataExt;
+use std::path::PathBuf;
+use std::{fs, io};
+
+/// The end of the name of a database's log, and of its rollback journal.
+pub(crate) const LOG: &str = "-wal";
+
+pub(crate) const JOURNAL: &str = "-journal";
+
+/// A log of no more bytes holds no change: the header, and the start of one frame.
+const EMPTY_LOG: u64 = 41;
+
+/// The name of a file that lies beside this one.
+pub(crate) fn beside(rt: &HostRuntime, path: &str, end: &str) -> io::Result<String> {
+    Ok(format!(in rt.alloc(); "{path}{end}")?)
+}
+
+/// The name of the file itself, if a link leads to it; beside that its log lies. A name that
+/// nothing has is its own.
+pub(crate) fn real_path(rt: &HostRuntime, path: &str) -> io::Result<String> {
+    match fs::canonicalize(rt, path) {
+        Ok(real) => Ok(real.into_string()),
+        Err(error) if error.kind() == ErrorKind::NotFound => {
+            Ok(String::from_str(rt.alloc(), path)?)
+        }
+        Err(error) => Err(error),
+    }
+}
+
+/// The length of a file, or nothing if nothing has the name.
+pub(crate) fn len_of(rt: &HostRuntime, path: &str) -> io::Result<Option<u64>> {
+    match fs::symlink_metadata(rt, path) {
+        Ok(found) => Ok(Some(found.len())),
+        Err(error) if error.kind() == ErrorKind::NotFound => Ok(None),
+        Err(error) => Err(error),
+    }
+}
+
+/// What the log of the database at this path holds; nothing if there is none.
+pub(crate) fn look_at_its_log(rt: &HostRuntime, path: &str) -> io::Result<LogLook> {
+    let log = beside(rt, path, LOG)?;
+    match len_of(rt, log.as_str())? {
+        Some(len) if len > EMPTY_LOG => {
+            let mut file = File::open(rt, log.as_str())?;
+            look_at_log(rt.alloc(), &mut file)
+        }
+        _ => Ok(LogLook::EMPTY),
+    }
+}
+
+/// Whether the database at this path has a log with changes in it, also with damaged ones.
+pub(crate) fn has_changes_in_log(rt: &HostRuntime, path: &str) -> io::Result<bool> {
+    let look = look_at_its_log(rt, path)?;
+    Ok(look.commits != 0 || look.end != LogEnd::Whole)
+}
+
+/// Takes the log away that lies beside this path, if one does, and lets the folder know.
+pub(crate) fn remove_log(rt: &HostRuntime, path: &str) -> io::Result<()> {
+    let log = beside(rt, path, LOG)?;
+    remove_if_there(rt, log.as_str())?;
+    sync_folder(rt, path)
+}
+
+pub(crate) fn remove_if_there(rt: &HostRuntime, path: &str) -> io::Result<()> {
+    match fs::remove_file(rt, path) {
+        Err(error) if error.kind() == ErrorKind::NotFound => Ok(()),
+        ended => ended,
+    }
+}
+
+/// Syncs the folder of a file, whose names are then on the disk.
+pub(crate) fn sync_folder(rt: &HostRuntime, path: &str) -> io::Result<()> {
+    let mut folder = PathBuf::from_str(rt.alloc(), path)?;
+    folder.pop();
+    let name = if folder.as_str().is_empty() {
+        "."
+    } else {
+        folder.as_str()
+    };
+    File::open(rt, name)?.sync_all()
+}
+
+/// A database and its log, of which no other process opens either until this is dropped.
+pub(crate) type Held = Files<FileFrom<Wary>>;
+
+/// Holds the database at this path, as the library does that opens it.
+///
+/// Errors: `Busy` if another process has it open, or if it was put in another's place meanwhile;
+/// `Journal`; `System`.
+pub(crate) fn held_at(rt: &HostRuntime, path: &str) -> Result<Held, FileFault> {
+    let file = File::open(rt, path)?;
+    let held = match sqlite_std_file::open(rt, path, Wary) {
+        Ok(held) => held,
+        Err(OpenError::Busy) => return Err(FileFault::Busy),
+        Err(OpenError::HotJournal) => return Err(FileFault::Journal),
+        Err(OpenError::OutOfMemory) => {
+            return Err(FileFault::System(ErrorKind::OutOfMemory.into()));
+        }
+        Err(OpenError::Io(error)) => return Err(FileFault::System(error)),
+    };
+    if is_at(rt, &file, path)? {
+        Ok(held)
+    } else {
+        Err(FileFault::Busy)
+    }
+}
+
+/// Whether the path names this file and no other.
+pub(crate) fn is_at(rt: &HostRuntime, file: &File, path: &str) -> io::Result<bool> {
+    let (found, named) = (file.metadata()?, fs::symlink_metadata(rt, path)?);
+    Ok(found.dev() == named.dev() && found.ino() == named.ino())
+}

@@ -1,0 +1,200 @@
+//! What a write-ahead log holds, read without changing it (SQLite's file format, section 4.1).
+
+use sqlite_wal::checksum_of;
+use std::alloc::Global;
+use std::io;
+use std::io::{ErrorKind, Read};
+
+/// The bytes of the log's header, and of a frame's, which a page follows.
+const LOG_HEADER: usize = 32;
+
+const FRAME_HEADER: usize = 24;
+
+/// What the log's header begins with, but for the lowest bit, which says how its sums are made.
+const MAGIC: [u8; 3] = [0x37, 0x7f, 0x06];
+
+/// What a log holds.
+#[derive(Clone, Copy, Debug, PartialEq, Eq)]
+pub(crate) struct LogLook {
+    /// How many commits can be read, from the first one on.
+    pub(crate) commits: u64,
+    pub(crate) end: LogEnd,
+}
+
+/// Where the commits of a log end.
+#[derive(Clone, Copy, Debug, PartialEq, Eq)]
+pub(crate) enum LogEnd {
+    /// As the last writer left them, even if it was stopped.
+    Whole,
+    /// At bytes that no writer left so: as many commits stand there or behind it.
+    Damaged { lost: u64 },
+}
+
+impl LogLook {
+    /// What no log holds.
+    pub(crate) const EMPTY: LogLook = LogLook {
+        commits: 0,
+        end: LogEnd::Whole,
+    };
+}
+
+/// Reads a log to its end. One that is too short for a page holds nothing.
+pub(crate) fn look_at_log<R: Read>(alloc: Global, log: &mut R) -> io::Result<LogLook> {
+    let mut head = [0; LOG_HEADER];
+    if !fills(log, &mut head)? || head[0] != MAGIC[0] {
+        return Ok(LogLook::EMPTY);
+    }
+    let page_size = be32(&head, 8);
+    if !is_signed(&head) || !is_page_size(page_size) {
+        return look_behind_head(alloc, log, &head);
+    }
+    let mut frames = Frames::new(alloc, head, page_size)?;
+    frames.count(log)
+}
+
+/// A header that is damaged: what stands behind it is counted by the header's salt.
+fn look_behind_head<R: Read>(alloc: Global, log: &mut R, head: &[u8; 32]) -> io::Result<LogLook> {
+    let page_size = be32(head, 8);
+    if !is_page_size(page_size) {
+        let mut first = [0; FRAME_HEADER];
+        let end = if fills(log, &mut first)? {
+            LogEnd::Damaged { lost: 1 }
+        } else {
+            LogEnd::Whole
+        };
+        return Ok(LogLook { commits: 0, end });
+    }
+    let mut frames = Frames::new(alloc, *head, page_size)?;
+    let lost = frames.count_behind(log)?;
+    let end = if lost == 0 {
+        LogEnd::Whole
+    } else {
+        LogEnd::Damaged { lost }
+    };
+    Ok(LogLook { commits: 0, end })
+}
+
+/// The frames of a log, one at a time.
+#[derive(Drop)]
+struct Frames {
+    head: [u8; 32],
+    /// A frame's header and its page.
+    frame: Vec<u8>,
+    /// The sums up to this frame.
+    sums: (u32, u32),
+}
+
+/// What a frame is to the ones before it.
+#[derive(Clone, Copy, PartialEq, Eq)]
+enum Frame {
+    /// It goes on with them, and may end a commit.
+    Next { ends: bool },
+    /// It isn't of this log, or not yet.
+    Other,
+    /// It is of this log, and its bytes aren't those that were written.
+    Damaged { ends: bool },
+}
+
+impl Frames {
+    fn new(alloc: Global, head: [u8; 32], page_size: u32) -> io::Result<Frames> {
+        let mut frame = Vec::new(alloc);
+        frame.resize(FRAME_HEADER + page_size as usize, 0)?;
+        let sums = (be32(&head, 24), be32(&head, 28));
+        Ok(Frames { head, frame, sums })
+    }
+
+    /// Counts the commits up to the first frame that doesn't go on with those before it.
+    fn count<R: Read>(&mut self, log: &mut R) -> io::Result<LogLook> {
+        let mut commits: u64 = 0;
+        for _ in 0..u64::MAX {
+            if !fills(log, &mut self.frame)? {
+                break;
+            }
+            match self.read() {
+                Frame::Next { ends: true } => commits = commits.saturating_add(1),
+                Frame::Next { ends: false } => {}
+                Frame::Other => break,
+                Frame::Damaged { ends } => {
+                    let behind = self.count_behind(log)?;
+                    let lost = behind.saturating_add(u64::from(ends)).max(1);
+                    let end = LogEnd::Damaged { lost };
+                    return Ok(LogLook { commits, end });
+                }
+            }
+        }
+        Ok(LogLook {
+            commits,
+            end: LogEnd::Whole,
+        })
+    }
+
+    /// Counts the commits of this log in what is left, whatever their sums.
+    fn count_behind<R: Read>(&mut self, log: &mut R) -> io::Result<u64> {
+        let mut commits: u64 = 0;
+        for _ in 0..u64::MAX {
+            if !fills(log, &mut self.frame)? {
+                break;
+            }
+            if self.has_salt() && self.ends_commit() {
+                commits = commits.saturating_add(1);
+            }
+        }
+        Ok(commits)
+    }
+
+    fn read(&mut self) -> Frame {
+        let ends = self.ends_commit();
+        if !self.has_salt() {
+            return Frame::Other;
+        }
+        if self.frame.len() < FRAME_HEADER || be32(&self.frame, 0) == 0 {
+            return Frame::Damaged { ends };
+        }
+        let is_big = self.head[3] == 0x83;
+        let front = checksum_of(is_big, self.sums, &self.frame[..8]);
+        let sums = checksum_of(is_big, front, &self.frame[FRAME_HEADER..]);
+        if sums != (be32(&self.frame, 16), be32(&self.frame, 20)) {
+            return Frame::Damaged { ends };
+        }
+        self.sums = sums;
+        Frame::Next { ends }
+    }
+
+    /// Whether it has the header's salt, which a new header changes.
+    fn has_salt(&self) -> bool {
+        self.frame.len() >= FRAME_HEADER && self.frame[8..16] == self.head[16..24]
+    }
+
+    /// Whether it says how many pages the database has after it: the last frame of a commit does.
+    fn ends_commit(&self) -> bool {
+        self.frame.len() >= FRAME_HEADER && be32(&self.frame, 4) != 0
+    }
+}
+
+fn is_signed(head: &[u8; 32]) -> bool {
+    let is_magic = head[..3] == MAGIC[..] && (head[3] == 0x82 || head[3] == 0x83);
+    let sums = checksum_of(head[3] == 0x83, (0, 0), &head[..24]);
+    is_magic && sums == (be32(head, 24), be32(head, 28))
+}
+
+/// A power of two from 512 to 65536.
+fn is_page_size(size: u32) -> bool {
+    (512..=65536).contains(&size) && size.is_power_of_two()
+}
+
+/// The number in four bytes, the highest first; 0 if there aren't four.
+fn be32(bytes: &[u8], at: usize) -> u32 {
+    match bytes.get(at..at.saturating_add(4)) {
+        Some([a, b, c, d]) => u32::from_be_bytes([*a, *b, *c, *d]),
+        _ => 0,
+    }
+}
+
+/// Whether there are bytes enough to fill the buffer.
+fn fills<R: Read>(reader: &mut R, buf: &mut [u8]) -> io::Result<bool> {
+    match reader.read_exact(buf) {
+        Ok(()) => Ok(true),
+        Err(error) if error.kind() == ErrorKind::UnexpectedEof => Ok(false),
+        Err(error) => Err(error),
+    }
+}

@@ -1,0 +1,140 @@
+//! A book that answers tagged lines of many clients.
+
+ghost use Rattle.std.specs.Prelude.{◌≡◌, false};
+
+use crate::files::{Access, DamagedLog, look_at, open_file};
+use crate::program::close;
+use crate::refusal::{refuse_file, refuse_unopened, say, warn_of_others};
+use cred_admin::Status;
+use cred_cli::{Tools, Watched};
+use cred_file::FileBook;
+use cred_keep::{Failure, explain, refuse};
+use cred_many::{Costs, Means, ServiceFault};
+use cred_serve::{Outcome, serve_file};
+use rand::make_rng;
+use rand::rngs::StdRng;
+use sqlite::{Alter, Connection};
+use std::io::Write;
+use std::sync::Wait;
+use std::thread;
+use std::thread::Threads;
+
+/// How a book is served.
+#[derive(Clone, Copy)]
+pub(crate) struct Tagged {
+    /// How many threads hash, if it was said.
+    pub(crate) at_once: Option<u8>,
+    /// How many KiB all hashes together may take.
+    pub(crate) memory: u64,
+    /// The costs of new records.
+    pub(crate) costs: Costs,
+}
+
+/// Opens the file, answers tagged lines from standard input, and closes it.
+pub(crate) fn serve_tagged<T: Threads + Wait + Sync + Copy + Send + 'static>(
+    host: &HostRuntime,
+    rt: &T,
+    path: &str,
+    wait: u16,
+    tagged: &Tagged,
+) -> Status {
+    match look_at(host, path) {
+        Ok(Access::OwnerAlone) => {}
+        Ok(Access::Others) => warn_of_others(host, path),
+        Err(why) => return refuse_file(host, path, &why),
+    }
+    match open_file(host, path, wait, DamagedLog::Refused) {
+        Ok(conn) => {
+            let (conn, status) = serve_in(host, rt, conn, tagged);
+            close(host, conn, status)
+        }
+        Err(why) => refuse_unopened(host, path, &why),
+    }
+}
+
+/// Answers tagged lines on the book in the database, which comes back.
+fn serve_in<T: Threads + Wait + Sync + Copy + Send + 'static, S: Alter>(
+    host: &HostRuntime,
+    rt: &T,
+    conn: Connection<S>,
+    tagged: &Tagged,
+) -> (Connection<S>, Status)
+    requires autocommit { conn.in_transaction ≡ false }
+{
+    let Ok(salts) = make_rng::<StdRng, HostRuntime>(host) else {
+        return (
+            conn,
+            say(host, "the system has no random bytes", Status::Io),
+        );
+    };
+    let book = match FileBook::open(host.alloc(), conn) {
+        Ok(book) => book,
+        Err((why, conn)) => return (conn, refuse(&mut host.stderr(), &why)),
+    };
+    let tools = Tools {
+        rt,
+        alloc: host.alloc(),
+        workers: threads_of(rt, tagged),
+    };
+    let means = Means {
+        costs: tagged.costs,
+        memory: tagged.memory,
+    };
+    let writer = Watched::new(host.stdout());
+    let Outcome {
+        book,
+        writer: _writer,
+        lines: _,
+        fault,
+        reading,
+    } = serve_file(&tools, &means, book, salts, host.stdin(), writer);
+    let status = match fault.or(reading) {
+        None => Status::Done,
+        Some(ServiceFault::Keeper) => {
+            explain(&mut host.stderr(), &Failure::Database, book.lost());
+            Status::Database
+        }
+        Some(fault) => tell(host, fault),
+    };
+    (book.close(), status)
+}
+
+/// Says what ended a service.
+fn tell(host: &HostRuntime, fault: ServiceFault) -> Status {
+    let _ = writeln!(host.stderr(), "credkeep: {fault}");
+    match fault {
+        ServiceFault::Memory | ServiceFault::Threads => Status::Memory,
+        ServiceFault::TooLong => Status::Data,
+        ServiceFault::Keeper => Status::Database,
+        ServiceFault::Read | ServiceFault::Write | ServiceFault::Lost => Status::Io,
+    }
+}
+
+/// As many threads as there are processors, but no more than have memory for the costs of new
+/// records at once.
+fn threads_of<T: Threads>(rt: &T, tagged: &Tagged) -> u8 {
+    if let Some(at_once) = tagged.at_once {
+        return at_once;
+    }
+    let processors = match thread::available_parallelism(rt) {
+        Ok(count) => u64::try_from(count.get()).unwrap_or(1),
+        Err(_) => 1,
+    };
+    let each = tagged.costs.memory().max(1);
+    let fitting = (tagged.memory / each).max(1);
+    u8::try_from(processors.min(fitting)).unwrap_or(u8::MAX)
+}
+
+/// The KiB of a size: a number of them, or of so many K, M or G bytes of 1024 each.
+pub(crate) fn kib_of(text: &str) -> Option<u64> {
+    let (digits, unit) = match text.as_bytes().last() {
+        Some(b'K') => (text.strip_suffix('K')?, 1),
+        Some(b'M') => (text.strip_suffix('M')?, 1024),
+        Some(b'G') => (text.strip_suffix('G')?, 1024 * 1024),
+        _ => (text, 1),
+    };
+    digits
+        .parse::<u32>()
+        .ok()
+        .map(|count| u64::from(count) * unit)
+}
