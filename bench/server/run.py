@@ -1,0 +1,120 @@
+#!/usr/bin/python3
+"""Times logins through credkeep-server: at the socket, and through PAM, beside pam_unix.
+
+    /usr/bin/python3 bench/server/run.py [--seconds S] [--clients N [N ..]] [--fast]
+
+For 64 MiB and 4 MiB (Argon2id, t=1, p=1) and 1, 4 and 16 clients: verifies a second of `credkeep FILE
+serve` alone, which answers one at a time; at the socket, each client with a connection that it keeps;
+through pam_rigzumal, each login with a connection of its own; and through pam_unix with yescrypt at
+its default costs. It needs root, the built credkeep, and libpam0g-dev, and runs in namespaces of its
+own. `--fast` takes the tests' book, whose hashes cost nothing: what is left is the path. Run it on a
+machine that does nothing else.
+"""
+
+from __future__ import annotations
+
+import argparse
+import asyncio
+import pathlib
+import subprocess
+import sys
+import tempfile
+import time
+
+TOP = pathlib.Path(__file__).resolve().parent.parent.parent
+sys.path.insert(0, str(TOP / "tools/server_tests"))
+from common import PYTHON, field_of  # noqa: E402
+from programs import RUN, Server, on_page, prepared, shell  # noqa: E402
+
+WORD = "secret word"
+
+
+def of_serve(program: str, room: pathlib.Path, setting: str, seconds: float) -> float:
+    """Verifies a second of a `serve` that answers one line after another."""
+    path = room / "alone.db"
+    path.unlink(missing_ok=True)
+    subprocess.run([program, path, "init"], check=True)
+    pipe = subprocess.PIPE
+    given = f"{WORD}\n".encode()
+    subprocess.run([program, path, "add", "--setting", setting, "ada"], input=given, check=True, stdout=subprocess.DEVNULL)
+    with subprocess.Popen([program, path, "serve"], stdin=pipe, stdout=pipe) as run:
+        assert run.stdin and run.stdout
+        begun, count = time.perf_counter(), 0
+        while time.perf_counter() < begun + seconds:
+            run.stdin.write(f"begin 1 verify ada {field_of(WORD.encode())}\ncommit 1\n".encode())
+            run.stdin.flush()
+            assert (run.stdout.readline(), run.stdout.readline()) == (b"begun\n", b"yes\n")
+            count += 1
+        rate = count / (time.perf_counter() - begun)
+        run.communicate()
+    return rate
+
+
+async def at_socket(clients: int, seconds: float) -> float:
+    """Verifies a second of so many clients."""
+    end, counts = time.perf_counter() + seconds, [0] * clients
+
+    async def one(number: int) -> None:
+        reader, writer = await asyncio.open_unix_connection(str(RUN / "login.sock"))
+        while time.perf_counter() < end:
+            writer.write(f"1 verify ada {field_of(WORD.encode())}\n".encode())
+            assert await reader.readline() == b"1 yes\n"
+            counts[number] += 1
+        writer.close()
+
+    begun = time.perf_counter()
+    await asyncio.gather(*map(one, range(clients)))
+    return sum(counts) / (time.perf_counter() - begun)
+
+
+def by_pam(room: pathlib.Path, service: str, password: str, clients: int, seconds: float) -> float:
+    rate, failures = shell(f"{room}/logins {service} ada '{password}' {clients} {seconds}").split()
+    assert failures == "0", f"{service}: {failures} failures"
+    return float(rate)
+
+
+def inside(room: pathlib.Path, given: argparse.Namespace) -> None:
+    prepared(room)
+    shell(f"cc -O2 -pthread -o {room}/logins {TOP}/bench/server/logins.c -lpam")
+    pathlib.Path("/etc/pam.d/book").write_text(on_page("/etc/pam.d/book"))
+    pathlib.Path("/etc/pam.d/unix").write_text("auth required pam_unix.so\naccount required pam_unix.so\n")
+    shell("sed -i '/^ada:/d' /etc/shadow && echo 'ada::19000:0:99999:7:::' >> /etc/shadow")
+    shell(f"echo 'ada:{WORD}' | chpasswd -c YESCRYPT")
+    print("| Costs | Clients | serve | At the socket | By PAM | pam_unix, yescrypt |\n|---|--:|--:|--:|--:|--:|")
+    for mebibytes in (64, 4):
+        setting = "$fast$c=1" if given.fast else f"$argon2id$v=19$m={mebibytes * 1024},t=1,p=1"
+        server = Server(room, "--setting", setting)
+        server.ask("account ada", "ok")
+        server.ask(f"enrol ada {field_of(WORD.encode())}", "enrolled")
+        alone = None if given.fast else of_serve(str(TOP / "crates/credkeep/out/credkeep"), room, setting, given.seconds)
+        for clients in given.clients:
+            socket = asyncio.run(at_socket(clients, given.seconds))
+            pam = by_pam(room, "book", WORD, clients, given.seconds)
+            unix = by_pam(room, "unix", WORD, clients, given.seconds)
+            serve = f"{alone:.1f}" if alone else ""
+            print(f"| {'none' if given.fast else f'{mebibytes} MiB'} | {clients} | {serve} | {socket:.1f} | {pam:.1f} | {unix:.1f} |", flush=True)
+        server.stop()
+        server.file.unlink()
+        if given.fast:
+            break
+
+
+def main() -> None:
+    words = argparse.ArgumentParser()
+    words.add_argument("--seconds", type=float, default=10)
+    words.add_argument("--clients", type=int, nargs="+", default=[1, 4, 16])
+    words.add_argument("--fast", action="store_true")
+    words.add_argument("--inside", metavar="ROOM", help=argparse.SUPPRESS)
+    given = words.parse_args()
+    if given.inside:
+        return inside(pathlib.Path(given.inside), given)
+    subprocess.run(["make", "-s", "-C", TOP / "c/pam"], check=True)
+    unshare = ["unshare", "--mount", "--pid", "--fork", "--kill-child", "--mount-proc", "--net"]
+    with tempfile.TemporaryDirectory(prefix="rigzumal-bench-") as room:
+        pathlib.Path(room).chmod(0o755)
+        book = "fast" if given.fast else "real"
+        subprocess.run([*unshare, "env", f"BOOK={book}", PYTHON, __file__, "--inside", room, *sys.argv[1:]], check=True)
+
+
+if __name__ == "__main__":
+    main()

@@ -1,0 +1,250 @@
+/* A PAM module that asks a kept book over a socket of credkeep-server: auth, account, password.
+ * It keeps nothing between two calls and has no static state, so threads may be in it at once. A
+ * call has one connection, sends one line and reads one line, all before its deadline. */
+#define _GNU_SOURCE
+#include <errno.h>
+#include <poll.h>
+#include <security/pam_ext.h>
+#include <security/pam_modules.h>
+#include <stdbool.h>
+#include <stdlib.h>
+#include <string.h>
+#include <sys/socket.h>
+#include <sys/un.h>
+#include <syslog.h>
+#include <time.h>
+#include <unistd.h>
+
+#include "base64.h"
+
+enum {
+    MOST_NAME = 32,      /* bytes of a name in a book */
+    MOST_ADDRESS = 254,  /* bytes of an e-mail address */
+    MOST_PASSWORD = 256, /* bytes */
+    MOST_LINE = 1024,    /* bytes that are sent: "1 change ", a name and two passwords */
+    MOST_ANSWER = 64,    /* bytes that are read */
+};
+
+/* The options, and what is sent: a password that the operation doesn't take is NULL. */
+struct question {
+    const char *socket;
+    long seconds;
+    bool debug, nullok, mail_names;
+    const char *name, *password, *fresh;
+};
+
+/* What may be asked, the one answer that is success, and what an account without a record is. */
+struct operation {
+    const char *word, *success;
+    int absent;
+};
+
+static const struct operation VERIFY = {"verify", "yes", PAM_AUTH_ERR};
+static const struct operation KNOWN = {"known", "yes", PAM_ACCT_EXPIRED};
+static const struct operation CHANGE = {"change", "replaced", PAM_AUTH_ERR};
+
+static bool read_option(struct question *question, const char *word) {
+    char *end = "";
+    if (strncmp(word, "socket=", 7) == 0)
+        question->socket = word + 7;
+    else if (strncmp(word, "timeout=", 8) == 0)
+        question->seconds = strtol(word + 8, &end, 10);
+    else if (strcmp(word, "debug") == 0)
+        question->debug = true;
+    else if (strcmp(word, "nullok") == 0)
+        question->nullok = true;
+    else if (strcmp(word, "mail_names") == 0)
+        question->mail_names = true;
+    else if (strcmp(word, "try_first_pass") != 0 && strcmp(word, "use_first_pass") != 0)
+        return strcmp(word, "use_authtok") == 0; /* pam_get_authtok(3) sees to these three */
+    return *end == '\0' && question->seconds >= 1 && question->seconds <= 600 &&
+           strlen(question->socket) < sizeof((struct sockaddr_un *)0)->sun_path;
+}
+
+/* Reads the options, and asks for the user's name if it isn't known yet. */
+static int begin(pam_handle_t *pamh, struct question *question, int argc, const char **argv) {
+    *question = (struct question){.socket = "/run/rigzumal/users/login.sock", .seconds = 10};
+    for (int i = 0; i < argc; i++)
+        if (!read_option(question, argv[i])) {
+            pam_syslog(pamh, LOG_ERR, "bad option: %s", argv[i]);
+            return PAM_SERVICE_ERR;
+        }
+    int result = pam_get_user(pamh, &question->name, NULL);
+    return result == PAM_CONV_AGAIN ? PAM_INCOMPLETE : result;
+}
+
+/* Asks for a password; an empty one is taken by nullok alone. */
+static int get_password(pam_handle_t *pamh, const struct question *question, int item, int flags,
+                        const char **password) {
+    int result = pam_get_authtok(pamh, item, password, NULL);
+    if (result != PAM_SUCCESS)
+        return result == PAM_CONV_AGAIN ? PAM_INCOMPLETE : result;
+    if (**password == '\0' && (!question->nullok || flags & PAM_DISALLOW_NULL_AUTHTOK))
+        return PAM_AUTH_ERR;
+    return strlen(*password) <= MOST_PASSWORD ? PAM_SUCCESS : PAM_AUTH_ERR;
+}
+
+/* Whether a name may be sent: with no space and no line end in it, it stays one field. */
+static bool is_name(const struct question *question) {
+    const char *name = question->name, *at = strrchr(name, '@');
+    size_t size = strspn(name, "abcdefghijklmnopqrstuvwxyz0123456789._-");
+    if (name[size] == '\0')
+        return size >= 1 && size <= MOST_NAME;
+    while ((unsigned char)name[size] > ' ' && name[size] != 0x7f)
+        size++;
+    return question->mail_names && name[size] == '\0' && size <= MOST_ADDRESS && at != NULL &&
+           at != name && at[1] != '\0';
+}
+
+/* Writes a password as a field, or nothing for NULL; returns where it ends. */
+static char *put_password(char *text, const char *password) {
+    if (password == NULL)
+        return text;
+    size_t size = strlen(password);
+    *text++ = ' ';
+    if (size == 0)
+        *text++ = '-';
+    write_base64((uint8_t *)text, (const uint8_t *)password, size);
+    return text + base64_size(size);
+}
+
+static long milliseconds(void) {
+    struct timespec now;
+    clock_gettime(CLOCK_MONOTONIC, &now);
+    return now.tv_sec * 1000 + now.tv_nsec / 1000000;
+}
+
+/* A connection that doesn't block, or -1. At EAGAIN too many others wait to be taken in. */
+static int connection(const char *path, long deadline) {
+    struct sockaddr_un at = {.sun_family = AF_UNIX};
+    memcpy(at.sun_path, path, strlen(path));
+    int fd = socket(AF_UNIX, SOCK_STREAM | SOCK_CLOEXEC | SOCK_NONBLOCK, 0);
+    while (fd >= 0 && connect(fd, (struct sockaddr *)&at, sizeof at) != 0) {
+        if ((errno != EAGAIN && errno != EINTR) || milliseconds() >= deadline) {
+            close(fd);
+            return -1;
+        }
+        poll(NULL, 0, 5);
+    }
+    return fd;
+}
+
+/* Waits until something can be read or written, or has failed; false at the deadline. */
+static bool is_ready(int fd, short events, long deadline) {
+    for (long rest; (rest = deadline - milliseconds()) > 0;) {
+        struct pollfd it = {.fd = fd, .events = events};
+        int found = poll(&it, 1, (int)rest);
+        if (found > 0 || (found < 0 && errno != EINTR))
+            return found > 0;
+    }
+    return false;
+}
+
+static bool send_line(int fd, const char *text, size_t size, long deadline) {
+    size_t sent = 0;
+    while (sent < size && is_ready(fd, POLLOUT, deadline)) {
+        ssize_t more = send(fd, text + sent, size - sent, MSG_NOSIGNAL);
+        if (more < 0 && errno != EINTR && errno != EAGAIN)
+            return false;
+        sent += more > 0 ? (size_t)more : 0;
+    }
+    return sent == size;
+}
+
+/* Reads a line, after which nothing may come; a zero byte takes the place of its end. */
+static bool read_answer(int fd, char answer[MOST_ANSWER], long deadline) {
+    size_t size = 0;
+    while (size < MOST_ANSWER && is_ready(fd, POLLIN, deadline)) {
+        ssize_t got = recv(fd, answer + size, MOST_ANSWER - size, 0);
+        if (got == 0 || (got < 0 && errno != EINTR && errno != EAGAIN))
+            return false;
+        size += got > 0 ? (size_t)got : 0;
+        if (size > 0 && answer[size - 1] == '\n') {
+            answer[size - 1] = '\0';
+            return strlen(answer) == size - 1;
+        }
+    }
+    return false;
+}
+
+static int result_of(const struct operation *operation, const char *answer) {
+    if (strncmp(answer, "1 ", 2) != 0)
+        return PAM_AUTHINFO_UNAVAIL;
+    answer += 2;
+    if (strcmp(answer, operation->success) == 0)
+        return PAM_SUCCESS;
+    if (strcmp(answer, "no") == 0 || strcmp(answer, "wrong") == 0)
+        return PAM_AUTH_ERR;
+    if (strcmp(answer, "absent") == 0)
+        return operation->absent;
+    if (strcmp(answer, "noaccount") == 0 || strcmp(answer, "bad 3 name") == 0)
+        return PAM_USER_UNKNOWN;
+    return strcmp(answer, "later") == 0 ? PAM_MAXTRIES : PAM_AUTHINFO_UNAVAIL;
+}
+
+/* Sends a question's line, and says what its answer means. */
+static int ask(pam_handle_t *pamh, const struct question *question,
+               const struct operation *operation) {
+    if (!is_name(question))
+        return PAM_USER_UNKNOWN;
+    char line[MOST_LINE], answer[MOST_ANSWER];
+    char *end = stpcpy(stpcpy(stpcpy(stpcpy(line, "1 "), operation->word), " "), question->name);
+    end = put_password(put_password(end, question->password), question->fresh);
+    *end++ = '\n';
+    long deadline = milliseconds() + question->seconds * 1000;
+    int fd = connection(question->socket, deadline), result = PAM_AUTHINFO_UNAVAIL;
+    if (fd >= 0 && send_line(fd, line, (size_t)(end - line), deadline) &&
+        read_answer(fd, answer, deadline))
+        result = result_of(operation, answer);
+    explicit_bzero(line, sizeof line);
+    if (fd >= 0)
+        close(fd);
+    const void *host = NULL;
+    pam_get_item(pamh, PAM_RHOST, &host);
+    if (result == PAM_AUTHINFO_UNAVAIL)
+        pam_syslog(pamh, LOG_ERR, "%s: no answer to %s", question->socket, operation->word);
+    else if (result == PAM_AUTH_ERR) /* no unknown name: it may be a password typed too early */
+        pam_syslog(pamh, LOG_NOTICE, "authentication failure; rhost=%s user=%s",
+                   host == NULL ? "" : (const char *)host, question->name);
+    if (question->debug)
+        pam_syslog(pamh, LOG_DEBUG, "%s: %s", operation->word, pam_strerror(pamh, result));
+    return result;
+}
+
+int pam_sm_authenticate(pam_handle_t *pamh, int flags, int argc, const char **argv) {
+    struct question question;
+    int result = begin(pamh, &question, argc, argv);
+    if (result == PAM_SUCCESS)
+        result = get_password(pamh, &question, PAM_AUTHTOK, flags, &question.password);
+    return result == PAM_SUCCESS ? ask(pamh, &question, &VERIFY) : result;
+}
+
+int pam_sm_setcred(pam_handle_t *pamh, int flags, int argc, const char **argv) {
+    (void)pamh, (void)flags, (void)argc, (void)argv;
+    return PAM_SUCCESS;
+}
+
+int pam_sm_acct_mgmt(pam_handle_t *pamh, int flags, int argc, const char **argv) {
+    (void)flags;
+    struct question question;
+    int result = begin(pamh, &question, argc, argv);
+    return result == PAM_SUCCESS ? ask(pamh, &question, &KNOWN) : result;
+}
+
+int pam_sm_chauthtok(pam_handle_t *pamh, int flags, int argc, const char **argv) {
+    struct question question;
+    if (flags & PAM_CHANGE_EXPIRED_AUTHTOK) /* a book's passwords don't expire */
+        return PAM_IGNORE;
+    int result = begin(pamh, &question, argc, argv);
+    if (result == PAM_SUCCESS)
+        result = get_password(pamh, &question, PAM_OLDAUTHTOK, 0, &question.password);
+    if (flags & PAM_PRELIM_CHECK) {
+        result = result == PAM_SUCCESS ? ask(pamh, &question, &VERIFY) : result;
+        return result == PAM_AUTHINFO_UNAVAIL ? PAM_TRY_AGAIN : result;
+    }
+    if (result == PAM_SUCCESS)
+        result = get_password(pamh, &question, PAM_AUTHTOK, 0, &question.fresh);
+    if (result == PAM_SUCCESS)
+        result = ask(pamh, &question, &CHANGE);
+    return result == PAM_AUTH_ERR ? PAM_AUTHTOK_ERR : result;
+}

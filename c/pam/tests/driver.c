@@ -1,0 +1,229 @@
+/* Asks a PAM service whose file lies in a folder, and prints what it said.
+ *
+ *     driver FOLDER SERVICE USER TASK.. < ANSWERS
+ *
+ * A task is authenticate, setcred, account, change or expired (a change of expired passwords). Each
+ * prompt takes a line of ANSWERS, in hexadecimal digits; at the end of them the conversation fails.
+ * It prints `prompt TEXT` and `log TEXT` as they come, `TASK NUMBER` for each task, and `open N`:
+ * how many more files are open at the end than before.
+ *
+ * In the environment: PIECES=1 has send and recv move one byte at a time, and every other call of
+ * each kind interrupted. LOOK=HEX looks at the end for bytes, each given with its lowest bit
+ * turned, in all memory that may be written, and prints `found N`. LOOK_INSIDE=HEX looks, while the
+ * module's call is still under way, as it asks for the other host after its answer came. THREADS=N
+ * does the tasks in N threads at once, each for the user USER0, USER1 .. with its own name as every
+ * answer. */
+#define _GNU_SOURCE
+#include <dirent.h>
+#include <dlfcn.h>
+#include <errno.h>
+#include <poll.h>
+#include <pthread.h>
+#include <security/pam_appl.h>
+#include <stdarg.h>
+#include <stdbool.h>
+#include <stdio.h>
+#include <stdlib.h>
+#include <string.h>
+#include <sys/socket.h>
+#include <sys/syscall.h>
+#include <time.h>
+#include <unistd.h>
+
+static bool in_pieces;
+
+/* The module's calls of the C library come here first, since this program exports them. */
+
+static bool is_interrupted(bool *was) {
+    *was = in_pieces && !*was;
+    if (*was)
+        errno = EINTR;
+    return *was;
+}
+
+ssize_t send(int fd, const void *bytes, size_t size, int flags) {
+    static __thread bool was;
+    if (is_interrupted(&was))
+        return -1;
+    return syscall(SYS_sendto, fd, bytes, in_pieces && size > 1 ? 1 : size, flags, NULL, 0);
+}
+
+ssize_t recv(int fd, void *bytes, size_t size, int flags) {
+    static __thread bool was;
+    if (is_interrupted(&was))
+        return -1;
+    return syscall(SYS_recvfrom, fd, bytes, in_pieces && size > 1 ? 1 : size, flags, NULL, NULL);
+}
+
+int connect(int fd, __CONST_SOCKADDR_ARG at, socklen_t size) {
+    static __thread bool was;
+    return is_interrupted(&was) ? -1 : (int)syscall(SYS_connect, fd, at.__sockaddr__, size);
+}
+
+int poll(struct pollfd *fds, nfds_t count, int timeout) {
+    static __thread bool was;
+    return is_interrupted(&was) ? -1 : (int)syscall(SYS_poll, fds, count, timeout);
+}
+
+static int found(const char *digits);
+static int found_inside;
+
+int pam_get_item(const pam_handle_t *pamh, int type, const void **item) {
+    int (*own)(const pam_handle_t *, int, const void **);
+    *(void **)&own = dlsym(RTLD_NEXT, "pam_get_item");
+    if (type == PAM_RHOST && getenv("LOOK_INSIDE") != NULL)
+        found_inside += 1000 + found(getenv("LOOK_INSIDE"));
+    return own(pamh, type, item);
+}
+
+void pam_syslog(const pam_handle_t *pamh, int priority, const char *format, ...) {
+    (void)pamh, (void)priority;
+    va_list values;
+    va_start(values, format);
+    char text[512];
+    vsnprintf(text, sizeof text, format, values);
+    printf("log %s\n", text);
+    va_end(values);
+}
+
+/* The answer to a prompt: the thread's name, or a line of standard input. */
+static char *answer(const char *name) {
+    if (name != NULL)
+        return strdup(name);
+    char line[2048];
+    if (fgets(line, sizeof line, stdin) == NULL)
+        return NULL;
+    char *text = calloc(1, sizeof line);
+    for (size_t i = 0; line[2 * i] != '\n' && line[2 * i] != '\0'; i++) {
+        char digits[3] = {line[2 * i], line[2 * i + 1], '\0'};
+        text[i] = (char)strtol(digits, NULL, 16);
+    }
+    return text;
+}
+
+static int converse(int count, const struct pam_message **messages, struct pam_response **responses,
+                    void *name) {
+    *responses = calloc((size_t)count, sizeof **responses);
+    for (int i = 0; i < count; i++) {
+        if (name == NULL)
+            printf("prompt %s\n", messages[i]->msg);
+        if (messages[i]->msg_style == PAM_ERROR_MSG || messages[i]->msg_style == PAM_TEXT_INFO)
+            continue;
+        (*responses)[i].resp = answer(name);
+        if ((*responses)[i].resp == NULL) {
+            free(*responses);
+            *responses = NULL;
+            return PAM_CONV_ERR;
+        }
+    }
+    return PAM_SUCCESS;
+}
+
+static int done(pam_handle_t *pamh, const char *task) {
+    if (strcmp(task, "authenticate") == 0)
+        return pam_authenticate(pamh, 0);
+    if (strcmp(task, "setcred") == 0)
+        return pam_setcred(pamh, PAM_ESTABLISH_CRED);
+    if (strcmp(task, "account") == 0)
+        return pam_acct_mgmt(pamh, 0);
+    if (strcmp(task, "change") == 0)
+        return pam_chauthtok(pamh, 0);
+    if (strcmp(task, "expired") == 0)
+        return pam_chauthtok(pamh, PAM_CHANGE_EXPIRED_AUTHTOK);
+    fprintf(stderr, "no task: %s\n", task);
+    exit(2);
+}
+
+static char **words;
+
+static void do_tasks(const char *user, void *name) {
+    pam_handle_t *pamh;
+    struct pam_conv conversation = {converse, name};
+    if (pam_start_confdir(words[2], user, &conversation, words[1], &pamh) != PAM_SUCCESS)
+        exit(3);
+    pam_set_item(pamh, PAM_RHOST, "192.0.2.1");
+    int result = PAM_SUCCESS;
+    for (char **task = words + 4; *task != NULL; task++) {
+        result = done(pamh, *task);
+        printf("%s %d\n", *task, result);
+    }
+    pam_end(pamh, result);
+}
+
+static void *thread(void *number) {
+    char name[64];
+    snprintf(name, sizeof name, "%s%d", words[3], *(int *)number);
+    do_tasks(name, name);
+    return NULL;
+}
+
+static int open_files(void) {
+    int count = 0;
+    DIR *folder = opendir("/proc/self/fd");
+    while (readdir(folder) != NULL)
+        count++;
+    closedir(folder);
+    return count;
+}
+
+/* How often the bytes are in the memory between two addresses. The caller's digits hold each byte
+ * with its lowest bit turned, so that looking for them doesn't put them there. */
+static int found_between(const unsigned char *from, const unsigned char *to, const char *digits) {
+    size_t size = strlen(digits) / 2;
+    unsigned char turned[512];
+    for (size_t i = 0; i < size; i++) {
+        char pair[3] = {digits[2 * i], digits[2 * i + 1], '\0'};
+        turned[i] = (unsigned char)strtol(pair, NULL, 16);
+    }
+    int count = 0;
+    for (const unsigned char *at = from; at + size <= to; at++) {
+        size_t i = 0;
+        while (i < size && (at[i] ^ 1) == turned[i])
+            i++;
+        count += i == size;
+    }
+    return count;
+}
+
+static int found(const char *digits) {
+    FILE *maps = fopen("/proc/self/maps", "r");
+    char line[512];
+    int count = 0;
+    while (fgets(line, sizeof line, maps) != NULL) {
+        unsigned long from, to;
+        char rights[8];
+        if (sscanf(line, "%lx-%lx %7s", &from, &to, rights) == 3 && rights[1] == 'w' &&
+            strstr(line, "[v") == NULL)
+            count += found_between((void *)from, (void *)to, digits);
+    }
+    fclose(maps);
+    return count;
+}
+
+int main(int argc, char **argv) {
+    if (argc < 5)
+        return 2;
+    words = argv;
+    in_pieces = getenv("PIECES") != NULL;
+    setvbuf(stdout, NULL, _IOLBF, 0);
+    int before = open_files();
+    if (getenv("THREADS") == NULL) {
+        do_tasks(argv[3], NULL);
+    } else {
+        int count = atoi(getenv("THREADS")), numbers[64];
+        pthread_t threads[64];
+        for (int i = 0; i < count; i++) {
+            numbers[i] = i;
+            if (pthread_create(&threads[i], NULL, thread, &numbers[i]) != 0)
+                return 3;
+        }
+        for (int i = 0; i < count; i++)
+            pthread_join(threads[i], NULL);
+    }
+    printf("open %d\n", open_files() - before);
+    if (getenv("LOOK_INSIDE") != NULL)
+        printf("inside %d\n", found_inside);
+    if (getenv("LOOK") != NULL)
+        printf("found %d\n", found(getenv("LOOK")));
+    return 0;
+}

@@ -1,0 +1,595 @@
+"""Runs the tests of the PAM module, after `make`: `make -C c/pam test`.
+
+    /usr/bin/python3 tests/run.py [TEST..]
+
+It needs a C compiler and libpam0g-dev. Nothing is installed, no file of /etc/pam.d is read, and no
+book is needed: a thread of this program answers at a socket. Tests that need valgrind, clang or
+clang-format are skipped by name where these are missing.
+"""
+
+from __future__ import annotations
+
+import base64
+import os
+import pathlib
+import re
+import shutil
+import socket
+import subprocess
+import sys
+import tempfile
+import threading
+import time
+import traceback
+from collections.abc import Callable, Iterator, Sequence
+from contextlib import contextmanager
+from dataclasses import dataclass, field
+
+HERE = pathlib.Path(__file__).resolve().parent
+TOP = HERE.parent
+ROOM = pathlib.Path(tempfile.mkdtemp(prefix="rigzumal-pam-"))
+SOURCES = ["pam_rigzumal.c", "../src/base64.c"]
+WARNINGS = os.environ.get("TEST_WARNINGS", "-Wall -Wextra -Wpedantic -Werror").split()
+SANITIZED = "-O1 -fsanitize=address,undefined -fno-sanitize-recover=all".split()
+
+# Results of pam(3), by Linux-PAM's numbers.
+SUCCESS, SERVICE_ERR, AUTH_ERR, AUTHINFO_UNAVAIL, USER_UNKNOWN, MAXTRIES = 0, 3, 7, 9, 10, 11
+ACCT_EXPIRED, CONV_ERR, AUTHTOK_ERR, AUTHTOK_RECOVERY_ERR, TRY_AGAIN, IGNORE = 13, 19, 20, 21, 24, 25
+
+
+class Skipped(Exception):
+    """What isn't there."""
+
+
+def same(is_: object, ought: object, said: str = "") -> None:
+    if is_ != ought:
+        raise AssertionError(f"{said}: {is_!r} instead of {ought!r}")
+
+
+def compiled(name: str, flags: Sequence[str], *sources: str) -> pathlib.Path:
+    out = ROOM / name
+    if not out.exists():
+        command = [os.environ.get("CC", "cc"), "-std=c11", "-g", "-I../src", *WARNINGS, *flags]
+        done = subprocess.run([*command, *sources, "-o", out, "-lpam"], cwd=TOP, capture_output=True, text=True)
+        if done.returncode:
+            raise AssertionError(f"error: {done.stderr}")
+    return out
+
+
+@dataclass(frozen=True)
+class Build:
+    """The module and the driver, built with some flags, and what runs the driver."""
+
+    name: str
+    flags: tuple[str, ...]
+    runner: tuple[str, ...] = ()
+
+    def module(self) -> pathlib.Path:
+        return compiled(f"{self.name}.so", [*self.flags, "-fPIC", "-shared"], *SOURCES)
+
+    def driver(self) -> pathlib.Path:
+        return compiled(f"driver-{self.name}", [*self.flags, "-pthread", "-rdynamic"], "tests/driver.c")
+
+
+CHECKED = Build("checked", tuple(SANITIZED))
+PLAIN = Build("plain", ("-O2",))
+VALGRIND = Build("valgrind", ("-O1",), ("valgrind", "-q", "--error-exitcode=9", "--leak-check=full"))
+
+
+@dataclass
+class Said:
+    """What a run of the driver printed."""
+
+    results: list[tuple[str, int]] = field(default_factory=list)
+    prompts: list[str] = field(default_factory=list)
+    logs: list[str] = field(default_factory=list)
+    numbers: dict[str, int] = field(default_factory=dict)
+    seconds: float = 0.0
+
+    @property
+    def codes(self) -> list[int]:
+        return [number for _, number in self.results]
+
+
+@dataclass
+class Question:
+    """A service with our module in it, and a user's words."""
+
+    user: str = "ada"
+    tasks: str = "authenticate"
+    answers: Sequence[bytes] = (b"secret",)
+    options: str = ""
+    stack: str = "required"
+    environment: dict[str, str] = field(default_factory=dict)
+    build: Build = CHECKED
+    service: str = ""
+
+
+def asked(question: Question, path: pathlib.Path) -> Said:
+    """What the driver says of a question at a socket."""
+    module = question.build.module()
+    options = f"socket={path} timeout=5 {question.options}"
+    default = "".join(f"{kind} {question.stack} {module} {options}\n" for kind in ("auth", "account", "password"))
+    folder = pathlib.Path(tempfile.mkdtemp(dir=ROOM))
+    (folder / "other").write_text("auth required pam_deny.so\n")
+    (folder / "test").write_text(question.service.format(module=f"{module} {options}") or default)
+    command = [*question.build.runner, str(question.build.driver()), str(folder), "test", question.user]
+    before = time.monotonic()
+    done = subprocess.run(
+        [*command, *question.tasks.split()],
+        input="".join(f"{it.hex()}\n" for it in question.answers).encode(),
+        capture_output=True,
+        env={**os.environ, "ASAN_OPTIONS": "detect_leaks=1", **question.environment},
+        timeout=120,
+    )
+    text = done.stdout.decode(errors="replace")
+    same(done.returncode, 0, f"{text}{done.stderr.decode(errors='replace')}")
+    said = Said(seconds=time.monotonic() - before)
+    for line in text.splitlines():
+        word, _, rest = line.partition(" ")
+        if word in ("prompt", "log"):
+            (said.prompts if word == "prompt" else said.logs).append(rest)
+        elif word in ("open", "found", "inside"):
+            said.numbers[word] = int(rest)
+        else:
+            said.results.append((word, int(rest)))
+    same(said.numbers["open"], 0, "files that stay open")
+    return said
+
+
+class Peer:
+    """A socket at which a thread takes connections, and answers each as it is told to."""
+
+    def __init__(self, reply: Callable[[bytes, socket.socket], None], backlog: int = 16) -> None:
+        self.reply, self.lines = reply, list[bytes]()
+        self.path = pathlib.Path(tempfile.mkdtemp(dir=ROOM)) / "socket"
+        self.listener = socket.socket(socket.AF_UNIX)
+        self.listener.bind(str(self.path))
+        self.listener.listen(backlog)
+        self.lock = threading.Lock()
+
+    def take(self) -> None:
+        while True:
+            try:
+                client, _ = self.listener.accept()
+            except OSError:
+                return
+            threading.Thread(target=self.answer, args=(client,), daemon=True).start()
+
+    def answer(self, client: socket.socket) -> None:
+        with client:
+            line = b""
+            while not line.endswith(b"\n"):
+                more = client.recv(4096)
+                if not more:
+                    break
+                line += more
+            with self.lock:
+                self.lines.append(line)
+            try:
+                self.reply(line, client)
+            except OSError:
+                pass
+
+
+@contextmanager
+def peer(reply: Callable[[bytes, socket.socket], None]) -> Iterator[Peer]:
+    made = Peer(reply)
+    threading.Thread(target=made.take, daemon=True).start()
+    try:
+        yield made
+    finally:
+        made.listener.shutdown(socket.SHUT_RDWR)
+        made.listener.close()
+
+
+def sends(answer: bytes) -> Callable[[bytes, socket.socket], None]:
+    return lambda line, client: client.sendall(answer)
+
+
+def said_at(answer: bytes, question: Question) -> tuple[Said, list[bytes]]:
+    """What a question comes to if each line gets the same answer, and the lines."""
+    with peer(sends(answer)) as it:
+        return asked(question, it.path), it.lines
+
+
+def line_of(word: str, name: str, *passwords: bytes) -> bytes:
+    """The line that ought to be sent."""
+    fields = [base64.b64encode(it).rstrip(b"=") or b"-" for it in passwords]
+    return b" ".join([b"1", word.encode(), name.encode(), *fields]) + b"\n"
+
+
+# ---- what each answer means
+
+
+def answers() -> None:
+    """Each answer to each operation, and the line that is sent."""
+    verify = {b"yes": SUCCESS, b"no": AUTH_ERR, b"absent": AUTH_ERR, b"noaccount": USER_UNKNOWN}
+    verify |= {b"later": MAXTRIES, b"bad 3 name": USER_UNKNOWN}
+    known = {b"yes": SUCCESS, b"absent": ACCT_EXPIRED, b"noaccount": USER_UNKNOWN}
+    for task, word, passwords, table in (
+        ("authenticate", "verify", [b"secret"], verify),
+        ("account", "known", [], known),
+    ):
+        for answer, ought in table.items():
+            said, lines = said_at(b"1 " + answer + b"\n", Question(tasks=task))
+            same((said.codes, lines), ([ought], [line_of(word, "ada", *passwords)]), f"{task} {answer!r}")
+
+
+NO_ANSWERS = [b"", b"\n", b"yes\n", b"1\n", b"1 \n", b"1 yesx\n", b"1 ye\n", b"1 y\n", b"1 no yes\n", b"2 yes\n"]
+NO_ANSWERS += [b"11 yes\n", b" 1 yes\n", b"1  yes\n", b"1 yes \n", b"1 yes\r\n", b"1 yes\0\n", b"1 yes\0no\n", b"1 YES\n"]
+NO_ANSWERS += [b"1 yes\n1 yes\n", b"1 no\n1 yes\n", b"1 yes\nx", b"1 yes", b"1 replaced\n", b"* unavailable\n", b"\x001 yes\n"]
+NO_ANSWERS += [b"1 unavailable\n", b"1 denied\n", b"1 bad 14 busy\n", b"1 n\n", b"1 none\n", b"1 noyes\n"]
+NO_ANSWERS += [b"1 " + b"y" * 62, b"1 " + b"y" * 61 + b"\n", b"x" * 1000000, b"1 yes" + b" " * 70 + b"\n"]
+NO_ANSWERS += [bytes(range(256)), b"\xff" * 63 + b"\n", b"2 no\n1 yes\n"]
+
+
+def no_answers() -> None:
+    """What isn't exactly an answer to this line lets nobody in, and lets the stack go on."""
+    for answer in NO_ANSWERS:
+        said, _ = said_at(answer, Question(options="debug timeout=2"))
+        same(said.codes, [AUTHINFO_UNAVAIL], f"{answer[:40]!r}")
+    for answer in (b"1 yes\n", b"1 no\n2 replaced\n", b"1 enrolled\n"):
+        with peer(lambda line, client: client.sendall(b"1 yes\n" if b"verify" in line else answer)) as it:
+            said = asked(Question(tasks="change", answers=(b"secret", b"fresh", b"fresh")), it.path)
+            same(said.codes, [AUTHINFO_UNAVAIL], f"{answer!r} to change")
+
+
+def passwords() -> None:
+    """Passwords of 1 to 256 bytes are sent as they are, and no other one."""
+    given = [b"a", b"ab", b"abc", b"p\xc3\xa4ss w\xc3\xb6rd ", b" ", b"=", bytes(range(1, 256)).replace(b"\n", b"") + b"!!"]
+    given += [b"x" * size for size in (63, 64, 65, 127, 128, 129, 254, 255, 256)]
+    for password in given:
+        said, lines = said_at(b"1 yes\n", Question(answers=[password]))
+        same((said.codes, lines), ([SUCCESS], [line_of("verify", "ada", password)]))
+    for password in (b"x" * 257, b"x" * 500, b""):
+        said, lines = said_at(b"1 yes\n", Question(answers=[password]))
+        same((said.codes, lines), ([AUTH_ERR], []), f"{len(password)} bytes")
+    said, lines = said_at(b"1 yes\n", Question(answers=[b""], options="nullok"))
+    same((said.codes, lines), ([SUCCESS], [b"1 verify ada -\n"]))
+
+
+def names() -> None:
+    """A name that can be no book's is never sent; it is unknown, and the password is asked for."""
+    good = ["a", "ada", "a-z0.9_x", "x" * 32]
+    mail = ["ada@example.org", "Ada.L+x@Example.ORG", "\u00e4@example.org", "a@b@c", "x" * 240 + "@" + "y" * 13]
+    bad = ["", " ", "a b", "ada yes", "ada\nverify", "ada\n", "\nada", "ada\t", "ada\r", "Ada", "x" * 33, "\u00e4da", "ada\x7f", "a/b"]
+    bad_mail = ["@", "@b", "a@", "a @b", "a@b ", "a@b\n", "a\n@b", "a@b\nc@d", "a\t@b", "a\x7f@b", "x" * 241 + "@" + "y" * 13]
+    for name in good + bad + mail + bad_mail:
+        for options in ("", "mail_names"):
+            if not name:
+                continue
+            fits = name in good or (name in mail and options == "mail_names")
+            said, lines = said_at(b"1 yes\n", Question(user=name, options=options))
+            ought = ([SUCCESS], [line_of("verify", name, b"secret")]) if fits else ([USER_UNKNOWN], [])
+            same((said.codes, lines), ought, f"{name!r} {options}")
+            same(len(said.prompts), 1, f"prompts for {name!r}")
+    for task in ("account", "change"):
+        said, lines = said_at(b"1 yes\n", Question(user="a b", tasks=task))
+        same((said.codes, lines), ([USER_UNKNOWN], []), task)
+
+
+# ---- transport
+
+
+def in_pieces() -> None:
+    """Lines and answers in single bytes, each call interrupted once: nothing changes."""
+    pieces = {"PIECES": "1"}
+    for answer, ought in ((b"1 yes\n", SUCCESS), (b"1 no\n", AUTH_ERR), (b"1 yes\nx", AUTHINFO_UNAVAIL)):
+        question = Question(answers=[b"x" * 256], environment=pieces, options="timeout=20")
+        said, lines = said_at(answer, question)
+        ought = SUCCESS if answer == b"1 yes\nx" else ought  # the byte after it isn't there yet
+        same((said.codes, lines), ([ought], [line_of("verify", "ada", b"x" * 256)]), f"{answer!r}")
+
+    def drips(line: bytes, client: socket.socket) -> None:
+        for byte in b"1 yes\n":
+            client.sendall(bytes([byte]))
+            time.sleep(0.05)
+
+    with peer(drips) as it:
+        same(asked(Question(), it.path).codes, [SUCCESS])
+
+
+def deadlines() -> None:
+    """A peer that says nothing, drips, or doesn't take the connection costs the timeout, once."""
+
+    def nothing(line: bytes, client: socket.socket) -> None:
+        time.sleep(8)
+
+    def drips(line: bytes, client: socket.socket) -> None:
+        for _ in range(40):
+            client.sendall(b"1")
+            time.sleep(0.2)
+
+    for reply in (nothing, drips):
+        with peer(reply) as it:
+            said = asked(Question(options="timeout=1", build=PLAIN), it.path)
+            same(said.codes, [AUTHINFO_UNAVAIL])
+            assert 0.9 < said.seconds < 4, f"{said.seconds} s"
+    busy = Peer(sends(b""), backlog=0)
+    waiting = [socket.socket(socket.AF_UNIX) for _ in range(3)]
+    for it in waiting:
+        it.setblocking(False)
+        try:
+            it.connect(str(busy.path))
+        except BlockingIOError:
+            pass
+    said = asked(Question(options="timeout=1", build=PLAIN), busy.path)
+    same(said.codes, [AUTHINFO_UNAVAIL], "nobody accepts")
+    assert 0.9 < said.seconds < 4, f"{said.seconds} s"
+    for it in (*waiting, busy.listener):
+        it.close()
+
+
+def no_server() -> None:
+    """Where no server is, the result is that the information isn't available, and at once."""
+    plain = ROOM / "plain-file"
+    plain.write_text("")
+    gone = Peer(sends(b""))
+    gone.listener.close()
+    for path in (ROOM / "nothing-here", plain, gone.path, ROOM):
+        for task, ought in (("authenticate", AUTHINFO_UNAVAIL), ("account", AUTHINFO_UNAVAIL), ("change", TRY_AGAIN)):
+            said = asked(Question(tasks=task), path)
+            same(said.codes, [ought], f"{task} at {path}")
+    with peer(lambda line, client: None) as it:
+        same(asked(Question(), it.path).codes, [AUTHINFO_UNAVAIL], "it closes")
+
+
+def closes_amid() -> None:
+    """A server that closes while the line is being sent ends nothing but the call."""
+
+    def reads_a_byte() -> None:
+        client, _ = it.listener.accept()
+        client.recv(1)
+        client.close()
+
+    it = Peer(sends(b""))
+    threading.Thread(target=reads_a_byte, daemon=True).start()
+    said = asked(Question(answers=[b"x" * 256], environment={"PIECES": "1"}), it.path)
+    same(said.codes, [AUTHINFO_UNAVAIL])
+    it.listener.close()
+
+
+def falls_through() -> None:
+    """A stack goes on to the next module if the server is down, and stops at a wrong password."""
+    service = "auth [success=done authinfo_unavail=ignore default=die] {module}\nauth required pam_permit.so\n"
+    same(asked(Question(service=service), ROOM / "nothing-here").codes, [SUCCESS])
+    said, _ = said_at(b"1 no\n", Question(service=service))
+    same(said.codes, [AUTH_ERR])
+    said, _ = said_at(b"1 yes\n", Question(service=service.replace("permit", "deny")))
+    same(said.codes, [SUCCESS])
+
+
+# ---- options and prompts
+
+
+def options() -> None:
+    """A word that isn't an option, or a value out of range, is refused and named."""
+    long = "/" + "x" * 107
+    for words in ("frob", "socket", "timeout=", "timeout=0", "timeout=601", "timeout=5x", "timeout=-1", "nullokk", f"socket={long}"):
+        said, lines = said_at(b"1 yes\n", Question(options=words))
+        same((said.codes, lines, said.prompts), ([SERVICE_ERR], [], []), words)
+        assert said.logs == [f"bad option: {words}"], said.logs
+    for words in ("timeout=1", "timeout=600", "debug", "nullok", "mail_names", "try_first_pass", f"socket={long[:107]}"):
+        said, _ = said_at(b"1 yes\n", Question(options=words))
+        same(said.codes, [AUTHINFO_UNAVAIL if "socket" in words else SUCCESS], words)
+
+
+def first_passwords() -> None:
+    """use_first_pass, try_first_pass and use_authtok, as pam_unix has them."""
+    for word in ("use_first_pass", "try_first_pass"):
+        service = f"auth required {{module}}\nauth required {{module}} {word}\n"
+        said, lines = said_at(b"1 yes\n", Question(service=service))
+        same((said.codes, lines, len(said.prompts)), ([SUCCESS], [line_of("verify", "ada", b"secret")] * 2, 1), word)
+    said, lines = said_at(b"1 yes\n", Question(options="use_first_pass"))
+    assert said.codes[0] not in (SUCCESS, AUTHINFO_UNAVAIL), said.codes
+    same((lines, said.prompts), ([], []))
+    said, lines = said_at(b"1 yes\n", Question(options="try_first_pass"))
+    same((said.codes, len(said.prompts)), ([SUCCESS], 1))
+    said, lines = said_at(b"1 yes\n", Question(tasks="change", options="use_authtok", answers=(b"secret", b"fresh", b"fresh")))
+    assert said.codes[0] not in (SUCCESS, AUTHINFO_UNAVAIL), said.codes
+    same((lines, len(said.prompts)), ([line_of("verify", "ada", b"secret")], 1), "no new password was there")
+
+
+def conversations() -> None:
+    """A conversation that fails sends nothing."""
+    for task in ("authenticate", "change"):
+        said, lines = said_at(b"1 yes\n", Question(tasks=task, answers=()))
+        assert said.codes[0] not in (SUCCESS, AUTHINFO_UNAVAIL, TRY_AGAIN), said.codes
+        same(lines, [], task)
+
+
+# ---- changes
+
+
+def changed(answers: dict[bytes, bytes], given: Sequence[bytes], options: str = "") -> tuple[Said, list[bytes]]:
+    """What a change comes to at a peer that answers each operation in its way."""
+
+    def replies(line: bytes, client: socket.socket) -> None:
+        client.sendall(b"1 " + answers[line.split()[1]] + b"\n")
+
+    with peer(replies) as it:
+        return asked(Question(tasks="change", answers=given, options=options), it.path), it.lines
+
+
+def changes() -> None:
+    """The old password is verified first, then old and new are sent together."""
+    given = (b"secret", b"fresh", b"fresh")
+    first, both = line_of("verify", "ada", b"secret"), line_of("change", "ada", b"secret", b"fresh")
+    for verify, change, ought, lines in (
+        (b"yes", b"replaced", SUCCESS, [first, both]),
+        (b"yes", b"wrong", AUTHTOK_ERR, [first, both]),
+        (b"yes", b"noaccount", USER_UNKNOWN, [first, both]),
+        (b"yes", b"absent", AUTHTOK_ERR, [first, both]),
+        (b"yes", b"unavailable", AUTHINFO_UNAVAIL, [first, both]),
+        (b"yes", b"later", MAXTRIES, [first, both]),
+        (b"no", b"replaced", AUTH_ERR, [first]),
+        (b"noaccount", b"replaced", USER_UNKNOWN, [first]),
+        (b"later", b"replaced", MAXTRIES, [first]),
+        (b"unavailable", b"replaced", TRY_AGAIN, [first]),
+    ):
+        said, sent = changed({b"verify": verify, b"change": change}, given)
+        same((said.codes, sent), ([ought], lines), f"{verify!r}, {change!r}")
+    ready = {b"verify": b"yes", b"change": b"replaced"}
+    for fresh in (b"", b"x" * 257):
+        said, sent = changed(ready, (b"secret", fresh, fresh))
+        assert said.codes[0] != SUCCESS, fresh
+        same(sent, [first], f"{len(fresh)} bytes")
+    said, sent = changed(ready, (b"secret", b"x" * 256, b"x" * 256))
+    same((said.codes, sent[1:]), ([SUCCESS], [line_of("change", "ada", b"secret", b"x" * 256)]))
+    said, sent = changed(ready, (b"x" * 256, b"y" * 256, b"y" * 256))
+    same((said.codes, sent[1:]), ([SUCCESS], [line_of("change", "ada", b"x" * 256, b"y" * 256)]))
+    said, sent = changed(ready, (b"secret", b"fresh", b"other"))
+    assert said.codes[0] != SUCCESS
+    same(sent, [first], "two that differ")
+    said, sent = said_at(
+        b"1 yes\n", Question(tasks="expired", service="password [ignore=done default=die] {module}\npassword required pam_deny.so\n")
+    )
+    same((sent, said.prompts), ([], []), "expired passwords")
+
+
+def longest_lines() -> None:
+    """The longest name and passwords fit."""
+    name = "x" * 240 + "@" + "y" * 13
+    with peer(lambda line, client: client.sendall(b"1 yes\n" if b"verify" in line else b"1 replaced\n")) as it:
+        question = Question(user=name, tasks="change", answers=[b"x" * 256, b"y" * 256, b"y" * 256], options="mail_names")
+        same(asked(question, it.path).codes, [SUCCESS])
+        same(it.lines[1], line_of("change", name, b"x" * 256, b"y" * 256))
+
+
+# ---- secrets, threads, builds
+
+
+def turned(needle: bytes) -> str:
+    """Bytes as the driver wants them, so that they aren't in its memory."""
+    return bytes(byte ^ 1 for byte in needle).hex()
+
+
+def cleared() -> None:
+    """As a call ends the line that it sent is cleared; after it no password is in memory, plain or encoded."""
+    password = b"correct horse battery staple!"
+    encoded = base64.b64encode(password).rstrip(b"=")
+    looks = [{"LOOK": turned(needle)} for needle in (password, encoded, encoded[:24], encoded[-24:])]
+    looks += [{"LOOK_INSIDE": turned(needle)} for needle in (encoded, encoded[:24], encoded[-24:])]
+
+    def numbers(answer: bytes, tasks: str, given: list[bytes], look: dict[str, str]) -> Said:
+        def replies(line: bytes, client: socket.socket) -> None:
+            client.sendall(b"1 yes\n" if tasks == "change" and b"verify" in line else answer)
+
+        with peer(replies) as it:
+            return asked(Question(tasks=tasks, answers=given, environment=look, build=PLAIN), it.path)
+
+    for look in looks:
+        for tasks, given in (("authenticate", [password]), ("change", [b"secret", password, password])):
+            for answer in (b"1 yes\n", b"1 no\n", b"2 yes\n", b""):
+                clean(numbers(answer, tasks, given, look), len(given) // 3 + 1)
+        clean(asked(Question(answers=[password], environment=look, build=PLAIN), ROOM / "nothing-here"), 1)
+
+
+def clean(said: Said, looks: int) -> None:
+    """Nothing was found, and inside of calls it was looked for so often."""
+    same(said.numbers.get("found", 0), 0, "found after the call")
+    if "inside" in said.numbers:
+        same(said.numbers["inside"], 1000 * looks, "found as a call ended")
+
+
+def looking_finds() -> None:
+    """The search above finds bytes that are there: the socket's path."""
+    with peer(sends(b"1 yes\n")) as it:
+        path = turned(str(it.path).encode())
+        said = asked(Question(environment={"LOOK": path, "LOOK_INSIDE": path}, build=PLAIN), it.path)
+        assert said.numbers["found"] > 0 and said.numbers["inside"] > 1000, said.numbers
+
+
+def logs() -> None:
+    """No password and no unknown name is logged; a wrong password is, as others do it."""
+    password = b"correct horse battery staple!"
+    for answer in (b"yes", b"no", b"noaccount", b"later", b"unavailable", b"bad 13 password", b"denied"):
+        for options in ("", "debug"):
+            said, _ = said_at(b"1 " + answer + b"\n", Question(answers=[password], options=options))
+            text = "\n".join(said.logs)
+            for secret in (password.decode(), base64.b64encode(password).decode().rstrip("="), password.decode()[:12]):
+                assert secret not in text, text
+            same("ada" in text, answer == b"no", f"{answer!r}: {text}")
+            same(len(said.logs), (answer not in (b"yes", b"noaccount", b"later")) + (options == "debug"), text)
+            if answer == b"no":
+                assert "authentication failure; rhost=192.0.2.1 user=ada" in text, text
+
+
+def threads() -> None:
+    """Sixteen threads at once: each is answered at its own name and password."""
+
+    def replies(line: bytes, client: socket.socket) -> None:
+        _, _, name, password = line.split()
+        time.sleep(0.02)
+        right = base64.b64decode(password + b"=" * (-len(password) % 4)) == name
+        client.sendall(b"1 yes\n" if right and not name.endswith(b"3") else b"1 no\n")
+
+    with peer(replies) as it:
+        question = Question(tasks="authenticate " * 5, environment={"THREADS": "16", "PIECES": "1"}, options="timeout=60")
+        said = asked(question, it.path)
+        same(sorted(said.codes), [SUCCESS] * 70 + [AUTH_ERR] * 10)
+        same(sorted(it.lines), sorted(line_of("verify", f"ada{i}", f"ada{i}".encode()) for i in range(16) for _ in range(5)))
+
+
+def under_valgrind() -> None:
+    """A login, a wrong one, an account and a change, with all memory watched."""
+    if shutil.which("valgrind") is None:
+        raise Skipped("valgrind is not there")
+    with peer(lambda line, client: client.sendall(b"1 replaced\n" if b"change" in line else b"1 yes\n")) as it:
+        question = Question(tasks="authenticate setcred account change", build=VALGRIND, options="timeout=60 debug")
+        question.answers = [b"secret", b"secret", b"fresh", b"fresh"]
+        same(asked(question, it.path).codes, [SUCCESS] * 4)
+    said, _ = said_at(b"1 no\nxyz", Question(build=VALGRIND, options="timeout=60"))
+    same(said.codes, [AUTHINFO_UNAVAIL])
+
+
+def builds() -> None:
+    """Both compilers take it without a warning; four symbols are seen; the layout is clang-format's."""
+    every = "-O2 -Wall -Wextra -Wpedantic -Wshadow -Wconversion -Wno-sign-conversion -Wstrict-prototypes -Werror -fPIC -shared".split()
+    for compiler in ("gcc", "clang"):
+        if shutil.which(compiler):
+            command = [compiler, "-std=c11", "-I../src", *every, *SOURCES, "-o", "/dev/null", "-lpam"]
+            done = subprocess.run(command, cwd=TOP, capture_output=True, text=True)
+            same(done.returncode, 0, done.stderr)
+    subprocess.run(["make", "-s"], cwd=TOP, check=True)
+    seen = subprocess.run(["nm", "-D", "--defined-only", "out/pam_rigzumal.so"], cwd=TOP, capture_output=True, text=True)
+    ought = ["pam_sm_acct_mgmt", "pam_sm_authenticate", "pam_sm_chauthtok", "pam_sm_setcred"]
+    same(sorted(line.split()[2] for line in seen.stdout.splitlines()), ought)
+    data = compiled("module.o", ["-O2", "-fPIC", "-c"], "pam_rigzumal.c")
+    sections = subprocess.run(["size", "-A", data], capture_output=True, text=True).stdout
+    same(re.findall(r"^\.(?:data|bss|tbss|tdata)\s+[1-9].*", sections, re.M), [], "static state")
+    assert len((TOP / "pam_rigzumal.c").read_text().splitlines()) <= 250
+    if shutil.which("clang-format"):
+        command = ["clang-format", "--style=file:../.clang-format", "--dry-run", "-Werror", "pam_rigzumal.c", "tests/driver.c"]
+        done = subprocess.run(command, cwd=TOP, capture_output=True, text=True)
+        same(done.returncode, 0, done.stderr)
+
+
+TESTS = [answers, no_answers, passwords, names, in_pieces, deadlines, no_server, closes_amid, falls_through, options]
+TESTS += [first_passwords, conversations, changes, longest_lines, cleared, looking_finds, logs, threads]
+TESTS += [under_valgrind, builds]
+
+
+def main() -> int:
+    chosen = [it for it in TESTS if not sys.argv[1:] or it.__name__ in sys.argv[1:]]
+    failed = 0
+    try:
+        for test in chosen:
+            try:
+                test()
+                print(f"{test.__name__}: passed", flush=True)
+            except Skipped as reason:
+                print(f"{test.__name__}: skipped, {reason}", flush=True)
+            except Exception:
+                failed += 1
+                traceback.print_exc(limit=3, file=sys.stdout)
+                print(f"{test.__name__}: FAILED", flush=True)
+    finally:
+        shutil.rmtree(ROOM)
+    print(f"{len(chosen) - failed} passed, {failed} failed")
+    return 1 if failed else 0
+
+
+if __name__ == "__main__":
+    sys.exit(main())
