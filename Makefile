@@ -6,6 +6,9 @@
 #     make interop                  other programs' strings, both ways
 #     make install PREFIX=/usr/local [DESTDIR=..]
 #     make uninstall PREFIX=/usr/local [DESTDIR=..]
+#
+# Programs are compiled for the processor that they are built on. CPU=x86-64-v2 in front of build and install makes
+# those that run on others too.
 
 PREFIX ?= /usr/local
 DESTDIR ?=
@@ -16,24 +19,18 @@ PYTHON ?= /usr/bin/python3
 
 PROGRAMS := credbook credkeep
 BUILT := $(foreach name,$(PROGRAMS),crates/$(name)/out/$(name))
-SOURCES := $(shell find crates -name out -prune -o \( -name '*.rt' -o -name '*.antt' \) -print) \
-	crates.txt
+CPU ?=
 
-.PHONY: build library test bench interop install uninstall
+.PHONY: build programs library test bench interop install uninstall
 .DELETE_ON_ERROR:
 # Each of these works on crates side by side, and no two may work on the same ones.
 .NOTPARALLEL:
 
-build: $(BUILT) library
+build: programs library
 
-# rt builds a program as it runs it: here for its help, whose status says nothing.
-define PROGRAM_RULE
-crates/$(1)/out/$(1): $$(SOURCES)
-	rm -f $$@
-	-RT='$$(RT)' $$(PYTHON) tools/build.py $(1) -- --help > /dev/null
-	test -x $$@
-endef
-$(foreach name,$(PROGRAMS),$(eval $(call PROGRAM_RULE,$(name))))
+# tools/build.py knows what is built already.
+programs:
+	for name in $(PROGRAMS); do RT='$(RT)' $(PYTHON) tools/build.py $(CPU:%=--cpu %) $$name || exit 1; done
 
 library:
 	$(MAKE) -C c RT='$(RT)' PYTHON='$(PYTHON)'
@@ -45,14 +42,18 @@ test:
 bench: library
 	$(PYTHON) bench/c/run.py
 
-interop: crates/credbook/out/credbook
+interop: programs
 	$(PYTHON) interop/run.py
 
 install: build
 	$(MAKE) -C c install PREFIX='$(PREFIX)' DESTDIR='$(DESTDIR)' RT='$(RT)'
-	install -d $(DESTDIR)$(PREFIX)/bin $(DESTDIR)$(PREFIX)/share/man/man1
+	install -d $(DESTDIR)$(PREFIX)/bin $(DESTDIR)$(PREFIX)/share/man/man1 $(DESTDIR)$(PREFIX)/share/man/man5
 	install -m 755 $(BUILT) bin/credkeep-ask $(DESTDIR)$(PREFIX)/bin
 	install -m 644 $(PROGRAMS:%=man/%.1) $(DESTDIR)$(PREFIX)/share/man/man1
+	install -m 644 man/rigzumal-script.5 $(DESTDIR)$(PREFIX)/share/man/man5
+	install -d $(DESTDIR)$(PREFIX)/sbin $(DESTDIR)$(PREFIX)/share/man/man8
+	install -m 755 bin/credkeep-server $(DESTDIR)$(PREFIX)/sbin
+	install -m 644 man/credkeep-server.8 $(DESTDIR)$(PREFIX)/share/man/man8
 	install -d $(DESTDIR)$(BASH_DIR) $(DESTDIR)$(ZSH_DIR)
 	for name in $(PROGRAMS); do \
 		install -m 644 completions/$$name.bash $(DESTDIR)$(BASH_DIR)/$$name && \
@@ -63,4 +64,5 @@ uninstall:
 	$(MAKE) -C c uninstall PREFIX='$(PREFIX)' DESTDIR='$(DESTDIR)'
 	rm -f $(PROGRAMS:%=$(DESTDIR)$(PREFIX)/bin/%) $(DESTDIR)$(PREFIX)/bin/credkeep-ask
 	rm -f $(PROGRAMS:%=$(DESTDIR)$(BASH_DIR)/%) $(PROGRAMS:%=$(DESTDIR)$(ZSH_DIR)/_%)
-	rm -f $(PROGRAMS:%=$(DESTDIR)$(PREFIX)/share/man/man1/%.1)
+	rm -f $(PROGRAMS:%=$(DESTDIR)$(PREFIX)/share/man/man1/%.1) $(DESTDIR)$(PREFIX)/share/man/man5/rigzumal-script.5
+	rm -f $(DESTDIR)$(PREFIX)/sbin/credkeep-server $(DESTDIR)$(PREFIX)/share/man/man8/credkeep-server.8

@@ -1,15 +1,19 @@
 #!/usr/bin/env python3
-"""Proves and builds a program from nothing, crates side by side, and then runs it on the given words.
+"""Proves and builds a program from nothing, crates side by side, and runs it on the words that come after `--`, if that is there.
 
-    python3 tools/build.py [PROGRAM] [-- WORD..]          (PROGRAM: credbook)
+    python3 tools/build.py [--cpu LEVEL] [PROGRAM] [-- WORD..]          (PROGRAM: credbook)
 
-It prints a line on standard error for each library below the program, with the seconds that it took; what the program prints is all
-that comes on standard output, and its status is the script's. A library that is built already is taken as it is, if its sources are
-unchanged. `rt run` alone does the same in more time: one rt at a time may work above a library, so libraries that don't use
-each other are worked here in two copies of the sources, and what was proved is copied back. The variable RT names another rt.
+The program is compiled for LEVEL: x86-64, x86-64-v2 or x86-64-v3, and without the flag for the highest of them whose features this
+processor has. It says on standard error what it is going to do, and then prints a line for each library below the program, with the
+seconds that it took. What the program prints is all that comes on standard output, and its status is this script's. What is built
+already is taken as it is, if its sources are unchanged. `rt run` alone does the same in more time: one rt at a time may work above a
+library, so libraries that don't use each other are worked here in two copies of the sources, and what was proved is copied back. The
+variable RT names another rt.
 """
 
+import argparse
 import concurrent.futures
+import hashlib
 import os
 import pathlib
 import shutil
@@ -22,6 +26,12 @@ import time
 TOP = pathlib.Path(__file__).resolve().parent.parent
 AT_ONCE = 2
 RT = os.environ.get("RT", "rt")
+LEVELS = ("x86-64", "x86-64-v2", "x86-64-v3")
+# Each level's features by the system's names for them, beside those of the levels below.
+FEATURES = {
+    "x86-64-v2": "cx16 lahf_lm popcnt pni sse4_1 sse4_2 ssse3".split(),
+    "x86-64-v3": "abm avx avx2 bmi1 bmi2 f16c fma movbe xsave".split(),
+}
 
 
 def crates():
@@ -106,18 +116,64 @@ def build_all(libraries, named):
                 it.result()
 
 
+def level_of(processor):
+    """The highest level whose features a processor has, by the text of /proc/cpuinfo."""
+    flags = next((it.partition(":")[2].split() for it in processor.splitlines() if it.startswith("flags")), [])
+    found = LEVELS[0]
+    for level, features in FEATURES.items():
+        if not {*features} <= {*flags}:
+            break
+        found = level
+    return found
+
+
+def sum_of(program, below, level):
+    """A sum over all that a built program depends on, and over the program itself."""
+    folders = [TOP / "crates" / it for it in [*below, program]]
+    sources = [it for at in folders for part in ("src", "specs", "proofs") for it in sorted((at / part).rglob("*")) if it.is_file()]
+    found = hashlib.sha256(level.encode())
+    for it in [TOP / "crates.txt", *sources, folders[-1] / "out" / program]:
+        found.update(hashlib.sha256(it.read_bytes()).digest())
+    return found.hexdigest()
+
+
+def build_program(program, below, level):
+    """Proves a program over its libraries and compiles it for a level, unless that is done."""
+    folder = TOP / "crates" / program
+    built, seal = folder / "out" / program, folder / "out" / f"{program}.level"
+    if built.is_file() and seal.is_file() and seal.read_text() == sum_of(program, below, level):
+        return
+    built.unlink(missing_ok=True)
+    began = time.monotonic()
+    # rt builds a program as it runs it: here for its help.
+    done = subprocess.run([RT, "run", f"--cpu={level}", "--", "--help"], cwd=folder, capture_output=True, text=True)
+    if not built.is_file():
+        raise SystemExit(f"{program}: not proved\n{(done.stdout + done.stderr)[-4000:]}")
+    seal.write_text(sum_of(program, below, level))
+    print(f"{program}: proved and built, {time.monotonic() - began:.0f} s", file=sys.stderr, flush=True)
+
+
 def main():
     ours, theirs = sys.argv[1:], []
     if "--" in ours:
         at = ours.index("--")
         ours, theirs = ours[:at], ours[at + 1 :]
     named = crates()
-    program = ours[0] if ours else "credbook"
-    if len(ours) > 1 or program not in named:
-        raise SystemExit(__doc__)
-    build_all(libraries_below(program, named), named)
-    os.chdir(TOP / "crates" / program)
-    os.execvp(RT, [RT, "run", "--", *theirs])
+    reader = argparse.ArgumentParser(usage=__doc__.split("\n\n")[1].strip())
+    reader.add_argument("--cpu", choices=LEVELS, metavar="LEVEL", help=", ".join(LEVELS))
+    reader.add_argument("program", nargs="?", default="credbook", choices=[*named], metavar="PROGRAM")
+    asked = reader.parse_args(ours)
+    level = asked.cpu or level_of(pathlib.Path("/proc/cpuinfo").read_text())
+    below = libraries_below(asked.program, named)
+    missing = [it for it in below if not (TOP / "crates" / it / "out/rlib/stamp").is_file()]
+    if missing:
+        print(f"{asked.program}: proves {len(missing)} libraries first, which takes minutes", file=sys.stderr, flush=True)
+    print(f"{asked.program}: for {level}{'' if asked.cpu else ', which this processor has'}", file=sys.stderr, flush=True)
+    build_all(below, named)
+    build_program(asked.program, below, level)
+    if "--" in sys.argv:
+        os.chdir(TOP / "crates" / asked.program)
+        os.execv(f"out/{asked.program}", [asked.program, *theirs])
 
 
 if __name__ == "__main__":

@@ -4,17 +4,22 @@
     python3 tools/credbook_tests.py [PROGRAM]
 
 PROGRAM is by default crates/credbook/out/credbook, which `rt ci`, and `rt run` in crates/credbook, build. No contract says what the
-process gives to its shell: that its `main` hands on the status, and the faults to standard error alone. A line for each test that
-failed; the last line is `N passed, M failed`, and the status is 1 if one failed. It needs only the toolchain.
+process gives to its shell: that its `main` hands on the status, and the faults to standard error alone. Where valgrind is, the
+instructions of a check are counted too. A line for each test that failed; the last line is `N passed, M failed`, and the status is 1
+if one failed. It needs only the toolchain.
 """
 
+import base64
 import os
 import pathlib
+import re
+import shutil
 import subprocess
 import sys
 import tempfile
 from typing import NamedTuple
 
+from credkeep_tests import THREAD_COUNTER, Room, counted, counter
 from refuse_memory import build as refusing_shim
 
 TOP = pathlib.Path(__file__).resolve().parent.parent
@@ -22,7 +27,8 @@ TOP = pathlib.Path(__file__).resolve().parent.parent
 SETTING = "$argon2id$v=19$m=256,t=2,p=1$c29tZXNhbHQ"
 
 # Of `password`, by the reference program of Argon2.
-RECORD = SETTING + "$nf65EOgLrQMR/uIPnA4rEsF5h7TKyQwu9U1bMCHGi/4"
+TAG = "nf65EOgLrQMR/uIPnA4rEsF5h7TKyQwu9U1bMCHGi/4"
+RECORD = f"{SETTING}${TAG}"
 
 PASSWORD = "cGFzc3dvcmQ"
 OTHER = "YmFk"
@@ -104,12 +110,50 @@ def of_memory(program):
                 yield f"{words}: request {nth} refused", ended if not whole and not refused else None, None
 
 
+def of_threads(program):
+    """As many threads hash as were asked for: the caller's waits for them, or is one of them. One record is checked by one."""
+    setting = "$argon2id$v=19$m=1024,t=4,p=4$c29tZXNhbHQ"
+    script = f"account a\nbegin 1 enrol a {PASSWORD} {setting}\ncommit 1\nbegin 2 verify a {PASSWORD}\ncommit 2\n".encode()
+    with tempfile.TemporaryDirectory(prefix="credbook-") as folder:
+        inside = pathlib.Path(folder) / "room"
+        inside.mkdir()
+        shim = counter(Room(pathlib.Path(program), inside, 0), "threads", THREAD_COUNTER)
+        for workers, wanted in [(1, (0,)), (2, (1, 2)), (4, (3, 4)), (64, (3, 4))]:
+            most, _ = counted(shim, "THREADS", [program, "run", "--workers", str(workers)], script)
+            yield f"threads of {workers} workers", most if most not in wanted else None, None
+
+
+def record_with(byte):
+    """The record, with this byte of its tag turned into another."""
+    tag = bytearray(base64.b64decode(TAG + "="))
+    tag[byte] ^= 0x55
+    return f"{SETTING}${base64.b64encode(tag).decode().rstrip('=')}"
+
+
+def instructions(words, given=b""):
+    """How many instructions a run takes, as valgrind counts them."""
+    counter = ["valgrind", "--tool=callgrind", "--callgrind-out-file=/dev/null"]
+    ended = subprocess.run([*counter, *words], input=given, capture_output=True, timeout=300)
+    return int(re.search(rb"Collected : (\d+)", ended.stderr)[1])
+
+
+def of_instructions(program):
+    """A check takes as many instructions whichever byte of the tag differs, and if none does: so its time doesn't tell which."""
+    if shutil.which("valgrind") is None:
+        print("valgrind isn't there: instructions aren't counted", flush=True)
+        return
+    right = instructions([program, "check", RECORD, PASSWORD])
+    for byte in (0, 1, 15, 30, 31):
+        wrong = instructions([program, "check", record_with(byte), PASSWORD])
+        yield f"instructions of a check whose byte {byte} differs", wrong, right
+
+
 def main():
     program = sys.argv[1] if len(sys.argv) > 1 else str(TOP / "crates" / "credbook" / "out" / "credbook")
     if not os.path.exists(program):
         sys.exit(f"{program} isn't there: run rt run in crates/credbook, or rt ci")
     passed, failed = 0, 0
-    for tests in (of_words, of_clap, of_streams, of_memory):
+    for tests in (of_words, of_clap, of_streams, of_memory, of_threads, of_instructions):
         for name, ended, wanted in tests(program):
             passed, failed = passed + (ended == wanted), failed + (ended != wanted)
             if ended != wanted:

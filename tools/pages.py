@@ -3,6 +3,7 @@
 
     python3 tools/pages.py
 
+- README.md and docs/BUILDING.md name the logic of the toolchain that is here.
 - README.md says how many crates the gate proves, how many wrong bodies it tries and how many tests it runs: the tree's figures. A
   time in it that nobody filled in (`.._MINUTES`) fails.
 - docs/PLANTED.md names each wrong body that the gate has to try, with the file or the test that it stands in: each is there.
@@ -12,12 +13,15 @@
 - Each link between pages leads to a file, and each picture has a text for those who can't see it.
 - Each library and program of crates.txt has a page, crates/NAME/README.md, and stands in docs/pictures/crates.svg.
 - Code after a line `<!-- from FILE -->` stands in that file, word for word but for what is left out at a line of two dots.
+- A proof by hand, which may give a ghost field any value, stands in a folder that is named here.
 
 The last line is `N passed, M failed`, and the status is 1 if anything failed.
 """
 
+import os
 import pathlib
 import re
+import subprocess
 import sys
 import textwrap
 
@@ -34,6 +38,10 @@ PAGES = [
 ]
 
 
+# The folders of proofs by hand: each makes values of one struct with ghost data, and its page says what is trusted of that.
+WALKS = {"cred_cli/proofs/call_log"}
+
+
 def figures():
     """What README counts: what is wrong with each figure."""
     tests = sum(len(re.findall(r"^\s*#\[test\]", it.read_text(), re.M)) for it in CRATES.glob("*/src/**/*.rt"))
@@ -44,6 +52,14 @@ def figures():
         yield None if said else f"README.md doesn't say how many {word} there are: {count}"
         yield from (None if int(it) == count else f"README.md says {it} {word}, and there are {count}" for it in said)
     yield from (f"README.md: {it} isn't filled in" for it in re.findall(r"\b[A-Z_]+_MINUTES\b", readme))
+
+
+def logic():
+    """The logic that the toolchain here proves in, and each page that names another."""
+    told = subprocess.run([os.environ.get("RT", "rt"), "version"], capture_output=True, text=True, check=True).stdout
+    here = re.search(r"\blogic (\w+)", told)[1]
+    for page in ("README.md", "docs/BUILDING.md"):
+        yield None if f"`{here}`" in (TOP / page).read_text() else f"{page} doesn't name the toolchain's logic: {here}"
 
 
 def stands(place):
@@ -126,8 +142,16 @@ def rooms():
             yield None if f">{name}</text>" in picture else f"docs/pictures/crates.svg lacks {name}: run tools/pictures.py"
 
 
+def walks():
+    """The proofs by hand."""
+    for proof in CRATES.glob("*/proofs/**/Proof.antt"):
+        place = proof.relative_to(CRATES).as_posix()
+        is_known = any(place.startswith(f"{it}/") for it in WALKS)
+        yield None if is_known else f"crates/{place}: a proof by hand, outside of {', '.join(sorted(WALKS))}"
+
+
 def main():
-    found = [*figures(), *planted(), *bugs(), *bugs_by_call(), *rooms()]
+    found = [*figures(), *logic(), *planted(), *bugs(), *bugs_by_call(), *rooms(), *walks()]
     for page in PAGES:
         found += [*links(page), *callers(page)]
     passed, failures = promises.check()

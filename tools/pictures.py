@@ -3,7 +3,7 @@
 
     /usr/bin/python3 tools/pictures.py [--check]
 
-overtaken.svg and kept-change.svg are drawn from the text beside them, crates.svg from crates.txt and around-the-crates.txt by
+overtaken.svg, server.svg and kept-change.svg are drawn from the text beside them, crates.svg from crates.txt and around-the-crates.txt by
 graphviz's dot, and bench.svg from the tables of bench/RESULTS.md by matplotlib (Debian's graphviz and python3-matplotlib). With
 --check nothing is written: each picture that would come out otherwise is named, and the status is 1.
 """
@@ -110,7 +110,8 @@ def crate_layers():
     out += [f'subgraph cluster_tested {{ label="tested, not proved"; labeljust=l; style="dashed,rounded,filled"; fillcolor="{TESTED}";']
     out += [f'"{name.strip()}" [label="{name.strip()}\\n{words.strip()}"];' for _, name, words, _ in tested] + ["}"]
     out += [f'subgraph cluster_proved {{ label="proved"; labeljust=l; style="rounded,filled"; penwidth=2; fillcolor="{PROVED}";']
-    out += [f'"{it}";' for it in graph] + ["}"]
+    programs = {it for it in graph if (TOP / "crates" / it / "src/main.rt").is_file()}
+    out += [f'"{it}" [label="{it}\\nproved safe; its words are tested"];' if it in programs else f'"{it}";' for it in graph] + ["}"]
     out += [f'subgraph cluster_trusted {{ label="trusted"; labeljust=l; style="dotted,rounded,filled"; fillcolor="{TRUSTED}";']
     out += [f'"{name.strip()}" [label="{name.strip()}\\n{words.strip()}"];' for _, name, words, _ in trusted] + ["}"]
     out += [f'"{it}" -> "{low}";' for it, lows in graph.items() for low in lows]
@@ -143,7 +144,7 @@ def bench():
     scrypt = [it[:4] for it in table_below(page, "| N, r, p | Ours, ms | OpenSSL, ms")]
     figure, axes = pyplot.subplots(2, 1, figsize=(8.6, 7.2), height_ratios=[len(argon), len(scrypt)])
     for axis, rows, names, title in (
-        (axes[0], argon, ["ours", "libargon2", "libsodium"], "Argon2id: KiB of memory, passes, lanes (libargon2 has a thread a lane)"),
+        (axes[0], argon, ["ours", "libargon2", "libsodium"], "Argon2id: KiB of memory, passes, lanes (ours has one thread, libargon2 a thread a lane)"),
         (axes[1], scrypt, ["ours", "OpenSSL", "libsodium"], "scrypt: N, r, p"),
     ):
         for i, (name, colour, hatch) in enumerate(zip(names, ("#2f7d4f", "#c2cad6", "#e8c46a"), ("", "//", "\\\\"))):
@@ -165,6 +166,7 @@ def bench():
 DRAWN = {
     "overtaken.svg": lambda: sequence("overtaken.txt"),
     "kept-change.svg": lambda: steps("kept-change.txt"),
+    "server.svg": lambda: sequence("server.txt"),
     "crates.svg": crate_layers,
     "bench.svg": bench,
 }

@@ -3,9 +3,13 @@
 
     python3 tools/plant.py NAME [--only WORD] [--jobs N]
     python3 tools/plant.py --fits [NAME]
+    python3 tools/plant.py --compiles NAME [--only WORD]
 
 With --fits it asks no prover: it says which bugs of a list, or of every list, can't be planted, since the code has changed. The
 last line is `N bugs in M lists, K of them can't be planted`, and the status is 1 if K isn't 0.
+
+With --compiles it asks the compiler alone, which takes seconds for each round: it says which bugs aren't code at all, so that no
+goal would judge them. The last line is `N bugs, K of them don't compile`, and the status is 1 if K isn't 0.
 
 A file of bugs is a list of paragraphs. `call:` names the public call whose meaning the next bugs turn, and `fn:` the function
 that they stand in, as `module::Type::function`; each holds until the next such line. `const:` names a constant instead of a
@@ -274,6 +278,31 @@ def judge(copy, name, bugs):
         bug.verdict = "refused by its callers" if bug.verdict in (None, "none") else bug.verdict
 
 
+def compiled(copy, bugs):
+    """Finds the bugs that the compiler refuses: a check of no function reads all of the crate, and proves nothing."""
+    waiting = list(bugs)
+    while waiting:
+        chosen = {}
+        for bug in waiting:
+            chosen.setdefault(bug.function, bug)
+        said = copy.planted(chosen.values(), "--only=")
+        if errors_of(said):
+            blame(copy, said, list(chosen.values()))
+        else:
+            for bug in chosen.values():
+                bug.verdict = "compiles"
+        waiting = [it for it in waiting if it.verdict is None]
+        print(f"# {len(bugs) - len(waiting)} of {len(bugs)} compiled", file=sys.stderr, flush=True)
+    lost = [it for it in bugs if it.verdict != "compiles"]
+    print("\n".join([*(f"{it.verdict}: {it}" for it in lost), f"{len(bugs)} bugs, {len(lost)} of them don't compile"]))
+    return 1 if lost else 0
+
+
+def errors_of(said):
+    """The compiler's own errors."""
+    return re.findall(r"(?m)^src/\S+:\d+:\d+: error.*$", said)
+
+
 def blame(copy, said, bugs):
     """Not one function was judged: a bug doesn't compile, and the compiler names its file and line."""
     for bug in bugs:
@@ -290,6 +319,7 @@ def main():
     words = argparse.ArgumentParser()
     words.add_argument("name", nargs="?")
     words.add_argument("--fits", action="store_true", help="ask no prover, and say which bugs can't be planted")
+    words.add_argument("--compiles", action="store_true", help="ask the compiler alone, and say which bugs aren't code")
     words.add_argument("--only", default="", help="the bugs whose call or function has this in its path")
     words.add_argument("--jobs", type=int, default=1)
     asked = words.parse_args()
@@ -301,6 +331,8 @@ def main():
         sys.exit("\n".join(lost))
     bugs = [it for it in list_of(asked.name) if asked.only in f"{it.call} {it.function}"]
     copy = Copy(asked.name, asked.jobs)
+    if asked.compiles:
+        return compiled(copy, bugs)
     said = copy.check()
     if "logic=proved" not in said:
         sys.exit(f"{asked.name} isn't proved as it stands:\n{said[-2000:]}")

@@ -2,11 +2,22 @@
 """Compares what docs/PROMISES.md names with the tree; tools/pages.py runs it.
 
     python3 tools/promises.py [--left-out]
+    python3 tools/promises.py --refused LOG..
 
 Each call is named by its path, `cred_argon::argon::argon2` (`input_len`, `err`): the function has to stand in that file, and its
 contract has to have the clauses in brackets. Each wrong body `CRATE/NAME`, each test `CRATE::TEST`, each file, and each definition
 that a file "has" has to be there. No cell of a table has over 120 characters. With --left-out it prints the wrong bodies of the gate
 that the page doesn't name. The last line is `N passed, M failed`, and the status is 1 if anything failed.
+
+With --refused it reads what `rt ci` or `rt must-fail` printed, and says of each kind of refusal how many wrong bodies it has:
+
+    shown false     values were found at which a goal is false
+    not proved      a goal stays open: the search found no proof of it, or gave up at a limit
+    no proof of it  a written answer is no proof of the goal any more
+    names           a written answer names what the edit took away, and nothing else was judged: this says nothing of the contract
+
+The wrong bodies that docs/PROMISES.md or docs/PLANTED.md names count by themselves. The status is 1 if one of these is refused for
+its names alone, or if the log has a wrong body that wasn't refused.
 """
 
 import functools
@@ -111,6 +122,38 @@ def cells(text):
         yield from (f"a cell of over 120 characters: {it.strip()[:60]}.." for it in row.split("|") if len(it.strip()) > 120)
 
 
+KINDS = ("shown false", "not proved", "no proof of it", "names")
+TRIED = re.compile(r"(?m)^(?:rt: )?must-fail (\w+)/([\w.-]+)\.edit: (refused, as it must be|NOT REFUSED|BAD EDIT)(.*)$")
+
+
+def kind_of(said):
+    """Which kind of refusal this is, by the first line that the prover printed of it."""
+    if "only because a proof file names what the edit took away" in said:
+        return "names"
+    if re.search(r"at which this goal is false|does not follow from what it read", said):
+        return "shown false"
+    if re.search(r"note: \S+: it is not proved that|`search`: no proof", said):
+        return "not proved"
+    return "no proof of it"
+
+
+def refusals(logs):
+    """What the logs say of each wrong body: its kind, or None if it wasn't refused."""
+    text = "\n".join(pathlib.Path(it).read_text(errors="replace") for it in logs)
+    return {f"{it[1]}/{it[2]}": kind_of(it[4]) if it[3].startswith("refused") else None for it in TRIED.finditer(text)}
+
+
+def say_refusals(logs):
+    found = refusals(logs)
+    named = {it for page in (PAGE, PAGE.parent / "PLANTED.md") for it in re.findall(r"`(\w+/[\w-]+)`", page.read_text())}
+    for kind in KINDS:
+        of = [it for it in found if found[it] == kind]
+        print(f"{kind}: {len(of)}, {sum(it in named for it in of)} of them named")
+    lost = sorted(it for it, kind in found.items() if kind is None or kind == "names" and it in named)
+    print("\n".join([*(f"{it}: {found[it] or 'not refused'}" for it in lost), f"{len(found)} wrong bodies, {len(lost)} failed"]))
+    return 1 if lost or not found else 0
+
+
 def check():
     """How many names are right, and what is wrong."""
     text = PAGE.read_text()
@@ -125,6 +168,8 @@ def left_out():
 
 
 def main():
+    if "--refused" in sys.argv:
+        return say_refusals(sys.argv[sys.argv.index("--refused") + 1 :])
     passed, failures = check()
     notes = [f"not named: {it}" for it in left_out()] if "--left-out" in sys.argv else []
     print("\n".join([*notes, *failures, f"{passed} passed, {len(failures)} failed"]))

@@ -19,8 +19,8 @@ import tempfile
 from concurrent.futures import ThreadPoolExecutor
 
 TOP = pathlib.Path(__file__).resolve().parent.parent
-# Tests of a library none of whose calls takes memory.
-TAKES_NO_MEMORY = {"log_tests"}
+# Tests of calls none of which takes memory.
+TAKES_NO_MEMORY = {"keep_tests", "log_tests"}
 
 # Stands before the C library's own calls, and says so if it refuses. It declares what it calls, since the toolchain has no headers.
 SHIM = r"""

@@ -100,10 +100,13 @@ reply_number reply.NoAccount = 12
 
 -- the text that is to stand in place of the copy: empty if nothing changes, or if no record is to
 -- stand
-abbrev pub text_after : Reply × Option RecordValue → List ℕ
+abbrev pub text_after : Reply × Option (Option RecordValue) → List ℕ
 text_after (r, None) = []
-text_after (r, Some stored) = if makes_change r then record_text stored else []
+text_after (r, Some None) = []
+text_after (r, Some (Some stored)) = if makes_change r then record_text stored else []
 
-pub record IsStep (outcome : Reply × Option RecordValue) (reply : ℕ) (o : Output) : Type 0 where
+-- a conditional update's reply, and the record that it puts in place of the copy
+pub record IsStep (outcome : Reply × Option (Option RecordValue)) (reply : ℕ) (o : Output)
+    : Type 0 where
   pub text : IsWritten (text_after outcome) o
   pub reply_of : o.answer ≡ 0 → reply ≡ reply_number outcome.0

@@ -1,7 +1,7 @@
 //! Records of Argon2 whose tags are worked in parts: checked against a password, and made under a
 //! setting. Begin and end are of the record; between them segments are worked as for any tag.
 ghost use Rattle.std.specs.Prelude.{◌≡◌, ℕ, ◌<◌, ◌≤◌, ◌⊎◌, ◌↔◌, List, IfErr, IfOk, None, Some};
-ghost use Rattle.std.specs.Prelude.{drop, length};
+ghost use Rattle.std.specs.Prelude.{MatchResult, drop, length};
 ghost use Rattle.cred_argon.specs.Parameters.{Parameters};
 ghost use Rattle.cred_c.specs.Answers.{output};
 ghost use Rattle.cred_c.specs.Lanes.{AreNumbers, IsBegunUnder, IsEndUnder, IsFilled, IsSlice};
@@ -109,9 +109,8 @@ pub extern "C" fn cred_hash_numbers(text: &[u8], tag_len: u32, numbers: &mut Tag
         × AreNumbers (argon_parameters s.scheme tag_len) result numbers.new }
     ensures kept { (result ≡ 0 → ⊥) → numbers.new ≡ numbers.old }
 {
-    match parse_setting(text) {
-        Ok(_) if tag_len < 4 || tag_len > 64 => PhcError::Tag.number(),
-        Ok(setting) => put_numbers(&setting, tag_len as u8, numbers),
+    match asked_of(text, tag_len) {
+        Ok(asked) => put_numbers(&asked.setting, asked.tag_len, numbers),
         Err(fault) => fault.number(),
     }
 }
@@ -131,9 +130,8 @@ pub extern "C" fn cred_hash_begin(text: &[u8], tag_len: u32, pw: &[u8], first: &
         first.old first.new }
     ensures kept { (result ≡ 0 → ⊥) → first.new ≡ first.old }
 {
-    match parse_setting(text) {
-        Ok(_) if tag_len < 4 || tag_len > 64 => PhcError::Tag.number(),
-        Ok(setting) => begin_under(&setting, tag_len as u8, pw, first),
+    match asked_of(text, tag_len) {
+        Ok(asked) => begin_under(&asked.setting, asked.tag_len, pw, first),
         Err(fault) => fault.number(),
     }
 }
@@ -163,11 +161,37 @@ pub extern "C" fn cred_hash_end(
     ensures rest { drop len.new out.new ≡ drop len.new out.old }
 {
     *len = 0;
-    match parse_setting(text) {
-        Ok(_) if tag_len < 4 || tag_len > 64 => PhcError::Tag.number(),
-        Ok(setting) => hash_end(alloc, &setting, tag_len as u8, last, out, len),
+    match asked_of(text, tag_len) {
+        Ok(asked) => hash_end(alloc, &asked.setting, asked.tag_len, last, out, len),
         Err(fault) => fault.number(),
     }
+}
+
+/// The setting of a new record, and how many bytes its tag is to have: 4 to 64.
+#[derive(Drop)]
+struct Asked {
+    setting: Setting,
+    tag_len: u8,
+}
+
+/// What a setting's text and the length of a tag ask for.
+///
+/// Errors: the text's fault; otherwise `Tag` if the length is outside its range.
+fn asked_of(text: &[u8], tag_len: u32) -> Result<Asked, PhcError>
+    ensures { MatchResult result (λ asked. (setting_fault text.now ≡ None) × (4 ≤ tag_len)
+        × (tag_len ≤ 64) × IsSetting asked.setting × IsSettingText text.now asked.setting
+        × (asked.tag_len ≡ tag_len))
+        (λ e. (setting_fault text.now ≡ Some e) ⊎ ((setting_fault text.now ≡ None)
+        × ((tag_len < 4) ⊎ (64 < tag_len)) × (e ≡ PhcError.Tag))) }
+{
+    let setting = parse_setting(text)?;
+    if tag_len < 4 || tag_len > 64 {
+        return Err(PhcError::Tag);
+    }
+    Ok(Asked {
+        setting,
+        tag_len: tag_len as u8,
+    })
 }
 
 /// The same under a setting.

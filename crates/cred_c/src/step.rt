@@ -1,7 +1,7 @@
 //! One whole operation at a copy of an account's record, for a store that puts the record after in
 //! place of the copy if that is still there.
 ghost use Rattle.std.specs.Prelude.{◌≡◌, ◌↔◌, IfErr, IfOk, None, OnOk, Option, Some, drop};
-ghost use Rattle.cred_book.specs.Works.{whole};
+ghost use Rattle.cred_book.specs.Updates.{outcome_at};
 ghost use Rattle.cred_book.specs.declared.request.Request.{Request};
 ghost use Rattle.cred_c.specs.Answers.{IsWritten, output};
 ghost use Rattle.cred_c.specs.Steps.{AsksFor, IsCopy, IsOperation, IsStep, fault_number};
@@ -18,12 +18,13 @@ use cred_phc::{PhcError, Record};
 use cred_pool::NoGate;
 use std::alloc::Global;
 
-/// Does a whole operation at a copy of an account's record: 1 to 5 in `operation` for enrol,
-/// verify, change, upgrade and remove. `copy` is the record's text, empty if none stands; `new_pw`
-/// is read for a change, and `setting`, the text that the new record is made under, for an enrol, a
-/// change and an upgrade. Writes the reply's number, 1 to 10, into `reply`; and if the reply makes
-/// a change, the text of the record after over the front of `out` and its length into `len`, which
-/// is 0 if none is to stand.
+/// Works out a conditional update, as `cred_book::updates_are_one_history` has them: one whole
+/// operation at a copy of an account's record, 1 to 5 in `operation` for enrol, verify, change,
+/// upgrade and remove. `copy` is the record's text, empty if none stands; `new_pw` is read for a
+/// change, and `setting`, the text that the new record is made under, for an enrol, a change and an
+/// upgrade. Writes the reply's number, 1 to 10, into `reply`; and if the reply makes a change, the
+/// text of the record after over the front of `out` and its length into `len`, which is 0 if none
+/// is to stand.
 ///
 /// Answers 0; or 23 if there is no such operation, otherwise 24 if the copy isn't a record,
 /// otherwise 25 if a password has over 256 bytes, otherwise the number of the setting's fault, 1 to
@@ -47,7 +48,8 @@ pub extern "C" fn cred_step(
         → step_fault o copy.now pw.now new_pw.now setting.now ≡ None
         → (request : Request) × (stored : Option RecordValue)
         × AsksFor o pw.now new_pw.now setting.now request × IsCopy copy.now stored
-        × IsStep (whole request stored) reply.new (output result out.old out.new len.new) }
+        × IsStep (outcome_at request (Some stored)) reply.new
+        (output result out.old out.new len.new) }
     ensures kept { (result ≡ 0 → ⊥)
         → (len.new ≡ 0) × (out.new ≡ out.old) × (reply.new ≡ reply.old) }
     ensures rest { drop len.new out.new ≡ drop len.new out.old }
@@ -88,7 +90,7 @@ fn begun(
 /// Writes what an operation does.
 fn put_step(alloc: Global, worked: &Worked, reply: &mut u32, out: &mut [u8], len: &mut usize) -> u8
     requires { len.old ≡ 0 }
-    ensures step { IsStep (whole worked.now.0 worked.now.1) reply.new
+    ensures step { IsStep (outcome_at worked.now.0 (Some worked.now.1)) reply.new
         (output result out.old out.new len.new) }
     ensures kept { (result ≡ 0 → ⊥)
         → (len.new ≡ 0) × (out.new ≡ out.old) × (reply.new ≡ reply.old) }
@@ -110,7 +112,7 @@ fn put_after(
     len: &mut usize,
 ) -> u8
     requires { len.old ≡ 0 }
-    ensures written { IsWritten (text_after (found, after.now))
+    ensures written { IsWritten (text_after (found, Some after.now))
         (output result out.old out.new len.new) }
     ensures kept { (result ≡ 0 → ⊥) → (len.new ≡ 0) × (out.new ≡ out.old) }
     ensures rest { drop len.new out.new ≡ drop len.new out.old }
