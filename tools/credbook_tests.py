@@ -19,7 +19,8 @@ import sys
 import tempfile
 from typing import NamedTuple
 
-from credkeep_tests import THREAD_COUNTER, Room, counted, counter
+from credkeep.counting import THREAD_COUNTER, counted, counter
+from credkeep.keep import Room
 from refuse_memory import build as refusing_shim
 
 TOP = pathlib.Path(__file__).resolve().parent.parent

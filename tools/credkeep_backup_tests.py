@@ -19,7 +19,7 @@ import time
 from collections.abc import Callable, Iterator
 from concurrent.futures import ThreadPoolExecutor
 
-from credkeep_tests import RECORD, Ended, Keep, Room, begun, by_sqlite3, holds, main, same
+from credkeep.keep import RECORD, Ended, Keep, Room, begun, by_sqlite3, holds, main, same
 
 SALT = "c29tZXNhbHQ"
 Book = dict[str, str]

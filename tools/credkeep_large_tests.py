@@ -22,7 +22,7 @@ from collections.abc import Callable
 from concurrent.futures import ThreadPoolExecutor
 
 from credkeep_serve_tests import asked, fed, service
-from credkeep_tests import Keep, Room, begun, by_sqlite3, holds, main, same
+from credkeep.keep import Keep, Room, begun, by_sqlite3, holds, main, same
 from refuse_memory import build as refusing_shim
 
 ACCOUNTS = int(os.environ.get("RIGZUMAL_ACCOUNTS", "100000"))

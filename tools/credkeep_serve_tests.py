@@ -19,7 +19,7 @@ import time
 from collections.abc import Callable, Iterator
 from contextlib import contextmanager
 
-from credkeep_tests import Ended, Keep, Room, begun, holds, main, same
+from credkeep.keep import Ended, Keep, Room, begun, holds, main, same
 
 # More than a script may have.
 TWO_MIB = 2 * 1024 * 1024

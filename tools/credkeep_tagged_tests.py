@@ -22,7 +22,7 @@ import time
 from collections.abc import Callable
 from typing import Optional
 
-from credkeep_tests import CHEAP, RECORD, Keep, Room, begun, holds, main, same
+from credkeep.keep import CHEAP, RECORD, Keep, Room, begun, holds, main, same
 from refuse_memory import build as refusing_shim
 
 # The checker alone: its package needs the built library.

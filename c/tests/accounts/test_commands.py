@@ -96,6 +96,23 @@ class Commands(Base):
     def count(self):
         return self.conn.execute("SELECT count(*) FROM accounts").fetchone()[0]
 
+    def test_records_of_other_schemes_are_taken_if_asked_for(self):
+        self.run_command("init")
+        record, ours = "$2y$05$" + "a" * 53, LOW.hash("one")
+        file = self.names(f"ann {record}", f"bob {ours}", f"cid {'x' * 512}")
+        self.assertIn("line 1:", self.run_command("import", file, status=2))
+        self.assertEqual(self.count(), 0)
+        for count in ("3 added, 0", "0 added, 3"):
+            said = self.run_command("import", "--foreign", file)
+            self.assertEqual(said, f"{count} there already\n")
+        self.assertEqual(self.stands("ann"), record)
+        self.assertEqual(self.stands("bob"), ours)
+        for bad in ("x" * 513, "a\u00e9", "a\0b", "a\tb", "a\x7f", ""):
+            file = self.names(f"eve {ours}", f"dan {bad}")
+            said = self.run_command("import", "--foreign", file, status=2)
+            self.assertIn("line 2:", said)
+        self.assertEqual(self.count(), 3)
+
     def test_a_bad_line_anywhere_imports_nothing(self):
         """All lines are read before the first is put, past every batch too."""
         self.run_command("init")

@@ -4,7 +4,8 @@
     add NAME       adds an account with a password
     check NAME     writes yes, or no with status 1
     reset NAME     gives an account another password
-    import FILE    adds accounts out of lines "NAME RECORD"; what is there stays
+    import FILE    adds accounts out of lines "NAME RECORD"; what is there stays.
+                   With --foreign records of other schemes too, for a hook to judge
     list           writes each account and what its record is made by
     examine        says what is wrong with the table and the server
     torture        runs many processes at once, and judges their history
@@ -22,6 +23,7 @@ import argparse
 import getpass
 import os
 import pathlib
+import re
 import shutil
 import sys
 import time
@@ -43,6 +45,9 @@ from rigzumal.accounts.pools import PerThread
 
 BATCH = 500
 """Lines of an import that are committed together."""
+
+FOREIGN = re.compile("[!-~]{1,512}")
+"""A record of another scheme that a column of ours holds."""
 
 
 DRIVERS = ("sqlite3", "psycopg", "pymysql")
@@ -116,7 +121,11 @@ def _words() -> argparse.ArgumentParser:
     command("add", _Command.add).add_argument("name")
     command("check", _Command.check).add_argument("name")
     command("reset", _Command.reset).add_argument("name")
-    command("import", _Command.take).add_argument("file", type=pathlib.Path)
+    taken = command("import", _Command.take)
+    taken.add_argument("file", type=pathlib.Path)
+    taken.add_argument(
+        "--foreign", action="store_true", help="take records that your hook judges"
+    )
     command("list", _Command.show)
     command("examine", _Command.examine)
     tortured = command("torture", _Command.torture)
@@ -256,7 +265,8 @@ class _Command:
             try:
                 parts(record)
             except InvalidRecordError as fault:
-                raise Refusal(f"line {number}: {_why(record, fault)}") from None
+                if not (self.given.foreign and FOREIGN.fullmatch(record)):
+                    raise Refusal(f"line {number}: {_why(record, fault)}") from None
             yield key, record
 
     def _batch(self, accounts: Accounts, batch: Sequence[tuple[Key, str]]) -> list[str]:

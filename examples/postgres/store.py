@@ -1,0 +1,42 @@
+"""The accounts of a service whose web servers share one PostgreSQL.
+
+Each web server makes one Store for all of its threads. `make_table` is run once.
+"""
+
+import psycopg
+from psycopg_pool import ConnectionPool
+from rigzumal import PasswordHasher
+from rigzumal.accounts import Accounts, Postgres, Reply
+
+TABLE = 'CREATE TABLE users (email text COLLATE "C" PRIMARY KEY, record varchar(512))'
+ADD = "INSERT INTO users (email) VALUES (%s) ON CONFLICT DO NOTHING"
+
+
+def make_table(dsn: str) -> None:
+    with psycopg.connect(dsn) as conn:
+        conn.execute(TABLE)
+
+
+class Store:
+    """Raises what Accounts raises, Unavailable above all if no server answers in time."""
+
+    def __init__(self, dsn: str) -> None:
+        self.pool = ConnectionPool(dsn, kwargs={"autocommit": True}, open=True)
+        columns = Postgres("users", "email", "record")
+        self.accounts = Accounts(self.pool.connection, columns, PasswordHasher())
+        for fault in self.accounts.examine():
+            raise SystemExit(fault)
+
+    def sign_up(self, email: str, password: str) -> bool:
+        """False if the address is taken."""
+        with self.pool.connection() as conn:
+            conn.execute(ADD, [email])
+        return self.accounts.enrol(email, password) is Reply.ENROLLED
+
+    def log_in(self, email: str, password: str) -> bool:
+        """A record of old costs is replaced by the same comparison."""
+        return self.accounts.login(email, password) is Reply.YES
+
+    def change(self, email: str, old: str, new: str) -> bool:
+        """False if the old password is wrong."""
+        return self.accounts.change(email, old, new) is Reply.REPLACED

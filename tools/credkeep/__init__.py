@@ -1,0 +1,1 @@
+"""The tests of `credkeep` by subject; credkeep_tests.py runs them."""
