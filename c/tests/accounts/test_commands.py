@@ -105,8 +105,8 @@ class Commands(Base):
         for count in ("3 added, 0", "0 added, 3"):
             said = self.run_command("import", "--foreign", file)
             self.assertEqual(said, f"{count} there already\n")
-        self.assertEqual(self.stands("ann"), record)
-        self.assertEqual(self.stands("bob"), ours)
+        found = self.conn.execute("SELECT name, record FROM accounts").fetchall()
+        self.assertEqual(dict(found), {"ann": record, "bob": ours, "cid": "x" * 512})
         for bad in ("x" * 513, "a\u00e9", "a\0b", "a\tb", "a\x7f", ""):
             file = self.names(f"eve {ours}", f"dan {bad}")
             said = self.run_command("import", "--foreign", file, status=2)
