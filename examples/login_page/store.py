@@ -5,85 +5,71 @@ from __future__ import annotations
 import contextlib
 import hashlib
 import math
-import os
 import pathlib
 import secrets
 import sqlite3
 import time
-from collections.abc import Callable, Iterator
+from collections.abc import Iterator
 from typing import Any, Optional
 
 from rigzumal import PasswordHasher
-from rigzumal.accounts import Accounts, Kind, PerThread, Postgres, Reply, Request, Sqlite, Ticket
+from rigzumal.accounts import Accounts, Dialect, Kind, PerThread, Postgres, Reply, Request
+from rigzumal.accounts import Sqlite, Ticket
+from werkzeug.exceptions import TooManyRequests
 
-TABLES = """
-CREATE TABLE IF NOT EXISTS account (name TEXT PRIMARY KEY, record TEXT);
-CREATE TABLE IF NOT EXISTS session (token TEXT PRIMARY KEY, name TEXT NOT NULL,
-    until DOUBLE PRECISION NOT NULL, has_note INTEGER NOT NULL);
-CREATE INDEX IF NOT EXISTS session_name ON session (name);
-CREATE TABLE IF NOT EXISTS try
-    (what TEXT NOT NULL, at DOUBLE PRECISION NOT NULL, ticket TEXT NOT NULL);
-CREATE INDEX IF NOT EXISTS try_what ON try (what, at)
-"""
+TABLES = pathlib.Path(__file__).with_name("tables.sql")
 LASTS = 12 * 3600  # a session, in seconds
 WINDOW = 15 * 60  # in which tries are counted, in seconds
 TRIES = {"account": 10, "session": 10, "address": 50, "signup": 50}
-
-
-class TooManyTries(Exception):
-    """An account, a session or an address has had its tries; it has more after seconds."""
-
-    def __init__(self, seconds: int) -> None:
-        self.seconds = seconds
+GOOD = {Reply.ENROLLED, Reply.KEPT, Reply.UPGRADED, Reply.REPLACED}
 
 
 class Store:
     """The tables, and what is done with them."""
 
     def __init__(self, database: str, hasher: PasswordHasher) -> None:
-        self._postgres = database.startswith(("postgres:", "postgresql:"))
-        if self._postgres:
+        self._lost: Any = ()  # what says that the server has closed a connection
+        if database.startswith(("postgres:", "postgresql:")):
             import psycopg
 
-            self._lost: type[Exception] = psycopg.OperationalError
+            self._lost = psycopg.OperationalError
             self._pool = PerThread(lambda: psycopg.connect(database, autocommit=True))
+            self._dialect: Dialect = Postgres("account", "name", "record")
         else:
-            self._lost = ConnectionError  # a file's isn't
-            make_private(pathlib.Path(database))
             self._pool = PerThread(lambda: _sqlite(database))
-        dialect = (Postgres if self._postgres else Sqlite)("account", "name", "record", str)
+            self._dialect = Sqlite("account", "name", "record")
         with self._pool() as conn:
-            for statement in TABLES.split(";"):
+            for statement in TABLES.read_text().split(";"):
                 conn.execute(statement)
-        self._accounts = Accounts(self._pool, dialect, hasher)
+        self._accounts = Accounts(self._pool, self._dialect, hasher)
         for fault in self._accounts.examine():
-            raise SystemExit(f"{database}: {fault}")
+            raise SystemExit(f"the database won't do: {fault}")
 
-    def add(self, name: str) -> None:
-        """An account without a record, if there is none of the name."""
-        self._do("INSERT INTO account (name) VALUES (?) ON CONFLICT DO NOTHING", name)
-
-    def decide(self, request: Request, good: list[Reply], old: str, new: str) -> Reply:
-        """Does the operation. With a good reply the new token is a session in the place
-        of the old one, in one transaction: both stand, or neither."""
+    def enter(self, request: Request, old: str) -> Optional[str]:
+        """Does the operation. After a good reply a new session stands in the place of the old
+        one, put in the same transaction: both stand, or neither. The answer is its token."""
+        if request.kind is Kind.ENROL:
+            insert = "INSERT INTO account (name) VALUES (?) ON CONFLICT DO NOTHING"
+            self._do(insert, request.key)
         ticket = self._accounts.begin(request)
         while True:
             worked = self._accounts.work(ticket)
             with self._transaction() as conn:
                 answer = self._accounts.commit_in(conn, worked)
-                if answer.reply in good:
-                    self._begin_session(conn, request, old, new)
+                if answer.reply in GOOD:
+                    return self._begin_session(conn, request, old)
             if answer.reply is not Reply.CHANGED:
-                return answer.reply
+                return None
             ticket = Ticket(request, answer.after)
 
-    def _begin_session(self, conn: Any, request: Request, old: str, new: str) -> None:
-        now, changes = time.time(), request.kind is Kind.CHANGE
+    def _begin_session(self, conn: Any, request: Request, old: str) -> str:
+        token, now, changes = secrets.token_urlsafe(), time.time(), request.kind is Kind.CHANGE
         self._in(conn, "DELETE FROM session WHERE token = ? OR until <= ?", _hash(old), now)
         if changes:
             self._in(conn, "DELETE FROM session WHERE name = ?", request.key)
-        values = (_hash(new), request.key, now + LASTS, int(changes))
+        values = (_hash(token), request.key, now + LASTS, int(changes))
         self._in(conn, "INSERT INTO session VALUES (?, ?, ?, ?)", *values)
+        return token
 
     def who(self, token: str) -> Optional[str]:
         """The name whose session this is."""
@@ -93,11 +79,8 @@ class Store:
 
     def take_note(self, token: str) -> bool:
         """Whether the session is to be told, once, that the password was changed."""
-        query = "SELECT has_note FROM session WHERE token = ? AND has_note = 1"
-        found = self._do(query, _hash(token))
-        if found:
-            self._do("UPDATE session SET has_note = 0 WHERE token = ?", _hash(token))
-        return bool(found)
+        query = "UPDATE session SET has_note = 0 WHERE token = ? AND has_note = 1 RETURNING 1"
+        return bool(self._do(query, _hash(token)))
 
     def end(self, token: str) -> None:
         """Ends a session."""
@@ -106,27 +89,21 @@ class Store:
     def count(self, **tried: str) -> str:
         """Counts a try before its password is hashed, so that many at once count too.
 
-        Returns:
-            A ticket, by which a try that was right is forgiven.
-
-        Raises:
-            TooManyTries: one of them has had its tries. What is refused isn't counted.
+        What is refused, by TooManyRequests, isn't counted. The answer is a ticket, by which
+        a try that was right is forgiven.
         """
-        return self._again(lambda: self._count(tried))
-
-    def _count(self, tried: dict[str, str]) -> str:
         ticket, now = secrets.token_urlsafe(), time.time()
-        whats = {kind: _hash(f"{kind} {what}") for kind, what in tried.items()}
+        limits = {_hash(f"{kind} {what}"): TRIES[kind] for kind, what in tried.items()}
         with self._transaction() as conn:
-            if self._postgres:
+            if isinstance(self._dialect, Postgres):
                 conn.execute("LOCK TABLE try IN EXCLUSIVE MODE")
             self._in(conn, "DELETE FROM try WHERE at <= ?", now - WINDOW)
-            for kind, what in whats.items():
-                found = self._in(conn, "SELECT at FROM try WHERE what = ? ORDER BY at DESC", what)
-                if len(found) >= TRIES[kind]:
-                    first = found[TRIES[kind] - 1][0] if TRIES[kind] else now
-                    raise TooManyTries(math.ceil(first + WINDOW - now))
-            for what in whats.values():
+            for what, limit in limits.items():
+                query = "SELECT count(*), min(at) FROM try WHERE what = ?"
+                ((tries, first),) = self._in(conn, query, what)
+                if tries >= limit:
+                    raise TooManyRequests(retry_after=math.ceil(first + WINDOW - now))
+            for what in limits:
                 self._in(conn, "INSERT INTO try VALUES (?, ?, ?)", what, now, ticket)
         return ticket
 
@@ -137,33 +114,22 @@ class Store:
 
     @contextlib.contextmanager
     def _transaction(self) -> Iterator[Any]:
+        # After an exception the pool closes the connection, which undoes what is open.
         with self._pool() as conn:
-            conn.execute("BEGIN" if self._postgres else "BEGIN IMMEDIATE")
-            try:
-                yield conn
-            except BaseException:
-                conn.execute("ROLLBACK")
-                raise
+            conn.execute(self._dialect.begin)
+            yield conn
             conn.execute("COMMIT")
 
-    def _again(self, act: Callable[[], Any]) -> Any:
-        """Does it on a new connection if the server has closed the one of this thread."""
-        try:
-            return act()
-        except self._lost:
-            return act()
-
     def _do(self, query: str, *values: Any) -> list[Any]:
-        def act() -> list[Any]:
-            with self._pool() as conn:
-                return self._in(conn, query, *values)
-
-        return self._again(act)
+        """A statement by itself; once more if the connection of this thread was closed."""
+        with contextlib.suppress(self._lost), self._pool() as conn:
+            return self._in(conn, query, *values)
+        with self._pool() as conn:
+            return self._in(conn, query, *values)
 
     def _in(self, conn: Any, query: str, *values: Any) -> list[Any]:
-        query = query.replace("?", "%s") if self._postgres else query
-        cursor = conn.execute(query, values)
-        return cursor.fetchall() if cursor.description else []
+        cursor = conn.execute(query.replace("?", self._dialect.mark), values)
+        return list(cursor) if cursor.description else []
 
 
 def _hash(text: str) -> str:
@@ -172,15 +138,12 @@ def _hash(text: str) -> str:
     return hashlib.sha256(text.encode()).hexdigest()
 
 
-def make_private(file: pathlib.Path) -> None:
-    """Makes a file, and its folder, for their owner alone; SQLite's others are as this one."""
-    file.parent.mkdir(mode=0o700, parents=True, exist_ok=True)
-    opened = os.open(file, os.O_RDWR | os.O_CREAT, 0o600)
-    os.fchmod(opened, 0o600)
-    os.close(opened)
-
-
 def _sqlite(database: str) -> sqlite3.Connection:
+    """A connection. The file, its folder, and what SQLite adds, are for their owner alone."""
+    file = pathlib.Path(database)
+    file.parent.mkdir(mode=0o700, parents=True, exist_ok=True)
+    file.touch(mode=0o600)
+    file.chmod(0o600)
     conn = sqlite3.connect(database, isolation_level=None, timeout=30)
     conn.execute("PRAGMA journal_mode = WAL")
     conn.execute("PRAGMA synchronous = FULL")

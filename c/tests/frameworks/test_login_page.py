@@ -37,6 +37,7 @@ from selenium.webdriver.chrome.service import Service
 from selenium.webdriver.common.by import By
 from selenium.webdriver.support.ui import WebDriverWait
 from waitress import wasyncore
+from werkzeug.test import create_environ
 
 from rigzumal import PasswordHasher
 from rigzumal.accounts import Accounts, Kind
@@ -160,18 +161,22 @@ class Direct:
     """What a server hands to the application, of any address and by https."""
 
     def __init__(self, address="127.0.0.1", scheme="https"):
-        self.application = login_page.LoginPage(store.Store(DATABASE, CHEAP), b"secret")
-        self.environ = {"REMOTE_ADDR": address, "wsgi.url_scheme": scheme}
+        self.application = login_page.application(store.Store(DATABASE, CHEAP), b"secret")
+        place = {"path": "/", "base_url": f"{scheme}://localhost/"}
+        self.environ = {**create_environ(**place), "REMOTE_ADDR": address}
         self.cookie = ""
 
     def ask(self, method, path, form=None):
         body = urllib.parse.urlencode(form or {}).encode()
         environ = {**self.environ, "REQUEST_METHOD": method, "PATH_INFO": path}
         environ.update({"CONTENT_LENGTH": str(len(body)), "wsgi.input": io.BytesIO(body)})
+        environ["CONTENT_TYPE"] = "application/x-www-form-urlencoded"
         environ["HTTP_COOKIE"] = self.cookie
         said = []
-        text = b"".join(self.application(environ, lambda *given: said.extend(given)))
-        self.text, self.headers = text.decode(), dict(said[1])
+        answer = self.application(environ, lambda *given: said.extend(given))
+        with contextlib.closing(answer):
+            self.text = b"".join(answer).decode()
+        self.headers = dict(said[1])
         self.cookie = self.headers.get("Set-Cookie", self.cookie).partition(";")[0]
         return int(said[0][:3])
 
@@ -323,7 +328,7 @@ class Page(unittest.TestCase):
         other = Client(self.port)
         self.assertEqual(other.login(self.name, OLD), 303)
         fault = mock.patch.object(store.Store, "_begin_session", side_effect=OSError("no"))
-        with fault, self.assertLogs("waitress") as said:
+        with fault, self.assertLogs("login_page") as said:
             self.assertEqual(self.ann.change(), 500)
         self.assertNotIn(NEW, str(said.output) + self.ann.text)
         self.assertTrue(other.is_in())
@@ -381,8 +386,8 @@ class Page(unittest.TestCase):
         self.assertEqual(fresh.login(self.name, OLD), 303)
         self.assertNotEqual(fresh.cookie, visitor)  # no cookie known before is a session
         name, _, token = fresh.cookie.partition("=")
-        flags = fresh.headers["Set-Cookie"].split("; ")[1:]
-        self.assertEqual((name, flags), ("login", ["Path=/", "HttpOnly", "SameSite=Lax"]))
+        flags = set(fresh.headers["Set-Cookie"].split("; ")[1:])
+        self.assertEqual((name, flags), ("login", {"Path=/", "HttpOnly", "SameSite=Lax"}))
         kept = [row[0] for row in self.rows("SELECT token FROM session WHERE name = ?", self.name)]
         self.assertIn(hashlib.sha256(token.encode()).hexdigest(), kept)
         self.assertTrue(all(len(it) == 64 for it in kept))
@@ -399,7 +404,8 @@ class Page(unittest.TestCase):
         self.assertEqual(direct.ask("GET", "/login"), 200)
         cookie = direct.headers["Set-Cookie"]
         self.assertTrue(cookie.startswith("__Host-login="), cookie)
-        self.assertTrue(cookie.endswith("; Path=/; HttpOnly; SameSite=Lax; Secure"), cookie)
+        flags = set(cookie.split("; ")[1:])
+        self.assertEqual(flags, {"Path=/", "HttpOnly", "SameSite=Lax", "Secure"})
         self.assertIn("max-age=31536000", direct.headers["Strict-Transport-Security"])
         self.assertEqual(direct.post("/login", name=self.name, password=OLD), 303)
         self.assertEqual(direct.ask("GET", "/"), 200)
@@ -413,7 +419,7 @@ class Page(unittest.TestCase):
         for path, kind in (
             ("/login", "text/html; charset=utf-8"),
             ("/nothing", "text/html; charset=utf-8"),
-            ("/style.css", "text/css"),
+            ("/style.css", "text/css; charset=utf-8"),
             ("/", "text/html; charset=utf-8"),
         ):
             self.ann.ask("GET", path)
@@ -435,9 +441,9 @@ class Page(unittest.TestCase):
         login = self.ann.text
         self.ann.ask("GET", "/signup")
         for text, field, kind, complete in (
-            (login, "name", None, "username"),
+            (login, "name", "text", "username"),
             (login, "password", "password", "current-password"),
-            (self.ann.text, "name", None, "username"),
+            (self.ann.text, "name", "text", "username"),
             (self.ann.text, "new", "password", "new-password"),
             (self.ann.text, "again", "password", "new-password"),
             (change, "old", "password", "current-password"),
@@ -453,21 +459,22 @@ class Page(unittest.TestCase):
     def test_bad_requests(self):
         for form, headers, status in (
             ("x" * 8193, {}, 413),
-            ("%ff=%ff", {}, 400),
+            (f"csrf={self.ann.csrf()}&password=%ff", {}, 400),
             ("", {"Content-Length": "x"}, 400),
             ("", {"Content-Length": "-1"}, 400),
-            ("name", {}, 400),
+            ("name", {}, 403),
         ):
             self.assertEqual(self.ann.ask("POST", "/login", form, headers), status, form)
         for method, path, status, methods in (
             ("GET", "/nothing", 404, None),
-            ("DELETE", "/", 405, "GET, HEAD"),
-            ("POST", "/style.css", 405, "GET, HEAD"),
-            ("OPTIONS", "/login", 405, "GET, HEAD, POST"),
-            ("PUT", "/change", 405, "GET, HEAD, POST"),
+            ("DELETE", "/", 405, "GET HEAD OPTIONS"),
+            ("POST", "/style.css", 405, "GET HEAD OPTIONS"),
+            ("OPTIONS", "/login", 200, "GET HEAD OPTIONS POST"),
+            ("PUT", "/change", 405, "GET HEAD OPTIONS POST"),
         ):
             self.assertEqual(self.ann.ask(method, path), status, path)
-            self.assertEqual(self.ann.headers["Allow"], methods)
+            allowed = self.ann.headers["Allow"]
+            self.assertEqual(allowed and " ".join(sorted(allowed.split(", "))), methods)
         for path in ("/", "/login", "/style.css"):
             self.assertEqual(self.ann.ask("GET", path), 200)
             size = self.ann.headers["Content-Length"]
@@ -619,7 +626,7 @@ class Page(unittest.TestCase):
     def test_an_error_shows_the_name_and_no_password(self):
         other = Client(self.port)
         self.assertEqual(other.login('<"Ann">', "a guess of mine"), 200)
-        self.assertIn('value="&lt;&quot;Ann&quot;&gt;"', other.text)
+        self.assertIn('value="&lt;&#34;Ann&#34;&gt;"', other.text)
         self.assertNotIn("a guess of mine", other.text)
         self.assertEqual(other.post("/signup", name="x y", new=NEW, again=OLD), 200)
         self.assertIn('value="x y"', other.text)
@@ -939,10 +946,11 @@ class Browsers(unittest.TestCase):
             self.fill(self.one, name="ada", password=NEW)
             self.assertEqual(self.heading(self.one), "Hello, ada")
             self.assertIsNone(self.one.execute_script("return document.cookie") or None)
-            with mock.patch.dict(store.TRIES, {"account": 0}):
+            with mock.patch.dict(store.TRIES, {"account": 1}):
                 self.one.delete_all_cookies()
                 self.go(self.one, port, "/login")
-                self.fill(self.one, name="ada", password=NEW)
+                for _ in range(2):
+                    self.fill(self.one, name="ada", password=OLD)
                 self.assertEqual(self.heading(self.one), "Sorry")
                 self.picture("too-many")
 

@@ -1,0 +1,48 @@
+"""Which names and passwords there may be."""
+
+from __future__ import annotations
+
+import re
+import unicodedata
+from collections.abc import Mapping
+
+from django.contrib.auth.password_validation import CommonPasswordValidator
+
+SHORTEST, LONGEST = 8, 256  # of a password: characters, and bytes in UTF-8
+NAME = re.compile("[A-Za-z0-9._-]{1,32}")
+COMMON = CommonPasswordValidator().passwords  # the 20,000 that are tried first
+
+
+def name_of(form: Mapping[str, str]) -> str:
+    """The name that was typed; "" if nobody can have it."""
+    name = form.get("name", "").strip()
+    return name.lower() if NAME.fullmatch(name) else ""
+
+
+def password_of(form: Mapping[str, str], field: str) -> str:
+    """A password that was typed; one that nobody can have is as wrong as none."""
+    password = opaque(form.get(field, ""))
+    return password if len(password.encode()) <= LONGEST else ""
+
+
+def opaque(typed: str) -> str:
+    """RFC 8265's form of a password: a keyboard's way to write it, and which space it has,
+    doesn't matter."""
+    spaced = "".join(" " if unicodedata.category(it) == "Zs" else it for it in typed)
+    return unicodedata.normalize("NFC", spaced)
+
+
+def faults(form: Mapping[str, str], name: str) -> dict[str, str]:
+    """What is amiss with a new password that was typed twice, by its field."""
+    new, again = (opaque(form.get(field, "")) for field in ("new", "again"))
+    size, plain = len(new.encode()), new.strip().lower()
+    if size > LONGEST:
+        return {"new": f"This is too long: {size} bytes, and {LONGEST} are possible. A plain"
+                " letter is one byte, and an emoji is four or more."}  # fmt: skip
+    if len(new) < SHORTEST:
+        return {"new": f"A password has at least {SHORTEST} characters."}
+    if len(set(plain)) < 3 or plain in COMMON or plain == name:
+        return {"new": "This password is one of the first that are guessed."}
+    if new != again:
+        return {"again": "The two passwords are not the same."}
+    return {}
