@@ -759,4 +759,145 @@ SHOWN = [
     ),
 ]
 
-BUGS = SESSIONS + TOKENS + TRIES + PASSWORDS + ANSWERS + SHOWN
+LIBRARIES = [
+    page(
+        "all visitors without a cookie are one",
+        "login_page.py",
+        "request.cookies.get(g.cookie) or secrets.token_urlsafe()",
+        'request.cookies.get(g.cookie) or "visitor"',
+        "test_two_strangers_have_two_tokens",
+    ),
+    page(
+        "log-out needs no token",
+        "login_page.py",
+        '    if request.method == "POST":\n        if not hmac',
+        '    if request.method == "POST" and request.path != "/logout":\n        if not hmac',
+        "test_csrf",
+    ),
+    page(
+        "a token of a query is taken",
+        "login_page.py",
+        'request.form.get("csrf", "").encode(), g.csrf',
+        'request.values.get("csrf", g.csrf).encode(), g.csrf',
+        "test_csrf",
+    ),
+    page(
+        "the change is shown to whoever isn't logged in",
+        "login_page.py",
+        'request.path in ("/", "/change")',
+        'request.path in ("/",)',
+        "test_who_may_see_what",
+    ),
+    page(
+        "a change is a reset",
+        "login_page.py",
+        "Request(Kind.CHANGE, g.name, old, new)",
+        'Request(Kind.RESET, g.name, b"", new)',
+        "test_a_change_that_fails",
+    ),
+    page(
+        "to sign up with a name that is taken logs in",
+        "store.py",
+        "GOOD = {Reply.ENROLLED,",
+        "GOOD = {Reply.ENROLLED, Reply.EXISTS,",
+        "test_sign_up",
+    ),
+    page(
+        "each session is told of a change",
+        "store.py",
+        "now + LASTS, int(changes))",
+        "now + LASTS, 1)",
+        "test_a_change_is_said_once_and_to_its_browser",
+    ),
+    page(
+        "the last try says when to try again",
+        "store.py",
+        "SELECT count(*), min(at)",
+        "SELECT count(*), max(at)",
+        "test_when_to_try_again",
+    ),
+    page(
+        "tries stay",
+        "store.py",
+        '            self._in(conn, "DELETE FROM try WHERE at <= ?", now - WINDOW)\n',
+        "",
+        "test_a_limit_of_tries",
+    ),
+    page(
+        "the sources and the database are sent",
+        "login_page.py",
+        'static_url_path="")',
+        'static_folder=".", static_url_path="")',
+        "test_no_file_but_the_style_is_sent",
+    ),
+    page(
+        "the application takes a form of any size",
+        "login_page.py",
+        ", MAX_CONTENT_LENGTH=FORM)",
+        ")",
+        "test_a_form_is_short_whatever_the_server",
+    ),
+    page(
+        "any header of a proxy is believed",
+        "login_page.py",
+        "    app.register_blueprint(pages)\n",
+        "    app.register_blueprint(pages)\n"
+        "    from werkzeug.middleware.proxy_fix import ProxyFix\n\n"
+        "    app.wsgi_app = ProxyFix(app.wsgi_app, x_for=0)\n",
+        "test_by_https",
+    ),
+    page(
+        "the cookie lasts for years",
+        "login_page.py",
+        "httponly=True,",
+        "httponly=True, max_age=10**8,",
+        "test_cookies",
+    ),
+    page(
+        "bytes that are no text are a password",
+        "login_page.py",
+        'if any("\\N{REPLACEMENT CHARACTER}" in it for it in request.form.values())',
+        "if False",
+        "test_bad_requests",
+    ),
+    page(
+        "a new password is shown again",
+        "templates/field.html",
+        'field("new", label, hint, type="password"',
+        'field("new", label, hint, type="password", value=request.form.new',
+        "test_an_error_shows_the_name_and_no_password",
+    ),
+    page(
+        "a password of the greatest size is as none",
+        "passwords.py",
+        "if len(password.encode()) <= LONGEST",
+        "if len(password.encode()) < LONGEST",
+        "test_passwords_that_will_not_do",
+    ),
+    page(
+        "a login leaves the record as it is",
+        "store.py",
+        "        ticket = self._accounts.begin(request)\n",
+        "        if request.kind is Kind.UPGRADE:\n"
+        "            request = Request(Kind.VERIFY, request.key, request.password)\n"
+        "            GOOD.add(Reply.YES)\n"
+        "        ticket = self._accounts.begin(request)\n",
+        "test_a_login_makes_a_record_of_less_anew",
+    ),
+    page(
+        "a login ends all other sessions",
+        "store.py",
+        "        if changes:\n",
+        "        if True:\n",
+        "test_a_login_makes_a_record_of_less_anew",
+    ),
+    shown(
+        "the focus isn't at the first error",
+        "login_page.py",
+        'and . _ -", **errors}',
+        'and . _ -"} | errors\n        errors = dict(reversed(errors.items()))',
+        "test_a_walk",
+    ),
+]
+
+BUGS = SESSIONS + TOKENS + TRIES + PASSWORDS + ANSWERS + SHOWN + LIBRARIES

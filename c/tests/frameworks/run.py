@@ -4,10 +4,10 @@
 
 What a test needs and this machine doesn't have is named, and the test is skipped. Nothing
 is installed. Debian's packages for all of it: python3-django, python3-psycopg2,
-python3-psycopg, python3-argon2, python3-passlib, python3-waitress, python3-selenium,
-chromium, chromium-driver, postgresql, php-cli, php-sqlite3, php-laravel-framework,
-php-symfony-security-http, php-symfony-password-hasher, apache2-utils, dovecot-core,
-python3-bcrypt, mypy. Django's own tests stand in its source package: DJANGO_SOURCE names
+python3-psycopg, python3-argon2, python3-passlib, python3-flask, python3-waitress,
+python3-selenium, chromium, chromium-driver, postgresql, php-cli, php-sqlite3,
+php-laravel-framework, php-symfony-security-http, php-symfony-password-hasher,
+apache2-utils, dovecot-core, python3-bcrypt, mypy. Django's own tests stand in its source package: DJANGO_SOURCE names
 the folder that `apt-get source python3-django` makes.
 """
 
@@ -219,7 +219,7 @@ def test_passlibs_own():
 def login_page(*names, **env):
     program("chromedriver")
     program("chromium")
-    need("selenium", "waitress", "django")
+    need("selenium", "flask", "waitress", "django")
     text = python("test_login_page.py", *names, **env)
     told = [line for line in text.splitlines() if re.search("median|the thief|^Ran", line)]
     return " | ".join(told)
@@ -293,12 +293,15 @@ def test_layout():
 
 
 def test_types():
-    """mypy --strict, as far as Django and passlib, which have no stubs here, let it."""
+    """mypy --strict, as far as libraries that have no stubs here let it."""
     program("mypy")
-    need("django", "passlib")
-    files = ["rigzumal/django", "rigzumal/passlib.py"]
+    need("django", "passlib", "flask")
     strict = ["--strict", "--ignore-missing-imports", f"--cache-dir={ROOM}/mypy"]
-    return run("mypy", *strict, *files, cwd=PYTHON)
+    said = run("mypy", *strict, "rigzumal/django", "rigzumal/passlib.py", cwd=PYTHON)
+    # Of waitress it knows that there are stubs, which nobody needs to have.
+    strict.append("--disable-error-code=import")
+    page = TOP.parent / "examples/login_page"
+    return said + " | " + run("mypy", *strict, "login_page.py", cwd=page, MYPYPATH=PYTHON)
 
 
 def main(names):

@@ -368,6 +368,11 @@ class Page(unittest.TestCase):
         self.assertTrue(self.ann.is_in())
         self.assertEqual(Client(self.port).login(self.name, OLD), 303)
 
+    def test_two_strangers_have_two_tokens(self):
+        """Who has no cookie yet isn't everybody who has none."""
+        tokens = {Client(self.port).csrf() for _ in range(3)}
+        self.assertEqual(len(tokens), 3)
+
     def test_no_server_knows_anothers_tokens(self):
         """Without SECRET each draws its own, and with it they have one."""
         tokens = []
@@ -411,6 +416,9 @@ class Page(unittest.TestCase):
         self.assertEqual(direct.ask("GET", "/"), 200)
         direct.environ["wsgi.url_scheme"] = "http"
         self.assertEqual(direct.ask("GET", "/"), 303)  # which isn't Secure's
+        self.assertNotIn("Strict-Transport-Security", direct.headers)
+        direct.environ["HTTP_X_FORWARDED_PROTO"] = "https"
+        self.assertEqual(direct.ask("GET", "/"), 303)
         self.assertNotIn("Strict-Transport-Security", direct.headers)
 
     def test_headers(self):
@@ -483,6 +491,32 @@ class Page(unittest.TestCase):
         self.ann.cookie = 'login="\x01; =;'
         self.assertFalse(self.ann.is_in())
 
+    def test_a_form_is_short_whatever_the_server(self):
+        direct = Direct()
+        given = {"name": self.name, "password": "x" * 9000}
+        self.assertEqual(direct.post("/login", **given), 413)
+        self.assertIn("too long", direct.text)
+
+    def test_no_file_but_the_style_is_sent(self):
+        """Neither a source, nor what is kept."""
+        folder = TOP / "examples/login_page"
+        for file in ("login_page.py", "store.py", "templates/frame.html", "README.md"):
+            self.assertTrue((folder / file).exists())
+            for path in (f"/{file}", f"/../{file}", f"/%2e%2e/{file}", f"/..%2f{file}"):
+                self.assertEqual(self.ann.ask("GET", path), 404, path)
+                self.assertNotIn("import", self.ann.text)
+
+    def test_a_login_makes_a_record_of_less_anew(self):
+        """And ends no other session."""
+        with serving(DEARER) as port:
+            other = Client(port)
+            for password, status, memory in ((NEW, 200, "m=64,"), (OLD, 303, "m=128,")):
+                self.assertEqual(other.login(self.name, password), status)
+                (row,) = self.rows("SELECT record FROM account WHERE name = ?", self.name)
+                self.assertIn(memory, row[0])
+            self.assertTrue(other.is_in())
+            self.assertTrue(self.ann.is_in())
+
     def test_a_limit_of_tries(self):
         """Ten wrong ones of an account; the name counts, however it is typed."""
         guesser, begun = Client(self.port), time.time()
@@ -500,6 +534,20 @@ class Page(unittest.TestCase):
             self.assertEqual(Client(self.port).login(self.name, OLD), 303)
             for _ in range(10):
                 self.assertEqual(guesser.login(self.name, NEW), 200)
+
+    def test_when_to_try_again(self):
+        """When the first of ten tries is a quarter of an hour old, and one more is left."""
+        guesser, begun = Client(self.port), time.time()
+        for minute in range(10):
+            with self.at(begun + 60 * minute):
+                self.assertEqual(guesser.login(self.name, NEW), 200)
+        with self.at(begun + 60 * 9):
+            self.assertEqual(guesser.login(self.name, NEW), 429)
+            self.assertEqual(guesser.headers["Retry-After"], "360")
+            self.assertIn("in 6 minutes.", guesser.text)
+        with self.at(begun + 60 * 15 + 1):
+            said = [guesser.login(self.name, NEW) for _ in range(2)]
+            self.assertEqual(said, [200, 429])
 
     def test_a_right_login_forgives_its_account(self):
         for _ in range(3):
@@ -605,6 +653,7 @@ class Page(unittest.TestCase):
         with mock.patch.dict(store.TRIES, {"address": 5}):
             for turn in range(6):
                 direct.environ["HTTP_X_FORWARDED_FOR"] = f"10.3.1.{turn}"
+                direct.environ["HTTP_FORWARDED"] = f"for=10.3.1.{turn}"
                 said = direct.post("/login", name=f"{self.name}{turn}", password=NEW)
                 self.assertEqual(said, 200 if turn < 5 else 429)
 
