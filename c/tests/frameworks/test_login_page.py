@@ -881,7 +881,7 @@ class Program(unittest.TestCase):
 
     def test_a_login_that_is_worked_is_answered(self):
         """At SIGTERM; its costs are high enough that the signal comes amid the hash."""
-        with started(self.folder, MEMORY="65536") as (process, port):
+        with started(self.folder, MEMORY="16384") as (process, port):
             ann, said = Client(port), []
             self.assertEqual(ann.sign_up("ann"), 303)
             csrf = ann.csrf("/change")
