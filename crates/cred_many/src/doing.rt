@@ -1,6 +1,6 @@
 //! What is done in one go, without hashing.
 
-ghost use Rattle.std.specs.Prelude.{◌≡◌, IfOk, OnErr, OnOk};
+ghost use Rattle.std.specs.Prelude.{◌≡◌, IfOk, OnErr, OnOk, true};
 ghost use Rattle.cred_book.specs.declared.error.BookError.{BookError};
 ghost use Rattle.std.specs.FinMap as map;
 ghost use Rattle.cred_cli.specs.History.{Refused, Replied, Shown};
@@ -66,7 +66,8 @@ pub(crate) fn do_ask<T: Wait, K: Keeper>(
     }
 }
 
-/// Gives the account this record, in place of any other. If memory runs out the book stays.
+/// Gives the account this record, in place of any other. If memory runs out the book stays; it runs
+/// out only if the account is there.
 pub(crate) fn put_in_place<T: Wait, K: Keeper>(
     rt: &T,
     keeper: &mut K,
@@ -76,6 +77,7 @@ pub(crate) fn put_in_place<T: Wait, K: Keeper>(
     ensures done { IfOk result (λ reply. (Replied reply, K.book keeper.new)
         ≡ reset_at (K.book keeper.old) name.now stored (map.get (K.book keeper.old) name.now)) }
     ensures refused { OnErr result (K.book keeper.new ≡ K.book keeper.old) }
+    ensures there { OnErr result (map.contains_key (K.book keeper.old) name.now ≡ true) }
 {
     let reply = match keeper.show(name) {
         Ok(None) => Reply::Enrolled,
