@@ -12,7 +12,7 @@ it only appends to, a line for each change. In the environment BOOK_FAULTS has w
     dies=N          it ends with status 5 once it has N answers, amid another, whose line end is missing
     killed=N        the same, by a signal
     mute=WORD       lines with this operation are never answered
-    endless         its second answer has no end
+    endless         its first answer to a verify has no end
     answers=TEXT    each verify is answered by TEXT
     loses=N         each Nth change is answered, and not kept
 
@@ -169,14 +169,14 @@ class Faults:
         if "slow" in self.all and operation not in ("show", "account", "list"):
             time.sleep(float(self.all["slow"]))
 
-    def write(self, tag: str, said: str) -> None:
+    def write(self, operation: str, tag: str, said: str) -> None:
         """Writes an answer, or what comes in its place."""
         self.written += 1
         for word, ends in (("dies", lambda: os._exit(5)), ("killed", lambda: os.kill(os.getpid(), signal.SIGKILL))):
             if word in self.all and self.written > int(self.all[word]):
                 os.write(1, f"{tag} {said}".encode())
                 ends()
-        if "endless" in self.all and self.written > 1:
+        if "endless" in self.all and operation == "verify":
             os.write(1, b"x" * (4 << 20))
         if "garbage" in self.all:
             os.write(1, random.choice([b"\n", b"yes\n", b"* yes\n", b"0 yes\n", b"-1 yes\n", b"99999999 yes\n", b"\xff\x00 yes\n"]))
@@ -199,7 +199,7 @@ def serve(path: str, options: dict[str, str]) -> None:
                 continue
             with output:
                 said = book.answer(words)
-                faults.write(tag, faults.all.get("answers", said) if words[0] == "verify" else said)
+                faults.write(words[0], tag, faults.all.get("answers", said) if words[0] == "verify" else said)
 
     threads = [threading.Thread(target=work) for _ in range(int(options.get("--at-once", "4")))]
     for thread in threads:

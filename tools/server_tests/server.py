@@ -9,6 +9,7 @@ skipped by name for others.
 
 from __future__ import annotations
 
+import asyncio
 import base64
 import concurrent.futures
 import importlib.util
@@ -28,6 +29,7 @@ import time
 from collections.abc import Callable, Iterator
 from contextlib import contextmanager
 from importlib.machinery import SourceFileLoader
+from typing import Any
 
 from common import TOP, PYTHON, Client, Skipped, Service, command, Given, field_of, holds, need, need_root, run_tests, same, serving, until
 
@@ -532,14 +534,20 @@ def later_by_uid() -> None:
             same(as_user(33, 33, path, f"verify ada {SECRET}"), "yes")
 
 
-def failures_are_bounded() -> None:
-    """What is remembered of failed tries has a bound, and the oldest go first."""
+def program() -> Any:
+    """The server's program as a module."""
     loader = SourceFileLoader("credkeep_server", os.environ.get("CREDKEEP_SERVER", str(TOP / "bin/credkeep-server")))
     spec = importlib.util.spec_from_loader("credkeep_server", loader)
     assert spec
     module = importlib.util.module_from_spec(spec)
     sys.modules["credkeep_server"] = module
     loader.exec_module(module)
+    return module
+
+
+def failures_are_bounded() -> None:
+    """What is remembered of failed tries has a bound, and the oldest go first."""
+    module = program()
     server = module.Server.__new__(module.Server)
     server.failed = {}
     for number in range(70000):
@@ -610,6 +618,38 @@ def book_ends() -> None:
             holds(idle.is_ended(), "it goes on")
             same(service.process.wait(timeout=40), ought, faults)
             holds(f"end: status {ought}" in service.log(), service.log())
+
+
+def clients_that_come_too_late() -> None:
+    """Once it is ending, who comes is told and closed: none is waited for, however its line falls."""
+    module = program()
+
+    async def told() -> bytes:
+        server = module.Server.__new__(module.Server)
+        server.ending, server.clients = True, set()
+        ours, theirs = socket.socketpair()
+        theirs.sendall(b"a known ada\n")
+        reader, writer = await asyncio.open_connection(sock=ours)
+        await asyncio.wait_for(server.serve(("login", frozenset()), reader, writer), 10)
+        with theirs:
+            theirs.settimeout(10)
+            loop = asyncio.get_running_loop()
+            return b"".join([await loop.run_in_executor(None, theirs.recv, 100) for _ in range(2)])
+
+    same(asyncio.run(told()), b"* unavailable\n")
+
+
+def listening_fails() -> None:
+    """What can't be listened at ends it with a cause, and the book in order."""
+    need("systemd-socket-activate")
+    with tempfile.TemporaryDirectory() as room:
+        words = ("systemd-socket-activate", "--datagram", "--fdname=login:admin", "-l", f"{room}/a", "-l", f"{room}/b")
+        with serving(before=words, folder=pathlib.Path(room), waits=False) as service:
+            with socket.socket(socket.AF_UNIX, socket.SOCK_DGRAM) as it:
+                until(lambda: it.connect_ex(f"{room}/a") == 0, "a socket")
+                it.send(b"a known ada\n")
+            same(service.process.wait(timeout=40), 1)
+            holds("ValueError: A Stream Socket was expected" in service.log(), service.log())
 
 
 def no_book() -> None:
@@ -824,6 +864,8 @@ def mail_names() -> None:
             "refused names were asked",
         )
         same(admin.ask("account e.short"), "ok")
+        for size, ought in ((886, "bad 11 line"), (887, "bad 16 long")):  # names that are hashed make a line longer
+            same(admin.ask(f"rename a@b c@d {'x' * size}"), ought)
     with serving("--mail-names", "--fold-local-part") as service:
         admin = service.client("admin")
         same((admin.ask("account Ada@Example.org"), admin.ask("account ada@example.ORG")), ("ok", "bad 1 exists"))
@@ -862,8 +904,8 @@ def types_and_size() -> None:
 TESTS = [operations_by_socket, sockets_of_its_own, default_sockets, modes, other_users, paths_that_are_taken, tags]
 TESTS += [answers_find_their_lines, answers_that_are_none, long_lines, half_lines, pieces_and_many_in_one, noise, in_flight]
 TESTS += [too_many_clients, idle_clients, slow_readers, turns, beside_hostile_clients, later, later_for_each_operation, guesses_at_once]
-TESTS += [later_by_uid, failures_are_bounded, ends_in_order, hangs_up, book_ends, no_book, front_is_killed, notices]
-TESTS += [sockets_handed_over, logs, upgrades, mail_names, later_by_the_books_name, types_and_size]
+TESTS += [later_by_uid, failures_are_bounded, ends_in_order, hangs_up, book_ends, clients_that_come_too_late, listening_fails]
+TESTS += [no_book, front_is_killed, notices, sockets_handed_over, logs, upgrades, mail_names, later_by_the_books_name, types_and_size]
 
 if __name__ == "__main__":
     sys.exit(run_tests(TESTS, sys.argv[1:]))
