@@ -124,6 +124,8 @@ def packages() -> list[Programs]:
                 f"usr/sbin/{NAME}": TOP / "bin" / NAME,
                 "usr/share/man/man1/credbook.1.gz": TOP / "man/credbook.1",
                 "usr/share/man/man1/credkeep.1.gz": TOP / "man/credkeep.1",
+                "usr/share/man/man5/rigzumal-script.5.gz": TOP
+                / "man/rigzumal-script.5",
                 f"usr/share/man/man8/{NAME}.8.gz": TOP / f"man/{NAME}.8",
                 **{
                     f"{UNITS}/{it.name}": it for it in sorted((TOP / "units").iterdir())

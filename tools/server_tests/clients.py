@@ -157,16 +157,17 @@ def peers_that_say_nothing_right() -> None:
         b"1\n",
     ):
         with peer(answer) as path:
-            for call in (lambda: server.Client(path).verify("ada", "x"), lambda: asyncio.run(aio.Client(path).verify("ada", "x"))):
+            calls: list[Callable[[], object]] = [lambda: server.Client(path).verify("ada", "x")]
+            calls.append(lambda: asyncio.run(aio.Client(path).verify("ada", "x")))
+            for call in calls:
                 try:
                     raise AssertionError(f"{answer[:20]!r}: {call()}")
                 except server.Unavailable:
                     pass
     with peer(b"1 y", then="wait") as path:
-        for call in (
-            lambda: server.Client(path, timeout=0.5).verify("ada", "x"),
-            lambda: asyncio.run(aio.Client(path, timeout=0.5).verify("ada", "x")),
-        ):
+        calls = [lambda: server.Client(path, timeout=0.5).verify("ada", "x")]
+        calls.append(lambda: asyncio.run(aio.Client(path, timeout=0.5).verify("ada", "x")))
+        for call in calls:
             begun = time.monotonic()
             try:
                 raise AssertionError(f"{call()}")

@@ -59,6 +59,19 @@ def real_book() -> pathlib.Path:
     return CREDKEEP
 
 
+def chosen_book() -> pathlib.Path:
+    """credkeep where it is built, or else the fast book; BOOK=real or BOOK=fast in the environment has that one taken."""
+    word = os.environ.get("BOOK", "")
+    if word == "fast":
+        return FAST_BOOK
+    try:
+        return real_book()
+    except Skipped:
+        if word == "real":
+            raise
+        return FAST_BOOK
+
+
 def until(fact: Callable[[], bool], said: str, seconds: float = 20.0) -> None:
     """Waits for something."""
     end = time.monotonic() + seconds

@@ -75,7 +75,7 @@ def ran(room: pathlib.Path, test: str) -> str:
         env={**os.environ, "TEST_WARNINGS": "-w"},
     )
     said = re.findall(rf"^{name}: (\w+)", done.stdout, re.M)
-    return said[-1].lower() if said else f"nothing: {done.stderr[-300:]}"
+    return str(said[-1]).lower() if said else f"nothing: {done.stderr[-300:]}"
 
 
 def refusal(bug: re.Match[str]) -> Optional[str]:

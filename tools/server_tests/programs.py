@@ -6,8 +6,8 @@
 Each test runs in namespaces of its own (unshare: mounts, processes, network), in which /etc, /run and
 the programs' folders are copies: nothing of the machine is changed, and no process is left. The files
 that a program reads are written from the page, word for word. What isn't installed is skipped by
-name. It needs root, and the PAM module, which it builds. BOOK=real has credkeep itself asked in
-place of the fast book.
+name. It needs root, and the PAM module, which it builds. credkeep itself is asked where it is built,
+and the fast book otherwise, or by BOOK=fast.
 """
 
 from __future__ import annotations
@@ -28,7 +28,7 @@ import urllib.error
 import urllib.request
 from collections.abc import Callable
 
-from common import FAST_BOOK, PYTHON, TOP, Client, Skipped, field_of, holds, need, need_root, real_book, run_tests, same, until
+from common import FAST_BOOK, PYTHON, TOP, Client, Skipped, chosen_book, field_of, holds, need, need_root, run_tests, same, until
 
 PAGE = TOP / "docs/SERVERS.md"
 SECURITY = pathlib.Path("/usr/lib/x86_64-linux-gnu/security")
@@ -105,8 +105,8 @@ class Server:
     """The book's server, with the sockets that it has by default."""
 
     def __init__(self, room: pathlib.Path, *options: str) -> None:
-        real = os.environ.get("BOOK") == "real"
-        book = real_book() if real else FAST_BOOK
+        book = chosen_book()
+        real = book != FAST_BOOK
         self.file = room / "users.db"
         if real and not self.file.exists():
             subprocess.run([book, self.file, "init"], check=True)

@@ -48,6 +48,7 @@ def operations_by_socket() -> None:
         same(login.ask(f"verify ada {SECRET}"), "yes")
         same(login.ask(f"verify ada {WRONG}"), "no")
         same(login.ask(f"verify zoe {SECRET}"), "noaccount")
+        same(service.asked()[-1], f"verify zoe {SECRET}", "the book hashes for an unknown name")
         same(login.ask("known ada"), "yes")
         same(login.ask("known zoe"), "noaccount")
         asked = len(service.asked())
@@ -356,13 +357,17 @@ def idle_clients() -> None:
     """After the idle time a client is closed, also in the midst of a line; one that asks isn't."""
     with serving("--idle", "1") as service:
         service.enrol(ada="secret")
-        silent, half, busy = service.client(), service.client(), service.client()
+        silent, half, drips, busy = service.client(), service.client(), service.client(), service.client()
         half.send(b"a verify ada")
         begun = time.monotonic()
         while time.monotonic() < begun + 2.5:
             same(busy.ask("known ada"), "yes")
+            try:
+                drips.send(b"a")
+            except OSError:
+                pass
             time.sleep(0.2)
-        for client in (silent, half):
+        for client in (silent, half, drips):
             client.socket.settimeout(1)
             holds(client.is_ended(), "it goes on")
 
@@ -388,10 +393,16 @@ def slow_readers() -> None:
         good = service.client()
         for _ in range(20):
             same(good.ask("known ada"), "noaccount")
-        until(lambda: len(service.asked()) == (time.sleep(0.5) or len(service.asked())), "no more lines", 60)
+
+        def is_still() -> bool:
+            count = len(service.asked())
+            time.sleep(0.5)
+            return len(service.asked()) == count
+
+        until(is_still, "no more lines", 60)
         holds(len(service.asked()) < 4 * 400, f"{len(service.asked())} lines were asked for who reads none")
-        resident = int(re.search(r"VmRSS:\s+(\d+)", pathlib.Path(f"/proc/{service.process.pid}/status").read_text())[1])
-        holds(resident < 100_000, f"{resident} KiB")
+        resident = re.findall(r"VmRSS:\s+(\d+)", pathlib.Path(f"/proc/{service.process.pid}/status").read_text())
+        holds(int(resident[0]) < 100_000, f"{resident} KiB")
         time.sleep(2.5)
         for client in slow:
             client.socket.setblocking(True)
@@ -526,8 +537,8 @@ def later_by_uid() -> None:
             service.enrol(ada="secret")
             path = pathlib.Path(room, "s")
             for number in range(4):
-                same(as_user(4711, 4711, path, f"verify n{number} {SECRET}"), "noaccount")
-            same(as_user(4711, 4711, path, f"verify ada {SECRET}"), "later")
+                same(as_user(4711, 4712, path, f"verify n{number} {SECRET}"), "noaccount")
+            same(as_user(4711, 4712, path, f"verify ada {SECRET}"), "later")
             same(as_user(4712, 4712, path, f"verify ada {SECRET}"), "yes")
             for number in range(6):
                 same(as_user(33, 33, path, f"verify m{number} {SECRET}"), "noaccount")
@@ -814,6 +825,21 @@ def upgrades() -> None:
             same([it for it in service.asked() if it.startswith("upgrade")][2:], [])
 
 
+def upgrades_are_behind() -> None:
+    """An upgrade that takes its time keeps nobody waiting: its own client, or another."""
+    with tempfile.TemporaryDirectory() as room:
+        folder = pathlib.Path(room)
+        with serving(folder=folder) as service:
+            service.enrol(ada="secret", bob="secret")
+        with serving("--upgrade", "$fast$c=2", faults="mute=upgrade", folder=folder) as service:
+            client = service.client()
+            for name in ("ada", "bob", "ada"):
+                same(client.ask(f"verify {name} {SECRET}"), "yes")
+            until(lambda: any(it.startswith("upgrade") for it in service.asked()), "an upgrade")
+            same([it.split()[1] for it in service.asked() if it.startswith("upgrade")], ["ada"], "one at a time")
+            service.process.kill()
+
+
 def hashed(address: str) -> str:
     """The name of an address in the book, by coreutils."""
     script = 'printf %s "$1" | b2sum -l 160 | cut -c1-40 | xxd -r -p | base32 | tr A-Z a-z | cut -c1-30'
@@ -842,14 +868,20 @@ def mail_names() -> None:
             ("rename Ada@example.org bob@example.org", "renamed"),
             ("account plain.name", "ok"),
             (f"load plain.name $fast$c=1$x$y", "ok"),
+            ("account x@Y@Example.org", "ok"),
+            ("account x@Y@example.org", "bad 1 exists"),
+            ("account x@y@example.org", "ok"),
+            ("delete x@y@example.org", "deleted"),
+            ("rename x@Y@example.org dan@example.org", "renamed"),
+            ("delete dan@example.org", "deleted"),
             ("known bob@example.org", "absent"),
             ("rename plain.name cid@example.org", "renamed"),
             ("disable cid@example.org", "disabled"),
         ):
             same(admin.ask(line), ought, line)
-        ought = sorted(hashed(it) for it in ("ada@example.org", "bob@example.org", "cid@example.org"))
-        same(admin.ask("list - 10").split()[1:], ought)
-        same(admin.ask(f"list {ought[1]} 10").split()[1:], ought[1:])
+        names = sorted(hashed(it) for it in ("ada@example.org", "bob@example.org", "cid@example.org"))
+        same(admin.ask("list - 10").split()[1:], names)
+        same(admin.ask(f"list {names[1]} 10").split()[1:], names[1:])
         same(admin.ask("delete bob@example.org"), "deleted")
         same(admin.ask("delete cid@example.org"), "deleted")
         same(login.ask(f"verify ada@example.org {SECRET}"), "yes")
@@ -858,7 +890,7 @@ def mail_names() -> None:
         for name in bad:
             holds(login.ask(f"verify {name} {SECRET}") == "bad 3 name" or "@" in name, name)
             same(login.ask(f"verify {name} {SECRET}"), "bad 3 name", name)
-        same(admin.ask(f"rename ada@example.org {ought[1]}"), "bad 3 name")
+        same(admin.ask(f"rename ada@example.org {names[1]}"), "bad 3 name")
         holds(
             all(hashed("ada@example.org") not in it.split()[1:2] for it in service.asked()[asked:] if it.startswith("verify")),
             "refused names were asked",
@@ -905,7 +937,7 @@ TESTS = [operations_by_socket, sockets_of_its_own, default_sockets, modes, other
 TESTS += [answers_find_their_lines, answers_that_are_none, long_lines, half_lines, pieces_and_many_in_one, noise, in_flight]
 TESTS += [too_many_clients, idle_clients, slow_readers, turns, beside_hostile_clients, later, later_for_each_operation, guesses_at_once]
 TESTS += [later_by_uid, failures_are_bounded, ends_in_order, hangs_up, book_ends, clients_that_come_too_late, listening_fails]
-TESTS += [no_book, front_is_killed, notices, sockets_handed_over, logs, upgrades, mail_names, later_by_the_books_name, types_and_size]
+TESTS += [no_book, front_is_killed, notices, sockets_handed_over, logs, upgrades, upgrades_are_behind, mail_names, later_by_the_books_name, types_and_size]
 
 if __name__ == "__main__":
     sys.exit(run_tests(TESTS, sys.argv[1:]))

@@ -26,7 +26,7 @@ import time
 from dataclasses import dataclass, field
 from typing import Optional
 
-from common import FAST_BOOK, TOP, Client, Given, command, field_of, holds, real_book, same
+from common import FAST_BOOK, TOP, Client, Given, chosen_book, command, field_of, holds, same
 
 sys.path.insert(0, str(TOP / "c/python"))
 from rigzumal.accounts.history import Account, Attempt, Illegal, Operation, check  # noqa: E402
@@ -291,12 +291,13 @@ def main() -> int:
     words = argparse.ArgumentParser()
     words.add_argument("--seconds", type=float, default=60)
     words.add_argument("--kills", type=int, default=20)
-    words.add_argument("--book", choices=("fast", "real"), default="fast")
+    words.add_argument("--book", choices=("fast", "real"), help="credkeep where it is built, if not given")
     words.add_argument("--seed", type=int, default=1)
     given = words.parse_args()
-    real = given.book == "real"
+    os.environ["BOOK"] = given.book or os.environ.get("BOOK", "")
+    program = chosen_book()
+    real = program != FAST_BOOK
     options = ("--tries", "0", "--at-once", "8", *(("--setting", CHEAP) if real else ()))
-    program = real_book() if real else FAST_BOOK
     print(run(Given(options, "" if real else "late", program), given.seconds, given.kills, given.seed), flush=True)
     for faults in ("loses=5", "answers=yes"):
         try:

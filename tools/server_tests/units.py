@@ -30,12 +30,12 @@ from common import (
     Client,
     Given,
     Skipped,
+    chosen_book,
     command,
     field_of,
     holds,
     need,
     need_root,
-    real_book,
     run_tests,
     same,
     serving,
@@ -87,10 +87,7 @@ def in_set(name: str) -> set[str]:
 def system_calls() -> None:
     """What the server and the book call of the system is within what the unit allows."""
     need("strace", "systemd-analyze", "systemd-socket-activate")
-    try:
-        program = real_book()
-    except Skipped:
-        program = FAST_BOOK
+    program = chosen_book()
     with tempfile.TemporaryDirectory() as room:
         folder = pathlib.Path(room)
         before = ["systemd-socket-activate", "--fdname=login:admin", "-l", f"{room}/login.handed", "-l", f"{room}/admin.handed"]
@@ -136,12 +133,14 @@ def debs() -> list[pathlib.Path]:
 
 
 def packages() -> None:
-    """lintian has nothing against them, and each file of units/ and completions/ is in one."""
+    """lintian has nothing against them, and each file of units/, completions/ and man/ is in one."""
     found = debs()
-    listed = subprocess.run(["dpkg-deb", "-c", found[1]], capture_output=True, text=True, check=True).stdout
+    listed = "".join(subprocess.run(["dpkg-deb", "-c", it], capture_output=True, text=True, check=True).stdout for it in found)
     for path in [*(TOP / "units").iterdir(), *(TOP / "completions").iterdir()]:
         holds(path.name in listed or f"completions/{path.stem}\n" in listed, f"{path.name} is in no package")
-    for name in ("./usr/bin/credkeep-ask", "./usr/sbin/credkeep-server", "credkeep-server.8.gz"):
+    for path in (TOP / "man").iterdir():
+        holds(f"/man{path.suffix[1:]}/{path.name}.gz" in listed, f"{path.name} is in no package")
+    for name in ("./usr/bin/credkeep-ask", "./usr/sbin/credkeep-server"):
         holds(name in listed, f"{name} is in no package")
     need("lintian")
     done = subprocess.run(["lintian", "--fail-on", "error,warning", *found], capture_output=True, text=True)
@@ -191,7 +190,7 @@ def base(room: pathlib.Path) -> None:
     if "BOOT" in os.environ:
         subprocess.run(["cp", "-a", f"{os.environ['BOOT']}/.", room], check=True)
         return
-    words = ["debootstrap", "--variant=minbase", f"--include={INCLUDED}", "bookworm", room, MIRROR]
+    words = ["debootstrap", "--variant=minbase", f"--include={INCLUDED}", "bookworm", str(room), MIRROR]
     done = subprocess.run(words, capture_output=True, text=True, timeout=1200)
     if done.returncode:
         raise Skipped(f"debootstrap can't: {done.stdout[-200:]}{done.stderr[-200:]}")
@@ -212,13 +211,11 @@ def installed() -> None:
         (room / "usr/sbin/policy-rc.d").write_text("#!/bin/sh\nexit 101\n")
         (room / "usr/sbin/policy-rc.d").chmod(0o755)
         environment = {"OPTIONS": "", "SETTING": "$argon2id$v=19$m=64,t=1,p=1$c29tZXNhbHQ"}
-        try:
-            real_book()
-        except Skipped:
+        if chosen_book() == FAST_BOOK:
             shutil.copy(FAST_BOOK, room / "usr/local/bin/fast_book")
             environment = {"OPTIONS": "--credkeep fast_book", "SETTING": "$fast$c=1"}
         (room / "test.sh").write_text(INSTALLED)
-        words = ["unshare", "--mount", "--pid", "--fork", "--kill-child", "chroot", room, "bash", "/test.sh"]
+        words = ["unshare", "--mount", "--pid", "--fork", "--kill-child", "chroot", str(room), "bash", "/test.sh"]
         path = {"PATH": "/usr/local/sbin:/usr/local/bin:/usr/sbin:/usr/bin:/sbin:/bin"}
         done = subprocess.run(words, capture_output=True, text=True, timeout=300, env={**path, **environment})
         same(done.returncode, 0, done.stdout + done.stderr)

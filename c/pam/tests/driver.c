@@ -5,7 +5,7 @@
  * A task is authenticate, setcred, account, change or expired (a change of expired passwords). Each
  * prompt takes a line of ANSWERS, in hexadecimal digits; at the end of them the conversation fails.
  * It prints `prompt TEXT` and `log TEXT` as they come, `TASK NUMBER` for each task, and `open N`:
- * how many more files are open at the end than before.
+ * how many more files are open at the end than before, or were handed on to a child's program.
  *
  * In the environment: PIECES=1 has send and recv move one byte at a time, and every other call of
  * each kind interrupted. LOOK=HEX looks at the end for bytes, each given with its lowest bit
@@ -17,6 +17,7 @@
 #include <dirent.h>
 #include <dlfcn.h>
 #include <errno.h>
+#include <fcntl.h>
 #include <poll.h>
 #include <pthread.h>
 #include <security/pam_appl.h>
@@ -55,8 +56,11 @@ ssize_t recv(int fd, void *bytes, size_t size, int flags) {
     return syscall(SYS_recvfrom, fd, bytes, in_pieces && size > 1 ? 1 : size, flags, NULL, NULL);
 }
 
+static int handed_on;
+
 int connect(int fd, __CONST_SOCKADDR_ARG at, socklen_t size) {
     static __thread bool was;
+    handed_on += !(fcntl(fd, F_GETFD) & FD_CLOEXEC);
     return is_interrupted(&was) ? -1 : (int)syscall(SYS_connect, fd, at.__sockaddr__, size);
 }
 
@@ -220,7 +224,7 @@ int main(int argc, char **argv) {
         for (int i = 0; i < count; i++)
             pthread_join(threads[i], NULL);
     }
-    printf("open %d\n", open_files() - before);
+    printf("open %d\n", open_files() - before + handed_on);
     if (getenv("LOOK_INSIDE") != NULL)
         printf("inside %d\n", found_inside);
     if (getenv("LOOK") != NULL)

@@ -133,7 +133,7 @@ def asked(question: Question, path: pathlib.Path) -> Said:
             said.numbers[word] = int(rest)
         else:
             said.results.append((word, int(rest)))
-    same(said.numbers["open"], 0, "files that stay open")
+    same(said.numbers["open"], 0, "files that stay open, or that a child's program has")
     return said
 
 
