@@ -130,12 +130,11 @@ def stand_in() -> None:
     lines = []
     for _ in range(600):
         word = chance.choice(operations)
-        count = fields.get(word, 2) + (chance.random() < 0.05) - (chance.random() < 0.05)
-        words = [word, chance.choice(names[:3] if chance.random() < 0.8 else names)]
-        words += [chance.choice(passwords[:3] if chance.random() < 0.8 else passwords) for _ in range(count - 1)]
-        if word in ("enrol", "reset", "change", "upgrade") and chance.random() < 0.2:
-            words.append(setting)
-        lines.append(" ".join(words[: count + 1] if count < len(words) and words[-1] != setting else words))
+        count = fields.get(word, 2) + chance.choice([0] * 18 + [1, -1])
+        words = [chance.choice(names[:3] if chance.random() < 0.8 else names)]
+        words += [chance.choice(passwords[:3] if chance.random() < 0.8 else passwords) for _ in range(2)]
+        more = [setting] if word in ("enrol", "reset", "change", "upgrade") and chance.random() < 0.2 else []
+        lines.append(" ".join([word, *words[:count], *more]))
 
     def answered(program: pathlib.Path, costs: str) -> list[str]:
         with tempfile.TemporaryDirectory() as room:

@@ -23,18 +23,21 @@ import subprocess
 import sys
 import tempfile
 import time
+from collections.abc import Callable
 from dataclasses import dataclass, field
-from typing import Optional
+from typing import Optional, TypeVar
 
-from common import FAST_BOOK, TOP, Client, Given, chosen_book, command, field_of, holds, same
+from common import FAST_BOOK, TOP, Client, Given, chosen_book, command, field_of, same, until
 
-sys.path.insert(0, str(TOP / "c/python"))
-from rigzumal.accounts.history import Account, Attempt, Illegal, Operation, check  # noqa: E402
+# The checker alone: its package needs the built library.
+sys.path.insert(0, str(TOP / "c/python/rigzumal/accounts"))
+from history import Account, Attempt, Illegal, Operation, check  # noqa: E402
 
 NAMES = [f"user{number}" for number in range(8)]
 MIX = {"verify": 8, "login": 3, "change": 4, "enrol": 3, "remove": 1, "upgrade": 2}
 LOGIN = frozenset(("verify", "change"))
 CHEAP = "$argon2id$v=19$m=64,t=1,p=1"
+Result = TypeVar("Result")
 
 
 @dataclass
@@ -249,27 +252,36 @@ def judged(folder: pathlib.Path, log: Log, began: float) -> int:
     return count + len(log.denials)
 
 
+def names_stand(folder: pathlib.Path) -> bool:
+    """Whether the server answers, and has each name; the last one may have ended just now."""
+    try:
+        with Client(folder / "admin.sock") as admin:
+            said = [admin.ask(f"known {name}") for name in NAMES]
+    except (OSError, AssertionError):
+        return False
+    if "noaccount" in said:
+        raise Illegal("a name is gone", [])
+    return set(said) <= {"yes", "absent"}
+
+
+async def aside(call: Callable[..., Result], *given: object) -> Result:
+    """Calls in a thread, since what is asked for waits for this one's tasks."""
+    return await asyncio.get_running_loop().run_in_executor(None, lambda: call(*given))
+
+
 async def tortured(given: Given, folder: pathlib.Path, seconds: float, kills: int, seed: int) -> str:
     chance, log, running = random.Random(seed), Log(), Running(folder, given)
     keeping = asyncio.ensure_future(running.keep())
     try:
-        while not (folder / "admin.sock").exists() or "start: " not in (folder / "log").read_text():
-            await asyncio.sleep(0.05)
+        await aside(until, lambda: "start: " in (folder / "log").read_text(), "the server", 60.0)
         with Client(folder / "admin.sock") as admin:
             for name in NAMES:
                 same(admin.ask(f"account {name}"), "ok")
         began = time.monotonic()
         clients = [Asking(running, log, random.Random(chance.random()), number) for number in range(64)]
         killed, *_ = await asyncio.gather(killing(running, chance, kills, seconds), *(it.go(began + seconds) for it in clients))
-        while True:  # the last one may have ended just now
-            try:
-                await asyncio.sleep(0.1)
-                with Client(folder / "admin.sock") as admin:
-                    holds(admin.ask("list - 100") == " ".join(["names", *NAMES]), "a name is gone")
-                break
-            except (OSError, AssertionError):
-                continue
-        count = await asyncio.get_running_loop().run_in_executor(None, judged, folder, log, began)
+        await aside(until, lambda: names_stand(folder), "all names are there", 60.0)
+        count = await aside(judged, folder, log, began)
         return f"{count} operations, {killed} kills, {running.starts} starts: legal. Answers: {dict(sorted(log.counts.items()))}"
     finally:
         running.ends = True
@@ -282,6 +294,7 @@ async def tortured(given: Given, folder: pathlib.Path, seconds: float, kills: in
 def run(given: Given, seconds: float, kills: int, seed: int) -> str:
     with tempfile.TemporaryDirectory(prefix="rigzumal-torture-") as room:
         folder = pathlib.Path(room)
+        (folder / "log").touch()
         if given.program != FAST_BOOK:
             subprocess.run([given.program, folder / "users.db", "init"], check=True)
         return asyncio.run(tortured(given, folder, seconds, kills, seed))
