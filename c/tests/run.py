@@ -18,6 +18,7 @@ import memory_tests
 import package_tests
 import python_tests
 import rust_tests
+import samples_tests
 import secrets_tests
 from harness import ROOM, Failed, Skipped
 
@@ -30,6 +31,7 @@ MODULES = (
     python_tests,
     package_tests,
     rust_tests,
+    samples_tests,
 )
 
 

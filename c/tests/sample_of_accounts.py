@@ -1,0 +1,42 @@
+"""README.md's login over a table in PostgreSQL, of the file that is named."""
+
+import pathlib
+import sys
+
+import servers
+from rigzumal import PasswordHasher
+from rigzumal.accounts import Accounts, PerThread, Postgres, Reply
+
+
+def table_in(server, record):
+    with server.connect() as conn:
+        conn.execute("CREATE TABLE users (email VARCHAR(150) PRIMARY KEY, record VARCHAR(512))")
+        conn.execute("INSERT INTO users VALUES ('ada@example.org', %s)", (record,))
+
+
+def main():
+    try:
+        import psycopg
+
+        server = servers.PostgresServer("of-the-page").start()
+    except (ImportError, servers.Missing) as reason:
+        print(f"not there: {reason}")
+        return
+    old = PasswordHasher(time_cost=1, memory_cost=64, parallelism=1)
+    table_in(server, old.hash("a secret"))
+    names = {it.__name__: it for it in (Accounts, PerThread, Postgres, PasswordHasher, Reply)}
+    code = pathlib.Path(sys.argv[1]).read_text().replace("...", "told.append(password)")
+    told = []
+    for password in ("another", "a secret", "a secret"):
+        exec(
+            code,
+            {**names, "psycopg": psycopg, "dsn": server.url, "password": password, "told": told},
+        )
+    assert told == ["a secret", "a secret"], told
+    with server.connect() as conn:
+        ((record,),) = conn.execute("SELECT record FROM users").fetchall()
+    assert PasswordHasher().verify(record, "a secret")
+    assert not PasswordHasher().check_needs_rehash(record)
+
+
+main()
