@@ -5,7 +5,8 @@
 What a test needs and this machine doesn't have is named, and the test is skipped. Nothing is
 installed. Debian's packages for all of it: valgrind, clang-format, black, mypy, gcc-11, clang-13,
 qemu-user, libargon2-1, argon2, python3-argon2, python3-passlib, php-cli, cryptsetup-bin, lintian,
-python3-venv; cargo and clippy for the crate.
+python3-venv; python3-django, python3-psycopg and postgresql for the code on the pages; cargo and
+clippy for the crate.
 """
 
 import shutil
