@@ -18,6 +18,7 @@ from bugs_page import BUGS as PAGE
 TOP = pathlib.Path(__file__).resolve().parents[3]
 COPIED = ("c/python", "c/tests/frameworks", "examples/login_page", "docs")
 BUGS = DJANGO + OTHERS + PAGE
+TAKING_MANY = ("django test", "test_login_page", "test_passlib")  # programs, names of tests
 
 
 def words_of(test, top):
@@ -75,12 +76,14 @@ def plant(bug):
 
 
 def unplanted(bugs):
-    """The tests that fail without a bug: those of Django are run at once."""
+    """The tests that fail without a bug, of some programs all at once."""
     tests = {it.test for it in bugs}
-    djangos = sorted({it.rpartition(" ")[2] for it in tests if it.startswith("django")})
-    tests = [it for it in tests if not it.startswith("django")]
+    for program in TAKING_MANY:
+        names = sorted(it for it in tests if it.startswith(f"{program} "))
+        joined = " ".join(it.removeprefix(f"{program} ") for it in names)
+        tests = tests - set(names) | ({f"{program} {joined}"} if names else set())
     failing = []
-    for test in tests + (["django test " + " ".join(djangos)] if djangos else []):
+    for test in sorted(tests):
         with tempfile.TemporaryDirectory(prefix="rigzumal-") as room:
             status, text = run(test, room)
         if status:
