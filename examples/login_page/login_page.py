@@ -186,8 +186,9 @@ def main() -> None:
     serving = server(Store(database, hasher), int(os.environ.get("PORT", "8000")))
     print(f"http://127.0.0.1:{serving.effective_port}/", flush=True)
     logging.getLogger("waitress.queue").setLevel(logging.ERROR)  # a busy moment is none
-    # waitress ends what it is working, for up to five seconds; at SIGINT it does so anyway.
-    signal.signal(signal.SIGTERM, lambda *_: sys.exit(0))
+    for ends in (signal.SIGINT, signal.SIGTERM):
+        # waitress ends what it is working, for up to five seconds.
+        signal.signal(ends, lambda *_: sys.exit(0))
     serving.run()
 
 

@@ -715,9 +715,16 @@ ANSWERS = [
     program(
         "SIGTERM cuts a login off",
         "login_page.py",
-        "    signal.signal(signal.SIGTERM, lambda *_: sys.exit(0))\n",
-        "",
+        "for ends in (signal.SIGINT, signal.SIGTERM):",
+        "for ends in (signal.SIGINT,):",
         "test_a_login_that_is_worked_is_answered",
+    ),
+    program(
+        "SIGINT is ignored in the background",
+        "login_page.py",
+        "for ends in (signal.SIGINT, signal.SIGTERM):",
+        "for ends in (signal.SIGTERM,):",
+        "test_its_settings",
     ),
     program(
         "as many connections as descriptors",

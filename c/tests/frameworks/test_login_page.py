@@ -51,6 +51,8 @@ PICTURES = os.environ.get("PICTURES")
 CHEAP = PasswordHasher(memory_cost=64, time_cost=1, parallelism=1)
 DEARER = PasswordHasher(memory_cost=128, time_cost=1, parallelism=1)
 OLD, NEW = "the old password", "another password"
+# A shell's & has SIGINT ignored in what it starts.
+IN_BACKGROUND = 'trap "" INT; exec "$0" "$@"'
 
 
 @contextlib.contextmanager
@@ -74,7 +76,7 @@ def started(folder, **env):
     given = {"PORT": "0", "MEMORY": "64", "DATABASE": f"{folder}/data/page.db", **env}
     with open(f"{folder}/log", "ab") as log:
         process = subprocess.Popen(
-            [sys.executable, TOP / "examples/login_page/login_page.py"],
+            ["sh", "-c", IN_BACKGROUND, sys.executable, TOP / "examples/login_page/login_page.py"],
             env={**os.environ, **given},
             cwd=folder,
             stdout=subprocess.PIPE,
@@ -845,7 +847,7 @@ class Program(unittest.TestCase):
                 self.assertIn(f"127.0.0.1:{port}", found)
                 self.assertNotIn(f"0.0.0.0:{port}", found)
             process.send_signal(signal.SIGINT)
-            self.assertEqual(process.wait(300), 0)
+            self.assertEqual(process.wait(60), 0)
         for secret in (OLD, NEW, "a guess of mine"):
             self.assertNotIn(secret, self.log())
         kept = sqlite3.connect(f"{self.folder}/data/page.db")
