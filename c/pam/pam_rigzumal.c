@@ -2,6 +2,7 @@
  * It keeps nothing between two calls and has no static state, so threads may be in it at once. A
  * call has one connection, sends one line and reads one line, all before its deadline. */
 #define _GNU_SOURCE
+#include "base64.h"
 #include <errno.h>
 #include <poll.h>
 #include <security/pam_ext.h>
@@ -14,8 +15,6 @@
 #include <syslog.h>
 #include <time.h>
 #include <unistd.h>
-
-#include "base64.h"
 
 enum {
     MOST_NAME = 32,      /* bytes of a name in a book */
@@ -57,8 +56,9 @@ static bool read_option(struct question *question, const char *word) {
         question->mail_names = true;
     else if (strcmp(word, "try_first_pass") != 0 && strcmp(word, "use_first_pass") != 0)
         return strcmp(word, "use_authtok") == 0; /* pam_get_authtok(3) sees to these three */
+    size_t size = strlen(question->socket);
     return *end == '\0' && question->seconds >= 1 && question->seconds <= 600 &&
-           strlen(question->socket) < sizeof((struct sockaddr_un *)0)->sun_path;
+           *question->socket == '/' && size < sizeof((struct sockaddr_un *)0)->sun_path;
 }
 
 /* Reads the options, and asks for the user's name if it isn't known yet. */

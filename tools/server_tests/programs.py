@@ -124,6 +124,10 @@ class Server:
         with Client(RUN / "admin.sock") as admin:
             same(admin.ask(line), ought, line)
 
+    def disable(self, name: str, password: str) -> None:
+        """Takes the record away, and leaves the name."""
+        self.ask(f"remove {name} {field_of(password.encode())}", "removed")
+
     def stop(self) -> None:
         self.process.terminate()
         same(self.process.wait(timeout=40), 0)
@@ -164,7 +168,7 @@ def pam(room: pathlib.Path) -> None:
     pamtester("book", "ada", "authenticate", "secret\n", 1, "Authentication failure")
     pamtester("book", "ada", "chauthtok", "secret\nx\nx\n", 1, "Authentication failure")
     pamtester("book", "ada", "chauthtok", "fresh\nx\ny\n", 1, "")
-    server.ask("disable bob", "disabled")
+    server.disable("bob", "other word")
     pamtester("book", "bob", "authenticate", "other word\n", 1, "Authentication failure")
     pamtester("book", "bob", "acct_mgmt", "", 1, "expired")
     for _ in range(10):
@@ -241,7 +245,7 @@ def web_logins(port: int, server: Server) -> None:
     same([got("ada", "secret"), got("ada", "guess"), got("zoe", "secret"), got("", "")], [200, 401, 401, 401])
     same([got("ada", ""), got("ada", "x" * 300), got("ADA", "secret"), got("ada%20", "secret")], [401] * 4)
     same(got("bob", "other word"), 200)
-    server.ask("disable bob", "disabled")
+    server.disable("bob", "other word")
     holds(got("bob", "other word") in (401, 403), "bob is disabled")
     server.ask(f"reset ada {field_of(b'fresh')}", "replaced")
     same([got("ada", "secret"), got("ada", "fresh")], [401, 200])
@@ -285,7 +289,7 @@ def dovecot(room: pathlib.Path) -> None:
     same([imap("bob", "other word"), imap("bob", "other words")], [True, False])
     server.ask(f"reset ada {field_of(b'fresh')}", "replaced")
     same([imap("ada", "secret"), imap("ada", "fresh")], [False, True])
-    server.ask("disable ada", "disabled")
+    server.disable("ada", "fresh")
     same(imap("ada", "fresh"), False)
 
 
@@ -391,7 +395,7 @@ def sshd(room: pathlib.Path) -> None:
 
     same([tried("secret"), tried("guess"), tried("unixword"), tried("unixword", "eve")], ["ada", "", "", ""])
     same(by_key(), "ada")
-    server.ask("disable ada", "disabled")
+    server.disable("ada", "secret")
     same([tried("secret"), by_key()], ["", ""])
 
 

@@ -366,7 +366,7 @@ def falls_through() -> None:
 def options() -> None:
     """A word that isn't an option, or a value out of range, is refused and named."""
     long = "/" + "x" * 107
-    for words in ("frob", "socket", "timeout=", "timeout=0", "timeout=601", "timeout=5x", "timeout=-1", "nullokk", f"socket={long}"):
+    for words in ("frob", "socket", "timeout=", "timeout=0", "timeout=601", "timeout=5x", "timeout=-1", "nullokk", "socket=", "socket=run/x", f"socket={long}"):
         said, lines = said_at(b"1 yes\n", Question(options=words))
         same((said.codes, lines, said.prompts), ([SERVICE_ERR], [], []), words)
         assert said.logs == [f"bad option: {words}"], said.logs
