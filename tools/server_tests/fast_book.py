@@ -90,6 +90,8 @@ class Book:
         plain = [decoded(it) for it in fields[1 : 1 + passwords.get(operation, 0)]]
         if None in plain:
             return "bad 13 password"
+        if len(fields) > 1 + len(plain) and operation not in ("load", "rename") and not fields[-1].startswith("$"):
+            return "bad 1 shape"
         return self.done(operation, fields, [it or b"" for it in plain])
 
     def done(self, operation: str, fields: list[str], plain: list[bytes]) -> str:

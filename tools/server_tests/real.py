@@ -38,6 +38,11 @@ def real(*options: str, costs: str = CHEAP, folder: "pathlib.Path | None" = None
         yield service
 
 
+def command(folder: pathlib.Path, *words: str) -> str:
+    """What credkeep itself says of the book, once the server has ended."""
+    return subprocess.run([real_book(), folder / "users.db", *words], capture_output=True, text=True, check=True).stdout
+
+
 def administered() -> None:
     """Skips a test unless the book knows an administrator's lines."""
     with real() as service, service.client("admin") as admin:
@@ -89,8 +94,8 @@ def operations() -> None:
             same(client.ask(line), ought, line)
         holds(admin.ask("show ada").startswith("$argon2id$v=19$m=8,t=1,p=1$"), "the record that was loaded")
         same(service.stop(), 0)
-        same(subprocess.run([real_book(), service.folder / "users.db", "list"], capture_output=True, text=True).stdout, "ada\n")
-        holds(not (service.folder / "users.db-wal").exists(), "it was closed in order")
+        same(command(service.folder, "list"), "ada\n")
+        same(command(service.folder, "verify"), "1 accounts, 0 changes in the log\n", "it was closed in order")
 
 
 def an_administrators_lines() -> None:
@@ -230,7 +235,8 @@ def costs_that_are_none() -> None:
     for costs in ("$argon2id$v=19$m=64", "$argon2id$m=64,t=1,p=1", "$argon2id$v=19$t=1,m=64,p=1", f"{CHEAP}$", "argon2id"):
         with tempfile.TemporaryDirectory() as room:
             with serving("--upgrade", costs, program=real_book(), folder=pathlib.Path(room), waits=False) as service:
-                holds(service.process.wait(timeout=30) not in (0, 1), f"{costs}: {service.log()}")
+                same(service.process.wait(timeout=30), 1, f"{costs}: {service.log()}")
+                holds("credkeep: --setting: " in service.log() and "end: status 1" in service.log(), service.log())
                 holds("start:" not in service.log() and "Traceback" not in service.log(), service.log())
 
 
@@ -244,7 +250,7 @@ def mail_names() -> None:
             same(login.ask(f"verify Ada@example.org {SECRET}"), "noaccount")
             same(login.ask(f"verify ada@ {SECRET}"), "bad 3 name")
         same(service.stop(), 0)
-        listed = subprocess.run([real_book(), service.folder / "users.db", "list"], capture_output=True, text=True, check=True).stdout
+        listed = command(service.folder, "list")
         holds(re.fullmatch(r"e\.[a-z2-7]{30}\n", listed) is not None, listed)
         holds(b"example" not in (service.folder / "users.db").read_bytes(), "the address is in the file")
 
@@ -279,16 +285,20 @@ def beside_hostile_clients() -> None:
             return min(median() for _ in range(3))
 
         def judged(what: str) -> None:
-            alone = best()
-            try:
-                more = [hostile(service, data) for data in kinds[what]]
-                others.extend(more)
-                beside = best()
-            finally:
-                for client in others:
-                    client.close()
-                others.clear()
-            holds(beside < 2 * alone, f"{what}: {beside:.3f} s beside them, {alone:.3f} s alone")
+            said = []
+            for _ in range(4):  # other work on the machine may slow one or the other
+                alone = best()
+                try:
+                    others.extend(hostile(service, data) for data in kinds[what])
+                    beside = best()
+                finally:
+                    for client in others:
+                        client.close()
+                    others.clear()
+                if beside < 2 * alone:
+                    return
+                said.append(f"{beside:.3f} s beside them, {alone:.3f} s alone")
+            raise AssertionError(f"{what}: {', '.join(said)}")
 
         kinds = {
             "idle": [b""] * 1000,
@@ -363,7 +373,8 @@ def long_lines() -> None:
             said = admin.ask(f"rename a@b c@d {'x' * size}")
             holds(said in ("bad 11 line", "bad 16 long"), said)
         long = field_of(b"\xff" * 256)
-        same(admin.ask(f"change {'x' * 32} {long} {long} {'y' * 150}"), "bad 11 line")
+        same(admin.ask(f"change {'x' * 32} {long} {long} {'y' * 150}"), "bad 1 shape")
+        same(admin.ask(f"change {'x' * 32} {long} {long} {CHEAP}$c29tZXNhbHQ {'y' * 120}"), "bad 11 line")
         same(admin.ask(f"change {'x' * 32} {long} {long}"), "noaccount")
         same(admin.ask(f"verify {'x' * 200}@{'y' * 53} {long}"), "noaccount")
 
@@ -380,7 +391,7 @@ def ends() -> None:
             time.sleep(0.05)
             same(service.stop(), 0)
             same([client.line() for client in clients], [b"a yes"] * 3)
-        holds(not (folder / "users.db-wal").exists(), "it was closed in order")
+        same(command(folder, "verify"), "1 accounts, 0 changes in the log\n", "it was closed in order")
         for turn, (number, status) in enumerate(((signal.SIGKILL, 128 + 9), (signal.SIGTERM, 128 + 15)), 1):
             with real(folder=folder) as service:
                 same(service.client("admin").ask(f"reset ada {field_of(b'word %d' % turn)}"), "replaced")
