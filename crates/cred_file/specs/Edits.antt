@@ -56,6 +56,7 @@ MayRename book name other =
     (fin.contains_key book name ≡ true) × (fin.contains_key book other ≡ false)
 
 -- The record stands at the other name; both are in memory for a moment, so there has to be room.
+-- Memory runs out only if there is.
 abbrev pub Renames : ℕ → Accounts → Accounts → List ℕ → List ℕ
     → Result (Unit {0}) BookError → Type 0
 Renames room old new name other (Ok _) =
@@ -66,7 +67,8 @@ Renames room old new name other (Err error.Exists) =
     (fin.contains_key old name ≡ true) × (fin.contains_key old other ≡ true) × (new ≡ old)
 Renames room old new name other (Err error.Full) =
     MayRename old name other × (room ≤ fin.len old) × (new ≡ old)
-Renames room old new name other (Err error.Memory) = MayRename old name other × (new ≡ old)
+Renames room old new name other (Err error.Memory) =
+    MayRename old name other × (fin.len old < room) × (new ≡ old)
 Renames room old new name other (Err error.Name) = ⊥
 
 -- no name is in both, and one is

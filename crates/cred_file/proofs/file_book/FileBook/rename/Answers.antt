@@ -1,6 +1,6 @@
-use Rattle.std.proofs.Common.{◌≡◌, Some, true, is_some, sym, ap, ◌∙◌, subst}
+use Rattle.std.proofs.Common.{◌≡◌, ◌<◌, Some, true, is_some, sym, ap, ◌∙◌, subst}
 use Rattle.std.specs.FinMap as fin
-use Rattle.cred_book.specs.Accounts.{Accounts}
+use Rattle.cred_book.specs.Accounts.{Accounts, register_capacity}
 use Rattle.cred_book.proofs.Registered.{remove_again}
 use Rattle.cred_file.specs.declared.fault.Edit.TheVariants.{Rename}
 use Rattle.cred_file.specs.Edits.{MayRename, renamed}
@@ -68,4 +68,4 @@ returns-in-Err-rename_row-clause-done g c =
     let entered = c.in-Ok-enter.ensures in
     let absent = entered.0 in
     let back : c.remove-in-Err-rename_row.new.self ≡ book = c.remove-in-Err-rename_row.ensures ∙ ap (λ (b : Accounts). fin.remove b other) entered.2 ∙ remove_again book other stored absent in
-    subst (λ (b : Accounts). MayRename b name other × (c.remove-in-Err-rename_row.new.self ≡ b)) (ap (λ v. v.0) c.self.view_is) ((there, absent), back)
+    subst (λ (b : Accounts). MayRename b name other × (fin.len b < register_capacity) × (c.remove-in-Err-rename_row.new.self ≡ b)) (ap (λ v. v.0) c.self.view_is) ((there, absent), entered.1, back)
