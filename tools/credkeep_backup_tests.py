@@ -22,6 +22,8 @@ from concurrent.futures import ThreadPoolExecutor
 from credkeep.keep import RECORD, Ended, Keep, Room, begun, by_sqlite3, holds, main, same
 
 SALT = "c29tZXNhbHQ"
+# After so many seconds without an answer a service is killed.
+LONGEST = 120
 Book = dict[str, str]
 
 
@@ -71,11 +73,15 @@ def moved(source: Keep, target: Keep) -> None:
 
 
 def asked(run: "subprocess.Popen[bytes]", line: str) -> bytes:
-    """A service's answer to a line."""
+    """A service's answer to a line: nothing, if it gives none and is killed for it."""
     assert run.stdin and run.stdout
+    guard = threading.Timer(LONGEST, run.kill)
+    guard.start()
     run.stdin.write(line.encode() + b"\n")
     run.stdin.flush()
-    return run.stdout.readline()
+    answer = run.stdout.readline()
+    guard.cancel()
+    return answer
 
 
 def served(keep: Keep) -> "subprocess.Popen[bytes]":

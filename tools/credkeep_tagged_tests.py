@@ -34,6 +34,8 @@ CLIENTS = 64
 NAMES = ["ann", "bob", "cat", "dan", "eve", "fay", "gus", "hal"]
 PASSWORDS = ["", "one", "two"]
 WIDER = "$argon2id$v=19$m=16,t=1,p=1"
+# After so many seconds without an answer a service is killed: one that reads ahead of its answers waits for ever.
+LONGEST = 120
 
 
 def in_base64(text: str) -> str:
@@ -59,11 +61,15 @@ def answered(keep: Keep, *lines: str, words: tuple[str, ...] = ()) -> list[str]:
 
 
 def asked(run: "subprocess.Popen[bytes]", line: str) -> str:
-    """The next answer after a line, without its end."""
+    """The next answer after a line, without its end: nothing, if the service gives none and is killed for it."""
     assert run.stdin and run.stdout
+    guard = threading.Timer(LONGEST, run.kill)
+    guard.start()
     run.stdin.write(line.encode() + b"\n")
     run.stdin.flush()
-    return run.stdout.readline().decode().removesuffix("\n")
+    answer = run.stdout.readline()
+    guard.cancel()
+    return answer.decode().removesuffix("\n")
 
 
 # ---- one line after another
@@ -503,6 +509,25 @@ def memory_runs_out(room: Room) -> None:
         same(run.returncode, 0)
 
 
+def failing_database(room: Room) -> None:
+    """A file that can't grow ends the service: what was answered is kept, and what failed may be; no line after it is answered."""
+    keep = begun(room)
+    answered(keep, "a account ann")
+
+    def small() -> None:
+        resource.setrlimit(resource.RLIMIT_FSIZE, (100_000, 100_000))
+
+    names = [f"n{at:03}" for at in range(1000)]
+    with service(keep, preexec_fn=small, restore_signals=False) as run:
+        failed = next(at for at, name in enumerate(names) if asked(run, f"t account {name}") != "t ok")
+        same(run.wait(60), 5)
+        assert run.stdout and run.stderr
+        same(run.stdout.read(), b"")
+        holds(run.stderr.read().startswith(b"credkeep: the database failed: "), "the fault isn't named")
+    holds(failed > 0, "nothing was kept")
+    holds(keep.names() in (["ann", *names[:failed]], ["ann", *names[: failed + 1]]), f"{keep.names()}")
+
+
 def each_request_refused(room: Room) -> None:
     """Each request for memory is refused in turn: it ends with a status of its own, or all is answered."""
     shim = refusing_shim(str(room.folder))
@@ -648,6 +673,7 @@ TESTS: list[Callable[[Room], None]] = [
     hashes_side_by_side,
     memory_of_a_record,
     memory_runs_out,
+    failing_database,
     each_request_refused,
     threads_that_cannot_start,
     closed_output,
