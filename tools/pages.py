@@ -7,8 +7,8 @@
 - README.md says how many crates the gate proves, how many wrong bodies it tries and how many tests it runs: the tree's figures. A
   time in it that nobody filled in (`.._MINUTES`) fails.
 - docs/PLANTED.md names each wrong body that the gate has to try, with the file or the test that it stands in: each is there.
-- docs/PLANTED.md says how many bugs there are in how many lists: those of plants/. Each fits the code (tools/plant.py --fits).
-- docs/PLANTED_CALLS.md counts the bugs of calls, each in a file of its crate: it is there.
+- docs/PLANTED.md says how many bugs there are in how many lists: those of plants/. Each fits the code (tools/plant.py --fits),
+  and what is said to refuse each that no clause refuses is there.
 - docs/PROMISES.md names calls, clauses, wrong bodies, tests and files (tools/promises.py).
 - Each link between pages leads to a file, and each picture has a text for those who can't see it.
 - Each library and program of crates.txt has a page, crates/NAME/README.md, and stands in docs/pictures/crates.svg.
@@ -91,14 +91,17 @@ def bugs():
         yield from [*plant.misfits(name)] or [None]
 
 
-def bugs_by_call():
-    """The rows of docs/PLANTED_CALLS.md, `CRATE | FILE | CALL | ..`."""
-    for row in re.findall(r"^\| `.*$", (TOP / "docs/PLANTED_CALLS.md").read_text(), re.M):
-        crate, file, call = [it.strip(" `") for it in row.split("|")[1:4]]
-        source = CRATES / crate / "src" / file
-        name = call.split("::")[-1]
-        is_there = source.is_file() and re.search(rf"\bfn {name}\b", source.read_text())
-        yield None if is_there else f"docs/PLANTED_CALLS.md: {crate}: {file} has no `{call}`"
+def let_through():
+    """Each bug that a list says no clause refuses: the tests and files that refuse it are there, or it is said that nothing does."""
+    for name in plant.lists():
+        for reason in filter(None, (it.passes for it in plant.list_of(name))):
+            tests = re.findall(r"`(\w+)::(\w+)`", reason)
+            files = re.findall(r"((?:tools|crates)/[\w/]+(?:\.py|/stdout))(?: \(`(\w+)`\))?", reason)
+            lost = ["::".join(it) for it in tests if not promises.has_test(*it)]
+            lost += [path for path, word in files if f"def {word}" not in promises.source(TOP / path) and word]
+            lost += [path for path, _ in files if not (TOP / path).is_file()]
+            is_said = tests or files or "nothing refuses it" in reason or "harmless" in reason
+            yield f"plants/{name}.txt: {', '.join(lost) or reason}" if lost or not is_said else None
 
 
 def anchors(page):
@@ -151,7 +154,7 @@ def walks():
 
 
 def main():
-    found = [*figures(), *logic(), *planted(), *bugs(), *bugs_by_call(), *rooms(), *walks()]
+    found = [*figures(), *logic(), *planted(), *bugs(), *let_through(), *rooms(), *walks()]
     for page in PAGES:
         found += [*links(page), *callers(page)]
     passed, failures = promises.check()

@@ -271,11 +271,35 @@ def judge(copy, name, bugs):
                 if bug.verdict == "not reached" and len(chosen) > 1:
                     bug.verdict = None
         waiting = [it for it in waiting if it.verdict is None]
-        print(f"# {len(bugs) - len(waiting)} of {len(bugs)} planted", file=sys.stderr, flush=True)
-    for bug in alone:
-        said = copy.planted([bug])
-        bug.verdict = "let through" if "logic=proved" in said else verdict_of(bug, name, said)
-        bug.verdict = "refused by its callers" if bug.verdict in (None, "none") else bug.verdict
+        tell(bugs, "planted", len(waiting))
+    judge_left(copy, name, alone)
+
+
+def tell(bugs, what, left):
+    """Says of each bug so far what became of it, so that a run that is ended early has said something."""
+    found = sorted((it.verdict, it.line) for it in bugs if it.verdict)
+    lines = {verdict: [line for said, line in found if said == verdict] for verdict, _ in found}
+    said = "; ".join(f"{verdict}: lines {', '.join(map(str, at))}" for verdict, at in lines.items())
+    print(f"# {len(bugs) - left} of {len(bugs)} {what}: {said}", file=sys.stderr, flush=True)
+
+
+def judge_left(copy, name, waiting):
+    """The bugs that no goal of their own function refuses: what calls them may. If the crate is proved with one in each of many
+    functions, all of these are let through; if it isn't, each is planted by itself."""
+    while waiting:
+        chosen = {}
+        for bug in waiting:
+            chosen.setdefault(bug.function, bug)
+        if "logic=proved" in copy.planted(chosen.values()):
+            for bug in chosen.values():
+                bug.verdict = "let through"
+        else:
+            for bug in chosen.values():
+                said = copy.planted([bug])
+                bug.verdict = "let through" if "logic=proved" in said else verdict_of(bug, name, said)
+                bug.verdict = "refused by its callers" if bug.verdict in (None, "none") else bug.verdict
+        waiting = [it for it in waiting if it.verdict == "none"]
+        print(f"# {len(waiting)} of those that no goal of their own refuses are left", file=sys.stderr, flush=True)
 
 
 def compiled(copy, bugs):
