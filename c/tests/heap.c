@@ -290,6 +290,15 @@ static void try_kept_areas(void) {
     CHECK(mapped == KEPT);
 }
 
+/* What was given back last is taken again first, while another block stands below it. */
+static void try_used_again(void) {
+    unsigned char *below = rattle_alloc(MIB, 8).start, *above = rattle_alloc(5 * MIB, 8).start;
+    rattle_dealloc(above);
+    CHECK(rattle_alloc(6 * MIB, 8).start == above);
+    rattle_dealloc(above);
+    rattle_dealloc(below);
+}
+
 /* Memory for those who clear it themselves is zero wherever it is from. Of the four of 16 MiB the
  * last has no area. */
 static void try_zeros(void) {
@@ -314,6 +323,17 @@ static void try_zeros(void) {
     }
 }
 
+/* A block that can't have another size stays as it is. */
+static void try_refused_growth(void) {
+    unsigned char *block = rattle_alloc(100, 8).start;
+    memset(block, 7, 100);
+    is_refusing = true;
+    CHECK(!rattle_realloc(block, 100, 200, 8).ok);
+    is_refusing = false;
+    CHECK(is_all(block, 7, 100));
+    rattle_dealloc(block);
+}
+
 static void *refused(void *unused) {
     (void)unused;
     is_refusing = true;
@@ -324,6 +344,8 @@ static void *refused(void *unused) {
     tried = rattle_alloc((size_t)PTRDIFF_MAX, 8);
     CHECK(!tried.ok && tried.start != NULL);
     is_refusing = false;
+    tried = rattle_alloc(100, 128); /* no block is promised to begin there */
+    CHECK(!tried.ok && tried.start != NULL);
     return NULL;
 }
 
@@ -344,6 +366,8 @@ int main(void) {
     try_giving_back();
     try_giving_some_back();
     try_kept_areas();
+    try_used_again();
+    try_refused_growth();
     CHECK(mapped == KEPT && count == 0);
     pthread_t thread;
     CHECK(pthread_create(&thread, NULL, refused, NULL) == 0);
