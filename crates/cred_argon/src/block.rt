@@ -144,12 +144,17 @@ fn xored(x: &[u64; 128], y: &[u64; 128], at: usize) -> u64x4
     ensures { (j : ℕ) → j < 4
         → slice_index result j ≡ bit_xor (slice_index x.now (at + j)) (slice_index y.now (at + j)) }
 {
-    u64x4::from_array([
-        x[at] ^ y[at],
-        x[at + 1] ^ y[at + 1],
-        x[at + 2] ^ y[at + 2],
-        x[at + 3] ^ y[at + 3],
-    ])
+    xor(four_words(x, at), four_words(y, at))
+}
+
+/// Four words of a block. Words that are added before they are gathered would not be read as one
+/// vector.
+#[inline(always)]
+fn four_words(x: &[u64; 128], at: usize) -> u64x4
+    requires { at + 4 ≤ 128 }
+    ensures { (j : ℕ) → j < 4 → slice_index result j ≡ slice_index x.now (at + j) }
+{
+    u64x4::from_array([x[at], x[at + 1], x[at + 2], x[at + 3]])
 }
 
 /// Writes four words into a block.
