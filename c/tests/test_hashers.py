@@ -178,6 +178,14 @@ class Inputs(unittest.TestCase):
             made = PasswordHasher(1, 8, 1, secret=holds).hash("x", salt=data)
             self.assertTrue(PasswordHasher(1, 8, 1, secret=data).verify(made, "x"))
 
+    def test_a_hasher_keeps_its_secret_as_it_was_given(self):
+        secret = bytearray(b"pepper")
+        hasher = PasswordHasher(1, 8, 1, secret=secret)
+        made = hasher.hash("x")
+        secret[:] = b"salted"
+        self.assertTrue(hasher.verify(made, "x"))
+        self.assertTrue(PasswordHasher(1, 8, 1, secret=b"pepper").verify(made, "x"))
+
     def test_text_that_has_no_utf_8(self):
         for text in ("\ud800", "\udc80", "pass\udcffword", "\udfff"):
             for call in (LEAST.hash, lambda it: LEAST.verify(WITH_NUL, it)):
