@@ -1,5 +1,5 @@
 -- What an import makes of its text.
-use Rattle.std.specs.Prelude.{◌≡◌, ℕ, ◌+◌, ◌-◌, ◌<◌, Bool, true, ◌&&◌, ◌==◌, if◌then◌else◌, nat_eq}
+use Rattle.std.specs.Prelude.{◌≡◌, ℕ, ◌+◌, ◌-◌, ◌<◌, Bool, true, ◌||◌, ◌==◌, if◌then◌else◌, nat_eq}
 use Rattle.std.specs.Prelude.{List, [], ◌∷◌, ◌++◌, length, take, drop, codes, Option, None, Some}
 use Rattle.std.specs.Prelude.{IfSome, Result, Ok, Err, ⊤}
 use Rattle.std.specs.List.{ends_with, starts_with}
@@ -16,23 +16,31 @@ use Rattle.cred_book.specs.declared.error.BookError.{BookError}
 use Rattle.cred_book.specs.declared.error.BookError.TheVariants as error
 use Rattle.cred_admin.specs.declared.entry.LineFault.{LineFault}
 use Rattle.cred_admin.specs.declared.entry.LineFault.TheVariants.{Line, Text, Book}
+use Rattle.cred_admin.specs.declared.entry.LineFault.TheVariants.{Locked as IsLocked}
+use Rattle.cred_admin.specs.declared.entry.Said.{Said}
+use Rattle.cred_admin.specs.declared.entry.Said.TheVariants.{Nothing, Account, Locked}
 use Rattle.cred_admin.specs.declared.gathering.BadLine.{BadLine}
 use Rattle.cred_admin.specs.declared.gathering.Existing.{Existing}
-use Rattle.cred_admin.specs.declared.gathering.Existing.TheVariants.{Refused, Kept}
+use Rattle.cred_admin.specs.declared.gathering.Existing.TheVariants.{Refused, Kept, Updated}
 use Rattle.cred_admin.specs.declared.gathering.Gathered.{Gathered}
 use Rattle.cred_admin.specs.declared.gathering.ImportFault.{ImportFault}
 use Rattle.cred_admin.specs.declared.gathering.ImportFault.TheVariants as fault
+use Rattle.cred_admin.specs.declared.gathering.LockedRecords.{LockedRecords}
+use Rattle.cred_admin.specs.declared.gathering.LockedRecords.TheVariants as locked
+use Rattle.cred_admin.specs.declared.gathering.Rules.{Rules}
 use Rattle.cred_admin.specs.Listing.{Entry}
 
 abbrev pub line_number : LineFault → ℕ
 line_number Line = 11
 line_number (Text e) = fault_number e
 line_number (Book e) = refusal_number e
+line_number IsLocked = 17
 
 abbrev pub line_word : LineFault → List ℕ
 line_word Line = codes "line"
 line_word (Text e) = fault_word e
 line_word (Book e) = refusal_word e
+line_word IsLocked = codes "locked"
 
 -- ---- one line
 
@@ -64,100 +72,128 @@ abbrev pub stored_at : List ℕ → Result (Option RecordValue) LineFault
 stored_at [] = Ok None
 stored_at (c ∷ cs) = stored_as (read_record (record_part (c ∷ cs)))
 
-abbrev pub entry_with : List ℕ → Result (Option RecordValue) LineFault → Result Entry LineFault
-entry_with name (Ok stored) = Ok (name, stored)
-entry_with name (Err e) = Err e
+abbrev pub said_with : List ℕ → Result (Option RecordValue) LineFault → Result Said LineFault
+said_with name (Ok stored) = Ok (Account name stored)
+said_with name (Err e) = Err e
+
+-- the record stands behind ! or * (bytes 33 and 42), as `passwd -l` writes it
+abbrev pub is_locked : List ℕ → Bool
+is_locked text = starts_with nat_eq text (33 ∷ []) || starts_with nat_eq text (42 ∷ [])
 
 -- the name is judged before the record
-abbrev pub entry_as : Result (List ℕ) BookError → List ℕ → Result Entry LineFault
-entry_as (Ok name) text = entry_with name (stored_at text)
-entry_as (Err e) text = Err (Book e)
+abbrev pub said_as : Result (List ℕ) BookError → List ℕ → Result Said LineFault
+said_as (Ok name) text = if is_locked text then Ok (Locked name) else said_with name (stored_at text)
+said_as (Err e) text = Err (Book e)
 
 -- the first two fields count
-abbrev pub entry_at : List (List ℕ) → Result Entry LineFault
-entry_at (name ∷ text ∷ others) = entry_as (made_name name) text
-entry_at _ = Err Line
+abbrev pub said_in : List (List ℕ) → Result Said LineFault
+said_in (name ∷ text ∷ others) = said_as (made_name name) text
+said_in _ = Err Line
+
+-- it is empty, or begins with # (byte 35)
+abbrev pub is_remark : List ℕ → Bool
+is_remark line = length line == 0 || starts_with nat_eq line (35 ∷ [])
 
 -- a line is cut at every colon
-unfoldable pub entry_of : List ℕ → Result Entry LineFault
-entry_of line = entry_at (pieces 58 (without_return line))
+unfoldable pub said_of : List ℕ → Result Said LineFault
+said_of line =
+    if is_remark (without_return line) then Ok Nothing
+    else said_in (pieces 58 (without_return line))
 
 -- ---- all of them
 
-abbrev pub is_empty : {X : Type 0} → List X → Bool
-is_empty xs = length xs == 0
-
--- nothing need come after the last line end
-unfoldable pub whole_lines : List (List ℕ) → List (List ℕ)
-whole_lines [] = []
-whole_lines (line ∷ lines) =
-    if is_empty line && is_empty lines then [] else line ∷ whole_lines lines
-
 -- between the line ends (byte 10)
 abbrev pub import_lines : List ℕ → List (List ℕ)
-import_lines text = whole_lines (pieces 10 text)
+import_lines text = pieces 10 text
 
--- what the lines so far come to: the accounts that are new, how many lines name one that is there
--- and stays, and the lines that aren't good
+-- What the lines so far come to: the accounts that are new, those in the book that have another
+-- record from now on, how many lines name one that is there and stays, and the lines that aren't
+-- good.
 pub record Tally : Type 0 where
   pub accounts : Accounts
+  pub changed : Accounts
   pub kept : ℕ
   pub bad : List BadLine
 
 abbrev pub nothing_yet : Tally
-nothing_yet = record { accounts = map.empty; kept = 0; bad = [] }
+nothing_yet = record { accounts = map.empty; changed = map.empty; kept = 0; bad = [] }
 
 abbrev pub with_bad : Tally → ℕ → LineFault → Tally
 with_bad t n why = record {
   accounts = t.accounts;
+  changed = t.changed;
   kept = t.kept;
   bad = t.bad ++ record { number = n; why = why } ∷ [];
 }
 
 abbrev pub with_kept : Tally → Tally
-with_kept t = record { accounts = t.accounts; kept = t.kept + 1; bad = t.bad }
+with_kept t =
+    record { accounts = t.accounts; changed = t.changed; kept = t.kept + 1; bad = t.bad }
 
 abbrev pub with_account : Tally → Entry → Tally
 with_account t e = record {
   accounts = map.insert t.accounts e.0 e.1;
+  changed = t.changed;
   kept = t.kept;
   bad = t.bad;
 }
 
--- a line whose account is in the book
-abbrev pub with_existing : Existing → Tally → ℕ → Tally
-with_existing Refused t n = with_bad t n (Book error.Exists)
-with_existing Kept t n = with_kept t
+abbrev pub with_change : Tally → Entry → Tally
+with_change t e = record {
+  accounts = t.accounts;
+  changed = map.insert t.changed e.0 e.1;
+  kept = t.kept;
+  bad = t.bad;
+}
+
+-- a line whose account is in the book; it may be changed once
+abbrev pub with_existing : Existing → Tally → ℕ → Entry → Tally
+with_existing Refused t n e = with_bad t n (Book error.Exists)
+with_existing Kept t n e = with_kept t
+with_existing Updated t n e =
+    if map.contains_key t.changed e.0 then with_bad t n (Book error.Exists) else with_change t e
 
 -- the account of a line is new in the book and among the lines, or not
 abbrev pub with_entry : Existing → Accounts → Tally → ℕ → Entry → Tally
 with_entry how book t n e =
-    if map.contains_key book e.0 then with_existing how t n
+    if map.contains_key book e.0 then with_existing how t n e
     else if map.contains_key t.accounts e.0 then with_bad t n (Book error.Exists)
     else with_account t e
 
-abbrev pub with_line : Existing → Accounts → Tally → ℕ → Result Entry LineFault → Tally
-with_line how book t n (Ok e) = with_entry how book t n e
-with_line how book t n (Err why) = with_bad t n why
+-- a line whose record is locked is at fault, or of an account without a record
+abbrev pub with_locked : Rules → Accounts → Tally → ℕ → List ℕ → LockedRecords → Tally
+with_locked rules book t n name locked.Refused = with_bad t n IsLocked
+with_locked rules book t n name locked.Disabled = with_entry rules.existing book t n (name, None)
+
+abbrev pub with_said : Rules → Accounts → Tally → ℕ → Said → Tally
+with_said rules book t n Nothing = t
+with_said rules book t n (Account name stored) =
+    with_entry rules.existing book t n (name, stored)
+with_said rules book t n (Locked name) = with_locked rules book t n name rules.locked
+
+abbrev pub with_line : Rules → Accounts → Tally → ℕ → Result Said LineFault → Tally
+with_line rules book t n (Ok said) = with_said rules book t n said
+with_line rules book t n (Err why) = with_bad t n why
 
 -- the first of the lines has this number
-unfoldable pub tally_from : Existing → Accounts → Tally → ℕ → List (List ℕ) → Tally
-tally_from how book t n [] = t
-tally_from how book t n (line ∷ lines) =
-    tally_from how book (with_line how book t n (entry_of line)) (n + 1) lines
+unfoldable pub tally_from : Rules → Accounts → Tally → ℕ → List (List ℕ) → Tally
+tally_from rules book t n [] = t
+tally_from rules book t n (line ∷ lines) =
+    tally_from rules book (with_line rules book t n (said_of line)) (n + 1) lines
 
 -- what the lines of a text come to, before a book
-abbrev pub tally : Existing → Accounts → List ℕ → Tally
-tally how book text = tally_from how book nothing_yet 1 (import_lines text)
+abbrev pub tally : Rules → Accounts → List ℕ → Tally
+tally rules book text = tally_from rules book nothing_yet 1 (import_lines text)
 
 abbrev pub tally_of : Gathered → Tally
-tally_of g = record { accounts = g.accounts; kept = g.kept; bad = g.bad.items }
+tally_of g =
+    record { accounts = g.accounts; changed = g.changed; kept = g.kept; bad = g.bad.items }
 
 -- a call on the reader failed, or there was no memory, or there are too many accounts for any book
-abbrev pub GatherFails : Existing → Accounts → Option (List ℕ) → Bool → ImportFault → Type 0
-GatherFails how book input failed fault.Read = failed ≡ true
-GatherFails how book input failed fault.Memory = ⊤
-GatherFails how book input failed fault.Full = (text : List ℕ)
+abbrev pub GatherFails : Rules → Accounts → Option (List ℕ) → Bool → ImportFault → Type 0
+GatherFails rules book input failed fault.Read = failed ≡ true
+GatherFails rules book input failed fault.Memory = ⊤
+GatherFails rules book input failed fault.Full = (text : List ℕ)
     × IfSome input (λ bytes. text ≡ bytes)
-    × (register_capacity < map.len (tally how book text).accounts)
-GatherFails how book input failed (fault.Lines bad) = ⊥
+    × (register_capacity < map.len (tally rules book text).accounts)
+GatherFails rules book input failed (fault.Lines bad) = ⊥

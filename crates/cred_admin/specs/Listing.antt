@@ -30,12 +30,21 @@ abbrev pub stored_text : Option RecordValue → List ℕ
 stored_text None = []
 stored_text (Some v) = record_text v
 
+abbrev pub costs_of : Option RecordValue → List ℕ
+costs_of None = []
+costs_of (Some v) = scheme_text v.setting.scheme
+
+-- the name, a colon (byte 58), the scheme and the costs or nothing, and a line end
+abbrev pub costs_line : Entry → List ℕ
+costs_line e = e.0 ++ 58 ∷ costs_of e.1 ++ 10 ∷ []
+
 -- the name, a colon (byte 58), the record's text or nothing, and a line end
 abbrev pub passwd_line : Entry → List ℕ
 passwd_line e = e.0 ++ 58 ∷ stored_text e.1 ++ 10 ∷ []
 
 abbrev pub line_text : Line → Entry → List ℕ
 line_text line.Name = name_line
+line_text line.Costs = costs_line
 line_text line.Passwd = passwd_line
 
 -- a line each

@@ -8,12 +8,11 @@ use Rattle.cred_admin.specs.declared.fault.Fault.TheVariants as fault
 use Rattle.cred_admin.specs.declared.status.Hint.{Hint}
 use Rattle.cred_admin.specs.declared.status.Hint.TheVariants.{CarriageReturn}
 use Rattle.cred_admin.specs.declared.status.Status.{Status}
-use Rattle.cred_admin.specs.declared.status.Status.TheVariants.{Done, Kept, Usage, Io, Memory, No}
+use Rattle.cred_admin.specs.declared.status.Status.TheVariants.{Done, Usage, Io, Memory, No}
 use Rattle.cred_admin.specs.declared.status.Status.TheVariants.{Database, Data}
 
 abbrev pub number_of : Status → ℕ
 number_of Done = 0
-number_of (Kept lines) = 0
 number_of Usage = 1
 number_of Io = 2
 number_of Memory = 3

@@ -1,12 +1,13 @@
 //! A line of a passwd-file: `NAME:RECORD`, or `NAME:` if it has no record.
 //!
 //! What other programs write beside it is left away: a carriage return at the end, further fields,
-//! and in front of the record Dovecot's scheme in braces or Django's word `argon2`.
+//! and in front of the record Dovecot's scheme in braces or Django's word `argon2`. An empty line
+//! and one that begins with `#` say nothing.
 
 ghost use Rattle.std.specs.Prelude.{◌≡◌};
-ghost use Rattle.cred_admin.specs.Import.{behind_braces, behind_word, entry_as, entry_of};
-ghost use Rattle.cred_admin.specs.Import.{line_number, line_word, record_part, stored_at};
-ghost use Rattle.cred_admin.specs.Import.{without_return};
+ghost use Rattle.cred_admin.specs.Import.{behind_braces, behind_word, is_locked, is_remark};
+ghost use Rattle.cred_admin.specs.Import.{line_number, line_word, record_part, said_as, said_of};
+ghost use Rattle.cred_admin.specs.Import.{stored_at, without_return};
 ghost use Rattle.cred_book.specs.Names.{made_name};
 ghost use Rattle.cred_phc.specs.Pieces.{pieces};
 
@@ -22,10 +23,12 @@ pub enum LineFault {
     Text(PhcError),
     /// Its name is none, or the book refuses it.
     Book(BookError),
+    /// Its record is locked.
+    Locked,
 }
 
 impl LineFault {
-    /// The number of the fault, as in the answers to a script: from 1 to 9, or 11.
+    /// The number of the fault, as in the answers to a script: from 1 to 9, 11 or 17.
     pub fn number(self) -> u8
         ensures { result ≡ line_number self }
     {
@@ -33,6 +36,7 @@ impl LineFault {
             LineFault::Line => 11,
             LineFault::Text(fault) => fault.number(),
             LineFault::Book(refusal) => refusal.number(),
+            LineFault::Locked => 17,
         }
     }
 
@@ -44,32 +48,65 @@ impl LineFault {
             LineFault::Line => "line",
             LineFault::Text(fault) => fault.word(),
             LineFault::Book(refusal) => refusal.word(),
+            LineFault::Locked => "locked",
         }
     }
 }
 
+/// What a line says.
+#[derive(Clone, Copy, Debug, PartialEq, Eq)]
+pub(crate) enum Said {
+    /// Nothing: it is empty, or a remark.
+    Nothing,
+    /// An account, with this record or none.
+    Account { name: Name, stored: Option<Record> },
+    /// An account whose record is locked.
+    Locked { name: Name },
+}
+
 /// Reads a line, which is cut at every colon: the first field is the name, and the second one has
 /// the record. The name is judged before the record.
-#[tactic(auto, unfolding(crate::specs::Import::entry_of))]
-pub(crate) fn entry_of(line: &[u8]) -> Result<(Name, Option<Record>), LineFault>
-    ensures { result ≡ entry_of line.now }
+#[tactic(auto, unfolding(crate::specs::Import::said_of))]
+pub(crate) fn said_of(line: &[u8]) -> Result<Said, LineFault>
+    ensures { result ≡ said_of line.now }
 {
-    let mut fields = Pieces::new(without_return(line), b':');
+    let line = without_return(line);
+    if is_remark(line) {
+        return Ok(Said::Nothing);
+    }
+    let mut fields = Pieces::new(line, b':');
     let Some(name) = fields.next() else {
         return Err(LineFault::Line);
     };
     let Some(text) = fields.next() else {
         return Err(LineFault::Line);
     };
-    entry_as(name, text)
+    said_as(name, text)
 }
 
-fn entry_as(name: &[u8], text: &[u8]) -> Result<(Name, Option<Record>), LineFault>
-    ensures { result ≡ entry_as (made_name name.now) text.now }
+/// Whether a line is there for its readers alone.
+fn is_remark(line: &[u8]) -> bool
+    ensures { result ≡ is_remark line.now }
+{
+    line.is_empty() || line.starts_with(b"#")
+}
+
+fn said_as(name: &[u8], text: &[u8]) -> Result<Said, LineFault>
+    ensures { result ≡ said_as (made_name name.now) text.now }
 {
     let name = Name::new(name).map_err(|refusal| LineFault::Book(refusal))?;
+    if is_locked(text) {
+        return Ok(Said::Locked { name });
+    }
     let stored = stored_at(text)?;
-    Ok((name, stored))
+    Ok(Said::Account { name, stored })
+}
+
+/// Whether a second field has a record that `passwd -l` locked, or `*`, which stands for none.
+fn is_locked(text: &[u8]) -> bool
+    ensures { result ≡ is_locked text.now }
+{
+    text.starts_with(b"!") || text.starts_with(b"*")
 }
 
 fn stored_at(text: &[u8]) -> Result<Option<Record>, LineFault>

@@ -1,15 +1,15 @@
 //! What the lines of a passwd-file come to, before they are taken in.
 
-ghost use Rattle.std.specs.Prelude.{◌≡◌, ◌⊎◌, ◌≤◌, ◌<◌, [], ◌∷◌, IfErr, IfOk, IfSome, List};
-ghost use Rattle.std.specs.Prelude.{MatchOption, OnOk, true, ℕ, length};
+ghost use Rattle.std.specs.Prelude.{◌≡◌, ◌⊎◌, ◌≤◌, ◌<◌, IfErr, IfOk, IfSome, List};
+ghost use Rattle.std.specs.Prelude.{None, OnOk, true, ℕ};
 ghost use Rattle.std.specs.FinMap as map;
 ghost use Rattle.cred_book.specs.Accounts.{register_capacity};
 ghost use Rattle.cred_cli.specs.Watched.{failed_of, inner_of};
-ghost use Rattle.cred_admin.specs.Import.{GatherFails, entry_of, import_lines, nothing_yet, tally};
-ghost use Rattle.cred_admin.specs.Import.{tally_of, whole_lines, with_bad, with_entry};
-ghost use Rattle.cred_admin.specs.Import.{with_existing, with_line};
+ghost use Rattle.cred_admin.specs.Import.{GatherFails, nothing_yet, said_of, tally, tally_of};
+ghost use Rattle.cred_admin.specs.Import.{with_bad, with_entry, with_existing, with_line};
+ghost use Rattle.cred_admin.specs.Import.{with_locked, with_said};
 
-use crate::entry::{LineFault, entry_of};
+use crate::entry::{LineFault, Said, said_of};
 use cred_book::{BookError, Name, Register};
 use cred_cli::Watched;
 use cred_phc::{Pieces, Record};
@@ -23,6 +23,24 @@ pub enum Existing {
     Refused,
     /// The account stays as it is.
     Kept,
+    /// The account has the record of the line from now on, or none.
+    Updated,
+}
+
+/// What an import does with a record that is locked: that stands behind `!` or `*`.
+#[derive(Clone, Copy, Debug, PartialEq, Eq)]
+pub enum LockedRecords {
+    /// The line is at fault.
+    Refused,
+    /// The line is of an account without a record.
+    Disabled,
+}
+
+/// How an import takes its lines.
+#[derive(Clone, Copy, Debug, PartialEq, Eq)]
+pub struct Rules {
+    pub existing: Existing,
+    pub locked: LockedRecords,
 }
 
 /// A line that isn't good.
@@ -51,6 +69,8 @@ pub enum ImportFault {
 pub struct Gathered {
     /// The accounts that are new.
     pub accounts: Register,
+    /// The accounts that are there, with the records that they have from now on.
+    pub changed: Register,
     /// How many lines name an account that is there, and stays as it is.
     pub kept: u64,
     /// The lines that aren't good, in their order.
@@ -63,17 +83,17 @@ pub struct Gathered {
 pub fn gather<R: Read>(
     alloc: Global,
     book: &Register,
-    how: Existing,
+    rules: Rules,
     reader: &mut Watched<R>,
 ) -> Result<Gathered, ImportFault>
     ensures done { IfOk result (λ g. (text : List ℕ)
         × IfSome (R.remaining (inner_of reader.old)) (λ bytes. text ≡ bytes)
-        × (tally_of g ≡ tally how book.now text)) }
+        × (tally_of g ≡ tally rules book.now text)) }
     ensures fault { IfErr result
-        (GatherFails how book.now (R.remaining (inner_of reader.old)) (failed_of reader.new)) }
+        (GatherFails rules book.now (R.remaining (inner_of reader.old)) (failed_of reader.new)) }
 {
     let text = read_all(alloc, reader)?;
-    gather_lines(alloc, book, how, &text)
+    gather_lines(alloc, book, rules, &text)
 }
 
 fn read_all<R: Read>(alloc: Global, reader: &mut Watched<R>) -> Result<Vec<u8>, ImportFault>
@@ -96,38 +116,25 @@ fn read_all<R: Read>(alloc: Global, reader: &mut Watched<R>) -> Result<Vec<u8>, 
 fn gather_lines(
     alloc: Global,
     book: &Register,
-    how: Existing,
+    rules: Rules,
     text: &[u8],
 ) -> Result<Gathered, ImportFault>
-    ensures done { IfOk result (λ g. tally_of g ≡ tally how book.now text.now) }
+    ensures done { IfOk result (λ g. tally_of g ≡ tally rules book.now text.now) }
     ensures fault { IfErr result (λ e. (e ≡ ImportFault.Memory) ⊎ ((e ≡ ImportFault.Full)
-        × (register_capacity < map.len (tally how book.now text.now).accounts))) }
+        × (register_capacity < map.len (tally rules book.now text.now).accounts))) }
 {
     let mut found = Gathered::new(alloc);
     let mut lines = Pieces::new(text, b'\n');
     for number in 1..u64::MAX {
-        match next_line(&mut lines) {
-            Some(line) => found.take_line(book, how, number, line)?,
+        match lines.next() {
+            Some(line) => found.take_line(book, rules, number, line)?,
             None => return Ok(found),
         }
     }
-    match next_line(&mut lines) {
+    match lines.next() {
         Some(_) => Err(ImportFault::Memory),
         None => Ok(found),
     }
-}
-
-/// The next line; nothing need come after the last line end.
-#[tactic(auto, unfolding(crate::specs::Import::whole_lines))]
-fn next_line<'a>(lines: &mut Pieces<'a>) -> Option<&'a [u8]>
-    ensures { MatchOption result (whole_lines lines.old ≡ [])
-        (λ line. whole_lines lines.old ≡ line.now ∷ whole_lines lines.new) }
-{
-    let line = lines.next()?;
-    if line.is_empty() && lines.peek().is_none() {
-        return None;
-    }
-    Some(line)
 }
 
 impl Gathered {
@@ -136,6 +143,7 @@ impl Gathered {
     {
         Gathered {
             accounts: Register::new(alloc),
+            changed: Register::new(alloc),
             kept: 0,
             bad: Vec::new(alloc),
         }
@@ -145,20 +153,64 @@ impl Gathered {
     fn take_line(
         &mut self,
         book: &Register,
-        how: Existing,
+        rules: Rules,
         number: u64,
         line: &[u8],
     ) -> Result<(), ImportFault>
         requires { self.old.kept < number }
         ensures done { OnOk result (tally_of self.new
-            ≡ with_line how book.now (tally_of self.old) number (entry_of line.now)) }
+            ≡ with_line rules book.now (tally_of self.old) number (said_of line.now)) }
         ensures fault { IfErr result (λ e. (e ≡ ImportFault.Memory) ⊎ ((e ≡ ImportFault.Full)
             × (register_capacity < map.len
-            (with_line how book.now (tally_of self.old) number (entry_of line.now)).accounts))) }
+            (with_line rules book.now (tally_of self.old) number (said_of line.now)).accounts))) }
     {
-        match entry_of(line) {
-            Ok((name, stored)) => self.take_entry(book, how, number, name, stored),
+        match said_of(line) {
+            Ok(said) => self.take_said(book, rules, number, &said),
             Err(why) => self.refuse(number, why),
+        }
+    }
+
+    fn take_said(
+        &mut self,
+        book: &Register,
+        rules: Rules,
+        number: u64,
+        said: &Said,
+    ) -> Result<(), ImportFault>
+        requires { self.old.kept < number }
+        ensures done { OnOk result (tally_of self.new
+            ≡ with_said rules book.now (tally_of self.old) number said.now) }
+        ensures fault { IfErr result (λ e. (e ≡ ImportFault.Memory) ⊎ ((e ≡ ImportFault.Full)
+            × (register_capacity < map.len
+            (with_said rules book.now (tally_of self.old) number said.now).accounts))) }
+    {
+        match said {
+            Said::Nothing => Ok(()),
+            Said::Account { name, stored } => {
+                self.take_entry(book, rules.existing, number, *name, *stored)
+            }
+            Said::Locked { name } => self.take_locked(book, rules, number, *name),
+        }
+    }
+
+    /// Adds an account whose record is locked.
+    fn take_locked(
+        &mut self,
+        book: &Register,
+        rules: Rules,
+        number: u64,
+        name: Name,
+    ) -> Result<(), ImportFault>
+        requires { self.old.kept < number }
+        ensures done { OnOk result (tally_of self.new
+            ≡ with_locked rules book.now (tally_of self.old) number name rules.locked) }
+        ensures fault { IfErr result (λ e. (e ≡ ImportFault.Memory) ⊎ ((e ≡ ImportFault.Full)
+            × (register_capacity < map.len
+            (with_locked rules book.now (tally_of self.old) number name rules.locked).accounts))) }
+    {
+        match rules.locked {
+            LockedRecords::Refused => self.refuse(number, LineFault::Locked),
+            LockedRecords::Disabled => self.take_entry(book, rules.existing, number, name, None),
         }
     }
 
@@ -178,7 +230,7 @@ impl Gathered {
             (with_entry how book.now (tally_of self.old) number (name, stored)).accounts))) }
     {
         if book.contains(&name) {
-            return self.pass(how, number);
+            return self.take_existing(how, number, name, stored);
         }
         match self.accounts.enter(name, stored) {
             Ok(()) => Ok(()),
@@ -189,10 +241,16 @@ impl Gathered {
     }
 
     /// Adds a line whose account is there already.
-    fn pass(&mut self, how: Existing, number: u64) -> Result<(), ImportFault>
+    fn take_existing(
+        &mut self,
+        how: Existing,
+        number: u64,
+        name: Name,
+        stored: Option<Record>,
+    ) -> Result<(), ImportFault>
         requires { self.old.kept < number }
-        ensures done { OnOk result
-            (tally_of self.new ≡ with_existing how (tally_of self.old) number) }
+        ensures done { OnOk result (tally_of self.new
+            ≡ with_existing how (tally_of self.old) number (name, stored)) }
         ensures fault { IfErr result (λ e. e ≡ ImportFault.Memory) }
     {
         match how {
@@ -201,6 +259,20 @@ impl Gathered {
                 Ok(())
             }
             Existing::Refused => self.refuse(number, LineFault::Book(BookError::Exists)),
+            Existing::Updated => self.change(number, name, stored),
+        }
+    }
+
+    /// Adds a record that is to take the place of another.
+    fn change(&mut self, number: u64, name: Name, stored: Option<Record>) -> Result<(), ImportFault>
+        ensures done { OnOk result (tally_of self.new
+            ≡ with_existing Existing.Updated (tally_of self.old) number (name, stored)) }
+        ensures fault { IfErr result (λ e. e ≡ ImportFault.Memory) }
+    {
+        match self.changed.enter(name, stored) {
+            Ok(()) => Ok(()),
+            Err(BookError::Exists) => self.refuse(number, LineFault::Book(BookError::Exists)),
+            Err(_) => Err(ImportFault::Memory),
         }
     }
 

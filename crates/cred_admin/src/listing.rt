@@ -5,11 +5,13 @@ ghost use Rattle.std.specs.FinMap as map;
 ghost use Rattle.cred_phc.specs.Values.{RecordValue};
 ghost use Rattle.cred_cli.specs.Outcome.{FrontWritten};
 ghost use Rattle.cred_cli.specs.Watched.{failed_of, inner_of, writing};
-ghost use Rattle.cred_admin.specs.Listing.{IsPiece, Prints, line_text, name_line, passwd_line};
+ghost use Rattle.cred_admin.specs.Listing.{IsPiece, Prints, costs_line, line_text, name_line};
+ghost use Rattle.cred_admin.specs.Listing.{passwd_line};
 ghost use Rattle.cred_admin.specs.declared.listing.TheConstants.{PIECE};
 
 use crate::fault::Fault;
 use crate::printing::write_whole;
+use crate::showing::costs_text;
 use crate::status::Status;
 use cred_book::{Name, Register, Slot};
 use cred_cli::Watched;
@@ -30,6 +32,8 @@ pub fn a_piece_has_64_kib()
 pub(crate) enum Line {
     /// Its name.
     Name,
+    /// Its name, and the scheme and the costs of its record.
+    Costs,
     /// Its name and its record, as a passwd-file has them.
     Passwd,
 }
@@ -46,6 +50,22 @@ pub fn list<W: Write>(
         (writing W.contents writer.old writer.new) result }
 {
     write_lines(alloc, book, Line::Name, writer)
+}
+
+/// Writes the accounts with the schemes and the costs of their records, a line
+/// `NAME:$argon2id$v=19$m=65536,t=3,p=4` each, or `NAME:` if it has no record: so neither salts nor
+/// tags. It keeps about 64 KiB of them at a time, however many there are.
+///
+/// Errors: `Memory`, and some first lines are written, perhaps none and never all; `Write`.
+pub fn list_costs<W: Write>(
+    alloc: Global,
+    book: &Register,
+    writer: &mut Watched<W>,
+) -> Result<Status, Fault>
+    ensures { Prints costs_line (map.entries book.now)
+        (writing W.contents writer.old writer.new) result }
+{
+    write_lines(alloc, book, Line::Costs, writer)
 }
 
 /// Writes the accounts as a passwd-file has them, a line `NAME:RECORD` each, or `NAME:` if it has
@@ -111,6 +131,7 @@ fn push_line(
 {
     match line {
         Line::Name => push_name(text, name),
+        Line::Costs => push_costs(alloc, text, name, slot),
         Line::Passwd => push_entry(alloc, text, name, slot),
     }
 }
@@ -119,6 +140,21 @@ fn push_name(text: &mut Vec<u8>, name: &Name) -> Result<(), AllocError>
     ensures { OnOk result (text.new.items ≡ text.old.items ++ name_line (name.now, None)) }
 {
     text.extend_from_slice(name.bytes())?;
+    text.push(b'\n')?;
+    Ok(())
+}
+
+fn push_costs(alloc: Global, text: &mut Vec<u8>, name: &Name, slot: &Slot) -> Result<(), AllocError>
+    ensures { OnOk result (text.new.items ≡ text.old.items ++ costs_line (name.now, slot.now)) }
+{
+    text.extend_from_slice(name.bytes())?;
+    text.push(b':')?;
+    if let Some(stored) = slot.stored() {
+        let Ok(costs) = costs_text(alloc, &stored.setting()) else {
+            return Err(AllocError);
+        };
+        text.extend_from_slice(&costs)?;
+    }
     text.push(b'\n')?;
     Ok(())
 }

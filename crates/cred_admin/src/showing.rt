@@ -91,7 +91,7 @@ fn part_line(alloc: Global, stored: &Record, part: Part) -> Result<Vec<u8>, Faul
 }
 
 /// The text of the setting without its last field, the salt.
-fn costs_text(alloc: Global, setting: &Setting) -> Result<Vec<u8>, Fault>
+pub(crate) fn costs_text(alloc: Global, setting: &Setting) -> Result<Vec<u8>, Fault>
     ensures value { IfOk result (λ text. text.items ≡ scheme_text setting.now.scheme) }
     ensures memory { IfErr result (λ e. e ≡ Fault.Memory) }
 {

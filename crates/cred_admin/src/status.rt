@@ -28,8 +28,6 @@ pub(crate) fn hint_of(pw: &Password) -> Option<Hint>
 pub enum Status {
     /// It did what was asked, or the password is right.
     Done,
-    /// It did what was asked, and so many lines named accounts that were there and stay.
-    Kept(u64),
     /// The words of the command line are wrong.
     Usage,
     /// Reading or writing failed.
@@ -51,7 +49,7 @@ impl Status {
         ensures { result ≡ number_of self }
     {
         match self {
-            Status::Done | Status::Kept(_) => 0,
+            Status::Done => 0,
             Status::Usage => 1,
             Status::Io => 2,
             Status::Memory => 3,

@@ -1,12 +1,12 @@
 use Rattle.std.proofs.Common.{ap, arith}
 use Rattle.std.proofs.lemmas.Result.{err_from_is_err_and}
-use Rattle.cred_admin.specs.Import.{Tally, entry_of, tally_from, tally_of, whole_lines}
+use Rattle.cred_admin.specs.Import.{Tally, said_of, tally_from, tally_of}
 use Rattle.cred_admin.proofs.Tallies.{fault_of_line, grows, tally_end, tally_more}
 use Rattle.cred_admin.proofs.gathering.gather_lines.Goals as goal
 
 pub loop-number-init : goal.loop-number-init
 loop-number-init c = record {
-  goes = λ i. tally_from c.args.how c.args.book.now (c.new-found.ensures i) 1 (whole_lines (c.new-lines.ensures i));
+  goes = λ i. tally_from c.args.rules c.args.book.now (c.new-found.ensures i) 1 (c.new-lines.ensures i);
   kept = omega (arith, ap (λ (t : Tally). t.kept) c.new-found.ensures);
 }
 
@@ -14,17 +14,17 @@ pub loop-number-preserved : goal.loop-number-preserved
 loop-number-preserved c =
     let was = c.loop-number.invariant in
     let done = c.in_ok-take_line-in-Some.ensures.done in
-    let more = grows c.args.how c.args.book.now (tally_of c.loop-number.found) c.loop-number.number (entry_of c.in-Some.line.now) in
+    let more = grows c.args.rules c.args.book.now (tally_of c.loop-number.found) c.loop-number.number (said_of c.in-Some.line.now) in
     record {
       goes = tally_more _ _ _ _ _ _ _ _ _ was.goes c.in-Some.ensures done;
       kept = omega (arith, was.kept, ap (λ (t : Tally). t.kept) done, more.kept);
     }
 
 pub returns-in-None-clause-done : goal.returns-in-None-clause-done
-returns-in-None-clause-done c = tally_end _ _ _ _ _ _ c.loop-number.invariant.goes c.in-None.ensures
+returns-in-None-clause-done c = tally_end _ _ _ _ _ _ c.loop-number.invariant.goes c.in-None.ensures.0
 
-pub returns-in-None-next_line-clause-done : goal.returns-in-None-next_line-clause-done
-returns-in-None-next_line-clause-done c = tally_end _ _ _ _ _ _ c.loop-number.invariant.goes c.in-None-next_line.ensures
+pub returns-in-None-next-clause-done : goal.returns-in-None-next-clause-done
+returns-in-None-next-clause-done c = tally_end _ _ _ _ _ _ c.loop-number.invariant.goes c.in-None-next.ensures.0
 
 pub returns-in_err-take_line-in-Some-clause-fault : goal.returns-in_err-take_line-in-Some-clause-fault
 returns-in_err-take_line-in-Some-clause-fault c =
