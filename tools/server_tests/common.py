@@ -80,6 +80,11 @@ def until(fact: Callable[[], bool], said: str, seconds: float = 20.0) -> None:
         time.sleep(0.01)
 
 
+def is_listening(path: pathlib.Path) -> bool:
+    with socket.socket(socket.AF_UNIX) as it:
+        return it.connect_ex(str(path)) == 0
+
+
 def field_of(password: bytes) -> str:
     """A password as a line has it."""
     return base64.b64encode(password).decode().rstrip("=") or "-"

@@ -31,7 +31,7 @@ from contextlib import contextmanager
 from importlib.machinery import SourceFileLoader
 from typing import Any
 
-from common import TOP, PYTHON, Client, Skipped, Service, command, Given, field_of, holds, need, need_root, run_tests, same, serving, until
+from common import TOP, PYTHON, Client, Skipped, Service, command, Given, field_of, holds, is_listening, need, need_root, run_tests, same, serving, until
 
 SECRET = field_of(b"secret")
 WRONG = field_of(b"guess")
@@ -729,11 +729,6 @@ def notices() -> None:
             time.sleep(1)
             same(came(), [])
             holds(not service.path().exists() or not is_listening(service.path()), "it listens")
-
-
-def is_listening(path: pathlib.Path) -> bool:
-    with socket.socket(socket.AF_UNIX) as it:
-        return it.connect_ex(str(path)) == 0
 
 
 def sockets_handed_over() -> None:
