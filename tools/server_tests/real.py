@@ -302,11 +302,11 @@ def beside_hostile_clients() -> None:
 
         kinds = {
             "idle": [b""] * 1000,
-            "slow readers": [b"a known ada\n" * 20000] * 8,
+            "slow readers": [b"a known ada\n" * 4000] * 8,
             "half lines": [b"a verify ada"] * 50,
             "1 MB lines": [b"a" * (1 << 20)] * 20,
             "noise": [chance.randbytes(1 << 20) for _ in range(20)],
-            "all": [b""] * 900 + [b"a known ada\n" * 20000, b"a verify ada", b"a" * (1 << 20), chance.randbytes(1 << 20)] * 5,
+            "all": [b""] * 900 + [b"a known ada\n" * 4000, b"a verify ada", b"a" * (1 << 20), chance.randbytes(1 << 20)] * 5,
         }
         for what in kinds:
             judged(what)
