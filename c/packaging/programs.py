@@ -2,8 +2,9 @@
 
     python3 packaging/programs.py VERSION FOLDER
 
-`make -C c/pam deb` runs it, after `make build` at the top of the repository. It needs
-dpkg-dev. MAINTAINER in the environment is who packs them: "Name <address>".
+`make -C c/pam deb` runs it, after `make programs CPU=x86-64` at the top of the repository: then
+the programs run on every processor of the architecture. It needs dpkg-dev. MAINTAINER in the
+environment is who packs them: "Name <address>".
 """
 
 from __future__ import annotations

@@ -4,7 +4,7 @@
     /usr/bin/python3 tools/server_tests/units.py [TEST..]
 
 The units are looked at by systemd-analyze; none is run under systemd itself. What they forbid is
-compared with what strace sees of a server. The packages need `make build`, lintian and, to be
+compared with what strace sees of a server. The packages need `make programs`, lintian and, to be
 installed, debootstrap, root and Debian's mirror, or the base of an earlier debootstrap in BOOT
 (minbase with python3, libpam-runtime, pamtester, adduser), which is copied. What isn't there is
 skipped by name.
