@@ -606,8 +606,8 @@ def ends_in_order() -> None:
 
 
 def hangs_up() -> None:
-    """SIGHUP does nothing."""
-    with serving() as service:
+    """SIGHUP does nothing, also where nohup has not made it so."""
+    with serving(before=("env", "--default-signal=HUP")) as service:
         client = service.client()
         service.process.send_signal(signal.SIGHUP)
         same(client.ask("known ada"), "noaccount")

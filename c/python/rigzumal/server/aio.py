@@ -42,7 +42,7 @@ class Client:
         self._waiting: dict[bytes, asyncio.Future[bytes]] = {}
         self._writer: Optional[asyncio.StreamWriter] = None
         self._reading: Optional[asyncio.Task[None]] = None
-        self._connecting = asyncio.Lock()
+        self._connecting: Optional[asyncio.Lock] = None
         self._last = 0
 
     async def __aenter__(self) -> Client:
@@ -122,6 +122,8 @@ class Client:
 
     async def _line(self, tag: bytes, asked: Question) -> bytes:
         """The line that answers under a tag; empty if the connection ends first."""
+        if self._connecting is None:  # not before: until Python 3.10 it takes its loop as it is made
+            self._connecting = asyncio.Lock()
         async with self._connecting:
             if self._reading is None or self._reading.done():
                 reader, self._writer = await asyncio.open_unix_connection(
