@@ -1,5 +1,5 @@
 -- What the orders do that change an account without its password.
-use Rattle.std.specs.Prelude.{◌≡◌, ℕ, ◌≤◌, Bool, true, false, List, [], ◌∷◌, ◌++◌, codes, Option}
+use Rattle.std.specs.Prelude.{◌≡◌, ℕ, ◌≤◌, ◌<◌, Bool, true, false, List, [], ◌∷◌, ◌++◌, codes, Option}
 use Rattle.std.specs.Prelude.{Some, None, Result, Ok, Err}
 use Rattle.std.specs.FinMap as map
 use Rattle.std.specs.Io.KnownBytes.{Keeps}
@@ -73,13 +73,14 @@ renaming book name other =
 -- ---- what comes of it
 
 -- the step is done and answered, or done and not answered, or not done; a book in which a name is
--- changed has to have room for one more
+-- changed has to have room for one more, and memory runs out only if the step could have been done
 abbrev pub Edits : ℕ → EditReply × Accounts → Accounts → Accounts → Writing → Result Status Fault
     → Type 0
 Edits capacity step old new w (Ok status) = (new ≡ step.1) × Tells (told step.0) w (Ok status)
 Edits capacity step old new w (Err fault.Write) =
     (new ≡ step.1) × Tells (told step.0) w (Err fault.Write)
-Edits capacity step old new w (Err fault.Memory) = (new ≡ old) × Keeps w.before w.now
+Edits capacity step old new w (Err fault.Memory) = (edit_status step.0 ≡ Done)
+    × (step.0 ≡ reply.Renamed → map.len old < capacity) × (new ≡ old) × Keeps w.before w.now
 Edits capacity step old new w (Err fault.Full) =
     (step.0 ≡ reply.Renamed) × (capacity ≤ map.len old) × (new ≡ old) × Keeps w.before w.now
 Edits capacity step old new w (Err _) = ⊥

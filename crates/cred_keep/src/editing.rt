@@ -1,10 +1,10 @@
 //! The orders that change an account without its password.
 
-ghost use Rattle.std.specs.Prelude.{◌≡◌, ◌⊎◌, ◌≤◌, IfErr, IfOk, OnErr};
+ghost use Rattle.std.specs.Prelude.{◌≡◌, ◌⊎◌, ◌≤◌, ◌<◌, IfErr, IfOk, OnErr};
 ghost use Rattle.std.specs.FinMap as map;
 ghost use Rattle.cred_book.specs.Accounts.{register_capacity};
 ghost use Rattle.cred_admin.specs.Edits.{Edits, deletion, disabling, renaming};
-ghost use Rattle.cred_admin.specs.declared.edit_reply.EditReply.TheVariants.{Renamed};
+ghost use Rattle.cred_admin.specs.declared.edit_reply.EditReply.TheVariants.{Deleted, Disabled, Renamed};
 ghost use Rattle.cred_cli.specs.Watched.{writing};
 
 use cred_admin::{EditReply, Fault, Status, answer_edit};
@@ -33,7 +33,8 @@ pub(crate) fn disable<S: Alter, W: Write>(
 fn take_record<S: Alter>(book: &mut FileBook<S>, name: &Name) -> Result<EditReply, Fault>
     ensures done { IfOk result (λ reply. (reply, book.new.0) ≡ disabling book.old.0 name.now) }
     ensures stays { OnErr result (book.new.0 ≡ book.old.0) }
-    ensures memory { IfErr result (λ e. e ≡ Fault.Memory) }
+    ensures memory { IfErr result (λ e. (e ≡ Fault.Memory)
+        × ((disabling book.old.0 name.now).0 ≡ Disabled)) }
 {
     match book.book().show(name) {
         Ok(Some(_)) => {}
@@ -65,7 +66,8 @@ pub(crate) fn delete<S: Alter, W: Write>(
 fn take_account<S: Alter>(book: &mut FileBook<S>, name: &Name) -> Result<EditReply, Fault>
     ensures done { IfOk result (λ reply. (reply, book.new.0) ≡ deletion book.old.0 name.now) }
     ensures stays { OnErr result (book.new.0 ≡ book.old.0) }
-    ensures memory { IfErr result (λ e. e ≡ Fault.Memory) }
+    ensures memory { IfErr result (λ e. (e ≡ Fault.Memory)
+        × ((deletion book.old.0 name.now).0 ≡ Deleted)) }
 {
     match book.delete(name) {
         Ok(()) => Ok(EditReply::Deleted),
@@ -99,9 +101,10 @@ fn change_name<S: Alter>(
     ensures done { IfOk result (λ reply.
         (reply, book.new.0) ≡ renaming book.old.0 name.now other.now) }
     ensures stays { OnErr result (book.new.0 ≡ book.old.0) }
-    ensures fault { IfErr result (λ e. (e ≡ Fault.Memory) ⊎ ((e ≡ Fault.Full)
-        × ((renaming book.old.0 name.now other.now).0 ≡ Renamed)
-        × (register_capacity ≤ map.len book.old.0))) }
+    ensures due { OnErr result ((renaming book.old.0 name.now other.now).0 ≡ Renamed) }
+    ensures fault { IfErr result (λ e.
+        ((e ≡ Fault.Memory) × (map.len book.old.0 < register_capacity))
+        ⊎ ((e ≡ Fault.Full) × (register_capacity ≤ map.len book.old.0))) }
 {
     match book.rename(name, other) {
         Ok(()) => Ok(EditReply::Renamed),
