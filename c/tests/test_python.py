@@ -413,6 +413,35 @@ class Shell(unittest.TestCase):
         scrypt = run(["hash", "--scrypt", "--log2-n", "4"], b"secret")
         self.assertTrue(scrypt.stdout.startswith(b"$scrypt$ln=4,r=8,p=1$"))
 
+    def test_what_is_no_record_of_ours(self):
+        """The scheme's name is said where one stands; nothing else of the text is shown."""
+        for text, name in (
+            ("$2b$12$abcdefgh", "2b"),
+            ("$pbkdf2-sha256$29000$abc", "pbkdf2-sha256"),
+            ("pbkdf2_sha256$260000$abc", "pbkdf2_sha256"),
+            ("argon2$argon2id$v=19", "argon2"),
+            ("$argon2id$v=18$m=8,t=1,p=1$c29tZXNhbHQ$abcd", None),
+            ("$my hunter2$", None),
+            ("$hunter2!$", None),
+            ("$hunter2" + "x" * 20 + "$", None),
+            ("hunter2$", None),
+            ("hunter2", None),
+        ):
+            done = run(["verify", text], b"secret")
+            self.assertEqual((done.returncode, done.stdout), (2, b""), text)
+            said = done.stderr.decode()
+            self.assertNotIn("hunter2", said)
+            self.assertEqual("scheme is" in said, name is not None, said)
+            self.assertIn(f"(the record's scheme is {name})" if name else "rigzumal: ", said)
+
+    def test_a_newline_that_was_meant_to_end_the_password(self):
+        record = PasswordHasher(1, 8, 1).hash("hunter2")
+        done = run(["verify", record], b"hunter2\n")
+        self.assertEqual((done.returncode, done.stdout), (1, b"no\n"))
+        self.assertIn(b"newline", done.stderr)
+        self.assertNotIn(b"hunter2", done.stderr)
+        self.assertEqual(run(["verify", record], b"hunter3\n").stderr, b"")
+
     def test_costs(self):
         for given, costs in (
             ("--memory 64 --passes 2 --lanes 3", "$argon2id$v=19$m=64,t=2,p=3$"),
