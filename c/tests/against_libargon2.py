@@ -243,6 +243,7 @@ def damaged(draw, text):
         lambda: text.replace("p=", draw.choice(("p=0", "p=x", "p=9999")), 1),
         lambda: text.replace("v=19", draw.choice(("v=", "v=019", "v=19$v=19", "v=18", "v=16"))),
         lambda: text.replace("m=", "m=99999999999", 1),
+        lambda: re.sub(r"\$v=\d+", "", text, count=1),  # as of version 0x10
     ]
     return draw.choice(ways)()
 

@@ -175,8 +175,10 @@ class Parameters(unittest.TestCase):
     def test_profiles(self):
         for name in ("RFC_9106_LOW_MEMORY", "RFC_9106_HIGH_MEMORY", "PRE_21_2", "CHEAPEST"):
             params = getattr(ours.profiles, name)
-            hasher = ours.PasswordHasher.from_parameters(params)
-            self.assertEqual(hasher._parameters, params)
+            for kind in ours.Type:
+                params = dataclasses.replace(params, type=kind)
+                hasher = ours.PasswordHasher.from_parameters(params)
+                self.assertEqual(hasher._parameters, params)
         hasher = ours.PasswordHasher.from_parameters(ours.profiles.CHEAPEST)
         hashed = hasher.hash("x")
         self.assertEqual(ours.extract_parameters(hashed), ours.profiles.CHEAPEST)
