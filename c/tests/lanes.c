@@ -319,17 +319,18 @@ static void begin_turn(void) {
 /* What a turn answers, if everything that it is to do is done. */
 static void try_threads(uint32_t threads, int wanted) {
     sigset_t after;
-    int state;
+    int state, before = random_below(2) == 0 ? PTHREAD_CANCEL_ENABLE : PTHREAD_CANCEL_DISABLE;
     size_t size = 0;
     struct task task = {now.numbers, begin, end, &now, now.callers};
     CHECK_NUMBER(size_of_slices(&now.numbers, &size), wanted == RIGZUMAL_NO_KIND ? wanted : 0);
     CHECK(size == (wanted == RIGZUMAL_NO_KIND ? 0 : SLICES * now.slice * sizeof *now.callers));
     pthread_sigmask(SIG_SETMASK, NULL, &now.signals);
+    pthread_setcancelstate(before, &state);
     CHECK_NUMBER(work_lanes(&task, threads), wanted);
     pthread_sigmask(SIG_SETMASK, NULL, &after);
     CHECK(are_same_signals(&now.signals, &after));
     pthread_setcancelstate(PTHREAD_CANCEL_ENABLE, &state);
-    CHECK(state == PTHREAD_CANCEL_ENABLE);
+    CHECK(state == before);
     CHECK(now.alive == 0 && now.joins == now.starts && now.starts < (int)threads);
     CHECK(refusals > 0 || now.begins == 0 || now.begin_answer != 0 ||
           now.starts == (int)threads - 1);
