@@ -130,7 +130,7 @@ def as_user(uid: int, gid: int, path: pathlib.Path, *lines: str) -> str:
     script = "import socket, sys\ns = socket.socket(socket.AF_UNIX)\ns.settimeout(20)\n"
     script += "try:\n    s.connect(sys.argv[1])\nexcept PermissionError:\n    print('not permitted')\n    sys.exit()\n"
     script += "for line in sys.argv[2:]:\n    s.sendall(b'1 ' + line.encode() + b'\\n')\n    print(s.recv(100).decode()[2:].strip())\n"
-    done = subprocess.run([PYTHON, "-c", script, path, *lines], user=uid, group=gid, extra_groups=[], capture_output=True, text=True)
+    done = subprocess.run([sys.executable, "-c", script, path, *lines], user=uid, group=gid, extra_groups=[], capture_output=True, text=True)
     return " ".join(done.stdout.split("\n")).strip() or done.stderr
 
 
