@@ -78,7 +78,7 @@ class Client:
         return self._reply(question("rename", name, new_name))
 
     def names(self, first: str = "-", count: int = 100) -> list[str]:
-        """Up to so many names (1 to 100) from the first on, in order."""
+        """Up to so many names (1 to 1000) from the first on, in order."""
         return self._answer(question("list", first, str(count))).split()[1:]
 
     def _reply(self, asked: Question) -> Reply:

@@ -101,7 +101,7 @@ class Client:
         return await self._reply(question("rename", name, new_name))
 
     async def names(self, first: str = "-", count: int = 100) -> list[str]:
-        """Up to so many names (1 to 100) from the first on, in order."""
+        """Up to so many names (1 to 1000) from the first on, in order."""
         return (await self._answer(question("list", first, str(count)))).split()[1:]
 
     async def _reply(self, asked: Question) -> Reply:
