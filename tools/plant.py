@@ -22,6 +22,7 @@ those that it calls. A bug that no goal refuses there is planted once more by it
 no one function. The work goes on in a copy under /tmp, over what earlier checks left in out/."""
 
 import argparse
+import os
 import pathlib
 import re
 import shutil
@@ -156,6 +157,37 @@ def say_what_fits(names):
     return 1 if lost else 0
 
 
+def linked(source, target):
+    """A second name of a file in place of a copy, where the two stand on one disk."""
+    try:
+        os.link(source, target)
+    except OSError:
+        shutil.copy2(source, target)
+
+
+def stamp_of(path):
+    """By which a file that was written since is told from its copy."""
+    it = path.lstat()
+    return it.st_mode, it.st_size, it.st_mtime_ns
+
+
+def bring_back(kept, at):
+    """Makes a folder what the kept one is: only what differs is copied, since most of out/ is as it was."""
+    for path in sorted(at.rglob("*"), reverse=True):
+        there = kept / path.relative_to(at)
+        if path.is_dir() and not path.is_symlink():
+            if not there.is_dir():
+                path.rmdir()
+        elif not there.is_symlink() and not there.is_file() or stamp_of(there) != stamp_of(path):
+            path.unlink()
+    for there in sorted(kept.rglob("*")):
+        path = at / there.relative_to(kept)
+        if there.is_dir() and not there.is_symlink():
+            path.mkdir(exist_ok=True)
+        elif not path.is_symlink() and not path.exists():
+            shutil.copy2(there, path, follow_symlinks=False)
+
+
 class Copy:
     """A copy of the crate and of those below it, to which each round comes back."""
 
@@ -172,7 +204,9 @@ class Copy:
         (self.at / "crates.txt").write_text("".join(f"{heads[it]}: {' '.join(below[it])}\n" for it in needed))
         shutil.copy(TOP / "HANDLES", self.at)
         for it in needed:
-            shutil.copytree(TOP / "crates" / it, self.at / "crates" / it, symlinks=True)
+            # A check only reads what stands below its crate.
+            how = shutil.copy2 if it == name else linked
+            shutil.copytree(TOP / "crates" / it, self.at / "crates" / it, symlinks=True, copy_function=how)
         self.crate, self.kept = self.at / "crates" / name, self.at / "kept"
         shutil.rmtree(self.crate / "must-fail", ignore_errors=True)
         shutil.copytree(self.crate / "src", self.kept / "src")
@@ -187,8 +221,7 @@ class Copy:
     def planted(self, bugs, *words):
         """What a check says where these bugs stand in the crate as it was kept."""
         for part in [it.name for it in self.kept.iterdir()]:
-            shutil.rmtree(self.crate / part)
-            shutil.copytree(self.kept / part, self.crate / part, symlinks=True)
+            bring_back(self.kept / part, self.crate / part)
         for bug in bugs:
             plant(self.crate, bug)
         return self.check(*words)
