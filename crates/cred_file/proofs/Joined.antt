@@ -1,18 +1,21 @@
 -- The accounts of two books, as those of one are added to the other and taken out again.
-use Rattle.std.proofs.Common.{◌≡◌, ◌+◌, ◌≤◌, ℕ, List, [], ◌∷◌, ◌++◌, length, append_assoc, append-nil, Bool, true, false, cond, ◌||◌, Option, Some, None, is_some, refl, sym, ap, ◌∙◌, arith}
+use Rattle.std.proofs.Common.{◌≡◌, ◌+◌, ◌≤◌, ℕ, List, [], ◌∷◌, ◌++◌, length, append_assoc, append-nil, Bool, true, false, cond, ◌||◌, ◌&&◌, T, Option, Some, None, is_some, refl, sym, ap, subst, ◌∙◌, arith}
 use Rattle.std.proofs.lemmas.List.{length-append}
-use Rattle.std.specs.Ordering.{eq_by_cmp, is_eq}
+use Rattle.std.specs.Ordering.{eq_by_cmp, is_eq, is_lt, ordering_reverse}
 use Rattle.std.specs.declared.cmp.Ordering.{Ordering}
 use Rattle.std.specs.declared.cmp.Ordering.TheVariants.{Less, Equal, Greater}
 use Rattle.std.specs.Cmp.{eq_by_cmp_equiv}
 use Rattle.std.specs.FinMap as fin
+use Rattle.std.specs.FinMap.Entries.{below_all}
 use Rattle.std.specs.FinMap.{get-entries, get-from_entries, get-insert, get-remove, len-empty, len-entries, len-insert, same_map}
 use Rattle.std.specs.Cmp.Lexicographic.{nat_list_cmp_total}
+use Rattle.sqlite.specs.State.{State, HasCleanDisk}
 use Rattle.cred_phc.specs.Values.{RecordValue}
 use Rattle.cred_book.specs.Accounts.{Accounts}
 use Rattle.cred_book.specs.Names.{name_cmp}
-use Rattle.cred_file.specs.Edits.{AreApart, Meet, joined}
-use Rattle.cred_file.specs.Together.{IsPartOf}
+use Rattle.cred_file.specs.Edits.{AreApart, AreThere, joined}
+use Rattle.cred_file.specs.Keeps.{Has}
+use Rattle.cred_file.specs.Together.{IsPartOf, IsUnderWay, MakesWithin}
 
 abbrev pub Entries : Type 0
 Entries = List (List ℕ × Option RecordValue)
@@ -38,10 +41,10 @@ swapped false true c same off x v deep o is = is
 swapped true true c same off x v deep o is = absurd (let e = same refl ∙ off in cc)
 
 -- a new entry behind the first ones
-find_behind : (front more : Entries) (k : List ℕ) (v : Option RecordValue) (q : List ℕ) → is_some (find k (front ++ more)) ≡ false → find q (front ++ (k, v) ∷ more) ≡ cond (ties q k) (Some v) (find q (front ++ more))
+find_behind : (front more : Entries) (k : List ℕ) (v : Option RecordValue) (q : List ℕ) → is_some (find k front) ≡ false → find q (front ++ (k, v) ∷ more) ≡ cond (ties q k) (Some v) (find q (front ++ more))
 find_behind [] more k v q none = refl
 find_behind (f ∷ fs) more k v q none =
-    let deeper = outer (ties k f.0) f.1 (find k (fs ++ more)) none in
+    let deeper = outer (ties k f.0) f.1 (find k fs) none in
     swapped (ties q f.0) (ties q k) (ties k f.0) ((eq_by_cmp_equiv nat_list_cmp_total).congr q k f.0) deeper.0 f.1 v _ _ (find_behind fs more k v q deeper.1)
 
 either_some : {X : Type 0} (c : Bool) (x : X) (o p : Option X) (b : Bool) → is_some o ≡ (is_some p || b) → is_some (cond c (Some x) o) ≡ (is_some (cond c (Some x) p) || b)
@@ -69,6 +72,17 @@ nothing : {X : Type 0} (o : Option X) → is_some o ≡ false → o ≡ None
 nothing None e = refl
 nothing (Some x) e = absurd cc
 
+or_true : (a b : Bool) → b ≡ true → (a || b) ≡ true
+or_true true b e = refl
+or_true false b e = e
+
+-- the first of the entries that are left is one of the book
+among : (book : Accounts) (front rest left : Entries) (k : List ℕ) (slot : Option RecordValue) → front ++ rest ≡ fin.entries book → rest ≡ (k, slot) ∷ left → fin.contains_key book k ≡ true
+among book front rest left k slot cut is = sym (has_entries book k) ∙ ap (λ es. is_some (find k es)) (sym cut ∙ ap (λ es. front ++ es) is) ∙ has_append front ((k, slot) ∷ left) k ∙ or_true (is_some (find k front)) _ here
+  where
+    here : is_some (find k ((k, slot) ∷ left)) ≡ true
+    here = ap (λ b. is_some (cond b (Some slot) (find k left))) ((eq_by_cmp_equiv nat_list_cmp_total).refl k)
+
 -- ---- the accounts that are added in turn
 
 -- the first of the entries are added, and these are left
@@ -86,21 +100,55 @@ none_entered old more = record { front = []; cut = refl; now_is = again old }
 behind : (front left all : Entries) (e : List ℕ × Option RecordValue) (rest : Entries) → front ++ rest ≡ all → rest ≡ e ∷ left → (front ++ e ∷ []) ++ left ≡ all
 behind front left all e rest cut is = append_assoc front (e ∷ []) left ∙ ap (λ es. front ++ es) (sym is) ∙ cut
 
-pub one_entered : (old more now after : Accounts) (rest left : Entries) (k : List ℕ) (v slot : Option RecordValue) → AreEntered old more now rest → rest ≡ (k, slot) ∷ left → v ≡ slot → fin.contains_key now k ≡ false → after ≡ fin.insert now k v
+-- ---- names come once
+
+first_of : (a b : Bool) → T (a && b) → T a
+first_of true b p = tt
+first_of false b p = absurd p
+
+second_of : (a b : Bool) → T (a && b) → T b
+second_of true b p = p
+second_of false b p = absurd p
+
+less : (o : Ordering) → T (is_lt o) → o ≡ Less
+less Less p = refl
+less Equal p = absurd p
+less Greater p = absurd p
+
+later : (x k : List ℕ) → T (is_lt (name_cmp x k)) → ties k x ≡ false
+later x k p = ap is_eq (nat_list_cmp_total.antisymm k x ∙ ap ordering_reverse (less _ p))
+
+reached : (x k : List ℕ) (v : Option RecordValue) (fs left : Entries) → T (below_all name_cmp x (fs ++ (k, v) ∷ left)) → T (is_lt (name_cmp x k))
+reached x k v [] left h = first_of _ _ h
+reached x k v (f ∷ fs) left h = reached x k v fs left (second_of _ _ h)
+
+unmet : (front left : Entries) (k : List ℕ) (v : Option RecordValue) → T (fin.is_sorted name_cmp (front ++ (k, v) ∷ left)) → is_some (find k front) ≡ false
+unmet [] left k v h = refl
+unmet (f ∷ fs) left k v h =
+    ap (λ b. is_some (cond b (Some f.1) (find k fs))) (later f.0 k (reached f.0 k v fs left (first_of _ _ h))) ∙ unmet fs left k v (second_of _ _ h)
+
+-- an entry of a book isn't among those before it
+once : (book : Accounts) (front rest left : Entries) (k : List ℕ) (v : Option RecordValue) → front ++ rest ≡ fin.entries book → rest ≡ (k, v) ∷ left → is_some (find k front) ≡ false
+once book front rest left k v cut is =
+    unmet front left k v (subst (λ es. T (fin.is_sorted name_cmp es)) (sym (ap (λ es. front ++ es) (sym is) ∙ cut)) (fin.entries_sorted book))
+
+-- an entry more, in front of the others
+pub one_more : (front more : Entries) (k : List ℕ) (v : Option RecordValue) → is_some (find k front) ≡ false
+    → fin.insert (fin.from_entries {R = name_cmp} (front ++ more)) k v ≡ fin.from_entries {R = name_cmp} ((front ++ (k, v) ∷ []) ++ more)
+one_more front more k v none = same_map nat_list_cmp_total same_names _ _ (λ q.
+    get-insert nat_list_cmp_total (fin.from_entries (front ++ more)) k v q
+    ∙ ap (cond (ties q k) (Some v)) (get-from_entries nat_list_cmp_total (front ++ more) q)
+    ∙ sym (find_behind front more k v q none)
+    ∙ ap (find q) (sym (append_assoc front ((k, v) ∷ []) more))
+    ∙ sym (get-from_entries nat_list_cmp_total ((front ++ (k, v) ∷ []) ++ more) q))
+
+pub one_entered : (old more now after : Accounts) (rest left : Entries) (k : List ℕ) (v slot : Option RecordValue) → AreEntered old more now rest → rest ≡ (k, slot) ∷ left → v ≡ slot → after ≡ fin.insert now k v
     → AreEntered old more after left
-one_entered old more now after rest left k v slot was is same absent put = record {
+one_entered old more now after rest left k v slot was is same put = record {
   front = was.front ++ (k, v) ∷ [];
   cut = behind was.front left _ (k, v) rest was.cut (is ∙ ap (λ s. (k, s) ∷ left) (sym same));
-  now_is = put ∙ same_map nat_list_cmp_total same_names _ _ (λ q.
-      get-insert nat_list_cmp_total now k v q
-      ∙ ap (cond (ties q k) (Some v)) (found q)
-      ∙ sym (find_behind was.front (fin.entries old) k v q (ap is_some (sym (found k)) ∙ absent))
-      ∙ ap (find q) (sym (append_assoc was.front ((k, v) ∷ []) (fin.entries old)))
-      ∙ sym (get-from_entries nat_list_cmp_total ((was.front ++ (k, v) ∷ []) ++ fin.entries old) q));
+  now_is = put ∙ ap (λ (b : Accounts). fin.insert b k v) was.now_is ∙ one_more was.front (fin.entries old) k v (once more was.front rest left k slot was.cut is);
 }
-  where
-    found : (q : List ℕ) → fin.get now q ≡ find q (was.front ++ fin.entries old)
-    found q = ap (λ (b : Accounts). fin.get b q) was.now_is ∙ get-from_entries nat_list_cmp_total (was.front ++ fin.entries old) q
 
 whole : (front rest all : Entries) → front ++ rest ≡ all → length rest ≡ 0 → front ≡ all
 whole front [] all cut none = sym (append-nil front) ∙ cut
@@ -111,6 +159,47 @@ all_entered old more now rest was none = was.now_is ∙ ap (λ es. fin.from_entr
 
 pub part_entered : (old more now : Accounts) (rest : Entries) → AreEntered old more now rest → IsPartOf old more now
 part_entered old more now rest was = record { front = was.front; rest = rest; cut = was.cut; now_is = was.now_is }
+
+-- a name that is there stays there
+pub still_there : (old more now : Accounts) (rest left : Entries) (k : List ℕ) (slot : Option RecordValue) → AreEntered old more now rest → rest ≡ (k, slot) ∷ left → AreThere old more → fin.contains_key now k ≡ true
+still_there old more now rest left k slot was is there =
+    ap (λ (b : Accounts). fin.contains_key b k) was.now_is ∙ ap is_some (get-from_entries nat_list_cmp_total (was.front ++ fin.entries old) k) ∙ has_append was.front (fin.entries old) k
+    ∙ or_true (is_some (find k was.front)) _ (has_entries old k ∙ there k (among more was.front rest left k slot was.cut is))
+
+-- ---- what happens to a table as the records of accounts are replaced
+
+pub record AreUpdated (old new : State) (more : Accounts) (rest : Entries) : Type 0 where
+  pub front : Entries
+  pub cut : front ++ rest ≡ fin.entries more
+  pub under : HasCleanDisk new → (first book : Accounts) → AreThere book more → IsUnderWay old first book
+      → IsUnderWay new first (fin.from_entries (front ++ fin.entries book))
+
+pub none_updated : (s : State) (more : Accounts) → AreUpdated s s more (fin.entries more)
+none_updated s more = record { front = []; cut = refl; under = λ clean first book there begun. subst (IsUnderWay s first) (again book) begun }
+
+pub one_updated : (old mid new : State) (more : Accounts) (rest left : Entries) (k : List ℕ) (v slot : Option RecordValue) → AreUpdated old mid more rest → rest ≡ (k, slot) ∷ left → v ≡ slot → (HasCleanDisk new → HasCleanDisk mid)
+    → (HasCleanDisk new → MakesWithin mid new (Has k) (λ b. fin.insert b k v)) → AreUpdated old new more left
+one_updated old mid new more rest left k v slot was is same early does = record {
+  front = was.front ++ (k, v) ∷ [];
+  cut = behind was.front left _ (k, v) rest was.cut (is ∙ ap (λ s. (k, s) ∷ left) (sym same));
+  under = λ clean first book there begun.
+      let now : AreEntered book more (fin.from_entries (was.front ++ fin.entries book)) rest = record { front = was.front; cut = was.cut; now_is = refl } in
+      subst (IsUnderWay new first) (one_more was.front (fin.entries book) k v (once more was.front rest left k slot was.cut is))
+      (does clean first (fin.from_entries (was.front ++ fin.entries book)) (still_there book more _ rest left k slot now is there) (was.under (early clean) first book there begun));
+}
+
+pub all_updated : (old new : State) (more : Accounts) (rest : Entries) → AreUpdated old new more rest → length rest ≡ 0 → HasCleanDisk new → MakesWithin old new (λ b. AreThere b more) (λ b. joined b more)
+all_updated old new more rest was none clean first book there begun =
+    subst (IsUnderWay new first) (ap (λ es. fin.from_entries {R = name_cmp} (es ++ fin.entries book)) (whole was.front rest _ was.cut none)) (was.under clean first book there begun)
+
+-- accounts that are added leave the others there
+pub there_still : (old more changed : Accounts) → AreThere old changed → AreThere (joined old more) changed
+there_still old more changed there q is =
+    ap is_some (get-from_entries nat_list_cmp_total (fin.entries more ++ fin.entries old) q) ∙ has_append (fin.entries more) (fin.entries old) q ∙ or_true (is_some (find q (fin.entries more))) _ (has_entries old q ∙ there q is)
+
+-- all of them are a part
+pub all_part : (old more : Accounts) → IsPartOf old more (joined old more)
+all_part old more = record { front = fin.entries more; rest = []; cut = append-nil (fin.entries more); now_is = refl }
 
 -- ---- and taken out again
 
@@ -153,20 +242,21 @@ undone old more now after apart part gone = same_map nat_list_cmp_total same_nam
 
 -- ---- whether a name is in both
 
--- the first names are not in the book
-pub record AreNew (book more : Accounts) (rest : Entries) : Type 0 where
+-- the first names are in the book, or none of them is
+pub record AreAll (is_there : Bool) (book more : Accounts) (rest : Entries) : Type 0 where
   pub front : Entries
   pub cut : front ++ rest ≡ fin.entries more
-  pub new : (q : List ℕ) → is_some (find q front) ≡ true → fin.contains_key book q ≡ false
+  pub each : (q : List ℕ) → is_some (find q front) ≡ true → fin.contains_key book q ≡ is_there
 
-pub none_new : (book more : Accounts) → AreNew book more (fin.entries more)
-none_new book more = record { front = []; cut = refl; new = λ q e. absurd cc }
+pub none_yet : (is_there : Bool) (book more : Accounts) → AreAll is_there book more (fin.entries more)
+none_yet is_there book more = record { front = []; cut = refl; each = λ q e. absurd cc }
 
-pub one_new : (book more : Accounts) (rest left : Entries) (k : List ℕ) (slot : Option RecordValue) → AreNew book more rest → rest ≡ (k, slot) ∷ left → fin.contains_key book k ≡ false → AreNew book more left
-one_new book more rest left k slot was is absent = record {
+pub one_so : (is_there : Bool) (book more : Accounts) (rest left : Entries) (k : List ℕ) (slot : Option RecordValue) → AreAll is_there book more rest → rest ≡ (k, slot) ∷ left → fin.contains_key book k ≡ is_there
+    → AreAll is_there book more left
+one_so is_there book more rest left k slot was is so = record {
   front = was.front ++ (k, slot) ∷ [];
   cut = behind was.front left _ (k, slot) rest was.cut is;
-  new = λ q e. at q (is_some (find q was.front)) (ties q k) refl refl (sym (has_append was.front ((k, slot) ∷ []) q) ∙ e);
+  each = λ q e. at q (is_some (find q was.front)) (ties q k) refl refl (sym (has_append was.front ((k, slot) ∷ []) q) ∙ e);
 }
   where
     equal : (r : Ordering) → is_eq r ≡ true → r ≡ Equal
@@ -174,23 +264,18 @@ one_new book more rest left k slot was is absent = record {
     equal Equal e = refl
     equal Greater e = absurd cc
 
-    at : (q : List ℕ) (a b : Bool) → is_some (find q was.front) ≡ a → ties q k ≡ b → (a || is_some (cond b (Some slot) None)) ≡ true → fin.contains_key book q ≡ false
-    at q true b is tie e = was.new q is
-    at q false true is tie e = ap is_some (fin.get_tied nat_list_cmp_total book k q (equal _ (sym ((eq_by_cmp_equiv nat_list_cmp_total).symm q k) ∙ tie))) ∙ absent
+    at : (q : List ℕ) (a b : Bool) → is_some (find q was.front) ≡ a → ties q k ≡ b → (a || is_some (cond b (Some slot) None)) ≡ true → fin.contains_key book q ≡ is_there
+    at q true b is tie e = was.each q is
+    at q false true is tie e = ap is_some (fin.get_tied nat_list_cmp_total book k q (equal _ (sym ((eq_by_cmp_equiv nat_list_cmp_total).symm q k) ∙ tie))) ∙ so
     at q false false is tie e = absurd cc
 
-pub all_new : (book more : Accounts) (rest : Entries) → AreNew book more rest → length rest ≡ 0 → AreApart book more
-all_new book more rest was none q there = was.new q (ap (λ es. is_some (find q es)) (whole was.front rest _ was.cut none) ∙ has_entries more q ∙ there)
+pub all_so : (is_there : Bool) (book more : Accounts) (rest : Entries) → AreAll is_there book more rest → length rest ≡ 0 → (q : List ℕ) → fin.contains_key more q ≡ true → fin.contains_key book q ≡ is_there
+all_so is_there book more rest was none q there = was.each q (ap (λ es. is_some (find q es)) (whole was.front rest _ was.cut none) ∙ has_entries more q ∙ there)
 
-or_true : (a b : Bool) → b ≡ true → (a || b) ≡ true
-or_true true b e = refl
-or_true false b e = e
-
-pub met : (book more : Accounts) (rest left : Entries) (k : List ℕ) (slot : Option RecordValue) → AreNew book more rest → rest ≡ (k, slot) ∷ left → fin.contains_key book k ≡ true → Meet book more
-met book more rest left k slot was is there = (k, sym (has_entries more k) ∙ ap (λ es. is_some (find k es)) (sym was.cut ∙ ap (λ es. was.front ++ es) is) ∙ has_append was.front ((k, slot) ∷ left) k ∙ or_true _ _ here, there)
-  where
-    here : is_some (find k ((k, slot) ∷ left)) ≡ true
-    here = ap (λ b. is_some (cond b (Some slot) (find k left))) ((eq_by_cmp_equiv nat_list_cmp_total).refl k)
+-- but this one isn't so
+pub one_other : (is_there other : Bool) (book more : Accounts) (rest left : Entries) (k : List ℕ) (slot : Option RecordValue) → AreAll is_there book more rest → rest ≡ (k, slot) ∷ left → fin.contains_key book k ≡ other
+    → (name : List ℕ) × (fin.contains_key more name ≡ true) × (fin.contains_key book name ≡ other)
+one_other is_there other book more rest left k slot was is so = (k, among more was.front rest left k slot was.cut is, so)
 
 -- ---- how many accounts there are
 
@@ -204,6 +289,30 @@ few_from (e ∷ es) = omega (arith, grown (fin.contains_key (fin.from_entries {R
 
 pub len_joined : (old more : Accounts) → fin.len (joined old more) ≤ fin.len old + fin.len more
 len_joined old more = omega (arith, few_from (fin.entries more ++ fin.entries old), length-append (fin.entries more) (fin.entries old), len-entries more, len-entries old)
+
+same_size : (b : Bool) (n m : ℕ) → m ≡ cond b n (n + 1) → b ≡ true → m ≡ n
+same_size b n m is there = is ∙ ap (λ b. cond b n (n + 1)) there
+
+-- each of the first names is there
+kept_from : (es more : Entries) → ((q : List ℕ) → is_some (find q es) ≡ true → is_some (find q more) ≡ true) → fin.len (fin.from_entries {R = name_cmp} (es ++ more)) ≡ fin.len (fin.from_entries {R = name_cmp} more)
+kept_from [] more there = refl
+kept_from (e ∷ es) more there =
+    same_size _ _ _ (len-insert nat_list_cmp_total (fin.from_entries (es ++ more)) e.0 e.1)
+    (ap is_some (get-from_entries nat_list_cmp_total (es ++ more) e.0) ∙ has_append es more e.0 ∙ or_true (is_some (find e.0 es)) _ (there e.0 (ap (λ b. is_some (cond b (Some e.1) (find e.0 es))) ((eq_by_cmp_equiv nat_list_cmp_total).refl e.0))))
+    ∙ kept_from es more (λ q is. there q (deeper (ties q e.0) e.1 (find q es) is))
+  where
+    deeper : {X : Type 0} (c : Bool) (x : X) (o : Option X) → is_some o ≡ true → is_some (cond c (Some x) o) ≡ true
+    deeper true x o is = refl
+    deeper false x o is = is
+
+-- records that are replaced make no accounts
+pub len_changed : (old changed : Accounts) → AreThere old changed → fin.len (joined old changed) ≡ fin.len old
+len_changed old changed there =
+    kept_from (fin.entries changed) (fin.entries old) (λ q is. has_entries old q ∙ there q (sym (has_entries changed q) ∙ is))
+    ∙ ap (λ (b : Accounts). fin.len b) (sym (again old))
+
+pub len_taken : (old added changed : Accounts) → AreThere old changed → fin.len (joined (joined old added) changed) ≤ fin.len old + fin.len added
+len_taken old added changed there = omega (arith, len_changed (joined old added) changed (there_still old added changed there), len_joined old added)
 
 -- ---- what an empty book becomes
 

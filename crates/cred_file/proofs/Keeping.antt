@@ -140,7 +140,7 @@ module _ (book : Accounts) (name : List ℕ) (value : Value) (v : Option RecordV
   update_may s text db (inl h) = absurd (elim h.0 [ inl e ↦ cc | inr e ↦ let e = e.2 in cc ])
   update_may s text db (inr h) = h
 
-  update_does : (schema : Schema) → IsBookSchema schema → (limit : Option ℕ) (mode : Mode) (db after : Database) (text : List ℕ) (tally : Tally) → db.schema ≡ schema → StandsFor (db.trees 0) book
+  pub update_does : (schema : Schema) → IsBookSchema schema → (limit : Option ℕ) (mode : Mode) (db after : Database) (text : List ℕ) (tally : Tally) → db.schema ≡ schema → StandsFor (db.trees 0) book
       → Does limit mode given db text None command (Ok (tally, after)) → (after.schema ≡ schema) × StandsFor (after.trees 0) (fin.insert book name v)
   update_does schema is limit mode db after text tally has stands d =
       of_book (λ s. db.schema ≡ s → (after.schema ≡ s) × StandsFor (after.trees 0) (fin.insert book name v))

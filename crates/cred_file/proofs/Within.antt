@@ -1,10 +1,10 @@
 -- What happens to the table within a transaction, and as it is committed.
-use Rattle.std.proofs.Common.{◌≡◌, ◌⊎◌, inl, inr, ℕ, List, ◌∷◌, [], true, false, Option, OnOk, Ok, Err, Result, IsTrue, refl, sym, ap, subst, ◌∙◌}
+use Rattle.std.proofs.Common.{◌≡◌, ◌⊎◌, inl, inr, ℕ, List, ◌∷◌, [], true, false, Option, OnErr, OnOk, Ok, Err, Result, IsTrue, refl, sym, ap, subst, ◌∙◌}
 use Rattle.std.specs.FinMap as fin
 use Rattle.sqlite.specs.declared.types.Value.{Value}
 use Rattle.sqlite.specs.declared.types.Value.TheVariants.{Text}
 use Rattle.sqlite.specs.Tree.{Trees}
-use Rattle.sqlite.specs.Command.TheVariants.{Insert}
+use Rattle.sqlite.specs.Command.TheVariants.{Insert, Update}
 use Rattle.sqlite.specs.Source.TheVariants.{Values}
 use Rattle.sqlite.specs.Effect.{Database}
 use Rattle.sqlite.specs.Listing.{understood}
@@ -16,12 +16,12 @@ use Rattle.sqlite_catalog.specs.Listing.{IsSound}
 use Rattle.cred_phc.specs.Values.{RecordValue}
 use Rattle.cred_book.specs.Accounts.{Accounts}
 use Rattle.cred_book.specs.Names.{is_name}
-use Rattle.cred_file.specs.Schema.{IsBookSchema, insert_text}
+use Rattle.cred_file.specs.Schema.{IsBookSchema, insert_text, update_text}
 use Rattle.cred_file.specs.Table.{StandsFor, Tells}
 use Rattle.cred_file.specs.Keeps.{IsTableOf, LeavesOnly}
 use Rattle.cred_file.specs.Together.{IsUnderWay}
-use Rattle.cred_file.proofs.Texts.{insert_is, insert_plain, terms}
-use Rattle.cred_file.proofs.Keeping.{IsSettled, holds, insert_does}
+use Rattle.cred_file.proofs.Texts.{insert_is, insert_plain, matched, terms, update_is, update_plain}
+use Rattle.cred_file.proofs.Keeping.{IsSettled, holds, insert_does, update_does}
 
 -- nothing is committed until the commit
 pub still : (old new : State) (P : Accounts → Type 0) → HasCleanDisk new → Survives old new (λ _. ⊥) → LeavesOnly old P → LeavesOnly new P
@@ -36,6 +36,20 @@ pub inserted_within : (book : Accounts) (name : List ℕ) (value : Value) (v : O
 inserted_within book name value v tells old new first count clean s was named absent h =
     let w = runs_as insert_text (Text name ∷ value ∷ []) old new old.now.schema refl (Insert 0 (Values terms 3)) (insert_is _ was.schema) (insert_plain _ was.schema) count h in
     let made = insert_does book name named value v tells absent old new old.now.schema was.schema old.step_limit (mode_of old) old.now new.now (statement_of insert_text (understood old.now.schema insert_text)) w.tally refl was.stands w.changed in
+    record {
+      schema = subst IsBookSchema (sym made.0) was.schema;
+      stands = made.1;
+      sound = w.sound;
+      inside = w.shown.mode ∙ was.inside;
+      left = still old new _ clean s was.left;
+    }
+
+-- a row has another record
+pub updated_within : (book : Accounts) (name : List ℕ) (value : Value) (v : Option RecordValue) → Tells value v → (old new : State) (first : Accounts) (count : ℕ) → HasCleanDisk new → Survives old new (λ _. ⊥)
+    → IsUnderWay old first book → fin.contains_key book name ≡ true → Executes update_text (Text name ∷ value ∷ []) old new (Ok count) → IsUnderWay new first (fin.insert book name v)
+updated_within book name value v tells old new first count clean s was there h =
+    let w = runs_as update_text (Text name ∷ value ∷ []) old new old.now.schema refl (Update 0 (record { lets = []; body = matched })) (update_is _ was.schema) (update_plain _ was.schema) count h in
+    let made = update_does book name value v tells there old new old.now.schema was.schema old.step_limit (mode_of old) old.now new.now (statement_of update_text (understood old.now.schema update_text)) w.tally refl was.stands w.changed in
     record {
       schema = subst IsBookSchema (sym made.0) was.schema;
       stands = made.1;
@@ -75,6 +89,11 @@ commit_left old new first book clean was s db may = elim (s.crash clean db may) 
 pub on_ok : {A E P Q : Type 0} (r : Result A E) → (P → Q) → OnOk r P → OnOk r Q
 on_ok (Ok a) f p = f p
 on_ok (Err e) f p = tt
+
+-- what holds anyway holds of an answer that is Err
+pub on_any : {A E P : Type 0} (r : Result A E) → P → OnErr r P
+on_any (Ok a) p = tt
+on_any (Err e) p = p
 
 pub or_other : (s : State) (book other : Accounts) → LeavesOnly s (λ b. b ≡ book) → LeavesOnly s (λ b. (b ≡ book) ⊎ (b ≡ other))
 or_other s book other was db may = let l = was db may in (l.0, inl l.1, l.2)

@@ -18,9 +18,13 @@ renamed book name other =
 abbrev pub joined : Accounts → Accounts → Accounts
 joined book more = fin.from_entries (fin.entries more ++ fin.entries book)
 
+-- accounts are added, and others have the records of these
+abbrev pub taken_in : Accounts → Accounts → Accounts → Accounts
+taken_in book added changed = joined (joined book added) changed
+
 abbrev pub after_edit : Accounts → Edit → Accounts
 after_edit book (edit.Put name stored) = fin.insert book name stored
-after_edit book (edit.EnterAll more) = joined book more
+after_edit book (edit.TakeIn added changed) = taken_in book added changed
 after_edit book (edit.Delete name) = fin.remove book name
 after_edit book (edit.Rename name other) = renamed book name other
 
@@ -80,14 +84,28 @@ abbrev pub Meet : Accounts → Accounts → Type 0
 Meet book more =
     (name : List ℕ) × (fin.contains_key more name ≡ true) × (fin.contains_key book name ≡ true)
 
--- all the accounts are added, whose names are new, or none
-abbrev pub EntersAll : ℕ → Accounts → Accounts → Accounts → Result (Unit {0}) BookError → Type 0
-EntersAll room old new more (Ok _) =
-    AreApart old more × (fin.len old + fin.len more ≤ room) × (new ≡ joined old more)
-EntersAll room old new more (Err error.Exists) = Meet old more × (new ≡ old)
-EntersAll room old new more (Err error.Full) =
-    AreApart old more × (room < fin.len old + fin.len more) × (new ≡ old)
-EntersAll room old new more (Err error.Memory) =
-    AreApart old more × (fin.len old + fin.len more ≤ room) × (new ≡ old)
-EntersAll room old new more (Err error.Name) = ⊥
-EntersAll room old new more (Err error.NoAccount) = ⊥
+-- all names of the one are in the other, or one is missing there
+abbrev pub AreThere : Accounts → Accounts → Type 0
+AreThere book changed =
+    (name : List ℕ) → fin.contains_key changed name ≡ true → fin.contains_key book name ≡ true
+
+abbrev pub Misses : Accounts → Accounts → Type 0
+Misses book changed = (name : List ℕ) × (fin.contains_key changed name ≡ true)
+    × (fin.contains_key book name ≡ false)
+
+-- Accounts may be added whose names are new, and others changed that are there.
+abbrev pub MayTakeIn : Accounts → Accounts → Accounts → Type 0
+MayTakeIn book added changed = AreApart book added × AreThere book changed
+
+-- all accounts are added and changed, or none
+abbrev pub TakesIn : ℕ → Accounts → Accounts → Accounts → Accounts → Result (Unit {0}) BookError
+    → Type 0
+TakesIn room old new added changed (Ok _) = MayTakeIn old added changed
+    × (fin.len old + fin.len added ≤ room) × (new ≡ taken_in old added changed)
+TakesIn room old new added changed (Err error.Exists) = Meet old added × (new ≡ old)
+TakesIn room old new added changed (Err error.NoAccount) = Misses old changed × (new ≡ old)
+TakesIn room old new added changed (Err error.Full) = MayTakeIn old added changed
+    × (room < fin.len old + fin.len added) × (new ≡ old)
+TakesIn room old new added changed (Err error.Memory) = MayTakeIn old added changed
+    × (fin.len old + fin.len added ≤ room) × (new ≡ old)
+TakesIn room old new added changed (Err error.Name) = ⊥

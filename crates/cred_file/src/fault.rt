@@ -45,8 +45,8 @@ pub struct Lost {
 pub enum Edit {
     /// A record, or none, is put at a name.
     Put { name: Name, stored: Option<Record> },
-    /// All these accounts are added.
-    EnterAll(Register),
+    /// Accounts are added, and the records of others are replaced, all together.
+    TakeIn { added: Register, changed: Register },
     /// A name is taken out, with its record.
     Delete(Name),
     /// A name becomes another, which has its record.
@@ -57,7 +57,10 @@ impl fmt::Debug for Edit {
     fn fmt<W: fmt::Write>(&self, f: &mut fmt::Formatter<W>) -> fmt::Result {
         match self {
             Edit::Put { name, .. } => write!(f, "Put {{ name: {name:?} }}"),
-            Edit::EnterAll(more) => write!(f, "EnterAll {{ names: {} }}", more.len()),
+            Edit::TakeIn { added, changed } => {
+                let (added, changed) = (added.len(), changed.len());
+                write!(f, "TakeIn {{ added: {added}, changed: {changed} }}")
+            }
             Edit::Delete(name) => write!(f, "Delete {{ name: {name:?} }}"),
             Edit::Rename { name, other } => {
                 write!(f, "Rename {{ name: {name:?}, other: {other:?} }}")

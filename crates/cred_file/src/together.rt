@@ -1,11 +1,11 @@
-//! Accounts that are added together, in one transaction.
+//! Accounts that are added, and others whose records are replaced, in one transaction.
 
 ghost use Rattle.std.specs.Prelude.{◌≡◌, ◌⊎◌, ◌≤◌, ◌+◌, cond, false, List, None, ℕ, OnErr};
 ghost use Rattle.std.specs.Prelude.{OnOk, Option};
 ghost use Rattle.std.specs.FinMap as fin;
 ghost use Rattle.cred_phc.specs.Values.{RecordValue};
-ghost use Rattle.cred_file.specs.Edits.{joined};
-ghost use Rattle.cred_file.specs.Keeps.{IsTableOf, Lacks, LeavesOnly};
+ghost use Rattle.cred_file.specs.Edits.{AreThere, joined, taken_in};
+ghost use Rattle.cred_file.specs.Keeps.{Has, IsTableOf, Lacks, LeavesOnly};
 ghost use Rattle.cred_file.specs.Table.{Tells};
 ghost use Rattle.cred_file.specs.Together.{IsPartOf, MakesWithin};
 ghost use Rattle.sqlite.specs.State.{HasCleanDisk, Shows, Survives};
@@ -42,6 +42,64 @@ pub(crate) fn enter_together<S: Alter>(
 {
     let mut tx = conn.transaction();
     enter_each(alloc, &mut tx, book, more)?;
+    finish(tx)
+}
+
+/// Adds accounts to the book, and their rows to the table, and replaces the records of others, all
+/// by one transaction. At any error the book has some of the accounts that are added and no other
+/// record, and a crash leaves a table with none of it, or with all.
+pub(crate) fn take_together<S: Alter>(
+    alloc: Global,
+    conn: &mut Connection<S>,
+    book: &mut Register,
+    added: &Register,
+    changed: &Register,
+) -> Result<(), Error>
+    requires autocommit { conn.old.in_transaction ≡ false }
+    requires there { AreThere book.old changed.now }
+    ensures book { OnOk result (book.new ≡ taken_in book.old added.now changed.now) }
+    ensures part { OnErr result (IsPartOf book.old added.now book.new) }
+    ensures taken { HasCleanDisk (state S.Store conn.new) → OnOk result
+        (IsTableOf (state S.Store conn.old) book.old
+        → IsTableOf (state S.Store conn.new) (taken_in book.old added.now changed.now)) }
+    ensures left { HasCleanDisk (state S.Store conn.new)
+        → IsTableOf (state S.Store conn.old) book.old
+        → LeavesOnly (state S.Store conn.new)
+        (λ b. (b ≡ book.old) ⊎ (b ≡ taken_in book.old added.now changed.now)) }
+    ensures clean { doubt (state S.Store conn.old).is_clean
+        ≤ doubt (state S.Store conn.new).is_clean }
+{
+    write_together(alloc, conn, book, added, changed)?;
+    replace_each(book, changed);
+    Ok(())
+}
+
+/// Writes all of it. The book has the accounts that are added, and the other records aren't
+/// replaced there yet: so nothing is to be put back if the database fails.
+fn write_together<S: Alter>(
+    alloc: Global,
+    conn: &mut Connection<S>,
+    book: &mut Register,
+    added: &Register,
+    changed: &Register,
+) -> Result<(), Error>
+    requires autocommit { conn.old.in_transaction ≡ false }
+    requires there { AreThere book.old changed.now }
+    ensures book { OnOk result (book.new ≡ joined book.old added.now) }
+    ensures part { OnErr result (IsPartOf book.old added.now book.new) }
+    ensures taken { HasCleanDisk (state S.Store conn.new) → OnOk result
+        (IsTableOf (state S.Store conn.old) book.old
+        → IsTableOf (state S.Store conn.new) (taken_in book.old added.now changed.now)) }
+    ensures left { HasCleanDisk (state S.Store conn.new)
+        → IsTableOf (state S.Store conn.old) book.old
+        → LeavesOnly (state S.Store conn.new)
+        (λ b. (b ≡ book.old) ⊎ (b ≡ taken_in book.old added.now changed.now)) }
+    ensures clean { doubt (state S.Store conn.old).is_clean
+        ≤ doubt (state S.Store conn.new).is_clean }
+{
+    let mut tx = conn.transaction();
+    enter_each(alloc, &mut tx, book, added)?;
+    update_each(alloc, &mut tx, changed)?;
     finish(tx)
 }
 
@@ -154,8 +212,82 @@ fn insert_within<S: Alter>(
     Ok(())
 }
 
+/// Replaces the records in the rows of these accounts, in the order of their names.
+fn update_each<S: Alter>(
+    alloc: Global,
+    tx: &mut Transaction<'_, S>,
+    changed: &Register,
+) -> Result<(), Error>
+    ensures same_reference { tx.new.conn.ghost_name ≡ tx.old.conn.ghost_name }
+    ensures updated { HasCleanDisk (state S.Store tx.new.conn.now) → OnOk result
+        (MakesWithin (state S.Store tx.old.conn.now) (state S.Store tx.new.conn.now)
+        (λ b. AreThere b changed.now) (λ b. joined b changed.now)) }
+    ensures survives { Survives (state S.Store tx.old.conn.now)
+        (state S.Store tx.new.conn.now) (λ _. ⊥) }
+{
+    for (name, slot) in changed.iter() {
+        update_stored(alloc, tx, name, &slot.stored())?;
+    }
+    Ok(())
+}
+
+fn update_stored<S: Alter>(
+    alloc: Global,
+    tx: &mut Transaction<'_, S>,
+    name: &Name,
+    stored: &Option<Record>,
+) -> Result<(), Error>
+    ensures same_reference { tx.new.conn.ghost_name ≡ tx.old.conn.ghost_name }
+    ensures updated { HasCleanDisk (state S.Store tx.new.conn.now) → OnOk result
+        (MakesWithin (state S.Store tx.old.conn.now) (state S.Store tx.new.conn.now)
+        (Has name.now) (λ b. fin.insert b name.now stored.now)) }
+    ensures survives { Survives (state S.Store tx.old.conn.now)
+        (state S.Store tx.new.conn.now) (λ _. ⊥) }
+{
+    match stored {
+        None => update_within(tx, name, ValueRef::Null),
+        Some(it) => {
+            let Ok(text) = write_record(alloc, it) else {
+                return Err(out_of_memory());
+            };
+            update_within(tx, name, ValueRef::Text(&text))
+        }
+    }
+}
+
+/// Puts a record's text, or NULL, in the row of a name that is there.
+fn update_within<S: Alter>(
+    tx: &mut Transaction<'_, S>,
+    name: &Name,
+    value: ValueRef<'_>,
+) -> Result<(), Error>
+    ensures same_reference { tx.new.conn.ghost_name ≡ tx.old.conn.ghost_name }
+    ensures updated { HasCleanDisk (state S.Store tx.new.conn.now) → OnOk result
+        ((v : Option RecordValue) → Tells (owned value.entry) v
+        → MakesWithin (state S.Store tx.old.conn.now) (state S.Store tx.new.conn.now)
+        (Has name.now) (λ b. fin.insert b name.now v)) }
+    ensures survives { Survives (state S.Store tx.old.conn.now)
+        (state S.Store tx.new.conn.now) (λ _. ⊥) }
+{
+    tx.execute(
+        "UPDATE account SET record = ?2 WHERE name = ?1",
+        &[ValueRef::Text(name.bytes()), value],
+    )?;
+    Ok(())
+}
+
 fn out_of_memory() -> Error {
     Error::SqliteFailure(ErrorCode::OutOfMemory)
+}
+
+/// Replaces the records of these accounts in the book, which can't fail.
+fn replace_each(book: &mut Register, changed: &Register)
+    requires { AreThere book.old changed.now }
+    ensures { book.new ≡ joined book.old changed.now }
+{
+    for (name, slot) in changed.iter() {
+        book.replace(name, slot.stored());
+    }
 }
 
 /// Removes the names that another register has.

@@ -1,13 +1,14 @@
-//! Many accounts that are added to a kept book at once.
+//! Many accounts that are added to a kept book at once, and many whose records are replaced.
 
-ghost use Rattle.std.specs.Prelude.{◌≡◌, None, IfSome, MatchBool, OnOk, Some};
+ghost use Rattle.std.specs.Prelude.{◌≡◌, ◌+◌, ◌≤◌, ◌<◌, None, IfSome, MatchBool, OnOk, Some};
+ghost use Rattle.std.specs.FinMap as fin;
 ghost use Rattle.cred_book.specs.Accounts.{register_capacity};
-ghost use Rattle.cred_file.specs.Edits.{AreApart, EntersAll, Meet};
+ghost use Rattle.cred_file.specs.Edits.{AreApart, AreThere, Meet, Misses, TakesIn};
 ghost use Rattle.cred_file.specs.declared.fault.Edit.TheVariants as Edit;
 
 use super::FileBook;
 use crate::fault::{Edit, Lost};
-use crate::together::{enter_together, remove_all};
+use crate::together::{remove_all, take_together};
 use cred_book::{BookError, Register};
 use sqlite::Alter;
 
@@ -15,36 +16,56 @@ use sqlite::Alter;
 const CAPACITY: usize = 16_777_216;
 
 impl<S: Alter> FileBook<S> {
-    /// Adds all these accounts, or none, by one transaction of the database: so a crash leaves
-    /// the book without them, or with all of them.
+    /// Adds accounts and replaces the records of others, by one transaction of the database: so a
+    /// crash leaves the book as it was, or with all of it.
     ///
-    /// Errors: `Exists` if the book has one of the names; `Full` if there would be over 2^24
-    /// accounts; `Memory` if it runs out, if the database fails, and if a change is lost.
-    pub fn enter_all(&mut self, more: Register) -> Result<(), BookError>
-        ensures done { EntersAll register_capacity self.old.0 self.new.0 more result }
+    /// Errors: `Exists` if the book has one of the names that are added; `NoAccount` if it lacks
+    /// one of the others; `Full` if there would be over 2^24 accounts; `Memory` if it runs out, if
+    /// the database fails, and if a change is lost.
+    pub fn take_in(&mut self, added: Register, changed: Register) -> Result<(), BookError>
+        ensures done { TakesIn register_capacity self.old.0 self.new.0 added changed result }
         ensures written { OnOk result ((self.old.1.0 ≡ None) × (self.new.1.0 ≡ None)) }
         ensures remembered { IfSome self.old.1.0 (λ l. self.new.1.0 ≡ Some l) }
         ensures lost { self.old.1.0 ≡ None
-            → IfSome self.new.1.0 (λ l. l.edit ≡ Edit.EnterAll more) }
+            → IfSome self.new.1.0 (λ l. l.edit ≡ Edit.TakeIn added changed) }
     {
-        if meets(&self.book, &more) {
+        if meets(&self.book, &added) {
             return Err(BookError::Exists);
         }
-        if more.len() > CAPACITY - self.book.len() {
+        if misses(&self.book, &changed) {
+            return Err(BookError::NoAccount);
+        }
+        if !has_room(&self.book, &added) {
             return Err(BookError::Full);
         }
         if self.lost.is_some() || !self.conn.is_autocommit() {
             return Err(BookError::Memory);
         }
-        match enter_together(self.alloc, &mut self.conn, &mut self.book, &more) {
+        match take_together(self.alloc, &mut self.conn, &mut self.book, &added, &changed) {
             Ok(()) => Ok(()),
             Err(error) => {
-                remove_all(&mut self.book, &more);
-                self.lost = Some(Lost::new(error, Edit::EnterAll(more)));
+                remove_all(&mut self.book, &added);
+                self.lost = Some(Lost::new(error, Edit::TakeIn { added, changed }));
                 Err(BookError::Memory)
             }
         }
     }
+
+    /// Whether there would be at most 2^24 accounts with these.
+    pub fn has_room_for(&self, added: &Register) -> bool
+        ensures { MatchBool result
+            (fin.len self.now.0 + fin.len added.now ≤ register_capacity)
+            (register_capacity < fin.len self.now.0 + fin.len added.now) }
+    {
+        has_room(&self.book, added)
+    }
+}
+
+fn has_room(book: &Register, added: &Register) -> bool
+    ensures { MatchBool result (fin.len book.now + fin.len added.now ≤ register_capacity)
+        (register_capacity < fin.len book.now + fin.len added.now) }
+{
+    added.len() <= CAPACITY - book.len()
 }
 
 /// Whether a name is in both.
@@ -53,6 +74,18 @@ fn meets(book: &Register, more: &Register) -> bool
 {
     for (name, _) in more.iter() {
         if book.contains(name) {
+            return true;
+        }
+    }
+    false
+}
+
+/// Whether the book lacks one of these names.
+fn misses(book: &Register, changed: &Register) -> bool
+    ensures { MatchBool result (Misses book.now changed.now) (AreThere book.now changed.now) }
+{
+    for (name, _) in changed.iter() {
+        if !book.contains(name) {
             return true;
         }
     }

@@ -23,7 +23,7 @@ loop-name-preserved g c =
     let one = c.in_ok-enter_one.ensures.book in
     record {
       same = c.enter_one.ensures.same_reference ∙ was.same;
-      entered = one_entered _ _ _ _ _ _ _ _ _ was.entered c.in-Some.ensures.steps c.stored.ensures one.0 one.1;
+      entered = one_entered _ _ _ _ _ _ _ _ _ was.entered c.in-Some.ensures.steps c.stored.ensures one.1;
       survives = survives_then _ mid new _ _ _ (λ _ db none. none) (λ _ db none. none) was.survives c.enter_one.ensures.survives;
       under = λ clean first begun.
           let early : HasCleanDisk mid = omega (arith, c.enter_one.ensures.survives.clean, clean) in
