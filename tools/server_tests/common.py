@@ -21,6 +21,7 @@ HERE = pathlib.Path(__file__).resolve().parent
 TOP = HERE.parent.parent
 FAST_BOOK = HERE / "fast_book.py"
 CREDKEEP = pathlib.Path(os.environ.get("CREDKEEP", TOP / "crates/credkeep/out/credkeep"))
+CHEAP = "$argon2id$v=19$m=64,t=1,p=1"
 PYTHON = os.environ.get("SERVER_PYTHON", "/usr/bin/python3")
 
 

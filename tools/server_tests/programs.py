@@ -28,12 +28,11 @@ import urllib.error
 import urllib.request
 from collections.abc import Callable
 
-from common import FAST_BOOK, PYTHON, TOP, Client, Skipped, chosen_book, field_of, holds, need, need_root, run_tests, same, until
+from common import CHEAP, FAST_BOOK, PYTHON, TOP, Client, Skipped, chosen_book, field_of, holds, need, need_root, run_tests, same, until
 
 PAGE = TOP / "docs/SERVERS.md"
 SECURITY = pathlib.Path("/usr/lib/x86_64-linux-gnu/security")
 RUN = pathlib.Path("/run/rigzumal/users")
-CHEAP = "$argon2id$v=19$m=64,t=1,p=1"
 
 
 def on_page(path: str) -> str:

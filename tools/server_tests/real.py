@@ -22,9 +22,24 @@ import time
 from collections.abc import Callable, Iterator
 from contextlib import contextmanager
 
-from common import FAST_BOOK, PYTHON, TOP, Client, Service, Skipped, field_of, holds, need_root, real_book, run_tests, same, serving, until
+from common import (
+    CHEAP,
+    FAST_BOOK,
+    PYTHON,
+    TOP,
+    Client,
+    Service,
+    Skipped,
+    field_of,
+    holds,
+    need_root,
+    real_book,
+    run_tests,
+    same,
+    serving,
+    until,
+)
 
-CHEAP = "$argon2id$v=19$m=64,t=1,p=1"
 DEARER = "$argon2id$v=19$m=128,t=2,p=1"
 SLOW = "$argon2id$v=19$m=16384,t=3,p=1"
 SECRET, WRONG, FRESH = field_of(b"secret"), field_of(b"guess"), field_of(b"fresh")

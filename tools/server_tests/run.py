@@ -33,6 +33,7 @@ def main() -> int:
         (HERE / "real.py", []),
         (HERE / "clients.py", []),
         (HERE / "units.py", []),
+        (HERE / "booted.py", []),
         (HERE / "programs.py", []),
         (HERE / "torture.py", torture),
     ]

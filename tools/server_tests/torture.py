@@ -27,7 +27,7 @@ from collections.abc import Callable
 from dataclasses import dataclass, field
 from typing import Optional, TypeVar
 
-from common import FAST_BOOK, TOP, Client, Given, chosen_book, command, field_of, same, until
+from common import CHEAP, FAST_BOOK, TOP, Client, Given, chosen_book, command, field_of, same, until
 
 # The checker alone: its package needs the built library.
 sys.path.insert(0, str(TOP / "c/python/rigzumal/accounts"))
@@ -36,7 +36,6 @@ from history import Account, Attempt, Illegal, Operation, check  # noqa: E402
 NAMES = [f"user{number}" for number in range(8)]
 MIX = {"verify": 8, "login": 3, "change": 4, "enrol": 3, "remove": 1, "upgrade": 2}
 LOGIN = frozenset(("verify", "change"))
-CHEAP = "$argon2id$v=19$m=64,t=1,p=1"
 Result = TypeVar("Result")
 
 

@@ -3,11 +3,11 @@
 
     /usr/bin/python3 tools/server_tests/units.py [TEST..]
 
-The units are looked at by systemd-analyze; none is run under systemd itself. What they forbid is
-compared with what strace sees of a server. The packages need `make programs`, lintian and, to be
-installed, debootstrap, root and Debian's mirror, or the base of an earlier debootstrap in BOOT
-(minbase with python3, libpam-runtime, pamtester, adduser), which is copied. What isn't there is
-skipped by name.
+The units are looked at by systemd-analyze, and what they forbid is compared with what strace sees of a
+server; booted.py runs them. The packages need `make programs`, lintian and, to be installed,
+debootstrap, root and Debian's mirror, or the base of an earlier debootstrap in BOOT (minbase with
+python3, libpam-runtime, pamtester, adduser, systemd, systemd-sysv, dbus), which is copied. What isn't
+there is skipped by name.
 """
 
 from __future__ import annotations
@@ -45,7 +45,7 @@ from common import (
 
 NOT_NEEDED = {"fchown"}  # of a new log, to the book's owner, whose it is
 MIRROR = "http://deb.debian.org/debian"
-INCLUDED = "python3,libpam-runtime,pamtester,adduser"
+INCLUDED = "python3,libpam-runtime,pamtester,adduser,systemd,systemd-sysv,dbus"
 
 
 @contextmanager

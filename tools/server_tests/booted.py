@@ -1,0 +1,214 @@
+#!/usr/bin/python3
+"""The packages' units under systemd itself, which is the first process of a Debian in namespaces.
+
+    /usr/bin/python3 tools/server_tests/booted.py
+
+It needs root, the built programs, and debootstrap with Debian's mirror, or the base of an earlier one in
+BOOT (tools/server_tests/units.py names what is in it). The machine's own files, processes, network and
+settings stay as they are.
+"""
+
+from __future__ import annotations
+
+import os
+import pathlib
+import shutil
+import subprocess
+import sys
+import tempfile
+
+from common import CHEAP, holds, need, need_root, real_book, run_tests, same
+from units import base, debs
+
+CGROUPS = pathlib.Path("/sys/fs/cgroup")
+
+# What is before systemd: a root of its own, of the machine's /proc/sys and /sys what may be read, no device.
+BOOT = """set -e
+mount --make-rprivate /
+mount --bind "$ROOM" "$ROOM"
+cd "$ROOM"
+mount -t proc proc proc
+mount --bind proc/sys proc/sys && mount -o remount,ro,bind proc/sys
+mount -t sysfs -o ro sysfs sys
+mount -t tmpfs tmpfs run
+mount -t tmpfs -o mode=755 tmpfs dev
+while read -r name major minor; do mknod -m 666 dev/$name c $major $minor; done <<END
+null 1 3
+zero 1 5
+full 1 7
+random 1 8
+urandom 1 9
+tty 5 0
+END
+mkdir dev/pts dev/shm && mount -t devpts -o newinstance,ptmxmode=0666 devpts dev/pts && ln -s pts/ptmx dev/ptmx
+if [ "$KIND" = cgroup2 ]; then
+    mount -t cgroup2 cgroup2 sys/fs/cgroup
+else
+    mount -t tmpfs -o mode=755 tmpfs sys/fs/cgroup && mkdir sys/fs/cgroup/systemd sys/fs/cgroup/unified
+    mount -t cgroup -o none,name=systemd cgroup sys/fs/cgroup/systemd
+    mount -t cgroup2 cgroup2 sys/fs/cgroup/unified
+fi
+mkdir -p oldroot && pivot_root . oldroot && cd / && umount -l /oldroot
+exec env -i container=other PATH=/usr/sbin:/usr/bin:/sbin:/bin /lib/systemd/systemd --log-target=console --log-level=notice
+"""
+
+# What runs inside, as docs/SERVERS.md tells it, and then with kills and restarts.
+INSIDE = """import os, pathlib, signal, socket, subprocess, sys, time
+
+UNIT = "credkeep-server@users.service"
+SOCKETS = ["credkeep-server@users.socket", "credkeep-server-admin@users.socket"]
+
+
+def run(*words):
+    done = subprocess.run(words, stdout=subprocess.PIPE, stderr=subprocess.STDOUT, text=True)
+    print(*words[:2], done.returncode, done.stdout if done.returncode else "", flush=True)
+    return done.stdout.strip()
+
+
+def ask(name, *lines):
+    with socket.socket(socket.AF_UNIX) as it:
+        it.settimeout(60)
+        it.connect(f"/run/rigzumal/users/{name}.sock")
+        for line in lines:
+            it.sendall(b"1 " + line.encode() + b"\\n")
+            print(name, line.split()[0], it.recv(200).decode().strip(), flush=True)
+
+
+def shown(name):
+    return run("systemctl", "show", "-p", name, "--value", UNIT)
+
+
+def killed(pid):
+    os.kill(int(pid), signal.SIGKILL)
+    end = time.monotonic() + 60
+    while shown("MainPID") == main or shown("ActiveState") != "active":
+        if time.monotonic() > end:
+            sys.exit("never active again")
+        time.sleep(0.2)
+    print("restarts", shown("NRestarts"))
+
+
+def book():
+    return pathlib.Path(f"/proc/{main}/task/{main}/children").read_text().split()[0]
+
+
+run("runuser", "-u", "rigzumal", "--", "credkeep", "/var/lib/rigzumal/users.db", "init")
+run("systemctl", "enable", "--now", *SOCKETS, UNIT)
+print("active", shown("ActiveState"))
+print(run("stat", "-c", "%n %a %U %G", "/run/rigzumal/users/login.sock", "/run/rigzumal/users/admin.sock"))
+ask("admin", "account ada", "enrol ada c2VjcmV0")
+ask("login", "verify ada c2VjcmV0", "verify ada Z3Vlc3M", "enrol ada c2VjcmV0", "change ada c2VjcmV0 ZnJlc2g")
+run("systemctl", "restart", UNIT)
+ask("login", "verify ada ZnJlc2g")
+main = shown("MainPID")
+killed(book())
+ask("login", "verify ada ZnJlc2g")
+main = shown("MainPID")
+killed(main)
+ask("login", "verify ada ZnJlc2g")
+status = pathlib.Path(f"/proc/{shown('MainPID')}/status").read_text()
+print(*sorted(line.replace("\\t", " ") for line in status.splitlines() if line.startswith(("NoNewPrivs", "Seccomp:", "CapBnd"))), sep="\\n")
+run("systemctl", "stop", UNIT)
+ask("login", "verify ada ZnJlc2g")
+print("by its socket", shown("ActiveState"))
+run("systemctl", "stop", *SOCKETS, UNIT)
+print("ended", shown("Result"))
+print(run("runuser", "-u", "rigzumal", "--", "credkeep", "/var/lib/rigzumal/users.db", "verify"))
+print(run("journalctl", "--no-pager", "-o", "cat", "-u", UNIT))
+print("done")
+"""
+
+OUGHT = """runuser -u 0
+systemctl enable 0
+active active
+/run/rigzumal/users/login.sock 660 root rigzumal
+/run/rigzumal/users/admin.sock 600 rigzumal rigzumal
+admin account 1 ok
+admin enrol 1 enrolled
+login verify 1 yes
+login verify 1 no
+login enrol 1 denied
+login change 1 replaced
+systemctl restart 0
+restarts 1
+restarts 2
+CapBnd: 0000000000000000
+NoNewPrivs: 1
+Seccomp: 2
+systemctl stop 0
+by its socket active
+ended success
+1 accounts, 0 changes in the log
+credkeep-server: end: status 137, {'answers': 3}
+credkeep-server: denied at login to uid 0: enrol
+done"""
+
+
+def group_of(room: pathlib.Path) -> tuple[str, list[pathlib.Path]]:
+    """The kind of the machine's control groups, and new ones for what is booted."""
+    both = [CGROUPS / "systemd", CGROUPS / "unified"]
+    roots = both if all((it / "cgroup.procs").exists() for it in both) else [CGROUPS]
+    groups = [root / room.name for root in roots]
+    for group in groups:
+        group.mkdir()
+    return ("both" if len(roots) == 2 else "cgroup2"), groups
+
+
+def booted(room: pathlib.Path) -> None:
+    """Boots the Debian in a folder, until it powers itself off."""
+    kind, groups = group_of(room.parent)
+    joined = " ".join(f"echo $$ > {group}/cgroup.procs;" for group in groups)
+    unshare = 'exec unshare --mount --pid --fork --kill-child --uts --ipc --net --cgroup bash -c "$SCRIPT"'
+    environment = {**os.environ, "ROOM": str(room), "KIND": kind, "SCRIPT": BOOT}
+    try:
+        subprocess.run(["bash", "-c", joined + unshare], env=environment, capture_output=True, timeout=400)
+    finally:
+        for group in groups:
+            for folder in sorted((it for it in group.rglob("*") if it.is_dir()), reverse=True):
+                folder.rmdir()
+            group.rmdir()
+
+
+def under_systemd() -> None:
+    """The units start, hand over their sockets, are restarted after kills, and end in order, in their whole sandbox."""
+    need_root()
+    real_book()
+    need("debootstrap", "unshare", "chroot", "pivot_root")
+    found = debs()
+    with tempfile.TemporaryDirectory(prefix="rigzumal-booted-") as folder:
+        room = pathlib.Path(folder, "root")
+        base(room)
+        room.chmod(0o755)
+        (room / "usr/sbin/policy-rc.d").write_text("#!/bin/sh\nexit 101\n")
+        (room / "usr/sbin/policy-rc.d").chmod(0o755)
+        holds((room / "lib/systemd/systemd").exists(), "the base has no systemd")
+        for deb in found:
+            shutil.copy(deb, room)
+        path = {"PATH": "/usr/sbin:/usr/bin:/sbin:/bin", "DEBIAN_FRONTEND": "noninteractive"}
+        install = ["unshare", "--mount", "--pid", "--fork", "chroot", str(room), "sh", "-c", "mount -t proc proc /proc && dpkg -i /*.deb"]
+        done = subprocess.run(install, env=path, capture_output=True, text=True, timeout=300)
+        same(done.returncode, 0, done.stdout + done.stderr)
+        (room / "etc/default/credkeep-server-users").write_text(f"CREDKEEP_SERVER_OPTIONS=--setting {CHEAP}\n")
+        (room / "inside.py").write_text(INSIDE)
+        system = room / "etc/systemd/system"
+        for name in ("systemd-udevd.service", "systemd-udev-trigger.service", "systemd-sysctl.service", "systemd-modules-load.service"):
+            (system / name).symlink_to("/dev/null")
+        unit = "[Service]\nType=oneshot\nExecStart=/usr/bin/python3 /inside.py\nStandardOutput=append:/said\nStandardError=append:/said\n"
+        unit += "TimeoutStartSec=300\nExecStopPost=/bin/systemctl poweroff --force --force\n"
+        (system / "inside.service").write_text(unit)
+        (system / "multi-user.target.wants").mkdir(exist_ok=True)
+        (system / "multi-user.target.wants/inside.service").symlink_to("../inside.service")
+        booted(room)
+        said = (room / "said").read_text() if (room / "said").exists() else "nothing"
+        lines = said.splitlines()
+        for line in OUGHT.splitlines():
+            holds(line in (it.strip() for it in lines), f"{line!r} isn't in:\n{said}")
+        same(lines.count("login verify 1 yes"), 5, said)
+        logged = said.rpartition("in the log")[2]
+        holds("c2VjcmV0" not in logged and "ada" not in logged, f"logged: {logged}")
+
+
+TESTS = [under_systemd]
+
+if __name__ == "__main__":
+    sys.exit(run_tests(TESTS, sys.argv[1:]))
