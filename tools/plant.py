@@ -18,8 +18,10 @@ text in its place; a pair is read after those above it have changed the text. Or
 place. A line `passes:` in it says why the contract rightly lets it through, and which test refuses it.
 
 One bug stands in each of many functions at a time: `rt check --allow-holes` tries the goals of every function, by the contracts of
-those that it calls. A bug that no goal refuses there is planted once more by itself, and so is one in a constant, which stands in
-no one function. The work goes on in a copy under /tmp, over what earlier checks left in out/."""
+those that it calls. What no goal of its own function refuses is planted once more, in a check of the whole crate; a bug in a
+constant, which stands in no one function, is planted by itself. The work goes on in a copy under /tmp, over what earlier checks left in
+out/. After each round the lines of the bugs so far are told on standard error by verdict, so that a run that is ended early has said
+something."""
 
 import argparse
 import os
