@@ -1,2 +1,3 @@
 mod Copied
 mod Edited
+mod NotTaken

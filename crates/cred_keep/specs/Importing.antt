@@ -1,38 +1,61 @@
 -- What an import makes of a kept book.
-use Rattle.std.specs.Prelude.{◌≡◌, ℕ, ◌+◌, ◌<◌, ◌==◌, if◌then◌else◌, true, List, [], length}
+use Rattle.std.specs.Prelude.{◌≡◌, ℕ, ◌+◌, ◌≤◌, ◌<◌, true, List, [], length}
 use Rattle.std.specs.Prelude.{IfSome, Result, Ok, Err}
 use Rattle.std.specs.FinMap as map
 use Rattle.cred_book.specs.Accounts.{Accounts, register_capacity}
 use Rattle.cred_admin.specs.Import.{Tally, tally}
-use Rattle.cred_admin.specs.declared.gathering.Existing.{Existing}
 use Rattle.cred_admin.specs.declared.gathering.ImportFault.{ImportFault}
 use Rattle.cred_admin.specs.declared.gathering.ImportFault.TheVariants as fault
-use Rattle.cred_admin.specs.declared.status.Status.{Status}
-use Rattle.cred_admin.specs.declared.status.Status.TheVariants.{Done, Kept}
 use Rattle.cred_cli.specs.Watched.{Reading}
-use Rattle.cred_file.specs.Edits.{joined}
+use Rattle.cred_file.specs.Edits.{taken_in}
+use Rattle.cred_keep.specs.declared.importing.BadLines.TheVariants.{Refused}
+use Rattle.cred_keep.specs.declared.importing.Effect.{Effect}
+use Rattle.cred_keep.specs.declared.importing.Effect.TheVariants.{Made, Foretold}
+use Rattle.cred_keep.specs.declared.importing.Imported.{Imported}
+use Rattle.cred_keep.specs.declared.importing.Importing.{Importing}
 
--- accounts that were there already are counted
-abbrev pub status_of_kept : ℕ → Status
-status_of_kept kept = if kept == 0 then Done else Kept kept
+-- the book with these accounts, and with these records at others; a dry run changes nothing
+abbrev pub book_after : Effect → Accounts → Accounts → Accounts → Accounts
+book_after Made book added changed = taken_in book added changed
+book_after Foretold book added changed = book
 
--- no line is bad, and all accounts that are new are in the book
-pub record TakesAll (old new : Accounts) (t : Tally) (status : Status) : Type 0 where
-  pub good : t.bad ≡ []
-  pub book : new ≡ joined old t.accounts
-  pub status_is : status ≡ status_of_kept t.kept
+-- they are taken in if there is room for them, and otherwise all stays
+abbrev pub Takes : Effect → Accounts → Accounts → Accounts → Accounts
+    → Result (Unit {0}) ImportFault → Type 0
+Takes effect old new added changed (Ok _) =
+    (map.len old + map.len added ≤ register_capacity) × (new ≡ book_after effect old added changed)
+Takes effect old new added changed (Err fault.Full) =
+    (register_capacity < map.len old + map.len added) × (new ≡ old)
+Takes effect old new added changed (Err fault.Memory) = new ≡ old
+Takes effect old new added changed (Err fault.Read) = ⊥
+Takes effect old new added changed (Err (fault.Lines bad)) = ⊥
 
--- All accounts of the lines are added that are new; or some lines are bad, there would be too many
--- accounts, there was no memory, or a call on the reader failed, and the book is as it was.
-abbrev pub Imports : Existing → Reading → Accounts → Accounts → Result Status ImportFault → Type 0
-Imports how r old new (Ok status) =
+-- No line is bad, or the bad ones are left out; what the others come to is taken in; and what is
+-- told of it is so.
+pub record TakesAll (how : Importing) (old new : Accounts) (t : Tally) (made : Imported)
+    : Type 0 where
+  pub good : how.bad ≡ Refused → t.bad ≡ []
+  pub room : map.len old + map.len t.accounts ≤ register_capacity
+  pub book : new ≡ book_after how.effect old t.accounts t.changed
+  pub effect : made.effect ≡ how.effect
+  pub added : made.added ≡ map.len t.accounts
+  pub changed : made.changed ≡ map.len t.changed
+  pub kept : made.kept ≡ t.kept
+  pub bad : made.bad.items ≡ t.bad
+
+-- What the lines come to is taken in; or some lines are bad, there would be too many accounts,
+-- there was no memory, or a call on the reader failed, and the book is as it was.
+abbrev pub Imports : Importing → Reading → Accounts → Accounts → Result Imported ImportFault
+    → Type 0
+Imports how r old new (Ok made) =
     (text : List ℕ) × IfSome r.input (λ bytes. text ≡ bytes)
-    × TakesAll old new (tally how old text) status
+    × TakesAll how old new (tally how.rules old text) made
 Imports how r old new (Err (fault.Lines bad)) =
-    (text : List ℕ) × IfSome r.input (λ bytes. text ≡ bytes)
-    × (bad.items ≡ (tally how old text).bad) × (0 < length bad.items) × (new ≡ old)
+    (text : List ℕ) × IfSome r.input (λ bytes. text ≡ bytes) × (how.bad ≡ Refused)
+    × (bad.items ≡ (tally how.rules old text).bad) × (0 < length bad.items) × (new ≡ old)
 Imports how r old new (Err fault.Full) =
     (text : List ℕ) × IfSome r.input (λ bytes. text ≡ bytes)
-    × (register_capacity < map.len old + map.len (tally how old text).accounts) × (new ≡ old)
+    × (register_capacity < map.len old + map.len (tally how.rules old text).accounts)
+    × (new ≡ old)
 Imports how r old new (Err fault.Memory) = new ≡ old
 Imports how r old new (Err fault.Read) = (r.failed ≡ true) × (new ≡ old)

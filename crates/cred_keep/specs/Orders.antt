@@ -7,7 +7,8 @@ use Rattle.cred_book.specs.Accounts.{Accounts, register_capacity}
 use Rattle.cred_book.specs.declared.request.Request.TheVariants as request
 use Rattle.cred_admin.specs.Commands.{Adds, Asks, AsksTwice, Resets}
 use Rattle.cred_admin.specs.Edits.{Edits, deletion, disabling, renaming}
-use Rattle.cred_admin.specs.Listing.{Entry, Prints, Tells, name_line, passwd_line, shown_at}
+use Rattle.cred_admin.specs.Listing.{Entry, Prints, Tells, costs_line, name_line}
+use Rattle.cred_admin.specs.Listing.{passwd_line, shown_at}
 use Rattle.cred_admin.specs.Seen.{Seen}
 use Rattle.cred_admin.specs.Statuses.{status_of_fault}
 use Rattle.cred_admin.specs.declared.edit_reply.EditReply.{EditReply}
@@ -31,32 +32,39 @@ use Rattle.sqlite.specs.declared.error.Error.TheVariants as sqlite
 use Rattle.sqlite.specs.declared.error.ErrorCode.{ErrorCode}
 use Rattle.sqlite.specs.declared.error.ErrorCode.TheVariants as code
 use Rattle.cred_keep.specs.Importing.{Imports}
+use Rattle.cred_keep.specs.declared.ending.Ending.{Ending}
+use Rattle.cred_keep.specs.declared.ending.Ending.TheVariants as ending
+use Rattle.cred_keep.specs.declared.importing.Imported.{Imported}
 use Rattle.cred_keep.specs.declared.failure.Failure.{Failure}
 use Rattle.cred_keep.specs.declared.failure.Failure.TheVariants as failure
 use Rattle.cred_keep.specs.declared.order.Order.{Order}
 use Rattle.cred_keep.specs.declared.order.Order.TheVariants.{Run, Serve, Add, Check, Change}
 use Rattle.cred_keep.specs.declared.order.Order.TheVariants.{Upgrade, Reset, Remove, Show}
 use Rattle.cred_keep.specs.declared.order.Order.TheVariants.{Disable, Delete, Rename}
-use Rattle.cred_keep.specs.declared.order.Order.TheVariants.{List as Names, Export, Import}
+use Rattle.cred_keep.specs.declared.order.Order.TheVariants.{List as Names, ListCosts, Export, Import}
 
 -- ---- how it ends
 
-abbrev pub command_end : Result Status Fault → Result Status Failure
-command_end (Ok status) = Ok status
+abbrev pub command_end : Result Status Fault → Result Ending Failure
+command_end (Ok status) = Ok (ending.Answered status)
 command_end (Err e) = Err (failure.Command e)
 
-abbrev pub import_end : Result Status ImportFault → Result Status Failure
-import_end (Ok status) = Ok status
+abbrev pub import_end : Result Imported ImportFault → Result Ending Failure
+import_end (Ok made) = Ok (ending.Imported made)
 import_end (Err e) = Err (failure.Import e)
 
-abbrev pub run_end : Result End ScriptFault → Result Status Failure
-run_end (Ok end) = Ok Done
+abbrev pub run_end : Result End ScriptFault → Result Ending Failure
+run_end (Ok end) = Ok (ending.Answered Done)
 run_end (Err e) = Err (failure.Script e)
 
 -- once a change is lost, it is the database that failed
-abbrev pub unless_lost : Option Lost → Result Status Failure → Result Status Failure
+abbrev pub unless_lost : Option Lost → Result Ending Failure → Result Ending Failure
 unless_lost None ended = ended
 unless_lost (Some l) ended = Err failure.Database
+
+abbrev pub status_of_ending : Ending → Status
+status_of_ending (ending.Answered status) = status
+status_of_ending (ending.Imported made) = Done
 
 abbrev pub status_of_import : ImportFault → Status
 status_of_import import.Read = Io
@@ -77,8 +85,8 @@ status_of_failure (failure.Script e) = status_of_script e
 status_of_failure failure.Database = Database
 
 -- the exit status
-abbrev pub status_of_end : Result Status Failure → Status
-status_of_end (Ok status) = status
+abbrev pub status_of_end : Result Ending Failure → Status
+status_of_end (Ok e) = status_of_ending e
 status_of_end (Err e) = status_of_failure e
 
 abbrev pub status_of_code : ErrorCode → Status
@@ -113,20 +121,20 @@ RunsWithin longest s (Err e) = HasCause s.reading.failed s.writing.failed e
     s.reading.left s.writing.before s.writing.now s.new e) × RunsPrompt s
 
 -- a command, of which this holds at its end, ends so
-abbrev pub Commands : (Result Status Fault → Type 0) → Result Status Failure → Type 0
+abbrev pub Commands : (Result Status Fault → Type 0) → Result Ending Failure → Type 0
 Commands Holds ended = (r : Result Status Fault) × Holds r × (ended ≡ command_end r)
 
 -- a line of each account is written, and the book stays as it is
-abbrev pub Lists : (Entry → List ℕ) → Seen → Result Status Failure → Type 0
+abbrev pub Lists : (Entry → List ℕ) → Seen → Result Ending Failure → Type 0
 Lists line s ended =
     Commands (Prints line (map.entries s.old) s.writing) ended × (s.new ≡ s.old)
 
 -- a change without a password
-abbrev pub Edited : EditReply × Accounts → Seen → Result Status Failure → Type 0
+abbrev pub Edited : EditReply × Accounts → Seen → Result Ending Failure → Type 0
 Edited step s ended =
     Commands (Edits register_capacity step s.old s.new s.writing) ended
 
-abbrev pub Performs : Order → Seen → Result Status Failure → Type 0
+abbrev pub Performs : Order → Seen → Result Ending Failure → Type 0
 Performs Run s ended =
     (r : Result End ScriptFault) × RunsWithin longest_script s r × (ended ≡ run_end r)
 Performs Serve s ended =
@@ -145,19 +153,21 @@ Performs (Rename name other) s ended = Edited (renaming s.old name other) s ende
 Performs (Show name part) s ended =
     Commands (Tells (shown_at part (map.get s.old name)) s.writing) ended × (s.new ≡ s.old)
 Performs Names s ended = Lists name_line s ended
+Performs ListCosts s ended = Lists costs_line s ended
 Performs Export s ended = Lists passwd_line s ended
-Performs (Import existing) s ended =
-    ((r : Result Status ImportFault) × Imports existing s.reading s.old s.new r
+Performs (Import how) s ended =
+    ((r : Result Imported ImportFault) × Imports how s.reading s.old s.new r
     × (ended ≡ import_end r)) × Keeps s.writing.before s.writing.now
 
 -- as it ends for the shell: Ok means that no change is lost
-abbrev pub Ends : Order → Seen → Option Lost → Result Status Failure → Type 0
+abbrev pub Ends : Order → Seen → Option Lost → Result Ending Failure → Type 0
 Ends order s lost ended =
-    (r : Result Status Failure) × Performs order s r × (ended ≡ unless_lost lost r)
+    (r : Result Ending Failure) × Performs order s r × (ended ≡ unless_lost lost r)
 
 -- the order reads nothing
 abbrev pub is_unread : Order → Bool
 is_unread Names = true
+is_unread ListCosts = true
 is_unread Export = true
 is_unread (Show name part) = true
 is_unread (Disable name) = true
@@ -171,4 +181,4 @@ is_unread (Change name new) = false
 is_unread (Reset name new) = false
 is_unread (Upgrade name setting) = false
 is_unread (Remove name) = false
-is_unread (Import existing) = false
+is_unread (Import how) = false

@@ -3,6 +3,8 @@
 ghost use Rattle.std.specs.Prelude.{◌≡◌};
 ghost use Rattle.cred_keep.specs.Orders.{command_end, import_end, run_end, status_of_failure};
 
+use crate::ending::Ending;
+use crate::importing::Imported;
 use cred_admin::{Fault, ImportFault, Status};
 use cred_cli::{End, ScriptFault};
 
@@ -38,31 +40,31 @@ impl Failure {
 }
 
 /// How a command's end is that of an order.
-pub(crate) fn command_end(ended: Result<Status, Fault>) -> Result<Status, Failure>
+pub(crate) fn command_end(ended: Result<Status, Fault>) -> Result<Ending, Failure>
     ensures { result ≡ command_end ended }
 {
     match ended {
-        Ok(status) => Ok(status),
+        Ok(status) => Ok(Ending::Answered(status)),
         Err(fault) => Err(Failure::Command(fault)),
     }
 }
 
 /// How an import's end is that of an order.
-pub(crate) fn import_end(ended: Result<Status, ImportFault>) -> Result<Status, Failure>
+pub(crate) fn import_end(ended: Result<Imported, ImportFault>) -> Result<Ending, Failure>
     ensures { result ≡ import_end ended }
 {
     match ended {
-        Ok(status) => Ok(status),
+        Ok(made) => Ok(Ending::Imported(made)),
         Err(fault) => Err(Failure::Import(fault)),
     }
 }
 
 /// How a script's end is that of an order.
-pub(crate) fn run_end(ended: Result<End, ScriptFault>) -> Result<Status, Failure>
+pub(crate) fn run_end(ended: Result<End, ScriptFault>) -> Result<Ending, Failure>
     ensures { result ≡ run_end ended }
 {
     match ended {
-        Ok(_) => Ok(Status::Done),
+        Ok(_) => Ok(Ending::Answered(Status::Done)),
         Err(fault) => Err(Failure::Script(fault)),
     }
 }

@@ -2,53 +2,105 @@
 
 ghost use Rattle.std.specs.Prelude.{◌≡◌};
 ghost use Rattle.cred_cli.specs.Watched.{reading};
-ghost use Rattle.cred_keep.specs.Importing.{Imports, status_of_kept};
+ghost use Rattle.cred_keep.specs.Importing.{Imports, Takes};
 
-use cred_admin::{Existing, Gathered, ImportFault, Status, gather};
-use cred_book::BookError;
+use cred_admin::{BadLine, Gathered, ImportFault, Rules, gather};
+use cred_book::{BookError, Register};
 use cred_cli::Watched;
 use cred_file::FileBook;
 use sqlite::Alter;
 use std::alloc::Global;
 use std::io::Read;
 
-/// Adds the accounts of the lines that the reader has, by one transaction of the database: a crash
-/// leaves the book without them, or with all of them. Nothing is changed before all lines are found
-/// good.
+/// What an import does with lines that aren't good.
+#[derive(Clone, Copy, Debug, PartialEq, Eq)]
+pub enum BadLines {
+    /// It takes in nothing.
+    Refused,
+    /// It leaves them out.
+    LeftOut,
+}
+
+/// Whether an import changes the book.
+#[derive(Clone, Copy, Debug, PartialEq, Eq)]
+pub enum Effect {
+    Made,
+    /// It only tells what it would change.
+    Foretold,
+}
+
+/// How an import is done.
+#[derive(Clone, Copy, Debug, PartialEq, Eq)]
+pub struct Importing {
+    pub rules: Rules,
+    pub bad: BadLines,
+    pub effect: Effect,
+}
+
+/// What an import made, or would make.
+#[derive(Debug, Drop)]
+pub struct Imported {
+    pub effect: Effect,
+    /// How many accounts are new.
+    pub added: usize,
+    /// How many accounts that were there have the record of their line.
+    pub changed: usize,
+    /// How many lines name an account that is there, and stays as it is.
+    pub kept: u64,
+    /// The lines that are left out since they aren't good, in their order.
+    pub bad: Vec<BadLine>,
+}
+
+/// Takes in the lines that the reader has, by one transaction of the database: a crash leaves the
+/// book without them, or with all that are taken.
 ///
-/// Errors: `Lines` with all that aren't good; `Full` if there would be over 2^24 accounts; `Read`;
-/// `Memory`. The book is as it was.
+/// Errors: `Lines` with all that aren't good, unless they are left out; `Full` if there would be
+/// over 2^24 accounts; `Read`; `Memory`. The book is as it was.
 pub(crate) fn import<S: Alter, R: Read>(
     alloc: Global,
     book: &mut FileBook<S>,
-    existing: Existing,
+    how: Importing,
     reader: &mut Watched<R>,
-) -> Result<Status, ImportFault>
-    ensures { Imports existing (reading R.remaining reader.old reader.new) book.old.0
-        book.new.0 result }
+) -> Result<Imported, ImportFault>
+    ensures { Imports how (reading R.remaining reader.old reader.new) book.old.0 book.new.0 result }
 {
     let Gathered {
         accounts,
+        changed,
         kept,
         bad,
-    } = gather(alloc, book.book(), existing, reader)?;
-    if !bad.is_empty() {
-        return Err(ImportFault::Lines(bad));
+    } = gather(alloc, book.book(), how.rules, reader)?;
+    match how.bad {
+        BadLines::Refused if !bad.is_empty() => return Err(ImportFault::Lines(bad)),
+        BadLines::Refused | BadLines::LeftOut => {}
     }
-    match book.enter_all(accounts) {
-        Ok(()) => Ok(status_of_kept(kept)),
-        Err(BookError::Full) => Err(ImportFault::Full),
-        Err(_) => Err(ImportFault::Memory),
-    }
+    let made = Imported {
+        effect: how.effect,
+        added: accounts.len(),
+        changed: changed.len(),
+        kept,
+        bad,
+    };
+    take(book, how.effect, accounts, changed)?;
+    Ok(made)
 }
 
-/// The status that tells how many accounts stay as they are.
-fn status_of_kept(kept: u64) -> Status
-    ensures { result ≡ status_of_kept kept }
+/// Adds accounts and replaces the records of others, or tells whether there is room for them.
+fn take<S: Alter>(
+    book: &mut FileBook<S>,
+    effect: Effect,
+    added: Register,
+    changed: Register,
+) -> Result<(), ImportFault>
+    ensures { Takes effect book.old.0 book.new.0 added changed result }
 {
-    if kept == 0 {
-        Status::Done
-    } else {
-        Status::Kept(kept)
+    match effect {
+        Effect::Foretold if book.has_room_for(&added) => Ok(()),
+        Effect::Foretold => Err(ImportFault::Full),
+        Effect::Made => match book.take_in(added, changed) {
+            Ok(()) => Ok(()),
+            Err(BookError::Full) => Err(ImportFault::Full),
+            Err(_) => Err(ImportFault::Memory),
+        },
     }
 }

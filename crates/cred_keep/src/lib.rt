@@ -5,6 +5,7 @@
 
 mod copying;
 mod editing;
+mod ending;
 mod failure;
 mod importing;
 mod order;
@@ -13,7 +14,9 @@ mod report;
 mod script;
 
 pub use copying::{CopyFault, copy_book, copy_into, count_accounts};
+pub use ending::Ending;
 pub use failure::Failure;
+pub use importing::{BadLines, Effect, Imported, Importing};
 pub use order::Order;
 pub use performing::{perform, serve};
 pub use report::{NAME_RULE, explain, refuse};

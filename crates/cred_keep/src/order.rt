@@ -1,6 +1,7 @@
 //! What is asked of a kept book.
 
-use cred_admin::{Existing, NewPassword, NewSetting, Part};
+use crate::importing::Importing;
+use cred_admin::{NewPassword, NewSetting, Part};
 use cred_book::Name;
 
 /// A command of `credkeep` on a book that is kept, with the words that it was given.
@@ -32,8 +33,10 @@ pub enum Order {
     Show { name: Name, part: Part },
     /// Writes the names.
     List,
+    /// Writes the names with the schemes and the costs of their records.
+    ListCosts,
     /// Writes the accounts as a passwd-file.
     Export,
-    /// Takes in a passwd-file, in which accounts may be named that are there.
-    Import { existing: Existing },
+    /// Takes in a passwd-file.
+    Import { how: Importing },
 }

@@ -11,12 +11,15 @@ ghost use Rattle.sqlite.specs.State.{HasCleanDisk};
 ghost use Rattle.sqlite.specs.Held.{state};
 
 use crate::editing::{delete, disable, rename};
+use crate::ending::Ending;
 use crate::failure::{Failure, command_end, import_end, run_end};
 use crate::importing::import;
 use crate::order::Order;
 use crate::report::{advise, explain};
 use crate::script::{run_on_file, serve_on_file};
-use cred_admin::{Status, add, change, check, export, list, remove, reset, show, upgrade};
+use cred_admin::{
+    Status, add, change, check, export, list, list_costs, remove, reset, show, upgrade,
+};
 use cred_cli::{End, ScriptFault, Tools, Watched};
 use cred_file::FileBook;
 use sqlite::Alter;
@@ -24,9 +27,9 @@ use std::io::{Read, Write};
 use std::sync::Wait;
 use std::thread::Threads;
 
-/// Does what is asked, as [`perform`] does, says on `faults` what ended it if something did or why
-/// a password may be wrong, and gives the exit status: `Database` if a change is lost. Whether
-/// `faults` takes its text changes nothing.
+/// Does what is asked, as [`perform`] does, says on `faults` what ended it if something did, why a
+/// password may be wrong or what an import left out, and gives the exit status: `Database` if a
+/// change is lost. Whether `faults` takes its text changes nothing.
 pub fn serve<T: Threads + Wait + Sync, S: Alter, R: Read, W: Write, F: Write>(
     tools: &Tools<'_, T>,
     book: &mut FileBook<S>,
@@ -47,9 +50,9 @@ pub fn serve<T: Threads + Wait + Sync, S: Alter, R: Read, W: Write, F: Write>(
         → LeavesOnly (state S.Store book.new.1.1) (IsOrWith book.new.0 book.new.1.0) }
 {
     match perform(tools, book, order, reader, writer) {
-        Ok(status) => {
-            advise(faults, status);
-            status
+        Ok(ending) => {
+            advise(faults, &ending);
+            ending.status()
         }
         Err(failure) => {
             explain(faults, &failure, book.lost());
@@ -60,15 +63,14 @@ pub fn serve<T: Threads + Wait + Sync, S: Alter, R: Read, W: Write, F: Write>(
 
 /// Does what is asked of a book that is kept. No call was made on the reader or the writer before.
 ///
-/// Ok is the status that the shell sees, and then the table stands for the book, and a crash leaves
-/// it. Errors: what ended the order; `Database` if the database failed, whatever came of it.
+/// Ok tells how it ended, and then the table stands for the book, and a crash leaves it. Errors: what ended the order; `Database` if the database failed, whatever came of it.
 pub fn perform<T: Threads + Wait + Sync, S: Alter, R: Read, W: Write>(
     tools: &Tools<'_, T>,
     book: &mut FileBook<S>,
     order: &Order,
     reader: &mut Watched<R>,
     writer: &mut Watched<W>,
-) -> Result<Status, Failure>
+) -> Result<Ending, Failure>
     requires new_reader { IsNew reader.old }
     requires new_writer { IsNew writer.old }
     ensures done { Ends order.now (seen (reading R.remaining reader.old reader.new)
@@ -95,7 +97,7 @@ fn obey<T: Threads + Wait + Sync, S: Alter, R: Read, W: Write>(
     order: &Order,
     reader: &mut Watched<R>,
     writer: &mut Watched<W>,
-) -> Result<Status, Failure>
+) -> Result<Ending, Failure>
     requires new_reader { IsNew reader.old }
     requires new_writer { IsNew writer.old }
     ensures done { Performs order.now (seen (reading R.remaining reader.old reader.new)
@@ -120,8 +122,9 @@ fn obey<T: Threads + Wait + Sync, S: Alter, R: Read, W: Write>(
         Order::Rename { name, other } => command_end(rename(book, name, other, writer)),
         Order::Show { name, part } => command_end(show(tools.alloc, book, name, *part, writer)),
         Order::List => command_end(list(tools.alloc, book.book(), writer)),
+        Order::ListCosts => command_end(list_costs(tools.alloc, book.book(), writer)),
         Order::Export => command_end(export(tools.alloc, book.book(), writer)),
-        Order::Import { existing } => { import_end(import(tools.alloc, book, *existing, reader)) }
+        Order::Import { how } => import_end(import(tools.alloc, book, *how, reader)),
     }
 }
 

@@ -3,7 +3,9 @@
 ghost use Rattle.std.specs.Prelude.{◌≡◌};
 ghost use Rattle.cred_keep.specs.Orders.{status_of_open};
 
+use crate::ending::Ending;
 use crate::failure::Failure;
+use crate::importing::{Effect, Imported};
 use cred_admin::{BadLine, Fault, Hint, ImportFault, LineFault, Status};
 use cred_book::BookError;
 use cred_file::{Edit, Lost, OpenFault};
@@ -15,22 +17,53 @@ use std::io::Write;
 /// What a name is, as faults say it.
 pub const NAME_RULE: &str = "names are a-z, 0-9, '.', '_', '-', 1 to 32 of them";
 
-/// Says what the status has beside its number: why a password may be wrong, if the book says no to
-/// it, and how many lines of an import named accounts that stay. Whether `faults` takes its text
-/// changes nothing.
-pub(crate) fn advise<F: Write>(faults: &mut F, status: Status) {
-    let _ = match status {
-        Status::No(Some(Hint::CarriageReturn)) => writeln!(
+/// Says what the ending has beside its status: why a password may be wrong, if the book says no to
+/// it, and what an import left out or would do. Whether `faults` takes its text changes nothing.
+pub(crate) fn advise<F: Write>(faults: &mut F, ending: &Ending) {
+    let _ = match ending {
+        Ending::Answered(Status::No(Some(Hint::CarriageReturn))) => writeln!(
             faults,
             "credkeep: hint: the password that was read ends in a carriage return, which counts: \
              tr -d '\\r' takes it off"
         ),
-        Status::Kept(lines) => writeln!(
+        Ending::Answered(_) => Ok(()),
+        Ending::Imported(made) => tell_imported(faults, made),
+    };
+}
+
+fn tell_imported<F: Write>(faults: &mut F, made: &Imported) -> io::Result<()> {
+    let (added, changed) = (made.added, made.changed);
+    tell_left_out(faults, made)?;
+    match made.effect {
+        Effect::Foretold => writeln!(
+            faults,
+            "credkeep: nothing was changed; {added} accounts would be added, and {changed} would \
+             have the records of their lines"
+        ),
+        Effect::Made if changed > 0 => writeln!(
+            faults,
+            "credkeep: {changed} accounts that were there have the records of their lines"
+        ),
+        Effect::Made => Ok(()),
+    }
+}
+
+fn tell_left_out<F: Write>(faults: &mut F, made: &Imported) -> io::Result<()> {
+    for line in &made.bad {
+        tell_line(faults, line)?;
+    }
+    if !made.bad.is_empty() {
+        let lines = made.bad.len();
+        writeln!(faults, "credkeep: left out {lines} lines, which are bad")?;
+    }
+    if made.kept > 0 {
+        let lines = made.kept;
+        writeln!(
             faults,
             "credkeep: left out {lines} lines, whose accounts are there already"
-        ),
-        _ => Ok(()),
-    };
+        )?;
+    }
+    Ok(())
 }
 
 /// Says why an order failed; the book's lost change is named if the database failed. Whether
@@ -59,12 +92,16 @@ fn tell_lost<F: Write>(faults: &mut F, lost: &Lost) -> io::Result<()> {
             faults.write_all(name.bytes())?;
             writeln!(faults, " may be kept or not")
         }
-        Edit::EnterAll(more) => writeln!(
-            faults,
-            "the {} new accounts may be kept or not, all or none of them",
-            more.len()
-        ),
+        Edit::TakeIn { added, changed } => tell_lost_import(faults, added.len(), changed.len()),
     }
+}
+
+fn tell_lost_import<F: Write>(faults: &mut F, added: usize, changed: usize) -> io::Result<()> {
+    write!(faults, "the {added} new accounts ")?;
+    if changed > 0 {
+        write!(faults, "and the records of {changed} others ")?;
+    }
+    writeln!(faults, "may be kept or not, all or none of them")
 }
 
 fn tell_command<F: Write>(faults: &mut F, fault: &Fault) -> io::Result<()> {
@@ -101,6 +138,7 @@ fn tell_line<F: Write>(faults: &mut F, line: &BadLine) -> io::Result<()> {
         LineFault::Line => write!(faults, "it is neither NAME:RECORD nor NAME:")?,
         LineFault::Text(fault) => write!(faults, "{fault}")?,
         LineFault::Book(refusal) => write!(faults, "{refusal}")?,
+        LineFault::Locked => write!(faults, "its record is locked: --disable-locked drops it")?,
     }
     writeln!(faults, " ({number} {word})")
 }

@@ -113,13 +113,15 @@ fn texts_of_lines(rt: HostRuntime) {
         (1, LineFault::Line),
         (20, LineFault::Text(PhcError::Shape)),
         (300, LineFault::Book(BookError::Exists)),
+        (4000, LineFault::Locked),
     ] {
         bad.push(BadLine { number, why }).expect(&rt, "memory");
     }
     let failure = Failure::Import(ImportFault::Lines(bad));
     let text = "line 1: it is neither NAME:RECORD nor NAME: (11 line)\n\
         credkeep: line 20: a field is missing, or there is one too many (1 shape)\n\
-        credkeep: line 300: the name is there already (1 exists)";
+        credkeep: line 300: the name is there already (1 exists)\n\
+        credkeep: line 4000: its record is locked: --disable-locked drops it (17 locked)";
     hold_failure(&rt, rt.alloc(), &failure, 6, text);
 }
 
@@ -191,5 +193,19 @@ fn texts_of_lost_changes(rt: HostRuntime) {
         more.admit(name(&rt, text)).expect(&rt, "room");
     }
     let all = "the 2 new accounts may be kept or not, all or none of them";
-    hold_lost(&rt, rt.alloc(), Edit::EnterAll(more), all);
+    let added = more.copy().expect(&rt, "memory");
+    let changed = Register::new(rt.alloc());
+    hold_lost(&rt, rt.alloc(), Edit::TakeIn { added, changed }, all);
+    let added = Register::new(rt.alloc());
+    let all =
+        "the 0 new accounts and the records of 2 others may be kept or not, all or none of them";
+    hold_lost(
+        &rt,
+        rt.alloc(),
+        Edit::TakeIn {
+            added,
+            changed: more,
+        },
+        all,
+    );
 }
