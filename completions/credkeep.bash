@@ -73,7 +73,8 @@ _credkeep() {
     upgrade) options='--setting --echo' ;;
     check | remove) options='--echo' ;;
     show) options='--record' ;;
-    import) options='--skip-existing' ;;
+    list) options='--costs' ;;
+    import) options='--skip-existing --update --skip-bad --disable-locked --dry-run' ;;
     esac
     if [[ $word == -* ]]; then
         mapfile -t COMPREPLY < <(compgen -W "$options --help" -- "$word")

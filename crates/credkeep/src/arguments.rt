@@ -63,6 +63,18 @@ const RECORD_HELP: &str = "The whole record, with its salt and its hash";
 
 const SKIP_HELP: &str = "Leaves accounts that are there as they are, and says how many";
 
+const UPDATE_HELP: &str = "Gives accounts that are there the records of their lines";
+
+const SKIP_BAD_HELP: &str = "Leaves bad lines out, names each on standard error, and says how many";
+
+const DISABLE_LOCKED_HELP: &str = "Takes an account whose record is behind ! or *, as passwd -l \
+writes it, as one without a record; otherwise such a line is bad";
+
+const DRY_RUN_HELP: &str = "Changes nothing, and says what would be done";
+
+const COSTS_HELP: &str = "Writes the scheme and the costs of each record behind the name, NAME:\
+COSTS, and no hash";
+
 const WAIT_HELP: &str = "Tries for so many seconds if another process has the file, from 0 to 3600";
 
 const TO_HELP: &str = "The file of the copy; one that is there is replaced by one step";
@@ -85,6 +97,11 @@ enum Word {
     Echo,
     Record,
     SkipExisting,
+    Update,
+    SkipBad,
+    DisableLocked,
+    DryRun,
+    Costs,
 }
 
 /// What help says of a command.
@@ -195,8 +212,8 @@ static COMMANDS: [HelpText; 19] = [
     HelpText {
         word: "list",
         about: "Writes the names, a line each",
-        usage: "credkeep <FILE> list",
-        words: &[],
+        usage: "credkeep <FILE> list [OPTIONS]",
+        words: &[Word::Costs],
     },
     HelpText {
         word: "export",
@@ -208,9 +225,16 @@ static COMMANDS: [HelpText; 19] = [
         word: "import",
         about: "Adds the accounts of such lines, or of lines in the form of htpasswd's, Dovecot's \
             or Django's, if the record is one of Argon2 or scrypt: all of them, or none if a line \
-            is bad, and then each bad line is named",
+            is bad, and then each bad line is named; empty lines and lines that begin with # are \
+            passed over",
         usage: "credkeep <FILE> import [OPTIONS]",
-        words: &[Word::SkipExisting],
+        words: &[
+            Word::SkipExisting,
+            Word::Update,
+            Word::SkipBad,
+            Word::DisableLocked,
+            Word::DryRun,
+        ],
     },
     HelpText {
         word: "backup",
@@ -304,6 +328,11 @@ fn arg_of<'a>(alloc: Global, word: Word) -> Arg<'a> {
         Word::Echo => flag(alloc, "echo", ECHO_HELP),
         Word::Record => flag(alloc, "record", RECORD_HELP),
         Word::SkipExisting => flag(alloc, "skip-existing", SKIP_HELP),
+        Word::Update => flag(alloc, "update", UPDATE_HELP),
+        Word::SkipBad => flag(alloc, "skip-bad", SKIP_BAD_HELP),
+        Word::DisableLocked => flag(alloc, "disable-locked", DISABLE_LOCKED_HELP),
+        Word::DryRun => flag(alloc, "dry-run", DRY_RUN_HELP),
+        Word::Costs => flag(alloc, "costs", COSTS_HELP),
     }
 }
 

@@ -4,9 +4,11 @@ use crate::arguments::credkeep;
 use crate::tagged::{Tagged, kib_of};
 use crate::terminal::Echo;
 use clap::{ArgMatches, Error};
-use cred_admin::{EmptyPassword, Existing, NewPassword, NewSetting, Part, setting_of};
+use cred_admin::{
+    EmptyPassword, Existing, LockedRecords, NewPassword, NewSetting, Part, Rules, setting_of,
+};
 use cred_book::{BookError, Name};
-use cred_keep::Order;
+use cred_keep::{BadLines, Effect, Importing, Order};
 use cred_many::Costs;
 use cred_phc::{PhcError, draw_salt};
 use rand::rngs::StdRng;
@@ -67,6 +69,8 @@ pub(crate) enum Refusal<'a> {
     Setting(PhcError),
     /// The text of `--memory` is no size.
     Size,
+    /// Accounts that are there can't both stay as they are and be updated.
+    Existing,
     /// The system has no random bytes for a salt.
     Salt,
     /// There is no memory.
@@ -158,10 +162,11 @@ fn order_of<'a, R: RandomSource + AllocGlobal>(
     match word {
         "run" => Ok(Order::Run),
         "serve" => Ok(Order::Serve),
+        "list" if values.get_flag("costs") => Ok(Order::ListCosts),
         "list" => Ok(Order::List),
         "export" => Ok(Order::Export),
         "import" => Ok(Order::Import {
-            existing: existing_in(values),
+            how: importing_in(values)?,
         }),
         _ => order_on(rt, word, values),
     }
@@ -216,11 +221,34 @@ fn part_in(values: &ArgMatches<'_>) -> Part {
     }
 }
 
-fn existing_in(values: &ArgMatches<'_>) -> Existing {
-    if values.get_flag("skip-existing") {
-        Existing::Kept
+/// How an import is done.
+fn importing_in<'a>(values: &ArgMatches<'a>) -> Result<Importing, Refusal<'a>> {
+    let locked = if values.get_flag("disable-locked") {
+        LockedRecords::Disabled
     } else {
-        Existing::Refused
+        LockedRecords::Refused
+    };
+    let bad = if values.get_flag("skip-bad") {
+        BadLines::LeftOut
+    } else {
+        BadLines::Refused
+    };
+    let effect = if values.get_flag("dry-run") {
+        Effect::Foretold
+    } else {
+        Effect::Made
+    };
+    let existing = existing_in(values)?;
+    let rules = Rules { existing, locked };
+    Ok(Importing { rules, bad, effect })
+}
+
+fn existing_in<'a>(values: &ArgMatches<'a>) -> Result<Existing, Refusal<'a>> {
+    match (values.get_flag("skip-existing"), values.get_flag("update")) {
+        (true, true) => Err(Refusal::Existing),
+        (true, false) => Ok(Existing::Kept),
+        (false, true) => Ok(Existing::Updated),
+        (false, false) => Ok(Existing::Refused),
     }
 }
 

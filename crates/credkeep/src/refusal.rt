@@ -33,6 +33,11 @@ pub(crate) fn answer_refusal(host: &HostRuntime, refusal: &Refusal<'_>) -> Statu
             "--memory: a size is a number of KiB, or one with K, M or G behind it",
             Status::Usage,
         ),
+        Refusal::Existing => say(
+            host,
+            "--skip-existing and --update: an account that is there is left, or updated",
+            Status::Usage,
+        ),
         Refusal::Memory => say(host, "out of memory", Status::Memory),
         Refusal::Salt => say(host, "the system has no random bytes", Status::Io),
     }

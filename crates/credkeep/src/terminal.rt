@@ -95,6 +95,7 @@ fn passwords_of(order: &Order) -> Passwords {
         | Order::Rename { .. }
         | Order::Show { .. }
         | Order::List
+        | Order::ListCosts
         | Order::Export
         | Order::Import { .. } => Passwords::None,
     }
