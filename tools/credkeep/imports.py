@@ -45,8 +45,7 @@ def bad_imports(room: Room) -> None:
     good = f"ann:{RECORD}"
     for lines, bad in (
         (f"{good}\nbob", {2: "11 line"}),
-        (f"{good}\n\nbob:\n", {2: "11 line"}),
-        (f"{good}\n\nbob:\n\n", {2: "11 line", 4: "11 line"}),
+        (f"{good}\n\n \nbob:\n", {3: "11 line"}),
         (f"{good}\nBob:\n", {2: "3 name"}),
         (f"bob:\n{good}\nbob:\n", {3: "1 exists"}),
         (f"{good}\nbob:$argon2id$v=19$m=256,t=2\n", {2: "4 params"}),
