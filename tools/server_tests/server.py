@@ -368,6 +368,12 @@ def idle_clients() -> None:
             except OSError:
                 pass
             time.sleep(0.2)
+        with serving("--idle", "0") as unlimited:
+            waits = unlimited.client()
+            waits.send(b"a known")
+            time.sleep(0.5)
+            waits.send(b" ada\n")
+            same(waits.line(), b"a noaccount", "0 is no limit")
         for client in (silent, half, drips):
             client.socket.settimeout(1)
             holds(client.is_ended(), "it goes on")
