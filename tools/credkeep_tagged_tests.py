@@ -112,6 +112,60 @@ def each_operation(room: Room) -> None:
         same((line, answered(keep, f"t1 {line}")), (line, [f"t1 {answer}"]))
 
 
+def administrators_lines(room: Room) -> None:
+    """Accounts are disabled, deleted, renamed and listed while it runs, in one history with the others."""
+    keep = begun(room)
+    one = in_base64("one")
+    for line, answer in [
+        ("list - 10", "names"),
+        ("disable ann", "noaccount"),
+        ("delete ann", "noaccount"),
+        ("rename ann bob", "noaccount"),
+        ("account ann", "ok"),
+        ("disable ann", "absent"),
+        (f"enrol ann {one}", "enrolled"),
+        ("account cat", "ok"),
+        ("rename ann cat", "exists"),
+        ("rename ann ann", "exists"),
+        ("rename ann bob", "renamed"),
+        (f"verify ann {one}", "noaccount"),
+        (f"verify bob {one}", "yes"),
+        ("list - 10", "names bob cat"),
+        ("disable bob", "disabled"),
+        (f"login bob {one}", "absent"),
+        ("show bob", "none"),
+        (f"reset bob {one}", "enrolled"),
+        ("delete bob", "deleted"),
+        ("delete bob", "noaccount"),
+        ("list - 10", "names cat"),
+        ("list - 0", "bad 5 range"),
+        ("list - 1001", "bad 5 range"),
+        ("list - 010", "bad 5 range"),
+        ("list - x", "bad 5 range"),
+        ("list Ann 10", "bad 3 name"),
+        ("list -", "bad 11 line"),
+        ("delete cat cat", "bad 11 line"),
+        ("rename cat", "bad 11 line"),
+        ("rename cat Ann", "bad 3 name"),
+        ("disable", "bad 11 line"),
+    ]:
+        same((line, answered(keep, f"t1 {line}")), (line, [f"t1 {answer}"]))
+    keep.is_sound()
+
+
+def lists_in_pages(room: Room) -> None:
+    """Pages of a list have all names in the order of their bytes, and no record."""
+    keep = begun(room)
+    names = sorted({"-", ".", "a", "z" * 32, "a-", "a.b", "a_b", *(f"n{at}" for at in range(1200))})
+    with service(keep) as run:
+        written = run.communicate("".join(f"t account {name}\nt load {name} {RECORD}\n" for name in names).encode(), timeout=60)[0]
+    same((len(written.splitlines()), set(written.splitlines())), (2 * len(names), {b"t ok"}))
+    same(answered(keep, "t list - 1000"), [" ".join(["t names", *names[:1000]])])
+    same(answered(keep, f"t list {names[999]} 1000"), [" ".join(["t names", *names[999:]])])
+    same(answered(keep, "t list n 2"), [" ".join(["t names", *[name for name in names if name >= "n"][:2]])])
+    same(answered(keep, f"t list {'z' * 32} 1"), [f"t names {'z' * 32}"])
+
+
 def logins_upgrade(room: Room) -> None:
     """A right login makes a record of other costs anew; a wrong one, and one of the same costs, don't."""
     keep = begun(room)
@@ -198,6 +252,9 @@ class Model:
             return "replaced" if stored else "enrolled"
         if not stored:
             return "absent"
+        if kind == "disable":
+            del self.records[name]
+            return "disabled"
         right = stored[0] == pw
         if kind == "verify":
             return "yes" if right else "no"
@@ -224,13 +281,15 @@ class Line:
 
     def __init__(self, tag: str, chance: random.Random, number: int) -> None:
         self.tag = tag
-        self.kind = chance.choice(["verify"] * 6 + ["login"] * 4 + ["enrol", "change", "change", "upgrade", "remove", "reset"])
+        self.kind = chance.choice(["verify"] * 6 + ["login"] * 4 + ["enrol", "change", "change", "upgrade", "remove", "reset", "disable"])
         self.name = chance.choice(NAMES)
         self.pw, self.new = chance.choice(PASSWORDS), chance.choice(PASSWORDS)
         self.costs = chance.choice([CHEAP, WIDER])
         self.made = f"m{number}"
         salt = base64.b64encode(number.to_bytes(9, "big")).decode().rstrip("=")
-        words = [tag, self.kind, self.name, in_base64(self.pw)]
+        words = [tag, self.kind, self.name]
+        if self.kind != "disable":
+            words.append(in_base64(self.pw))
         if self.kind == "change":
             words.append(in_base64(self.new))
         if self.kind in ("enrol", "change", "upgrade", "reset"):
@@ -300,14 +359,17 @@ def replayed(history: list[Line], model: Model) -> list[Account]:
         wanted = model.done(line.kind, line.name, line.pw, line.new, line.costs, line.made)
         same((line.text, line.reply), (line.text, wanted))
         after = model.records.get(line.name)
-        reply = line.reply
-        if line.kind == "login" and before != after:
-            reply = "upgraded"
+        kind, reply, password = line.kind, line.reply or "", line.pw
+        if line.kind == "login":
+            kind, reply = ("upgrade", "upgraded") if before != after else ("verify", reply)
+        if line.kind == "disable":
+            # As a removal by whoever knows the password.
+            kind, reply, password = "remove", reply.replace("disabled", "removed"), before[0] if before else ""
         events[line.name].append(
             Operation(
                 id=line.made,
-                kind=line.kind if line.kind != "login" else ("upgrade" if before != after else "verify"),
-                password=line.pw,
+                kind=kind,
+                password=password,
                 called=line.called,
                 new_password=line.new if line.kind == "change" else (line.pw if line.kind == "reset" else None),
                 # The checker has upgrades go to dearer costs alone. Here they go to other ones, as the model says.
@@ -399,7 +461,7 @@ def kills(room: Room) -> None:
         for line in clients.history:
             if line.reply in ("enrolled", "replaced", "upgraded"):
                 standing[line.name] = {line.salt}
-            elif line.reply == "removed":
+            elif line.reply in ("removed", "disabled"):
                 standing[line.name] = {None}
             elif line.kind == "login" and line.reply == "yes":
                 standing[line.name].add("drawn")
@@ -409,9 +471,9 @@ def kills(room: Room) -> None:
             mine = [line for line in clients.open.values() if line.name == name]
             may = {
                 *standing[name],
-                *(line.salt for line in mine if line.kind not in ("verify", "login", "remove")),
+                *(line.salt for line in mine if line.kind not in ("verify", "login", "remove", "disable")),
             }
-            if any(line.kind == "remove" for line in mine):
+            if any(line.kind in ("remove", "disable") for line in mine):
                 may.add(None)
             free = any(line.kind == "login" for line in mine) or "drawn" in may
             holds(
@@ -665,6 +727,8 @@ def the_example(room: Room) -> None:
 
 TESTS: list[Callable[[Room], None]] = [
     each_operation,
+    administrators_lines,
+    lists_in_pages,
     logins_upgrade,
     salts_are_drawn,
     bad_lines,

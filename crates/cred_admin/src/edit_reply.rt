@@ -40,7 +40,7 @@ pub fn answer_edit<W: Write>(reply: EditReply, writer: &mut Watched<W>) -> Resul
 }
 
 /// The reply's word with the line end.
-fn edit_line(reply: EditReply) -> &'static [u8]
+pub fn edit_line(reply: EditReply) -> &'static [u8]
     ensures { result.now ≡ edit_line reply }
 {
     match reply {

@@ -21,7 +21,7 @@ mod showing;
 mod status;
 
 pub use account::{add, change, check, remove, reset, upgrade};
-pub use edit_reply::{EditReply, answer_edit};
+pub use edit_reply::{EditReply, answer_edit, edit_line};
 pub use entry::LineFault;
 pub use fault::Fault;
 pub use gathering::{BadLine, Existing, Gathered, ImportFault, LockedRecords, Rules, gather};

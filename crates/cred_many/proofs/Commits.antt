@@ -14,11 +14,11 @@ use Rattle.cred_book.specs.declared.request.Request.{Request}
 use Rattle.cred_book.specs.declared.request.Request.TheVariants as request
 use Rattle.cred_book.proofs.Commitments.{committed_found}
 use Rattle.cred_cli.specs.History.{Answer, Replied}
-use Rattle.cred_cli.specs.Texts.{line_of, reply_line}
+use Rattle.cred_cli.specs.Texts.{reply_line}
 use Rattle.cred_many.specs.declared.ask.Ask.{Ask}
-use Rattle.cred_many.specs.declared.ask.Ask.TheVariants.{Account, Load, Show, Whole, Login, Reset, Bad}
+use Rattle.cred_many.specs.declared.ask.Ask.TheVariants.{Account, Load, Show, Edit, List as Names, Whole, Login, Reset, Bad}
 use Rattle.cred_many.specs.Asks.{Entry, IsJobOf, IsResetOf, IsSound}
-use Rattle.cred_many.specs.Served.{done, login_reply, reset_at, told_reply}
+use Rattle.cred_many.specs.Served.{Script, done, login_reply, reset_at, told_line, told_reply}
 use Rattle.cred_many.specs.Steps.{is_changed}
 use Rattle.cred_many.proofs.Serving.{IsDone, done_at}
 
@@ -91,18 +91,22 @@ job_current (Reset name pw setting) r sound job = ap (λ t. is_for_current t.0) 
 job_current (Account name) r sound job = absurd (job None)
 job_current (Load name stored) r sound job = absurd (job None)
 job_current (Show name) r sound job = absurd (job None)
+job_current (Names from most) r sound job = absurd (job None)
+job_current (Edit edit) r sound job = absurd (job None)
 job_current (Bad why) r sound job = absurd (job None)
 
 job_whole : (ask : Ask) (r : Request) → ((copy : Option RecordValue) → IsJobOf ask (r, copy)) → (capacity : ℕ) (book later : Accounts) (found : Reply)
-    → (found, later) ≡ seq book r → (Replied (told_reply ask found), later) ≡ done capacity book ask
-job_whole (Whole q) r job capacity book later found is = ap (λ o. (Replied o.0, o.1)) (is ∙ ap (seq book) (job None))
-job_whole (Login name pw setting) r job capacity book later found is = ap (λ o. (Replied (login_reply o.0), o.1)) (is ∙ ap (seq book) (job None))
+    → (found, later) ≡ seq book r → (Script (Replied (told_reply ask found)), later) ≡ done capacity book ask
+job_whole (Whole q) r job capacity book later found is = ap (λ o. (Script (Replied o.0), o.1)) (is ∙ ap (seq book) (job None))
+job_whole (Login name pw setting) r job capacity book later found is = ap (λ o. (Script (Replied (login_reply o.0)), o.1)) (is ∙ ap (seq book) (job None))
 job_whole (Reset name pw setting) r job capacity book later found is =
     let some : Option RecordValue = Some (record_of setting []) in
     let one : some ≡ None = ap (λ t. t.1) (job some) in absurd cc
 job_whole (Account name) r job capacity book later found is = absurd (job None)
 job_whole (Load name stored) r job capacity book later found is = absurd (job None)
 job_whole (Show name) r job capacity book later found is = absurd (job None)
+job_whole (Names from most) r job capacity book later found is = absurd (job None)
+job_whole (Edit edit) r job capacity book later found is = absurd (job None)
 job_whole (Bad why) r job capacity book later found is = absurd (job None)
 
 pub done_whole : (capacity : ℕ) (book later : Accounts) (e : Entry) (work : Task) (found : Reply) (tag answer : List ℕ)
@@ -110,7 +114,7 @@ pub done_whole : (capacity : ℕ) (book later : Accounts) (e : Entry) (work : Ta
     → answer ≡ reply_line (told_reply e.ask found) → IsDone capacity book later e (tag ++ 32 ∷ answer)
 done_whole capacity book later e work found tag answer job commits is_not tag_is answer_is =
     let whole = job_whole e.ask work.0 job capacity book later found (commits_whole book later work found commits is_not) in
-    done_at capacity book later e tag answer (ap (λ o. o.1) whole) tag_is (answer_is ∙ ap (λ o. line_of o.0) whole)
+    done_at capacity book later e tag answer (ap (λ o. o.1) whole) tag_is (answer_is ∙ ap (λ o. told_line o.0) whole)
 
 -- ---- resets
 
@@ -122,10 +126,12 @@ reset_stored (Login n pw setting) name task job none = job
 reset_stored (Account n) name task job none = job
 reset_stored (Load n stored) name task job none = job
 reset_stored (Show n) name task job none = job
+reset_stored (Names from most) name task job none = job
+reset_stored (Edit edit) name task job none = job
 reset_stored (Bad why) name task job none = job
 
 job_reset : (ask : Ask) (name : List ℕ) (task : Task) (stored : RecordValue) → IsResetOf ask name task → Some stored ≡ (whole task.0 task.1).1
-    → (capacity : ℕ) (book later : Accounts) (found : Reply) → (Replied found, later) ≡ reset_at book name stored (map.get book name) → (Replied found, later) ≡ done capacity book ask
+    → (capacity : ℕ) (book later : Accounts) (found : Reply) → (Script (Replied found), later) ≡ reset_at book name stored (map.get book name) → (Script (Replied found), later) ≡ done capacity book ask
 job_reset (Reset n pw setting) name task stored job is capacity book later found done_is =
     let made : stored ≡ new_record setting pw = some_inj (is ∙ ap (λ t. (whole t.0 t.1).1) job.1) in
     done_is ∙ ap (λ r. reset_at book name r (map.get book name)) made ∙ ap (λ m. reset_at book m (new_record setting pw) (map.get book m)) job.0
@@ -137,11 +143,13 @@ job_reset (Login n pw setting) name task stored job is capacity book later found
 job_reset (Account n) name task stored job is capacity book later found done_is = absurd job
 job_reset (Load n there) name task stored job is capacity book later found done_is = absurd job
 job_reset (Show n) name task stored job is capacity book later found done_is = absurd job
+job_reset (Names from most) name task stored job is capacity book later found done_is = absurd job
+job_reset (Edit edit) name task stored job is capacity book later found done_is = absurd job
 job_reset (Bad why) name task stored job is capacity book later found done_is = absurd job
 
 pub done_reset : (capacity : ℕ) (book later : Accounts) (e : Entry) (name : List ℕ) (task : Task) (stored : RecordValue) (found : Reply) (tag answer : List ℕ)
-    → IsResetOf e.ask name task → Some stored ≡ (whole task.0 task.1).1 → (Replied found, later) ≡ reset_at book name stored (map.get book name) → tag ≡ e.tag
+    → IsResetOf e.ask name task → Some stored ≡ (whole task.0 task.1).1 → (Script (Replied found), later) ≡ reset_at book name stored (map.get book name) → tag ≡ e.tag
     → answer ≡ reply_line found → IsDone capacity book later e (tag ++ 32 ∷ answer)
 done_reset capacity book later e name task stored found tag answer job is done_is tag_is answer_is =
     let whole = job_reset e.ask name task stored job is capacity book later found done_is in
-    done_at capacity book later e tag answer (ap (λ o. o.1) whole) tag_is (answer_is ∙ ap (λ o. line_of o.0) whole)
+    done_at capacity book later e tag answer (ap (λ o. o.1) whole) tag_is (answer_is ∙ ap (λ o. told_line o.0) whole)

@@ -2,5 +2,6 @@
 pub mod Commits
 pub mod Draws
 pub mod Lines
+pub mod Listed
 pub mod Serving
 pub mod Writes

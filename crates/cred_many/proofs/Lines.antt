@@ -1,7 +1,6 @@
 -- The lines that a reader comes to are lines of its input.
 use Rattle.std.proofs.Common.{◌≡◌, ◌≢◌, ℕ, suc, ◌+◌, ◌<◌, ◌≤◌, List, [], ◌∷◌, ◌++◌, length, take, drop, get_or, Option, Some, None, IfSome, true, false, if◌then◌else◌, nat_lt, slice_get, refl, sym, ap, ◌∙◌, arith, append_assoc, append-nil, inl, inr, codes, subst, take-append-drop}
 use Rattle.std.proofs.lemmas.Bool.Decides.{eqb_tells, nat_tests}
-use Rattle.std.specs.Bool.{◌==◌}
 use Rattle.std.proofs.lemmas.Bool.{cases_lt}
 use Rattle.std.proofs.lemmas.List.{length-append, length-take, take_all, take_more}
 use Rattle.std.proofs.Math.Seq.{drop-cons}
@@ -16,7 +15,7 @@ use Rattle.cred_cli.proofs.Lines.{length-whole_from, lines_of-ended, lines_of-li
 use Rattle.cred_cli.proofs.Readings.{if_known}
 use Rattle.cred_many.specs.declared.ask.Ask.TheVariants.{Bad}
 use Rattle.cred_many.specs.Asks.{Tagged, entry_of, tag_of, tagged, tagged_by, tagged_of, untagged}
-use Rattle.cred_many.specs.Reading.{GoesOn, HasCome, IsAt, IsAtEnd, IsBefore, IsCome, Place, place}
+use Rattle.cred_many.specs.Reading.{GoesOn, HasCome, IsAt, IsAtEnd, IsBefore, IsCome, Place}
 use Rattle.cred_many.specs.Service.{Service, drawn_setting}
 
 longer : (line : List ℕ) → longest_line < length line → nat_lt longest_line (length line) ≡ true

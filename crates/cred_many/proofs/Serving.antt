@@ -10,7 +10,6 @@ use Rattle.std.proofs.KnownBytes.{Appends-nil, Appends-trans}
 use Rattle.cred_book.specs.Accounts.{Accounts}
 use Rattle.cred_book.specs.declared.error.BookError.TheVariants as error
 use Rattle.cred_cli.specs.Outcome.{FrontWritten}
-use Rattle.cred_cli.specs.Texts.{line_of}
 use Rattle.cred_cli.specs.declared.refusal.Refusal.{Refusal}
 use Rattle.cred_cli.specs.declared.refusal.Refusal.TheVariants as refusal
 use Rattle.cred_many.specs.declared.ask.Ask.{Ask}
@@ -20,7 +19,7 @@ use Rattle.cred_many.specs.declared.fault.ServiceFault.TheVariants as fault
 use Rattle.cred_many.specs.declared.open.Open.{Open}
 use Rattle.cred_many.specs.Asks.{Entry, entry}
 use Rattle.cred_many.specs.Reading.{IsCome}
-use Rattle.cred_many.specs.Served.{HasServed, IsFor, IsOwed, IsServed, answers, book_after, done, entry_numbers, is_torn, line_at, numbers, once_below, times}
+use Rattle.cred_many.specs.Served.{HasServed, IsFor, IsOwed, IsServed, answers, book_after, done, entry_numbers, is_torn, line_at, numbers, once_below, times, told_line}
 use Rattle.cred_many.specs.Service.{Service}
 use Rattle.cred_many.specs.Steps.{IsConcluded}
 
@@ -172,7 +171,7 @@ pub record IsDone (capacity : ℕ) (book later : Accounts) (e : Entry) (text : L
   pub text_is : text ≡ line_at capacity book e
 
 pub done_at : (capacity : ℕ) (book later : Accounts) (e : Entry) (tag answer : List ℕ) → later ≡ (done capacity book e.ask).1 → tag ≡ e.tag
-    → answer ≡ line_of (done capacity book e.ask).0 → IsDone capacity book later e (tag ++ 32 ∷ answer)
+    → answer ≡ told_line (done capacity book e.ask).0 → IsDone capacity book later e (tag ++ 32 ∷ answer)
 done_at capacity book later e tag answer later_is tag_is answer_is = record {
   book_is = later_is;
   text_is = rw (tag_is, answer_is) refl;

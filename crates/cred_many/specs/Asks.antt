@@ -3,10 +3,13 @@ use Rattle.std.specs.Prelude.{◌≡◌, ℕ, List, [], ◌∷◌, Bool, ◌&&�
 use Rattle.std.specs.Prelude.{nat_lt, codes, Option, Some, None, Result, Ok, Err, true}
 use Rattle.std.specs.List.{list_all}
 use Rattle.std.specs.Str.{bytes_eq}
+use Rattle.std.specs.Option.{ok_or}
+use Rattle.cred_phc.specs.Number.{number_of}
 use Rattle.cred_phc.specs.Pieces.{pieces}
 use Rattle.cred_phc.specs.Ranges.{between, is_current}
 use Rattle.cred_phc.specs.Reading.{◌>>=◌}
 use Rattle.cred_phc.specs.Values.{SettingValue}
+use Rattle.cred_phc.specs.declared.error.PhcError.TheVariants.{Range}
 use Rattle.cred_book.specs.Works.{Task, is_for_current}
 use Rattle.cred_book.specs.declared.request.Request.TheVariants as request
 use Rattle.cred_cli.specs.Events.{longest_line, name_field, password_field, record_field}
@@ -15,7 +18,8 @@ use Rattle.cred_cli.specs.declared.refusal.Refusal.{Refusal}
 use Rattle.cred_cli.specs.declared.refusal.Refusal.TheVariants as refusal
 use Rattle.cred_many.specs.declared.ask.Ask.{Ask}
 use Rattle.cred_many.specs.declared.ask.Ask.TheVariants.{Account, Load, Show, Whole, Login, Reset}
-use Rattle.cred_many.specs.declared.ask.Ask.TheVariants.{Bad}
+use Rattle.cred_many.specs.declared.ask.Ask.TheVariants.{Bad, Edit, List as Names}
+use Rattle.cred_many.specs.declared.edit.Edit.TheVariants.{Disable, Delete, Rename}
 use Rattle.cred_many.specs.declared.asking.Making.{Making}
 use Rattle.cred_many.specs.declared.asking.Making.TheVariants as making
 use Rattle.cred_many.specs.declared.asking.Checking.{Checking}
@@ -39,7 +43,43 @@ abbrev pub show_ask : List (List ℕ) → Result Ask Refusal
 show_ask (x ∷ []) = name_field x >>= λ name. Ok (Show name)
 show_ask _ = Err refusal.Line
 
--- ---- what needs one
+abbrev pub in_page : Option ℕ → Option ℕ
+in_page None = None
+in_page (Some n) = if between 1 1000 n then Some n else None
+
+-- a decimal number of 1 to 1000
+unfoldable pub count_of : List ℕ → Option ℕ
+count_of text = in_page (number_of text)
+
+abbrev pub count_field : List ℕ → Result ℕ Refusal
+count_field text = ok_or (count_of text) (refusal.Text Range)
+
+-- `list FROM COUNT`
+abbrev pub list_ask : List (List ℕ) → Result Ask Refusal
+list_ask (x ∷ n ∷ []) = name_field x >>= λ from. count_field n >>= λ most. Ok (Names from most)
+list_ask _ = Err refusal.Line
+
+-- ---- what an administrator changes, without a password
+
+abbrev pub only_name : List (List ℕ) → Result (List ℕ) Refusal
+only_name (x ∷ []) = name_field x
+only_name _ = Err refusal.Line
+
+-- `disable NAME`
+abbrev pub disable_ask : List (List ℕ) → Result Ask Refusal
+disable_ask fields = only_name fields >>= λ name. Ok (Edit (Disable name))
+
+-- `delete NAME`
+abbrev pub delete_ask : List (List ℕ) → Result Ask Refusal
+delete_ask fields = only_name fields >>= λ name. Ok (Edit (Delete name))
+
+-- `rename NAME NEW`
+abbrev pub rename_ask : List (List ℕ) → Result Ask Refusal
+rename_ask (x ∷ y ∷ []) =
+    name_field x >>= λ name. name_field y >>= λ other. Ok (Edit (Rename name other))
+rename_ask _ = Err refusal.Line
+
+-- ---- what needs a hash
 
 abbrev pub checked : Checking → List ℕ → List ℕ → Ask
 checked checking.Verify name pw = Whole (request.Verify name pw)
@@ -101,6 +141,10 @@ ask_of drawn (word ∷ fields) =
     if bytes_eq word (codes "account") then account_ask fields
     else if bytes_eq word (codes "load") then load_ask fields
     else if bytes_eq word (codes "show") then show_ask fields
+    else if bytes_eq word (codes "list") then list_ask fields
+    else if bytes_eq word (codes "disable") then disable_ask fields
+    else if bytes_eq word (codes "delete") then delete_ask fields
+    else if bytes_eq word (codes "rename") then rename_ask fields
     else hashed_ask drawn word fields
 
 -- a setting isn't of the version of old records

@@ -1,6 +1,7 @@
 -- The definitions that the contracts of a service cite.
 pub mod Asks
 pub mod Costs
+pub mod Edits
 pub mod Reading
 pub mod Served
 pub mod Service

@@ -12,17 +12,38 @@ use Rattle.cred_book.specs.declared.reply.Reply.{Reply}
 use Rattle.cred_book.specs.declared.reply.Reply.TheVariants as reply
 use Rattle.cred_book.specs.declared.request.Request.TheVariants as request
 use Rattle.cred_cli.specs.History.{Answer, Done, Replied, Refused, show_answer}
-use Rattle.cred_cli.specs.Texts.{line_of}
+use Rattle.cred_cli.specs.Texts.{text_of}
+use Rattle.cred_admin.specs.Edits.{edit_word}
+use Rattle.cred_admin.specs.declared.edit_reply.EditReply.{EditReply}
 use Rattle.cred_cli.specs.declared.refusal.Refusal.TheVariants as refusal
 use Rattle.cred_many.specs.declared.ask.Ask.{Ask}
 use Rattle.cred_many.specs.declared.ask.Ask.TheVariants.{Account, Load, Show, Whole, Login, Reset}
-use Rattle.cred_many.specs.declared.ask.Ask.TheVariants.{Bad}
+use Rattle.cred_many.specs.declared.ask.Ask.TheVariants.{Bad, Edit as Change, List as Names}
+use Rattle.cred_many.specs.declared.edit.Edit.{Edit}
 use Rattle.cred_many.specs.declared.fault.ServiceFault.{ServiceFault}
 use Rattle.cred_many.specs.declared.fault.ServiceFault.TheVariants as fault
 use Rattle.cred_many.specs.declared.open.Open.{Open}
 use Rattle.cred_many.specs.Asks.{Entry}
+use Rattle.cred_many.specs.Edits.{edited, lacks_room, names_text, page}
 use Rattle.cred_many.specs.Reading.{IsCome}
 use Rattle.cred_many.specs.Service.{Service}
+
+-- ---- what is answered
+
+-- as in a script, or to a change without a password, or with names
+pub data Told : Type 0 where
+  Script : (answer : Answer) → Told
+  Edited : (reply : EditReply) → Told
+  Listed : (names : List (List ℕ)) → Told
+
+abbrev pub told_text : Told → List ℕ
+told_text (Script answer) = text_of answer
+told_text (Edited r) = edit_word r
+told_text (Listed names) = names_text names
+
+-- with the line end
+abbrev pub told_line : Told → List ℕ
+told_line told = told_text told ++ 10 ∷ []
 
 -- ---- what is done
 
@@ -40,34 +61,42 @@ told_reply _ r = r
 
 -- a record takes the place of any other
 abbrev pub reset_at : Accounts → List ℕ → RecordValue → Option (Option RecordValue)
-    → Answer × Accounts
-reset_at book name new None = (Replied reply.NoAccount, book)
-reset_at book name new (Some None) = (Replied reply.Enrolled, fin.insert book name (Some new))
+    → Told × Accounts
+reset_at book name new None = (Script (Replied reply.NoAccount), book)
+reset_at book name new (Some None) =
+    (Script (Replied reply.Enrolled), fin.insert book name (Some new))
 reset_at book name new (Some (Some old)) =
-    (Replied reply.Replaced, fin.insert book name (Some new))
+    (Script (Replied reply.Replaced), fin.insert book name (Some new))
+
+-- a change without a password, where there is room for it
+abbrev pub edit_at : Accounts → Edit → Bool → Told × Accounts
+edit_at book edit true = (Script (Refused (refusal.Book error.Full)), book)
+edit_at book edit false = (Edited (edited book edit).0, (edited book edit).1)
 
 -- the answer to what is asked, done whole on the book, and the book after
-abbrev pub done : ℕ → Accounts → Ask → Answer × Accounts
+abbrev pub done : ℕ → Accounts → Ask → Told × Accounts
 done capacity book (Account name) =
-    if fin.contains_key book name then (Refused (refusal.Book error.Exists), book)
-    else if nat_lt (fin.len book) capacity then (Done, fin.insert book name None)
-    else (Refused (refusal.Book error.Full), book)
+    if fin.contains_key book name then (Script (Refused (refusal.Book error.Exists)), book)
+    else if nat_lt (fin.len book) capacity then (Script Done, fin.insert book name None)
+    else (Script (Refused (refusal.Book error.Full)), book)
 done capacity book (Load name stored) =
-    if fin.contains_key book name then (Done, fin.insert book name (Some stored))
-    else (Refused (refusal.Book error.NoAccount), book)
-done capacity book (Show name) = (show_answer (fin.get book name), book)
-done capacity book (Whole r) = (Replied (seq book r).0, (seq book r).1)
+    if fin.contains_key book name then (Script Done, fin.insert book name (Some stored))
+    else (Script (Refused (refusal.Book error.NoAccount)), book)
+done capacity book (Show name) = (Script (show_answer (fin.get book name)), book)
+done capacity book (Names from most) = (Listed (page from most (fin.keys book)), book)
+done capacity book (Change edit) = edit_at book edit (lacks_room capacity book edit)
+done capacity book (Whole r) = (Script (Replied (seq book r).0), (seq book r).1)
 done capacity book (Login name pw setting) = (
-  Replied (login_reply (seq book (request.Upgrade name pw setting)).0),
+  Script (Replied (login_reply (seq book (request.Upgrade name pw setting)).0)),
   (seq book (request.Upgrade name pw setting)).1,
 )
 done capacity book (Reset name pw setting) =
     reset_at book name (new_record setting pw) (fin.get book name)
-done capacity book (Bad why) = (Refused why, book)
+done capacity book (Bad why) = (Script (Refused why), book)
 
 -- `TAG ANSWER` with the line end
-abbrev pub tagged_line : List ℕ → Answer → List ℕ
-tagged_line tag answer = tag ++ 32 ∷ line_of answer
+abbrev pub tagged_line : List ℕ → Told → List ℕ
+tagged_line tag told = tag ++ 32 ∷ told_line told
 
 -- the answer to a line at this book, as it is written
 abbrev pub line_at : ℕ → Accounts → Entry → List ℕ

@@ -1,5 +1,6 @@
 //! What a tagged line asks for.
 
+use crate::edit::Edit;
 use cred_book::{Name, Request};
 use cred_cli::Refusal;
 use cred_phc::{Password, Record, Setting};
@@ -13,6 +14,10 @@ pub(crate) enum Ask {
     Load(Name, Record),
     /// Asks for an account's record.
     Show(Name),
+    /// Asks for names in their order, so many at most, from this one on.
+    List(Name, u16),
+    /// Changes an account for which no password is asked.
+    Edit(Edit),
     /// An operation on an account's record, answered by its reply.
     Whole(Request),
     /// Asks whether the password is right, and if it is makes a record of other costs anew.

@@ -4,12 +4,17 @@ ghost use Rattle.std.specs.Prelude.{◌≡◌, IfOk, map, true};
 ghost use Rattle.cred_phc.specs.Ranges.{is_current};
 ghost use Rattle.cred_many.specs.Asks.{IsSound, account_ask, ask_of, change_ask, changed_by};
 ghost use Rattle.cred_many.specs.Asks.{checked, checked_ask, hashed_ask, load_ask, login_ask};
-ghost use Rattle.cred_many.specs.Asks.{made, made_ask, made_by, show_ask};
+ghost use Rattle.cred_many.specs.Asks.{count_field, count_of, list_ask, made, made_ask, made_by};
+ghost use Rattle.cred_many.specs.Asks.{only_name, rename_ask, show_ask};
 
 use crate::ask::Ask;
+use crate::edit::Edit;
 use cred_book::{Name, Request};
 use cred_cli::{Refusal, fields};
-use cred_phc::{Password, Setting};
+use cred_phc::{Password, PhcError, Setting, decimal};
+
+/// How many names a list has at most.
+const MOST_NAMES: u64 = 1000;
 
 /// An operation that reads a password, and makes no record.
 #[derive(Clone, Copy)]
@@ -42,6 +47,16 @@ pub(crate) fn ask_of(drawn: Setting, words: &[&[u8]]) -> Result<Ask, Refusal>
         load_ask(fields)
     } else if *word == b"show".as_slice() {
         show_ask(fields)
+    } else if *word == b"list".as_slice() {
+        list_ask(fields)
+    } else if *word == b"disable".as_slice() {
+        let name = only_name(fields)?;
+        Ok(Ask::Edit(Edit::Disable(name)))
+    } else if *word == b"delete".as_slice() {
+        let name = only_name(fields)?;
+        Ok(Ask::Edit(Edit::Delete(name)))
+    } else if *word == b"rename".as_slice() {
+        rename_ask(fields)
     } else {
         hashed_ask(drawn, word, fields)
     }
@@ -77,6 +92,60 @@ fn show_ask(fields: &[&[u8]]) -> Result<Ask, Refusal>
 {
     match fields {
         [name] => Ok(Ask::Show(fields::name(name)?)),
+        _ => Err(Refusal::Line),
+    }
+}
+
+fn list_ask(fields: &[&[u8]]) -> Result<Ask, Refusal>
+    ensures ask { result ≡ list_ask (map (λ s. s.now) fields.now) }
+    ensures sound { IfOk result IsSound }
+{
+    match fields {
+        [from, most] => {
+            let from = fields::name(from)?;
+            let most = count(most)?;
+            Ok(Ask::List(from, most))
+        }
+        _ => Err(Refusal::Line),
+    }
+}
+
+fn count(text: &[u8]) -> Result<u16, Refusal>
+    ensures { result ≡ count_field text.now }
+{
+    parse_count(text).ok_or(Refusal::Text(PhcError::Range))
+}
+
+#[tactic(auto, unfolding(crate::specs::Asks::count_of))]
+fn parse_count(text: &[u8]) -> Option<u16>
+    ensures { result ≡ count_of text.now }
+{
+    let number = decimal(text)?;
+    if number < 1 || number > MOST_NAMES {
+        return None;
+    }
+    Some(number as u16)
+}
+
+fn only_name(fields: &[&[u8]]) -> Result<Name, Refusal>
+    ensures { result ≡ only_name (map (λ s. s.now) fields.now) }
+{
+    match fields {
+        [name] => fields::name(name),
+        _ => Err(Refusal::Line),
+    }
+}
+
+fn rename_ask(fields: &[&[u8]]) -> Result<Ask, Refusal>
+    ensures ask { result ≡ rename_ask (map (λ s. s.now) fields.now) }
+    ensures sound { IfOk result IsSound }
+{
+    match fields {
+        [name, other] => {
+            let name = fields::name(name)?;
+            let other = fields::name(other)?;
+            Ok(Ask::Edit(Edit::Rename(name, other)))
+        }
         _ => Err(Refusal::Line),
     }
 }

@@ -7,9 +7,12 @@ ghost use Rattle.cred_cli.specs.History.{Refused, Replied, Shown};
 ghost use Rattle.cred_cli.specs.Texts.{line_of};
 ghost use Rattle.cred_many.specs.Asks.{NeedsNoHash};
 ghost use Rattle.cred_many.specs.Steps.{text_bytes};
-ghost use Rattle.cred_many.specs.Served.{done, reset_at};
+ghost use Rattle.cred_many.specs.Served.{Script, done, reset_at, told_line};
 
 use crate::ask::Ask;
+use crate::host::Host;
+use crate::listing::names_line;
+use cred_admin::edit_line;
 use cred_book::{BookError, Keeper, Name, Reply};
 use cred_cli::Refusal;
 use cred_phc::{Record, write_record};
@@ -35,7 +38,7 @@ impl Text {
 }
 
 /// Does what needs no hash. If memory runs out the book stays.
-pub(crate) fn do_ask<T: Wait, K: Keeper>(
+pub(crate) fn do_ask<T: Wait, K: Host>(
     rt: &T,
     alloc: Global,
     keeper: &mut K,
@@ -43,7 +46,7 @@ pub(crate) fn do_ask<T: Wait, K: Keeper>(
 ) -> Result<Text, AllocError>
     requires { NeedsNoHash ask }
     ensures answer { IfOk result (λ text.
-        text_bytes text ≡ line_of (done K.capacity (K.book keeper.old) ask).0) }
+        text_bytes text ≡ told_line (done K.capacity (K.book keeper.old) ask).0) }
     ensures book { OnOk result (K.book keeper.new ≡ (done K.capacity (K.book keeper.old) ask).1) }
     ensures refused { OnErr result (K.book keeper.new ≡ K.book keeper.old) }
 {
@@ -61,6 +64,14 @@ pub(crate) fn do_ask<T: Wait, K: Keeper>(
             Ok(Some(stored)) => shown(alloc, &stored),
             Err(refusal) => refused(refusal),
         },
+        Ask::List(from, most) => {
+            let line = names_line(alloc, keeper.accounts(), &from, most)?;
+            Ok(Text::Made(line))
+        }
+        Ask::Edit(edit) => match keeper.edit(&edit) {
+            Ok(reply) => Ok(Text::Fixed(edit_line(reply))),
+            Err(refusal) => refused(refusal),
+        },
         Ask::Bad(why) => Ok(bad(why)),
         Ask::Whole(_) | Ask::Login(..) | Ask::Reset(..) => unreachable!(),
     }
@@ -74,7 +85,7 @@ pub(crate) fn put_in_place<T: Wait, K: Keeper>(
     name: &Name,
     stored: Record,
 ) -> Result<Reply, AllocError>
-    ensures done { IfOk result (λ reply. (Replied reply, K.book keeper.new)
+    ensures done { IfOk result (λ reply. (Script (Replied reply), K.book keeper.new)
         ≡ reset_at (K.book keeper.old) name.now stored (map.get (K.book keeper.old) name.now)) }
     ensures refused { OnErr result (K.book keeper.new ≡ K.book keeper.old) }
     ensures there { OnErr result (map.contains_key (K.book keeper.old) name.now ≡ true) }

@@ -151,7 +151,12 @@ impl<J: Naming, K: Host, W: Write> Session<J, K, W> {
                 self.reset(rt, line, &name, &worked);
                 None
             }
-            Ask::Account(_) | Ask::Load(..) | Ask::Show(_) | Ask::Bad(_) => unreachable!(),
+            Ask::Account(_)
+            | Ask::Load(..)
+            | Ask::Show(_)
+            | Ask::List(..)
+            | Ask::Edit(_)
+            | Ask::Bad(_) => unreachable!(),
         }
     }
 

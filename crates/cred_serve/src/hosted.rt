@@ -1,10 +1,14 @@
 //! A kept book as the keeper of a service.
 
 ghost use Rattle.std.specs.Prelude.{◌≡◌};
+ghost use Rattle.cred_book.specs.Accounts.{register_capacity};
+ghost use Rattle.cred_many.specs.Edits.{EditsWithin};
+ghost use Rattle.cred_many.specs.declared.edit.Edit.TheVariants as edit;
 
-use cred_book::{BookError, Keeper, Name, Reply, Request, Ticket, Worked};
+use cred_admin::EditReply;
+use cred_book::{BookError, Keeper, Name, Register, Reply, Request, Ticket, Worked};
 use cred_file::FileBook;
-use cred_many::Host;
+use cred_many::{Edit, Host};
 use cred_phc::Record;
 use sqlite::Alter;
 use std::sync::Wait;
@@ -44,7 +48,68 @@ impl<S: Alter> Keeper for Hosted<S> {
 }
 
 impl<S: Alter> Host for Hosted<S> {
+    fn accounts(&self) -> &Register {
+        self.book.book()
+    }
+
+    fn edit(&mut self, edit: &Edit) -> Result<EditReply, BookError> {
+        match *edit {
+            Edit::Disable(name) => disable(&mut self.book, &name),
+            Edit::Delete(name) => delete(&mut self.book, &name),
+            Edit::Rename(name, other) => rename(&mut self.book, &name, &other),
+        }
+    }
+
     fn has_failed(&self) -> bool {
         self.book.lost().is_some()
+    }
+}
+
+fn disable<S: Alter>(book: &mut FileBook<S>, name: &Name) -> Result<EditReply, BookError>
+    ensures { EditsWithin register_capacity book.old.0 book.new.0 (edit.Disable name.now) result }
+{
+    match book.book().show(name) {
+        Ok(Some(_)) => {}
+        Ok(None) => return Ok(EditReply::Absent),
+        Err(_) => return Ok(EditReply::NoAccount),
+    }
+    match book.put(name, None) {
+        Ok(()) => Ok(EditReply::Disabled),
+        Err(_) => Err(BookError::Memory),
+    }
+}
+
+fn delete<S: Alter>(book: &mut FileBook<S>, name: &Name) -> Result<EditReply, BookError>
+    ensures { EditsWithin register_capacity book.old.0 book.new.0 (edit.Delete name.now) result }
+{
+    match book.delete(name) {
+        Ok(()) => Ok(EditReply::Deleted),
+        Err(BookError::NoAccount) => Ok(EditReply::NoAccount),
+        Err(_) => Err(BookError::Memory),
+    }
+}
+
+#[tactic(auto, using(crate::proofs::Renaming::no_name, crate::proofs::Renaming::taken, crate::proofs::Renaming::no_room, crate::proofs::Renaming::moved))]
+fn rename<S: Alter>(
+    book: &mut FileBook<S>,
+    name: &Name,
+    other: &Name,
+) -> Result<EditReply, BookError>
+    ensures { EditsWithin register_capacity book.old.0 book.new.0
+        (edit.Rename name.now other.now) result }
+{
+    let accounts = book.book();
+    if !accounts.contains(name) {
+        return Ok(EditReply::NoAccount);
+    }
+    if accounts.contains(other) {
+        return Ok(EditReply::Exists);
+    }
+    if accounts.is_full() {
+        return Err(BookError::Full);
+    }
+    match book.rename(name, other) {
+        Ok(()) => Ok(EditReply::Renamed),
+        Err(_) => Err(BookError::Memory),
     }
 }

@@ -1,0 +1,2 @@
+-- Lemmas: accounts that are renamed.
+pub mod Renaming
