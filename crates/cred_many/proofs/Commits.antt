@@ -1,7 +1,6 @@
 -- A commit that doesn't find the record changed is the whole operation.
 use Rattle.std.proofs.Common.{◌≡◌, ℕ, List, [], ◌∷◌, ◌++◌, Option, Some, None, Ok, Err, Bool, true, false, not, if◌then◌else◌, refl, sym, ap, ◌∙◌}
 use Rattle.std.specs.FinMap as map
-use Rattle.cred_phc.specs.Ranges.{is_current}
 use Rattle.cred_phc.specs.Values.{RecordValue, record_of}
 use Rattle.cred_book.specs.Accounts.{Accounts}
 use Rattle.cred_book.specs.Commits.{Commits, commit_outcome, commit_outcome_if}
@@ -9,16 +8,15 @@ use Rattle.cred_book.specs.Works.{Task, is_for_current, name_of, new_record, rig
 use Rattle.cred_book.specs.declared.error.BookError.{BookError}
 use Rattle.cred_book.specs.declared.error.BookError.TheVariants as error
 use Rattle.cred_book.specs.declared.reply.Reply.{Reply}
-use Rattle.cred_book.specs.declared.reply.Reply.TheVariants as reply
 use Rattle.cred_book.specs.declared.request.Request.{Request}
 use Rattle.cred_book.specs.declared.request.Request.TheVariants as request
 use Rattle.cred_book.proofs.Commitments.{committed_found}
-use Rattle.cred_cli.specs.History.{Answer, Replied}
+use Rattle.cred_cli.specs.History.{Replied}
 use Rattle.cred_cli.specs.Texts.{reply_line}
 use Rattle.cred_many.specs.declared.ask.Ask.{Ask}
 use Rattle.cred_many.specs.declared.ask.Ask.TheVariants.{Account, Load, Show, Edit, List as Names, Whole, Login, Reset, Bad}
 use Rattle.cred_many.specs.Asks.{Entry, IsJobOf, IsResetOf, IsSound}
-use Rattle.cred_many.specs.Served.{Script, done, login_reply, reset_at, told_line, told_reply}
+use Rattle.cred_many.specs.Served.{Script, done, login_reply, name_asked, reset_at, told_line, told_reply}
 use Rattle.cred_many.specs.Steps.{is_changed}
 use Rattle.cred_many.proofs.Serving.{IsDone, done_at}
 
@@ -94,6 +92,18 @@ job_current (Show name) r sound job = absurd (job None)
 job_current (Names from most) r sound job = absurd (job None)
 job_current (Edit edit) r sound job = absurd (job None)
 job_current (Bad why) r sound job = absurd (job None)
+
+-- the account is the one that is asked about
+pub job_name : (ask : Ask) (r : Request) → ((copy : Option RecordValue) → IsJobOf ask (r, copy)) → name_of r ≡ name_asked ask
+job_name (Whole q) r job = ap name_of (job None)
+job_name (Login name pw setting) r job = ap name_of (job None)
+job_name (Reset name pw setting) r job = ap (λ t. name_of t.0) (job None)
+job_name (Account name) r job = absurd (job None)
+job_name (Load name stored) r job = absurd (job None)
+job_name (Show name) r job = absurd (job None)
+job_name (Names from most) r job = absurd (job None)
+job_name (Edit edit) r job = absurd (job None)
+job_name (Bad why) r job = absurd (job None)
 
 job_whole : (ask : Ask) (r : Request) → ((copy : Option RecordValue) → IsJobOf ask (r, copy)) → (capacity : ℕ) (book later : Accounts) (found : Reply)
     → (found, later) ≡ seq book r → (Script (Replied (told_reply ask found)), later) ≡ done capacity book ask

@@ -1,27 +1,27 @@
 -- A history that goes on by one line.
-use Rattle.std.proofs.Common.{◌≡◌, ◌⊎◌, inl, inr, ℕ, zero, suc, ◌+◌, ◌<◌, List, [], ◌∷◌, ◌++◌, Option, Some, None, Result, Ok, Err, IfSome, subst, Bool, true, false, not, if◌then◌else◌, refl, sym, ap, ◌∙◌, append_assoc, append-nil, arith, map, take, drop, slice_get, nat_lt, length}
-use Rattle.std.specs.Bool.{◌==◌}
+use Rattle.std.proofs.Common.{◌≡◌, ◌⊎◌, inl, inr, ℕ, zero, suc, ◌+◌, List, [], ◌∷◌, ◌++◌, Option, Some, None, IfSome, subst, ◌≤◌, true, false, refl, sym, ap, ◌∙◌, append_assoc, append-nil, arith, take, drop, slice_get, nat_lt, length}
 use Rattle.std.specs.List.{All}
 use Rattle.std.proofs.Math.Logic.{∥∥₁_map}
 use Rattle.std.proofs.lemmas.Bool.Decides.{eqb_tells, nat_tests}
-use Rattle.std.proofs.lemmas.List.Elements.{All-nil, All-push}
+use Rattle.std.proofs.lemmas.List.{length-append}
+use Rattle.std.proofs.lemmas.List.Elements.{All-nil, All-push, All-same}
 use Rattle.std.specs.Io.KnownBytes.{Appends}
 use Rattle.std.proofs.KnownBytes.{Appends-nil, Appends-trans}
+use Rattle.cred_phc.specs.Values.{RecordValue}
 use Rattle.cred_book.specs.Accounts.{Accounts}
 use Rattle.cred_book.specs.declared.error.BookError.TheVariants as error
 use Rattle.cred_cli.specs.Outcome.{FrontWritten}
-use Rattle.cred_cli.specs.declared.refusal.Refusal.{Refusal}
 use Rattle.cred_cli.specs.declared.refusal.Refusal.TheVariants as refusal
-use Rattle.cred_many.specs.declared.ask.Ask.{Ask}
 use Rattle.cred_many.specs.declared.ask.Ask.TheVariants.{Bad}
 use Rattle.cred_many.specs.declared.fault.ServiceFault.{ServiceFault}
 use Rattle.cred_many.specs.declared.fault.ServiceFault.TheVariants as fault
 use Rattle.cred_many.specs.declared.open.Open.{Open}
 use Rattle.cred_many.specs.Asks.{Entry, entry}
 use Rattle.cred_many.specs.Reading.{IsCome}
-use Rattle.cred_many.specs.Served.{HasServed, IsFor, IsOwed, IsServed, answers, book_after, done, entry_numbers, is_torn, line_at, numbers, once_below, times, told_line}
+use Rattle.cred_many.specs.Served.{AllOwed, IsLooked, IsOwed, IsServed, IsWatched, IsWorn, answers, book_after, changes, done, entry_numbers, is_torn, line_at, name_asked, numbers, once_below, record_at, times, told_line, tries, unseen}
 use Rattle.cred_many.specs.Service.{Service}
 use Rattle.cred_many.specs.Steps.{IsConcluded}
+use Rattle.cred_many.proofs.Seen.{looked_numbers, numbers-snoc, watched_closed, watched_looked, watched_on, worn}
 
 -- ---- the list grows
 
@@ -40,25 +40,49 @@ answers-snoc capacity book (x ∷ xs) e =
     ∙ sym (append_assoc (line_at capacity book x) (answers capacity (done capacity book x.ask).1 xs) (line_at capacity (book_after capacity (done capacity book x.ask).1 xs) e))
 
 -- the line itself is owed
-pub owed_own : (s : Service) (input : Option (List ℕ)) (e : Entry) → IfSome input (λ bytes. IsCome s bytes e) → IfSome input (λ bytes. IsOwed s bytes e)
-owed_own s None e h = tt
-owed_own s (Some bytes) e h = (e, h, record { number = refl; tag = refl; ask = inl refl })
+pub owed_own : (capacity : ℕ) (s : Service) (input : Option (List ℕ)) (before : List Entry) (e : Entry) → IfSome input (λ bytes. IsCome s bytes e) → IfSome input (λ bytes. IsOwed capacity s bytes before e)
+owed_own capacity s None before e h = tt
+owed_own capacity s (Some bytes) before e h = (e, h, record { number = refl; tag = refl; ask = inl refl })
 
--- so is that it is given up
-pub owed_given_up : (s : Service) (input : Option (List ℕ)) (e : Entry) (why : Refusal) → IfSome input (λ bytes. IsCome s bytes e)
-    → (why ≡ refusal.Book error.Memory) ⊎ (why ≡ refusal.Busy) → IfSome input (λ bytes. IsOwed s bytes (entry e.number e.tag (Bad why)))
-owed_given_up s None e why h given = tt
-owed_given_up s (Some bytes) e why h (inl memory) = (e, h, record { number = refl; tag = refl; ask = inr (inl (ap Bad memory)) })
-owed_given_up s (Some bytes) e why h (inr busy) = (e, h, record { number = refl; tag = refl; ask = inr (inr (ap Bad busy)) })
+-- so is that it is given up for want of memory
+pub owed_memory : (capacity : ℕ) (s : Service) (input : Option (List ℕ)) (before : List Entry) (e : Entry) → IfSome input (λ bytes. IsCome s bytes e)
+    → IfSome input (λ bytes. IsOwed capacity s bytes before (entry e.number e.tag (Bad (refusal.Book error.Memory))))
+owed_memory capacity s None before e h = tt
+owed_memory capacity s (Some bytes) before e h = (e, h, record { number = refl; tag = refl; ask = inr (inl refl) })
 
-owed_all : (s : Service) (input : Option (List ℕ)) (list : List Entry) (e : Entry) → IfSome input (λ bytes. All (IsOwed s bytes) list)
-    → IfSome input (λ bytes. IsOwed s bytes e) → IfSome input (λ bytes. All (IsOwed s bytes) (list ++ e ∷ []))
-owed_all s None list e all owed = tt
-owed_all s (Some bytes) list e all owed = All-push (IsOwed s bytes) list e all owed
+-- or since others were faster
+owed_busy : (capacity : ℕ) (s : Service) (input : Option (List ℕ)) (before : List Entry) (e : Entry) → IfSome input (λ bytes. IsCome s bytes e)
+    → tries ≤ changes capacity s.opening (name_asked e.ask) before → IfSome input (λ bytes. IsOwed capacity s bytes before (entry e.number e.tag (Bad refusal.Busy)))
+owed_busy capacity s None before e h often = tt
+owed_busy capacity s (Some bytes) before e h often = (e, h, record { number = refl; tag = refl; ask = inr (inr (refl, often)) })
 
-owed_none : (s : Service) (input : Option (List ℕ)) → IfSome input (λ bytes. All (IsOwed s bytes) [])
-owed_none s None = tt
-owed_none s (Some bytes) = All-nil (IsOwed s bytes)
+-- a list that ends so is cut at its end, or before
+snoc_cut : (list before rest : List Entry) (z e : Entry) → list ++ z ∷ [] ≡ before ++ e ∷ rest
+    → ((before ≡ list) × (e ≡ z)) ⊎ ((left : List Entry) × (list ≡ before ++ e ∷ left))
+snoc_cut [] [] rest z e is = let same : z ≡ e = cc in inl (refl, sym same)
+snoc_cut [] (f ∷ fs) rest z e is =
+    let short : length (fs ++ e ∷ rest) ≡ 0 = let tail : [] ≡ fs ++ e ∷ rest = cc in ap length (sym tail) in
+    absurd (omega (arith, short, length-append fs (e ∷ rest)))
+snoc_cut (x ∷ xs) [] rest z e is = let same : x ≡ e = cc in inr (xs, ap (λ y. y ∷ xs) same)
+snoc_cut (x ∷ xs) (f ∷ fs) rest z e is =
+    let same : x ≡ f = cc in
+    let tail : xs ++ z ∷ [] ≡ fs ++ e ∷ rest = cc in
+    elim (snoc_cut xs fs rest z e tail) [
+      | inl w ↦ inl (rw (same, w.0) refl, w.1)
+      | inr w ↦ inr (w.0, rw same (ap (λ l. f ∷ l) w.1))
+    ]
+
+owed_all : (capacity : ℕ) (s : Service) (input : Option (List ℕ)) (list : List Entry) (e : Entry) → IfSome input (λ bytes. AllOwed capacity s bytes list)
+    → IfSome input (λ bytes. IsOwed capacity s bytes list e) → IfSome input (λ bytes. AllOwed capacity s bytes (list ++ e ∷ []))
+owed_all capacity s None list e all owed = tt
+owed_all capacity s (Some bytes) list e all owed = λ before rest z is. elim (snoc_cut list before rest e z is) [
+  | inl w ↦ rw (w.0, w.1) owed
+  | inr w ↦ all before w.0 z w.1
+]
+
+owed_none : (capacity : ℕ) (s : Service) (input : Option (List ℕ)) → IfSome input (λ bytes. AllOwed capacity s bytes [])
+owed_none capacity s None = tt
+owed_none capacity s (Some bytes) = λ before rest e is. let none : 0 ≡ length (before ++ e ∷ rest) = ap length is in absurd (omega (arith, none, length-append before (e ∷ rest)))
 
 -- ---- each number once
 
@@ -98,7 +122,7 @@ one_more came k = elim (eqb_tells came k) [
   | inr w ↦ rw w.0 (let same : nat_lt k (came + 1) ≡ nat_lt k came = grind (arith, nat_tests, w.1) in rw same (omega arith))
 ]
 
-pub once_opened : (ns : List ℕ) (left more : List ℕ) (n came k : ℕ) → more ≡ left ++ n ∷ [] → n ≡ came
+once_opened : (ns : List ℕ) (left more : List ℕ) (n came k : ℕ) → more ≡ left ++ n ∷ [] → n ≡ came
     → times k ns + times k left ≡ once_below came k → times k ns + times k more ≡ once_below (came + 1) k
 once_opened ns left more n came k opened is once =
     let a : times k more ≡ times k left + times k (n ∷ []) = ap (times k) opened ∙ times-append k left (n ∷ []) in
@@ -107,19 +131,20 @@ once_opened ns left more n came k opened is once =
 
 -- ---- a history that goes on
 
-pub served_first : (capacity : ℕ) (s : Service) (now : Option (List ℕ)) (book : Accounts) (left : List ℕ) → left ≡ [] → book ≡ s.opening → now ≡ s.before
+pub served_first : (capacity : ℕ) (s : Service) (now : Option (List ℕ)) (book : Accounts) (left : List Open) → left ≡ [] → book ≡ s.opening → now ≡ s.before
     → IsServed capacity s now book None left 0
 unfolding answers book_after
 served_first capacity s now book left none is same = rw none (record {
   list = [];
-  owed = owed_none s s.input;
+  owed = owed_none capacity s s.input;
   once = λ k. grind (arith, nat_tests);
+  watched = All-nil (IsWatched capacity s.opening []);
   book_is = is;
   text = rw same (Appends-nil s.before);
 })
 
 module _ (capacity : ℕ) (s : Service) (old now : Option (List ℕ)) (book later : Accounts) (e : Entry) (left : List Open) (place came : ℕ)
-    (served : IsServed capacity s old book None (numbers left) came) (owed : IfSome s.input (λ bytes. IsOwed s bytes e))
+    (served : IsServed capacity s old book None left came) (owed : IfSome s.input (λ bytes. IsOwed capacity s bytes served.list e))
     (there : slice_get (numbers left) place ≡ Some e.number) (later_is : later ≡ (done capacity book e.ask).1) where
   after_is : later ≡ book_after capacity s.opening (served.list ++ e ∷ [])
   after_is = later_is ∙ ap (λ b. (done capacity b e.ask).1) served.book_is ∙ sym (book_after-snoc capacity s.opening served.list e)
@@ -127,20 +152,25 @@ module _ (capacity : ℕ) (s : Service) (old now : Option (List ℕ)) (book late
   once_is : (k : ℕ) → times k (entry_numbers (served.list ++ e ∷ [])) + times k (numbers (take place left ++ drop (place + 1) left)) ≡ once_below came k
   once_is k = once_answered served.list e left place came k there (served.once k)
 
-  served_more : Appends old now (line_at capacity book e) → IsServed capacity s now later None (numbers (take place left ++ drop (place + 1) left)) came
+  watched_is : All (IsWatched capacity s.opening (served.list ++ e ∷ [])) (take place left ++ drop (place + 1) left)
+  watched_is = watched_closed capacity s.opening (served.list ++ e ∷ []) left place (watched_on capacity s.opening served.list (e ∷ []) left served.watched)
+
+  served_more : Appends old now (line_at capacity book e) → IsServed capacity s now later None (take place left ++ drop (place + 1) left) came
   served_more written = record {
     list = served.list ++ e ∷ [];
-    owed = owed_all s s.input served.list e served.owed owed;
+    owed = owed_all capacity s s.input served.list e served.owed owed;
     once = once_is;
+    watched = watched_is;
     book_is = after_is;
     text = rw answers-snoc (Appends-trans s.before old now _ _ served.text (rw served.book_is at written));
   }
 
-  served_torn : FrontWritten old now (line_at capacity book e) → IsServed capacity s now later (Some fault.Write) (numbers (take place left ++ drop (place + 1) left)) came
+  served_torn : FrontWritten old now (line_at capacity book e) → IsServed capacity s now later (Some fault.Write) (take place left ++ drop (place + 1) left) came
   served_torn (n, short, written) = record {
     list = served.list ++ e ∷ [];
-    owed = owed_all s s.input served.list e served.owed owed;
+    owed = owed_all capacity s s.input served.list e served.owed owed;
     once = once_is;
+    watched = watched_is;
     book_is = after_is;
     text = record {
       front = served.list;
@@ -153,7 +183,7 @@ module _ (capacity : ℕ) (s : Service) (old now : Option (List ℕ)) (book late
   }
 
   -- whether its answer was written whole or the writer failed
-  served_on : (f : Option ServiceFault) → IsConcluded (line_at capacity book e) old now f → IsServed capacity s now later f (numbers (take place left ++ drop (place + 1) left)) came
+  served_on : (f : Option ServiceFault) → IsConcluded (line_at capacity book e) old now f → IsServed capacity s now later f (take place left ++ drop (place + 1) left) came
   served_on None written = served_more written
   served_on (Some fault.Write) torn = served_torn torn
   served_on (Some fault.Read) h = absurd h
@@ -177,40 +207,73 @@ done_at capacity book later e tag answer later_is tag_is answer_is = record {
   text_is = rw (tag_is, answer_is) refl;
 }
 
--- the line is answered
-pub answered : (capacity : ℕ) (s : Service) (old now : Option (List ℕ)) (book later : Accounts) (e : Entry) (left rest : List Open) (place came : ℕ) (text : List ℕ) (was f : Option ServiceFault)
-    → was ≡ None → IfSome s.input (λ bytes. IsOwed s bytes e) → slice_get (numbers left) place ≡ Some e.number → rest ≡ take place left ++ drop (place + 1) left
-    → IsDone capacity book later e text → IsConcluded text old now f
-    → ∥ IsServed capacity s old book was (numbers left) came ∥₁ → ∥ IsServed capacity s now later f (numbers rest) came ∥₁
-answered capacity s old now book later e left rest place came text was f none owed there rest_is d concluded served =
-    ∥∥₁_map served (λ h. subst (λ r. IsServed capacity s now later f (numbers r) came) (sym rest_is)
-    (served_on capacity s old now book later e left place came (rw none at h) owed there d.book_is f (rw d.text_is at concluded)))
+module _ (capacity : ℕ) (s : Service) (old now : Option (List ℕ)) (book later : Accounts) (e : Entry) (left rest : List Open) (place came : ℕ) (text : List ℕ) (was f : Option ServiceFault) where
+  concluded : ((h : IsServed capacity s old book None left came) → IfSome s.input (λ bytes. IsOwed capacity s bytes h.list e))
+      → was ≡ None → slice_get (numbers left) place ≡ Some e.number → rest ≡ take place left ++ drop (place + 1) left
+      → IsDone capacity book later e text → IsConcluded text old now f
+      → ∥ IsServed capacity s old book was left came ∥₁ → ∥ IsServed capacity s now later f rest came ∥₁
+  concluded owed none there rest_is d told served =
+      ∥∥₁_map served (λ h. subst (λ r. IsServed capacity s now later f r came) (sym rest_is) (on (rw none at h)))
+    where
+      on : IsServed capacity s old book None left came → IsServed capacity s now later f (take place left ++ drop (place + 1) left) came
+      on h = served_on capacity s old now book later e left place came h (owed h) there d.book_is f (rw d.text_is at told)
+
+  -- the line is answered
+  pub answered : was ≡ None → ((before : List Entry) → IfSome s.input (λ bytes. IsOwed capacity s bytes before e)) → slice_get (numbers left) place ≡ Some e.number → rest ≡ take place left ++ drop (place + 1) left
+      → IsDone capacity book later e text → IsConcluded text old now f
+      → ∥ IsServed capacity s old book was left came ∥₁ → ∥ IsServed capacity s now later f rest came ∥₁
+  answered none owed there rest_is d told served = concluded (λ h. owed h.list) none there rest_is d told served
+
+-- the line is given up since others were always faster
+pub given_up : (capacity : ℕ) (s : Service) (old now : Option (List ℕ)) (book : Accounts) (line : Entry) (left rest : List Open) (place came : ℕ) (text : List ℕ) (was f : Option ServiceFault)
+    → was ≡ None → IfSome s.input (λ bytes. IsCome s bytes line) → IsWorn left place line.ask → slice_get (numbers left) place ≡ Some line.number → rest ≡ take place left ++ drop (place + 1) left
+    → IsDone capacity book book (entry line.number line.tag (Bad refusal.Busy)) text → IsConcluded text old now f
+    → ∥ IsServed capacity s old book was left came ∥₁ → ∥ IsServed capacity s now book f rest came ∥₁
+given_up capacity s old now book line left rest place came text was f none came_is worn_is there rest_is d told served =
+    concluded capacity s old now book book (entry line.number line.tag (Bad refusal.Busy)) left rest place came text was f
+    (λ h. owed_busy capacity s s.input h.list line came_is (worn capacity s.opening h.list left place line.ask h.watched worn_is)) none there rest_is d told served
 
 -- nothing was done, and perhaps nothing more is answered
 pub still : (capacity : ℕ) (s : Service) (now : Option (List ℕ)) (book later : Accounts) (left rest : List Open) (came : ℕ) (was f : Option ServiceFault)
-    → was ≡ None → is_torn f ≡ false → later ≡ book → numbers rest ≡ numbers left
-    → ∥ IsServed capacity s now book was (numbers left) came ∥₁ → ∥ IsServed capacity s now later f (numbers rest) came ∥₁
+    → was ≡ None → is_torn f ≡ false → later ≡ book → rest ≡ left
+    → ∥ IsServed capacity s now book was left came ∥₁ → ∥ IsServed capacity s now later f rest came ∥₁
 still capacity s now book later left rest came was f none torn book_is left_is served =
-    ∥∥₁_map served (λ h. on (rw none at h))
+    ∥∥₁_map served (λ h. subst (λ r. IsServed capacity s now later f r came) (sym left_is) (on (rw none at h)))
   where
-    on : IsServed capacity s now book None (numbers left) came → IsServed capacity s now later f (numbers rest) came
+    on : IsServed capacity s now book None left came → IsServed capacity s now later f left came
     on h = record {
       list = h.list;
       owed = h.owed;
-      once = λ k. ap (λ ns. times k (entry_numbers h.list) + times k ns) left_is ∙ h.once k;
+      once = h.once;
+      watched = h.watched;
       book_is = book_is ∙ h.book_is;
       text = rw torn h.text;
     }
 
 -- a line comes
-pub opened : (capacity : ℕ) (s : Service) (now : Option (List ℕ)) (book : Accounts) (left rest : List ℕ) (n came next : ℕ) (was : Option ServiceFault)
-    → rest ≡ left ++ n ∷ [] → n ≡ came → next ≡ came + 1
+pub opened : (capacity : ℕ) (s : Service) (now : Option (List ℕ)) (book : Accounts) (left rest : List Open) (n came next : ℕ) (was : Option ServiceFault)
+    → rest ≡ left ++ unseen n ∷ [] → n ≡ came → next ≡ came + 1
     → ∥ IsServed capacity s now book was left came ∥₁ → ∥ IsServed capacity s now book was rest next ∥₁
 opened capacity s now book left rest n came next was more is next_is served =
     ∥∥₁_map served (λ h. rw next_is (record {
       list = h.list;
       owed = h.owed;
-      once = λ k. once_opened (entry_numbers h.list) left rest n came k more is (h.once k);
+      once = λ k. once_opened (entry_numbers h.list) (numbers left) (numbers rest) n came k (ap numbers more ∙ numbers-snoc left n) is (h.once k);
+      watched = All-same (IsWatched capacity s.opening h.list) rest _ more (All-push (IsWatched capacity s.opening h.list) left (unseen n) h.watched tt);
       book_is = h.book_is;
       text = h.text;
     }))
+
+-- a record is copied
+pub looked : (capacity : ℕ) (s : Service) (now : Option (List ℕ)) (book : Accounts) (left rest : List Open) (place came : ℕ) (name : List ℕ) (stored : Option RecordValue) (count : ℕ) (was : Option ServiceFault)
+    → IsLooked left place name stored rest count → stored ≡ record_at book name
+    → ∥ IsServed capacity s now book was left came ∥₁ → ∥ IsServed capacity s now book was rest came ∥₁
+looked capacity s now book left rest place came name stored count was l is served =
+    ∥∥₁_map served (λ h. record {
+      list = h.list;
+      owed = h.owed;
+      once = λ k. ap (λ ns. times k (entry_numbers h.list) + times k ns) (looked_numbers left rest place name stored count l) ∙ h.once k;
+      watched = watched_looked capacity s.opening h.list left rest place name stored count l (is ∙ ap (λ b. record_at b name) h.book_is) h.watched;
+      book_is = h.book_is;
+      text = h.text;
+    })

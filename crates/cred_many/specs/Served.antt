@@ -1,12 +1,13 @@
 -- The history of one thread, which does lines one after another, each whole.
 use Rattle.std.specs.Prelude.{◌≡◌, ◌⊎◌, ℕ, ◌<◌, ◌+◌, ◌==◌, List, [], ◌∷◌, ◌++◌, Bool, true, false}
-use Rattle.std.specs.Prelude.{All, if◌then◌else◌, IfSome, MatchBool, nat_lt, Option, Some, None, take}
-use Rattle.std.specs.Prelude.{length, map}
+use Rattle.std.specs.Prelude.{◌≤◌, All, if◌then◌else◌, IfSome, MatchBool, nat_lt, Option, Some, None}
+use Rattle.std.specs.Prelude.{length, map, set, slice_get, take, unwrap_or}
+use Rattle.std.specs.Str.{bytes_eq}
 use Rattle.std.specs.FinMap as fin
 use Rattle.std.specs.Io.KnownBytes.{Appends}
 use Rattle.cred_phc.specs.Values.{RecordValue}
 use Rattle.cred_book.specs.Accounts.{Accounts}
-use Rattle.cred_book.specs.Works.{new_record, seq}
+use Rattle.cred_book.specs.Works.{name_of, new_record, same, seq}
 use Rattle.cred_book.specs.declared.error.BookError.TheVariants as error
 use Rattle.cred_book.specs.declared.reply.Reply.{Reply}
 use Rattle.cred_book.specs.declared.reply.Reply.TheVariants as reply
@@ -23,6 +24,7 @@ use Rattle.cred_many.specs.declared.edit.Edit.{Edit}
 use Rattle.cred_many.specs.declared.fault.ServiceFault.{ServiceFault}
 use Rattle.cred_many.specs.declared.fault.ServiceFault.TheVariants as fault
 use Rattle.cred_many.specs.declared.open.Open.{Open}
+use Rattle.cred_many.specs.declared.open.Sight.{Sight}
 use Rattle.cred_many.specs.Asks.{Entry}
 use Rattle.cred_many.specs.Edits.{edited, lacks_room, names_text, page}
 use Rattle.cred_many.specs.Reading.{IsCome}
@@ -113,18 +115,96 @@ answers capacity book [] = []
 answers capacity book (e ∷ es) =
     line_at capacity book e ++ answers capacity (done capacity book e.ask).1 es
 
+-- ---- how often a record changed
+
+-- the record of the name, or none
+abbrev pub record_at : Accounts → List ℕ → Option RecordValue
+record_at book name = unwrap_or (fin.get book name) None
+
+abbrev pub change_from : Option RecordValue → Option RecordValue → ℕ
+change_from old new = if same old new then 0 else 1
+
+-- how many of the lines left the name another record than they found
+unfoldable pub changes : ℕ → Accounts → List ℕ → List Entry → ℕ
+changes capacity book name [] = 0
+changes capacity book name (e ∷ es) =
+    change_from (record_at book name) (record_at (done capacity book e.ask).1 name)
+    + changes capacity (done capacity book e.ask).1 name es
+
+-- whose record is hashed for a line
+abbrev pub name_asked : Ask → List ℕ
+name_asked (Whole r) = name_of r
+name_asked (Login name pw setting) = name
+name_asked (Reset name pw setting) = name
+name_asked _ = []
+
 -- ---- which lines
 
--- an entry is for a line: it is the line's, or the line is given up for want of memory or since
--- others were always faster
-pub record IsFor (line e : Entry) : Type 0 where
-  pub number : e.number ≡ line.number
-  pub tag : e.tag ≡ line.tag
-  pub ask : (e.ask ≡ line.ask)
-      ⊎ ((e.ask ≡ Bad (refusal.Book error.Memory)) ⊎ (e.ask ≡ Bad refusal.Busy))
+-- it changed so often that a line is given up
+abbrev pub tries : ℕ
+tries = 8
 
-abbrev pub IsOwed : Service → List ℕ → Entry → Type 0
-IsOwed s bytes e = (line : Entry) × IsCome s bytes line × IsFor line e
+-- An entry is for a line: it is the line's, or the line is given up for want of memory, or since
+-- the lines before changed the record so often.
+pub record IsFor (capacity : ℕ) (opening : Accounts) (before : List Entry) (line e : Entry) : Type 0
+  where
+    pub number : e.number ≡ line.number
+    pub tag : e.tag ≡ line.tag
+    pub ask : (e.ask ≡ line.ask) ⊎ ((e.ask ≡ Bad (refusal.Book error.Memory))
+        ⊎ ((e.ask ≡ Bad refusal.Busy)
+        × (tries ≤ changes capacity opening (name_asked line.ask) before)))
+
+-- it is for a line that came
+abbrev pub IsOwed : ℕ → Service → List ℕ → List Entry → Entry → Type 0
+IsOwed capacity s bytes before e =
+    (line : Entry) × IsCome s bytes line × IsFor capacity s.opening before line e
+
+-- so is each of them, behind those before it
+abbrev pub AllOwed : ℕ → Service → List ℕ → List Entry → Type 0
+AllOwed capacity s bytes list = (before rest : List Entry) (e : Entry)
+    → list ≡ before ++ e ∷ rest → IsOwed capacity s bytes before e
+
+-- what was seen of an account stood there behind some of the lines, of which so many had changed it
+pub record IsSeen (capacity : ℕ) (opening : Accounts) (list : List Entry) (sight : Sight) : Type 0
+  where
+    pub before : List Entry
+    pub rest : List Entry
+    pub cut : list ≡ before ++ rest
+    pub stored_is : sight.stored ≡ record_at (book_after capacity opening before) sight.name
+    pub few : sight.changes ≤ changes capacity opening sight.name before
+
+abbrev pub IsWatched : ℕ → Accounts → List Entry → Open → Type 0
+IsWatched capacity opening list line = IfSome line.sight (IsSeen capacity opening list)
+
+-- a line whose account wasn't looked at
+abbrev pub unseen : ℕ → Open
+unseen number = record { number = number; sight = None }
+
+-- how often it was seen to change, where this record stands now
+abbrev pub counted : Option Sight → List ℕ → Option RecordValue → ℕ
+counted None name now = 0
+counted (Some s) name now =
+    if bytes_eq s.name name then s.changes + change_from s.stored now else 0
+
+-- the open line at this place has seen that this record stands now
+pub record IsLooked (old : List Open) (place : ℕ) (name : List ℕ) (now : Option RecordValue)
+    (new : List Open) (count : ℕ) : Type 0 where
+  pub line : Open
+  pub there : slice_get old place ≡ Some line
+  pub few : count ≤ counted line.sight name now
+  pub new_is : new ≡ set old place (record {
+    number = line.number;
+    sight = Some (record { name = name; stored = now; changes = count });
+  })
+
+-- the open line at this place has seen often enough that the record of what it asks about changed
+pub record IsWorn (left : List Open) (place : ℕ) (ask : Ask) : Type 0 where
+  pub line : Open
+  pub sight : Sight
+  pub there : slice_get left place ≡ Some line
+  pub seen : line.sight ≡ Some sight
+  pub name_is : sight.name ≡ name_asked ask
+  pub often : tries ≤ sight.changes
 
 abbrev pub numbers : List Open → List ℕ
 numbers left = map (λ o. o.number) left
@@ -162,10 +242,11 @@ is_torn (Some _) = false
 -- what is written, and the book, are those of one history of lines that came, in which each that
 -- isn't open stands once
 pub record IsServed (capacity : ℕ) (s : Service) (now : Option (List ℕ)) (book : Accounts)
-    (fault : Option ServiceFault) (left : List ℕ) (came : ℕ) : Type 0 where
+    (fault : Option ServiceFault) (left : List Open) (came : ℕ) : Type 0 where
   pub list : List Entry
-  pub owed : IfSome s.input (λ bytes. All (IsOwed s bytes) list)
-  pub once : (k : ℕ) → times k (entry_numbers list) + times k left ≡ once_below came k
+  pub owed : IfSome s.input (λ bytes. AllOwed capacity s bytes list)
+  pub once : (k : ℕ) → times k (entry_numbers list) + times k (numbers left) ≡ once_below came k
+  pub watched : All (IsWatched capacity s.opening list) left
   pub book_is : book ≡ book_after capacity s.opening list
   pub text : MatchBool (is_torn fault) (IsCut capacity s.opening s.before now list)
       (Appends s.before now (answers capacity s.opening list))
@@ -173,6 +254,6 @@ pub record IsServed (capacity : ℕ) (s : Service) (now : Option (List ℕ)) (bo
 -- the same at the end: where nothing failed no line is open
 pub record HasServed (capacity : ℕ) (s : Service) (now : Option (List ℕ)) (book : Accounts)
     (fault : Option ServiceFault) (came : ℕ) : Type 0 where
-  pub left : List ℕ
+  pub left : List Open
   pub served : IsServed capacity s now book fault left came
   pub none_left : fault ≡ None → left ≡ []

@@ -1,21 +1,31 @@
 //! The lines that have come and aren't answered yet.
 
-ghost use Rattle.std.specs.Prelude.{◌≡◌, ◌+◌, ◌<◌, ◌++◌, ◌∷◌, [], IfOk, IfSome, IsTrue, OnErr};
+ghost use Rattle.std.specs.Prelude.{◌≡◌, ◌≤◌, ◌+◌, ◌<◌, ◌++◌, ◌∷◌, [], IfOk, IfSome, IsTrue, OnErr};
 ghost use Rattle.std.specs.Prelude.{OnOk, Some, drop, length, map, slice_get, take};
-ghost use Rattle.cred_many.specs.Served.{numbers};
+ghost use Rattle.cred_many.specs.Served.{IsLooked, counted, numbers, unseen};
 
+use cred_book::Name;
+use cred_phc::Record;
 use std::alloc::{AllocError, Global};
 use std::marker::Model;
 
 /// How many lines may be open at once.
 pub(crate) const MOST_OPEN: usize = 256;
 
+/// The record that was last copied for a line.
+#[derive(Clone, Copy)]
+struct Sight {
+    name: Name,
+    stored: Option<Record>,
+    /// How often it was another one than the last time.
+    changes: u32,
+}
+
 /// An open line.
 #[derive(Clone, Copy)]
 struct Open {
     number: u64,
-    /// How many commits of it found another record.
-    overtaken: u32,
+    sight: Option<Sight>,
 }
 
 /// The numbers of the open lines.
@@ -63,12 +73,14 @@ impl OpenLines {
 
     /// Opens a line.
     pub(crate) fn push(&mut self, number: u64) -> Result<(), AllocError>
-        ensures opened { OnOk result (numbers self.new ≡ numbers self.old ++ number ∷ []) }
+        ensures opened { OnOk result (self.new ≡ self.old ++ unseen number ∷ []) }
         ensures same { OnErr result (self.new ≡ self.old) }
     {
+        // Without a word of the type that a sight holds the prover doesn't find it.
+        let _none: Option<Record> = None;
         self.lines.push(Open {
             number,
-            overtaken: 0,
+            sight: None,
         })?;
         Ok(())
     }
@@ -81,17 +93,34 @@ impl OpenLines {
         self.lines.remove(place);
     }
 
-    /// Counts that a commit of the line there found another record, and says how often that was.
-    pub(crate) fn overtake(&mut self, place: usize) -> u32
+    /// Notes which record is copied for the line there, and says how often it was another one than
+    /// the last time.
+    pub(crate) fn look(&mut self, place: usize, name: Name, stored: Option<Record>) -> u32
         requires { place < length self.old }
-        ensures { numbers self.new ≡ numbers self.old }
+        ensures { IsLooked self.old place name stored self.new result }
     {
         let line = self.lines[place];
-        let overtaken = line.overtaken.saturating_add(1);
+        let changes = count(&line.sight, &name, &stored);
         self.lines[place] = Open {
             number: line.number,
-            overtaken,
+            sight: Some(Sight {
+                name,
+                stored,
+                changes,
+            }),
         };
-        overtaken
+        changes
+    }
+}
+
+/// How often the name's record was seen to change, where this one stands now.
+fn count(sight: &Option<Sight>, name: &Name, now: &Option<Record>) -> u32
+    ensures { result ≤ counted sight.now name.now now.now }
+{
+    match sight {
+        None => 0,
+        Some(seen) if seen.name != *name => 0,
+        Some(seen) if seen.stored == *now => seen.changes,
+        Some(seen) => seen.changes.saturating_add(1),
     }
 }

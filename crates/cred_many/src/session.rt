@@ -1,14 +1,12 @@
 //! The book that is served, the lines that are open, and the writer of their answers: what one
 //! thread has.
 
-ghost use Rattle.std.specs.Prelude.{◌≡◌, ◌⊎◌, ◌<◌, [], length, IsTrue, None, Option, true};
+ghost use Rattle.std.specs.Prelude.{◌≡◌, [], IsTrue, None, Option, slice_get, Some, true};
 ghost use Rattle.cred_cli.specs.Watched.{inner_of};
-ghost use Rattle.cred_cli.specs.declared.refusal.Refusal.TheVariants as refusal;
-ghost use Rattle.cred_book.specs.declared.error.BookError.TheVariants as error;
-ghost use Rattle.cred_book.specs.Works.{is_for_current};
+ghost use Rattle.cred_book.specs.Works.{is_for_current, name_of};
 ghost use Rattle.cred_phc.specs.Values.{RecordValue};
 ghost use Rattle.cred_many.specs.Asks.{IsJobOf, IsResetOf, NeedsNoHash};
-ghost use Rattle.cred_many.specs.Served.{IsServed, numbers, told_reply};
+ghost use Rattle.cred_many.specs.Served.{IsServed, IsWorn, numbers, record_at, told_reply};
 ghost use Rattle.cred_many.specs.Steps.{is_changed};
 
 use crate::ask::Ask;
@@ -42,7 +40,7 @@ pub(crate) struct Session<J: Naming, K: Host, W: Write> {
     pub(crate) of: PhantomData<J>,
 
     ghost served: { ∥ IsServed K.capacity J.service (W.contents (inner_of output.writer))
-        (K.book keeper) output.fault (numbers pending) came ∥₁ },
+        (K.book keeper) output.fault pending came ∥₁ },
 }
 
 impl<J: Naming, K: Host, W: Write> Session<J, K, W> {
@@ -70,10 +68,8 @@ impl<J: Naming, K: Host, W: Write> Session<J, K, W> {
             return None;
         }
         match line.ask() {
-            Ask::Whole(request) => Some(self.job(line, request)),
-            Ask::Login(name, pw, setting) => {
-                Some(self.job(line, Request::Upgrade { name, pw, setting }))
-            }
+            Ask::Whole(request) => self.job(line, request),
+            Ask::Login(name, pw, setting) => self.job(line, Request::Upgrade { name, pw, setting }),
             Ask::Reset(name, pw, setting) => {
                 let ticket = Ticket::new(Request::Enrol { name, pw, setting }, None);
                 Some(Job::new(line, ticket))
@@ -106,17 +102,24 @@ impl<J: Naming, K: Host, W: Write> Session<J, K, W> {
         true
     }
 
-    /// The line with a copy of its account's record. A name that isn't there is hashed as an
-    /// account without a record, and its commit says that it isn't there.
-    fn job(&self, line: Line<J>, request: Request) -> Job<J>
+    /// The line with a copy of its account's record, unless there were copies of others often
+    /// enough.
+    fn job(&mut self, line: Line<J>, request: Request) -> Option<Job<J>>
+        requires going { self.old.output.fault ≡ None }
         requires current { is_for_current request ≡ true }
         requires asked { (copy : Option RecordValue) → IsJobOf line.ask (request, copy) }
     {
-        let ticket = match self.keeper.begin(request) {
-            Ok(ticket) => ticket,
-            Err((request, _)) => Ticket::new(request, None),
+        let Some(place) = self.pending.place_of(line.number()) else {
+            self.output.fault = Some(ServiceFault::Lost);
+            return None;
         };
-        Job::new(line, ticket)
+        let ticket = ticket_of(&self.keeper, request);
+        let changes = self.pending.look(place, request.name(), ticket.copy());
+        if changes >= TRIES {
+            self.give_up_as_busy(place, line);
+            return None;
+        }
+        Some(Job::new(line, ticket))
     }
 
     /// Does what needs no hash.
@@ -177,26 +180,13 @@ impl<J: Naming, K: Host, W: Write> Session<J, K, W> {
             }
         };
         if is_changed(&reply) {
-            return self.try_again(place, line, request);
+            let _ask = line.ask();
+            return self.job(line, request);
         }
         self.pending.close(place);
         let answer = reply_line(&told_reply(line.ask(), reply));
         self.output.conclude(line.tag(), answer);
         None
-    }
-
-    /// Copies the record again, unless that was done often enough.
-    fn try_again(&mut self, place: usize, line: Line<J>, request: Request) -> Option<Job<J>>
-        requires going { self.old.output.fault ≡ None }
-        requires place { place < length self.old.pending }
-        requires asked { (copy : Option RecordValue) → IsJobOf line.ask (request, copy) }
-    {
-        if self.pending.overtake(place) >= TRIES {
-            self.give_up(line, Refusal::Busy);
-            return None;
-        }
-        let _ask = line.ask();
-        Some(self.job(line, request))
     }
 
     /// Puts the record that was made in place of any other.
@@ -223,7 +213,7 @@ impl<J: Naming, K: Host, W: Write> Session<J, K, W> {
     /// Answers a line for which there was no memory to hash.
     pub(crate) fn no_memory(&mut self, line: Line<J>) {
         if self.output.fault.is_none() {
-            self.give_up(line, Refusal::Book(BookError::Memory));
+            self.give_up(line);
         }
     }
 
@@ -235,7 +225,7 @@ impl<J: Naming, K: Host, W: Write> Session<J, K, W> {
             self.output.fault = Some(ServiceFault::Keeper);
             return;
         }
-        self.give_up(line, Refusal::Book(BookError::Memory));
+        self.give_up(line);
     }
 
     /// Notes that a line was lost between two threads, unless a fault has ended all already.
@@ -247,17 +237,40 @@ impl<J: Naming, K: Host, W: Write> Session<J, K, W> {
         }
     }
 
-    /// Answers that nothing was done.
-    fn give_up(&mut self, line: Line<J>, why: Refusal)
-        requires going { self.old.output.fault ≡ None }
-        requires why { (why ≡ refusal.Book error.Memory) ⊎ (why ≡ refusal.Busy) }
+    /// Answers that nothing was done for want of memory.
+    fn give_up(&mut self, line: Line<J>)
+        requires { self.old.output.fault ≡ None }
     {
         let Some(place) = self.pending.place_of(line.number()) else {
             self.output.fault = Some(ServiceFault::Lost);
             return;
         };
         self.pending.close(place);
-        self.output.conclude(line.tag(), why.line());
+        self.output
+            .conclude(line.tag(), Refusal::Book(BookError::Memory).line());
+    }
+
+    /// Answers that nothing was done since others were always faster.
+    fn give_up_as_busy(&mut self, place: usize, line: Line<J>)
+        requires going { self.old.output.fault ≡ None }
+        requires there { slice_get (numbers self.old.pending) place ≡ Some line.number }
+        requires worn { IsWorn self.old.pending place line.ask }
+    {
+        self.pending.close(place);
+        self.output.conclude(line.tag(), Refusal::Busy.line());
+    }
+}
+
+/// The request with a copy of its account's record. A name that isn't there is hashed as an account
+/// without a record, and its commit says that it isn't there.
+fn ticket_of<K: Host>(keeper: &K, request: Request) -> Ticket
+    requires { is_for_current request ≡ true }
+    ensures request { result.0 ≡ request }
+    ensures copy { result.1 ≡ record_at (K.book keeper.now) (name_of request) }
+{
+    match keeper.begin(request) {
+        Ok(ticket) => ticket,
+        Err((request, _)) => Ticket::new(request, None),
     }
 }
 

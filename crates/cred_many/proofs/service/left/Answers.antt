@@ -1,11 +1,9 @@
-use Rattle.std.proofs.Common.{ap}
 use Rattle.std.proofs.Math.Logic.{∥∥₁_map}
-use Rattle.cred_many.specs.Served.{numbers}
 use Rattle.cred_many.proofs.service.left.Goals as goal
 
 pub returns-clause-served : goal.returns-clause-served
 returns-clause-served g c = ∥∥₁_map c.args.session.served (λ h. record {
-  left = numbers c.args.session.pending;
+  left = c.args.session.pending;
   served = h;
-  none_left = λ none. ap numbers (c.requires none);
+  none_left = c.requires;
 })
