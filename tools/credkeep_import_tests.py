@@ -18,6 +18,7 @@ import time
 from collections.abc import Callable
 
 from credkeep.keep import RECORD, TOP, Ended, Keep, Room, begun, holds, main, same
+from credkeep.orders import EMPTY_LOG
 
 # Of the password "password" too, from the same list; and the third vector of RFC 7914, of "pleaseletmein", as a record.
 OTHER = "$argon2i$v=19$m=256,t=2,p=1$c29tZXNhbHQ$iekCn0Y3spW+sCcFanM2xBT63UP2sghkUoHLIUpWRS8"
@@ -251,9 +252,12 @@ def dry_runs(room: Room) -> None:
         if {"--update", "--skip-existing"} <= set(options):
             continue
         keep = filled(room, before)
-        whole = {path.name: path.read_bytes() for path in room.folder.iterdir()}
+        whole = keep.path.read_bytes()
         dry = keep("import", "--dry-run", *options, given=given)
-        same({path.name: path.read_bytes() for path in room.folder.iterdir()}, whole)
+        # An open file has a log of its own, with nothing in it.
+        holds(keep.path.read_bytes() == whole, f"{options}: the file has changed")
+        log = keep.path.with_name("users.db-wal")
+        same((options, log.stat().st_size), (options, EMPTY_LOG))
         made = keep("import", *options, given=given)
         same((options, dry.status, dry.written), (options, made.status, made.written))
         same(named_lines(dry.faults), named_lines(made.faults))
@@ -300,6 +304,7 @@ def killed_updates(room: Room) -> None:
         for file in room.folder.glob("users.db*"):
             file.unlink()
         keep.path.write_bytes(start)
+        keep.path.chmod(0o600)
         with given_update(keep, lines_of(lines)) as run:
             time.sleep(chance.random() * 1.5 * took)
             run.kill()
