@@ -1,5 +1,5 @@
--- What a desk does for a session that settles work or adds an entry of its own (an admission, a load
--- or a deletion), and what it answers if a writer may refuse the entry.
+-- What a desk does for a session that settles work or adds an entry of its own (an admission, a
+-- load or a deletion), and what it answers if a writer may refuse the entry.
 use Rattle.std.specs.Prelude.{◌≡◌, ◌≢◌, ◌+◌, ℕ, Bool, true, false, List, ◌∷◌, [], ◌++◌, None}
 use Rattle.std.specs.Prelude.{Result, Some, Ok, Err}
 use mathlib.Core.List.{IsPrefix}
@@ -51,8 +51,8 @@ MayStand book name state.NoRecord = IsAdmitted book (entry name None)
 MayStand book name (state.Record stored) = IsLoaded book (entry name (Some stored))
 MayStand book name state.NoAccount = IsDeleted book (deletion name)
 
--- what may be said of a book in which it can't be had. A name isn't taken away if it isn't there, and
--- memory runs out only if it is
+-- what may be said of a book in which it can't be had. A name isn't taken away if it isn't there,
+-- and memory runs out only if it is
 abbrev pub Refuses : Accounts → List ℕ → AccountState → BookError → Type 0
 Refuses book name state.NoRecord e = Admits book book name (Err e)
 Refuses book name (state.Record stored) e = Loads book book name stored (Err e)

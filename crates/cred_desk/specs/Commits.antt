@@ -26,8 +26,8 @@ abbrev pub list_after : List Entry → Option Entry → List Entry
 list_after list None = list
 list_after list (Some entry) = list ++ entry ∷ []
 
--- an entry may come next in a copy of the book that lacks the one before it, if any, and leads it to
--- the book after this list
+-- an entry may come next in a copy of the book that lacks the one before it, if any, and leads it
+-- to the book after this list
 abbrev pub LeadsTo : Naming → Accounts → Option Entry → Entry → List Entry → Type 0
 LeadsTo name copy last entry list = IsListed name.loads copy (list_after [] last)
     × IsAllowed name.loads (after copy (list_after [] last)) entry

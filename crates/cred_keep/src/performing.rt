@@ -63,7 +63,8 @@ pub fn serve<T: Threads + Wait + Sync, S: Alter, R: Read, W: Write, F: Write>(
 
 /// Does what is asked of a book that is kept. No call was made on the reader or the writer before.
 ///
-/// Ok tells how it ended, and then the table stands for the book, and a crash leaves it. Errors: what ended the order; `Database` if the database failed, whatever came of it.
+/// Ok tells how it ended, and then the table stands for the book, and a crash leaves it. Errors:
+/// what ended the order; `Database` if the database failed, whatever came of it.
 pub fn perform<T: Threads + Wait + Sync, S: Alter, R: Read, W: Write>(
     tools: &Tools<'_, T>,
     book: &mut FileBook<S>,

@@ -118,8 +118,8 @@ pub fn tag_alone<G: Gate>(
     }
 }
 
-/// The parameters of Argon2 for a tag of `len` bytes, 4 to 64, that the setting gives; none if it is
-/// one of scrypt.
+/// The parameters of Argon2 for a tag of `len` bytes, 4 to 64, that the setting gives; none if
+/// it is one of scrypt.
 pub fn argon2_params(setting: &Setting, len: u8) -> Option<Params>
     requires low { 4 ≤ len }
     requires high { len ≤ 64 }
