@@ -274,10 +274,10 @@ int rigzumal_scrypt(void *key, size_t key_size, const struct rigzumal_scrypt *nu
  * their stacks, which read as zero in a child that is forked meanwhile.
  *
  * When which: threads make one login faster on a machine that has nothing else to do. Of 64 MiB,
- * three passes and four lanes, on four processors, a tag took 117 ms on one thread and 30 ms on
+ * three passes and four lanes, on four processors, a tag took 102 ms on one thread and 32 ms on
  * four. A service has as many logins at once as it has processors, and threads gain it nothing:
- * four callers made a tag every 33 ms with one thread each, and every 32 ms with four; at 19 MiB
- * and two passes every 6.9 ms and every 7.2 ms. */
+ * four callers made a tag every 30 ms with one thread each, and every 28 ms with four; at 19 MiB
+ * and two passes every 6.0 ms either way. */
 int rigzumal_argon2_threads(void *tag, size_t tag_size, const struct rigzumal_argon2 *numbers,
                             const void *password, size_t password_size, const void *salt,
                             size_t salt_size, const void *secret, size_t secret_size,
