@@ -2,7 +2,7 @@ use Rattle.std.proofs.Common.{◌≡◌, ◌≤◌, ◌+◌, Some, sym, ap, subs
 use Rattle.std.specs.FinMap as fin
 use Rattle.cred_book.specs.Accounts.{Accounts, register_capacity}
 use Rattle.cred_file.specs.declared.fault.Edit.TheVariants.{TakeIn}
-use Rattle.cred_file.specs.Edits.{MayTakeIn, joined, taken_in}
+use Rattle.cred_file.specs.Edits.{MayTakeIn, taken_in}
 use Rattle.cred_file.specs.Keeps.{Keeps}
 use Rattle.cred_file.proofs.Keeping.{keeps_done, keeps_lost, no_some}
 use Rattle.cred_file.proofs.Joined.{len_taken, undone}
