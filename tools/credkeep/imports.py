@@ -1,18 +1,15 @@
 """Imports, and records that are not ours."""
 
-import os
 import random
 import resource
-import shutil
 import subprocess
 import time
-from concurrent.futures import ThreadPoolExecutor
 
 from credkeep.commands import own_records
 from credkeep.counting import SYNC_COUNTER, counted, counter
 from credkeep.keep import Ended, Keep, PASSWORD, RECORD, Room, begun, holds, same
+from credkeep.refusals import each_request_refused
 from credkeep.work import syncs
-from refuse_memory import build as refusing_shim
 
 
 def others_records(room: Room) -> None:
@@ -192,36 +189,15 @@ def import_without_room(room: Room) -> None:
 
 
 def import_without_memory(room: Room) -> None:
-    """Each request for memory of an import is refused in turn: all of it is taken in, or none."""
-    empty, shim = begun(room), refusing_shim(str(room.folder.parent))
+    """Whichever request for memory of an import is refused, all of it is taken in, or none."""
+    empty = begun(room)
     empty.add("ann")
-    statuses: list[int | None] = []
-    with ThreadPoolExecutor(os.cpu_count()) as pool:
-        while None not in statuses:
-            turns = range(len(statuses) + 1, len(statuses) + 65)
-            statuses += pool.map(lambda nth: import_refused_once(room, empty, shim, nth), turns)
-    holds({3, 5} <= set(statuses), f"only {set(statuses)}")
-    print(f"      {statuses.index(None)} refused")
 
+    def judge(ended: Ended, there: list[str]) -> None:
+        holds(there in (["ann"], ["a", "ann", "b", "c"]), f"{there}")
+        holds(ended.status != 0 or len(there) == 4, "done without the accounts")
 
-def import_refused_once(room: Room, empty: Keep, shim: str, nth: int) -> int | None:
-    """The status of an import whose request of this number is refused, or none if there is no such."""
-    folder = room.folder / str(nth)
-    folder.mkdir()
-    keep = Keep(room.program, folder / "users.db")
-    shutil.copy(empty.path, keep.path)
-    env = {**os.environ, "LD_PRELOAD": shim, "REFUSE_NTH": str(nth)}
-    given = f"a:{RECORD}\nb:\nc:{RECORD}\n".encode()
-    command = [str(keep.program), str(keep.path), "import"]
-    done = subprocess.run(command, input=given, capture_output=True, timeout=60, env=env)
-    if b"REFUSED" not in done.stderr:
-        return None
-    holds(done.returncode in (0, 3, 5), f"request {nth}: status {done.returncode}")
-    there = keep.names()
-    holds(there in (["ann"], ["a", "ann", "b", "c"]), f"request {nth}: {there}")
-    holds(done.returncode != 0 or len(there) == 4, f"request {nth}: done without the accounts")
-    shutil.rmtree(folder)
-    return done.returncode
+    each_request_refused(room, empty, "import", f"a:{RECORD}\nb:\nc:{RECORD}\n".encode(), judge)
 
 
 def refused_imports(room: Room) -> None:

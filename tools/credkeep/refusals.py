@@ -3,9 +3,10 @@
 import os
 import shutil
 import subprocess
+from collections.abc import Callable
 from concurrent.futures import ThreadPoolExecutor
 
-from credkeep.keep import Keep, Room, begun, holds
+from credkeep.keep import Ended, Failed, Keep, Room, begun, holds
 from refuse_memory import build as refusing_shim
 
 
@@ -34,33 +35,42 @@ def refused_calls(room: Room) -> None:
 
 
 def refused_memory(room: Room) -> None:
-    """Each request for memory of a script's run is refused in turn, by a shim before the C library."""
-    empty, shim = begun(room), refusing_shim(str(room.folder.parent))
+    """What was answered of a script's run is kept, and at most the line after it."""
+    names = ["a", "b"]
+
+    def judge(ended: Ended, there: list[str]) -> None:
+        answered = ended.written.count(b"ok\n")
+        holds(ended.status != 0 or answered == 2, f"{answered} answered")
+        holds(there in (names[:answered], names[: answered + 1]), f"{there}")
+
+    each_request_refused(room, begun(room), "run", b"account a\naccount b\n", judge)
+
+
+def each_request_refused(room: Room, empty: Keep, order: str, given: bytes, judge: Callable[[Ended, list[str]], None]) -> None:
+    """Each request for memory of an order is refused in turn, by a shim before the C library, and what came of it is judged."""
+    shim = refusing_shim(str(room.folder.parent))
+
+    def refused(nth: int) -> int | None:
+        """The status of a run whose request of this number is refused, or none if there is no such."""
+        folder = room.folder / str(nth)
+        folder.mkdir()
+        keep = Keep(room.program, folder / "users.db")
+        shutil.copy(empty.path, keep.path)
+        env = {**os.environ, "LD_PRELOAD": shim, "REFUSE_NTH": str(nth)}
+        done = subprocess.run([str(keep.program), str(keep.path), order], input=given, capture_output=True, timeout=60, env=env)
+        if b"REFUSED" not in done.stderr:
+            return None
+        holds(done.returncode in (0, 3, 5), f"request {nth}: status {done.returncode}")
+        try:
+            judge(Ended(done.returncode, done.stdout, done.stderr), keep.names())
+        except Failed as fault:
+            raise Failed(f"request {nth}: {fault}") from None
+        shutil.rmtree(folder)
+        return done.returncode
+
     statuses: list[int | None] = []
     with ThreadPoolExecutor(os.cpu_count()) as pool:
         while None not in statuses:
-            turns = range(len(statuses) + 1, len(statuses) + 65)
-            statuses += pool.map(lambda nth: refused_once(room, empty, shim, nth), turns)
+            statuses += pool.map(refused, range(len(statuses) + 1, len(statuses) + 65))
     holds({3, 5} <= set(statuses), f"only {set(statuses)}")
     print(f"      {statuses.index(None)} refused")
-
-
-def refused_once(room: Room, empty: Keep, shim: str, nth: int) -> int | None:
-    """The status of a run whose request of this number is refused, or none if there is no such."""
-    names, lines = ["a", "b"], b"account a\naccount b\n"
-    folder = room.folder / str(nth)
-    folder.mkdir()
-    keep = Keep(room.program, folder / "users.db")
-    shutil.copy(empty.path, keep.path)
-    env = {**os.environ, "LD_PRELOAD": shim, "REFUSE_NTH": str(nth)}
-    command = [str(keep.program), str(keep.path), "run"]
-    done = subprocess.run(command, input=lines, capture_output=True, timeout=60, env=env)
-    if b"REFUSED" not in done.stderr:
-        return None
-    answered = done.stdout.count(b"ok\n")
-    holds(done.returncode in (0, 3, 5), f"request {nth}: status {done.returncode}")
-    holds(done.returncode != 0 or answered == 2, f"request {nth}: {answered} answered")
-    there = keep.names()
-    holds(there in (names[:answered], names[: answered + 1]), f"request {nth}: {there}")
-    shutil.rmtree(folder)
-    return done.returncode
