@@ -15,6 +15,7 @@ pub mod SegmentWork
 pub mod Argon
 pub mod Tags
 pub mod Slices
+pub mod Scratches
 pub mod Lanes
 pub use Rattle.cred_blake.specs.Blake2b
 pub use Rattle.cred_blake.specs.HashPrime

@@ -1,5 +1,5 @@
 //! Argon2 as a whole (RFC 9106, section 3.2).
-ghost use Rattle.std.specs.Prelude.{◌<◌, ℕ, length, slice_index_or};
+ghost use Rattle.std.specs.Prelude.{◌≡◌, ◌<◌, ℕ, length, slice_index_or};
 ghost use Rattle.cred_argon.specs.SegmentWork.{CanWork, Works};
 ghost use Rattle.cred_argon.specs.Tags.{Hashes};
 ghost use Rattle.cred_argon.specs.declared.segment.Segment.{Segment};
@@ -8,6 +8,7 @@ ghost use denote.Param.Send.{IsSync};
 use crate::error::ArgonError;
 use crate::inputs::{first_hash, is_any_too_long};
 use crate::params::Params;
+use crate::scratch::ArgonScratch;
 use crate::segment::{Segment, Shared};
 use crate::start::start;
 use crate::tag::tag_of;
@@ -72,7 +73,30 @@ pub fn argon2_alone<G: Gate>(
     argon2_by(&Alone::new(gate), alloc, params, pw, salt, secret, assoc)
 }
 
-/// The same with the lanes of each slice worked by this crew.
+/// The same in memory that is kept from hash to hash. What an earlier hash left there is never
+/// read. A thread that makes many hashes so spares the system from taking its memory back each time
+/// and giving it out anew.
+///
+/// Beside the memory that is kept, at most that of the parameters is taken, and some KiB. The errors
+/// are the same, and leave the scratch good for the next hash.
+pub fn argon2_in<G: Gate>(
+    scratch: &mut ArgonScratch,
+    alloc: Global,
+    gate: &G,
+    params: &Params,
+    pw: &[u8],
+    salt: &[u8],
+    secret: &[u8],
+    assoc: &[u8],
+) -> Result<Vec<u8>, ArgonError>
+    ensures made { Hashes params.now pw.now salt.now secret.now assoc.now result }
+    ensures most { scratch.new ≡ scratch.old }
+{
+    let crew = Alone::new(gate);
+    argon2_with(scratch, &crew, alloc, params, pw, salt, secret, assoc)
+}
+
+/// The same with the lanes of each slice worked by this crew, in memory that is given back.
 fn argon2_by<W: Crew<Shared<Vec<Segment>>, Segment>>(
     crew: &W,
     alloc: Global,
@@ -85,11 +109,32 @@ fn argon2_by<W: Crew<Shared<Vec<Segment>>, Segment>>(
     requires { W.ready crew.now }
     ensures { Hashes params.now pw.now salt.now secret.now assoc.now result }
 {
+    let mut scratch = ArgonScratch::new(alloc, 0);
+    argon2_with(&mut scratch, crew, alloc, params, pw, salt, secret, assoc)
+}
+
+/// The same in memory that is kept.
+fn argon2_with<W: Crew<Shared<Vec<Segment>>, Segment>>(
+    scratch: &mut ArgonScratch,
+    crew: &W,
+    alloc: Global,
+    params: &Params,
+    pw: &[u8],
+    salt: &[u8],
+    secret: &[u8],
+    assoc: &[u8],
+) -> Result<Vec<u8>, ArgonError>
+    requires { W.ready crew.now }
+    ensures made { Hashes params.now pw.now salt.now secret.now assoc.now result }
+    ensures most { scratch.new ≡ scratch.old }
+{
     if is_any_too_long(pw, salt, secret, assoc) {
         return Err(ArgonError::InputLen);
     }
     let hash = first_hash(params, pw, salt, secret, assoc);
-    let mut memory = start(alloc, params, hash.bytes())?;
+    let mut memory = start(alloc, scratch, params, hash.bytes())?;
     memory.fill(crew);
-    tag_of(alloc, params, &memory.shared.newest)
+    let tag = tag_of(alloc, params, &memory.shared.newest);
+    memory.give_back(scratch);
+    tag
 }

@@ -6,6 +6,7 @@ ghost use Rattle.cred_argon.specs.Segments.{IsSlice, HoldsSlice};
 ghost use Rattle.cred_argon.specs.Turns.{number};
 ghost use Rattle.cred_argon.specs.Slices.{IsMemory, MemoryHolds};
 
+use crate::scratch::ArgonScratch;
 use crate::segment::{Segment, Shared};
 use cred_pool::Crew;
 use std::mem;
@@ -79,5 +80,14 @@ impl Memory {
         mem::swap(&mut self.current, &mut self.shared.oldest);
         mem::swap(&mut self.shared.oldest, &mut self.shared.middle);
         mem::swap(&mut self.shared.middle, &mut self.shared.newest);
+    }
+    /// Gives the memory back, for the next hash.
+    pub(crate) fn give_back(self, scratch: &mut ArgonScratch)
+        ensures { scratch.new ≡ scratch.old }
+    {
+        scratch.keep_slice(self.current);
+        scratch.keep_slice(self.shared.oldest);
+        scratch.keep_slice(self.shared.middle);
+        scratch.keep_slice(self.shared.newest);
     }
 }

@@ -12,41 +12,55 @@ ghost use Rattle.cred_argon.specs.Cells.{first_cell};
 use crate::inputs::first_block;
 use crate::memory::Memory;
 use crate::params::Params;
+use crate::scratch::ArgonScratch;
 use crate::segment::{Segment, Shared};
 use crate::turn::Turn;
 use std::alloc::{AllocError, Global};
 
-/// The memory with the first two blocks of each lane, from the first hash.
-pub(crate) fn start(alloc: Global, params: &Params, hash: &[u8]) -> Result<Memory, AllocError>
+/// The memory with the first two blocks of each lane, from the first hash. What the scratch has
+/// kept is used for it.
+pub(crate) fn start(
+    alloc: Global,
+    scratch: &mut ArgonScratch,
+    params: &Params,
+    hash: &[u8],
+) -> Result<Memory, AllocError>
     requires { length hash.now ≡ 64 }
+    ensures most { scratch.new ≡ scratch.old }
     ensures params { IfOk result (λ m. m.shared.turn.params ≡ params.now) }
     ensures shape { IfOk result (λ m. IsMemory 0 m) }
     ensures holds { IfOk result (λ m. MemoryHolds hash.now 0 m) }
 {
     let lanes = params.lanes();
     let segment_len = params.segment_len();
-    let mut current = empty_slice(alloc, lanes, segment_len)?;
-    begin_segments(params, &mut current, hash);
+    let mut current = empty_slice(alloc, scratch, lanes, segment_len)?;
     let shared = Shared {
         turn: Turn {
             params: *params,
             pass: 0,
             slice: 0,
         },
-        oldest: empty_slice(alloc, lanes, segment_len)?,
-        middle: empty_slice(alloc, lanes, segment_len)?,
-        newest: empty_slice(alloc, lanes, segment_len)?,
+        oldest: empty_slice(alloc, scratch, lanes, segment_len)?,
+        middle: empty_slice(alloc, scratch, lanes, segment_len)?,
+        newest: empty_slice(alloc, scratch, lanes, segment_len)?,
     };
+    begin_segments(params, &mut current, hash);
     Ok(Memory { current, shared })
 }
 
 /// A segment with room for its blocks for each lane.
-fn empty_slice(alloc: Global, lanes: u32, segment_len: u32) -> Result<Vec<Segment>, AllocError>
-    ensures { IfOk result (λ v. IsEmptySlice segment_len lanes v.items) }
+fn empty_slice(
+    alloc: Global,
+    scratch: &mut ArgonScratch,
+    lanes: u32,
+    segment_len: u32,
+) -> Result<Vec<Segment>, AllocError>
+    ensures most { scratch.new ≡ scratch.old }
+    ensures made { IfOk result (λ v. IsEmptySlice segment_len lanes v.items) }
 {
     let mut segments = Vec::with_capacity(alloc, lanes as usize)?;
     'lanes: for lane in 0..lanes {
-        let blocks = Vec::with_capacity(alloc, segment_len as usize)?;
+        let blocks = scratch.take(alloc, segment_len as usize)?;
         segments.push(Segment { lane, blocks })?;
     }
     Ok(segments)

@@ -1,0 +1,99 @@
+//! Memory that is kept from hash to hash.
+ghost use Rattle.std.specs.Prelude.{◌≡◌, ◌≤◌, IfOk, replicate, vec_len, vec_capacity};
+ghost use Rattle.cred_argon.specs.Scratches.{zero_words};
+
+use crate::block::Block;
+use crate::segment::Segment;
+use std::alloc::{AllocError, Global};
+use std::marker::Model;
+
+/// Memory for hashes that are made one after another, by
+/// [`argon2_in`](crate::argon2_in). It is kept from hash to hash, up to a bound, and what is kept
+/// holds zeros alone.
+#[derive(Drop)]
+pub struct ArgonScratch {
+    /// How many blocks are kept at most. A block is one KiB.
+    most: usize,
+    /// For how many there is room in the spare buffers.
+    kept: usize,
+    spare: Vec<Vec<Block>>,
+}
+
+impl Model for ArgonScratch {
+    ghost use Rattle.std.specs.Prelude.{ℕ};
+    ghost use Rattle.cred_argon.specs.Scratches.{IsScratch};
+
+    ghost Value = { ℕ };
+
+    ghost view = { λ s. s.most };
+
+    ghost invariant = { λ s. IsScratch s.most s.kept s.spare.items };
+}
+
+impl ArgonScratch {
+    /// Memory that is yet to be taken. Between two hashes at most so many KiB are kept: a hash that
+    /// takes more gives the rest back.
+    pub fn new(alloc: Global, most: u32) -> ArgonScratch
+        ensures { result ≡ most }
+    {
+        ArgonScratch {
+            most: most as usize,
+            kept: 0,
+            spare: Vec::new(alloc),
+        }
+    }
+
+    /// How many KiB are kept now.
+    pub fn kept(&self) -> usize
+        ensures { result ≤ self.now }
+    {
+        self.kept
+    }
+
+    /// An empty buffer with room for so many blocks, a spare one if there is one.
+    pub(crate) fn take(&mut self, alloc: Global, len: usize) -> Result<Vec<Block>, AllocError>
+        ensures most { self.new ≡ self.old }
+        ensures none { IfOk result (λ blocks. vec_len blocks ≡ 0) }
+        ensures room { IfOk result (λ blocks. len ≤ vec_capacity blocks) }
+    {
+        let mut blocks = match self.spare.pop() {
+            Some(spare) => spare,
+            None => Vec::new(alloc),
+        };
+        self.kept -= blocks.capacity();
+        blocks.clear();
+        blocks.reserve_exact(len)?;
+        Ok(blocks)
+    }
+
+    /// Keeps the blocks of a slice.
+    pub(crate) fn keep_slice(&mut self, slice: Vec<Segment>)
+        ensures { self.new ≡ self.old }
+    {
+        'segments: for segment in slice {
+            self.keep(segment.blocks);
+        }
+    }
+
+    /// Keeps a buffer, wiped, if there is room for it within the bound. Otherwise it is given back.
+    fn keep(&mut self, mut blocks: Vec<Block>)
+        ensures { self.new ≡ self.old }
+    {
+        let room = blocks.capacity();
+        if room > self.most - self.kept {
+            return;
+        }
+        wipe(&mut blocks);
+        if self.spare.push(blocks).is_ok() {
+            self.kept += room;
+        }
+    }
+}
+
+/// Writes zeros over all blocks. They stay in the buffer, so the compiler can't leave it out.
+fn wipe(blocks: &mut Vec<Block>)
+    ensures zero { blocks.new.items ≡ replicate (vec_len blocks.old) (record { 0 = zero_words }) }
+    ensures room { vec_capacity blocks.new ≡ vec_capacity blocks.old }
+{
+    blocks.fill(Block::ZERO);
+}
