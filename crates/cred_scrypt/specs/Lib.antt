@@ -3,6 +3,7 @@ pub mod Xor
 pub mod Salsa
 pub mod Mixing
 pub mod Table
+pub mod Scratches
 pub mod Hmac
 pub mod Keyed
 pub mod Pbkdf2

@@ -8,7 +8,8 @@ ghost use denote.Param.Send.{IsSync};
 use crate::error::ScryptError;
 use crate::params::ScryptParams;
 use crate::pbkdf::pbkdf2;
-use crate::pieces::{Mixing, Piece, mixed};
+use crate::pieces::{Mixing, Piece, mixed, mixed_in};
+use crate::scratch::ScryptScratch;
 use cred_pool::{Alone, Crew, CrewFn, Gate, run_parts};
 use std::alloc::Global;
 use std::marker::Sync;
@@ -60,6 +61,29 @@ pub fn scrypt_alone<G: Gate>(
     ensures size { IfOk result (λ key. length key.items ≡ params.now.len) }
 {
     scrypt_by(&Alone::new(gate), alloc, params, pw, salt)
+}
+
+/// The same key by a table that is kept from key to key. What an earlier key left there is never
+/// read. A thread that derives many keys so spares the system from taking the table back each time
+/// and giving it out anew. The errors are the same, and leave the scratch good for the next key.
+pub fn scrypt_in<G: Gate>(
+    scratch: &mut ScryptScratch,
+    alloc: Global,
+    gate: &G,
+    params: &ScryptParams,
+    pw: &[u8],
+    salt: &[u8],
+) -> Result<Vec<u8>, ScryptError>
+    ensures memory { (e : _) → result ≡ Err e → e ≡ ScryptError.Memory }
+    ensures ok { IfOk result (λ key. key.items
+        ≡ scrypt params.now.ln params.now.r params.now.p params.now.len pw.now salt.now) }
+    ensures size { IfOk result (λ key. length key.items ≡ params.now.len) }
+    ensures most { scratch.new ≡ scratch.old }
+{
+    let size = 128 * u32::from(params.r) * u32::from(params.p);
+    let start = pbkdf2(alloc, pw, salt, 1, size)?;
+    let pieces = mixed_in(scratch, alloc, gate, params, &start)?;
+    pbkdf2(alloc, pw, &pieces, 1, params.len)
 }
 
 /// The same key with the pieces mixed by this crew.

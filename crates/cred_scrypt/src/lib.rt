@@ -3,7 +3,7 @@
 //!
 //! [`scrypt`] derives a key from a password and a salt. Worker threads mix its p pieces, and the
 //! key is the standard's whatever their number. [`scrypt_alone`] mixes them on the caller's
-//! thread.
+//! thread, and [`scrypt_in`] with a table that is kept from key to key.
 #![tactic(auto)]
 
 mod blockmix;
@@ -15,13 +15,14 @@ mod pbkdf;
 mod pieces;
 mod romix;
 mod salsa;
+mod scratch;
 mod words;
 mod xor;
 
 pub use blockmix::block_mix;
 pub use error::ScryptError;
 pub use hmac::hmac_sha256;
-pub use key_derivation::{scrypt, scrypt_alone};
+pub use key_derivation::{scrypt, scrypt_alone, scrypt_in};
 pub use params::{
     MAX_BLOCK_SIZE, MAX_BLOCKS, MAX_LEN, MAX_LN, MAX_ROWS, MIN_LEN, ScryptParams,
     ranges_are_these_numbers,
@@ -29,3 +30,4 @@ pub use params::{
 pub use pbkdf::pbkdf2;
 pub use romix::ro_mix;
 pub use salsa::salsa20_8;
+pub use scratch::ScryptScratch;

@@ -2,13 +2,15 @@
 //! 6, step 2).
 ghost use Rattle.std.specs.Prelude.{◌≡◌, ℕ, ◌*◌, ◌^◌, ◌<◌, List, IfOk, false, length};
 ghost use Rattle.cred_scrypt.specs.PieceWork.{CanWork, Works};
+ghost use Rattle.cred_scrypt.specs.Mixing.{ro_mix};
 ghost use Rattle.cred_scrypt.specs.Scrypt.{mixed_pieces};
 
 use crate::error::ScryptError;
 use crate::params::ScryptParams;
-use crate::romix::ro_mix;
+use crate::romix::ro_mix_in;
+use crate::scratch::ScryptScratch;
 use crate::words::{put_words, words_of};
-use cred_pool::{Crew, Part};
+use cred_pool::{Crew, Gate, Part};
 use std::alloc::Global;
 
 /// The bytes of a piece for each unit of the block size: two blocks.
@@ -36,13 +38,8 @@ impl Part<Mixing> for Piece {
 
     /// Mixes the piece by ROMix, with a table that is freed when the piece is done.
     fn work(&mut self, shared: &Mixing) {
-        let mixed = ro_mix(
-            shared.alloc,
-            shared.params.r,
-            shared.params.ln,
-            self.words.as_mut_slice(),
-        );
-        self.refused = mixed.is_err();
+        let mut scratch = ScryptScratch::new(shared.alloc, 0);
+        self.mix(&mut scratch, shared.alloc, &shared.params);
     }
 }
 
@@ -64,8 +61,44 @@ pub(crate) fn mixed<W: Crew<Mixing, Piece>>(
     Piece::joined(alloc, bytes.len(), &pieces)
 }
 
+/// The same on the caller's thread, one piece after another, with a table that is kept.
+pub(crate) fn mixed_in<G: Gate>(
+    scratch: &mut ScryptScratch,
+    alloc: Global,
+    gate: &G,
+    params: &ScryptParams,
+    bytes: &[u8],
+) -> Result<Vec<u8>, ScryptError>
+    requires size { length bytes.now ≡ 128 * params.now.r * params.now.p }
+    ensures memory { (e : _) → result ≡ Err e → e ≡ ScryptError.Memory }
+    ensures ok { IfOk result (λ mixed. mixed.items
+        ≡ mixed_pieces params.now.ln params.now.r bytes.now params.now.p) }
+    ensures most { scratch.new ≡ scratch.old }
+{
+    let mut pieces = Piece::cut(alloc, usize::from(params.r), usize::from(params.p), bytes)?;
+    Piece::mix_in_turn(scratch, alloc, gate, params, pieces.as_mut_slice());
+    Piece::joined(alloc, bytes.len(), &pieces)
+}
+
 impl Piece {
     ghost use Rattle.cred_scrypt.specs.Pieces.{AreCut, AreMixed, AreWhole};
+
+    /// Mixes the piece by ROMix, with a table that is kept.
+    fn mix(&mut self, scratch: &mut ScryptScratch, alloc: Global, params: &ScryptParams)
+        requires { length self.old.words.items ≡ 32 * params.now.r }
+        ensures mixed { self.new.refused ≡ false
+            → self.new.words.items ≡ ro_mix params.now.r (2 ^ params.now.ln) self.old.words.items }
+        ensures most { scratch.new ≡ scratch.old }
+    {
+        let mixed = ro_mix_in(
+            scratch,
+            alloc,
+            params.r,
+            params.ln,
+            self.words.as_mut_slice(),
+        );
+        self.refused = mixed.is_err();
+    }
 
     /// Cuts `bytes` into `p` pieces.
     fn cut(alloc: Global, r: usize, p: usize, bytes: &[u8]) -> Result<Vec<Piece>, ScryptError>
@@ -105,6 +138,27 @@ impl Piece {
             params: *params,
         };
         crew.work_each(&shared, pieces);
+    }
+
+    /// Mixes each piece, between the gate's `enter` and `leave` with its index.
+    fn mix_in_turn<G: Gate>(
+        scratch: &mut ScryptScratch,
+        alloc: Global,
+        gate: &G,
+        params: &ScryptParams,
+        pieces: &mut [Piece],
+    )
+        requires whole { AreWhole params.now.r pieces.old }
+        ensures mixed { (b : List ℕ) → AreCut params.now.r b pieces.old
+            → AreMixed params.now.ln params.now.r b pieces.new }
+        ensures count { length pieces.new ≡ length pieces.old }
+        ensures most { scratch.new ≡ scratch.old }
+    {
+        'pieces: for k in 0..pieces.len() {
+            gate.enter(k);
+            pieces[k].mix(scratch, alloc, params);
+            gate.leave(k);
+        }
     }
 
     /// The bytes of all the pieces, in order.

@@ -1,6 +1,6 @@
 //! ROMix, with its table of rows (RFC 7914, section 5).
-ghost use Rattle.std.specs.Prelude.{◌≡◌, ℕ, ◌+◌, ◌*◌, ◌^◌, ◌%◌, ◌<◌, ◌≤◌, List, length, OnOk};
-ghost use Rattle.std.specs.Prelude.{OnErr, IfOk};
+ghost use Rattle.std.specs.Prelude.{◌≡◌, ℕ, ◌+◌, ◌*◌, ◌^◌, ◌%◌, ◌<◌, ◌≤◌, List, [], length, OnOk};
+ghost use Rattle.std.specs.Prelude.{OnErr, vec_capacity};
 ghost use Rattle.cred_scrypt.specs.declared.params.TheConstants.{MAX_LN, MAX_ROWS};
 ghost use Rattle.cred_scrypt.specs.Mixing.{block_mix, integerify, mixes, ro_mix};
 ghost use Rattle.cred_scrypt.specs.Table.{IsTable, row_at};
@@ -8,6 +8,7 @@ ghost use Rattle.cred_scrypt.specs.Xor.{xor_all};
 
 use crate::blockmix::block_mix;
 use crate::error::ScryptError;
+use crate::scratch::ScryptScratch;
 use crate::xor::xor_words;
 use std::alloc::Global;
 use std::mem;
@@ -27,11 +28,34 @@ pub fn ro_mix(alloc: Global, r: u8, ln: u8, block: &mut [u32]) -> Result<(), Scr
     ensures ok { OnOk result (block.new ≡ ro_mix r (2 ^ ln) block.old) }
     ensures unchanged { OnErr result (block.new ≡ block.old) }
 {
+    ro_mix_in(&mut ScryptScratch::new(alloc, 0), alloc, r, ln, block)
+}
+
+/// The same with a table that is kept.
+pub(crate) fn ro_mix_in(
+    scratch: &mut ScryptScratch,
+    alloc: Global,
+    r: u8,
+    ln: u8,
+    block: &mut [u32],
+) -> Result<(), ScryptError>
+    requires block_size { 1 ≤ r }
+    requires cost { ln ≤ MAX_LN }
+    requires room { r * 2 ^ ln ≤ MAX_ROWS }
+    requires size { length block.old ≡ 32 * r }
+    ensures memory { (e : _) → result ≡ Err e → e ≡ ScryptError.Memory }
+    ensures ok { OnOk result (block.new ≡ ro_mix r (2 ^ ln) block.old) }
+    ensures unchanged { OnErr result (block.new ≡ block.old) }
+    ensures most { scratch.new ≡ scratch.old }
+{
     let mut x = Vec::from_slice(alloc, block)?;
     let mut y = Vec::from_slice(alloc, block)?;
     let r = usize::from(r);
-    let table = filled(alloc, r, rows_of(ln), &mut x, &mut y)?;
+    let n = rows_of(ln);
+    let mut table = scratch.take(alloc, 32 * r * n)?;
+    fill(&mut table, r, n, &mut x, &mut y);
     walk(r, ln, &table, &mut x, &mut y);
+    scratch.keep(table);
     block.copy_from_slice(&x);
     Ok(())
 }
@@ -45,30 +69,24 @@ fn rows_of(ln: u8) -> usize
     1 << ln
 }
 
-/// The table: the values that `x` has as it is mixed `n` times.
-fn filled(
-    alloc: Global,
-    r: usize,
-    n: usize,
-    x: &mut Vec<u32>,
-    y: &mut Vec<u32>,
-) -> Result<Vec<u32>, ScryptError>
+/// Fills an empty table with the values that `x` has as it is mixed `n` times.
+fn fill(table: &mut Vec<u32>, r: usize, n: usize, x: &mut Vec<u32>, y: &mut Vec<u32>)
     requires block_size { 1 ≤ r }
-    requires room { r * n ≤ MAX_ROWS }
+    requires empty { table.old.items ≡ [] }
+    requires room { 32 * r * n ≤ vec_capacity table.old }
     requires size { length x.old.items ≡ 32 * r }
     requires same { length y.old.items ≡ 32 * r }
-    ensures memory { (e : _) → result ≡ Err e → e ≡ ScryptError.Memory }
-    ensures table { IfOk result (λ table. IsTable r x.old.items table.items n) }
-    ensures mixed { OnOk result (x.new.items ≡ mixes r x.old.items n) }
+    ensures table { IsTable r x.old.items table.new.items n }
+    ensures mixed { x.new.items ≡ mixes r x.old.items n }
     ensures size { length x.new.items ≡ 32 * r }
     ensures same { length y.new.items ≡ 32 * r }
 {
-    let mut table = Vec::with_capacity(alloc, 32 * r * n)?;
     'rows: for _row in 0..n {
-        table.extend_from_slice(x)?;
-        advance(r, x, y);
+        match table.extend_from_slice(x) {
+            Ok(()) => advance(r, x, y),
+            Err(_) => unreachable!(),
+        }
     }
-    Ok(table)
 }
 
 /// Mixes `x` 2^`ln` times, each time after XOR with the row of the table that `x` itself selects.

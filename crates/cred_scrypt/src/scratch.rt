@@ -1,0 +1,80 @@
+//! A table that is kept from key to key.
+ghost use Rattle.std.specs.Prelude.{◌≡◌, ◌≤◌, IfOk, [], replicate, vec_len, vec_capacity};
+
+use std::alloc::{AllocError, Global};
+use std::marker::Model;
+use std::mem;
+
+/// How many words a KiB has.
+const KIB: usize = 256;
+
+/// The table of keys that are derived one after another, by [`scrypt_in`](crate::scrypt_in). It is
+/// kept from key to key, up to a bound, and what is kept holds zeros alone.
+#[derive(Drop)]
+pub struct ScryptScratch {
+    /// How many KiB are kept at most.
+    most: u32,
+    table: Vec<u32>,
+}
+
+impl Model for ScryptScratch {
+    ghost use Rattle.std.specs.Prelude.{ℕ, vec_capacity};
+    ghost use Rattle.cred_scrypt.specs.Scratches.{IsScratch};
+
+    ghost Value = { ℕ };
+
+    ghost view = { λ s. s.most };
+
+    ghost invariant = { λ s. IsScratch s.most s.table.items (vec_capacity s.table) };
+}
+
+impl ScryptScratch {
+    /// A table that is yet to be taken. Between two keys at most so many KiB are kept: a larger
+    /// table is given back.
+    pub fn new(alloc: Global, most: u32) -> ScryptScratch
+        ensures { result ≡ most }
+    {
+        ScryptScratch {
+            most,
+            table: Vec::new(alloc),
+        }
+    }
+
+    /// How many KiB are kept now, rounded up.
+    pub fn kept(&self) -> usize
+        ensures { result ≤ self.now }
+    {
+        self.table.capacity().div_ceil(KIB)
+    }
+
+    /// An empty table with room for so many words. What was kept is used for it.
+    pub(crate) fn take(&mut self, alloc: Global, len: usize) -> Result<Vec<u32>, AllocError>
+        ensures most { self.new ≡ self.old }
+        ensures none { IfOk result (λ table. table.items ≡ []) }
+        ensures room { IfOk result (λ table. len ≤ vec_capacity table) }
+    {
+        let mut table = mem::replace(&mut self.table, Vec::new(alloc));
+        table.clear();
+        table.reserve_exact(len)?;
+        Ok(table)
+    }
+
+    /// Keeps a table, wiped, if it is within the bound. Otherwise it is given back.
+    pub(crate) fn keep(&mut self, mut table: Vec<u32>)
+        ensures { self.new ≡ self.old }
+    {
+        if table.capacity() > KIB * self.most as usize {
+            return;
+        }
+        wipe(&mut table);
+        self.table = table;
+    }
+}
+
+/// Writes zeros over all words. They stay in the table, so the compiler can't leave it out.
+fn wipe(table: &mut Vec<u32>)
+    ensures zero { table.new.items ≡ replicate (vec_len table.old) 0 }
+    ensures room { vec_capacity table.new ≡ vec_capacity table.old }
+{
+    table.fill(0);
+}
