@@ -15,6 +15,7 @@ pub mod Faults
 pub mod Vectors
 pub mod Tags
 pub mod Functions
+pub mod Scratches
 pub use Rattle.cred_argon.specs.Argon
 pub use Rattle.cred_argon.specs.Numbers
 pub use Rattle.cred_argon.specs.Parameters

@@ -10,11 +10,12 @@ ghost use Rattle.cred_phc.specs.Values.{IsTag};
 
 use crate::password::Password;
 use crate::scheme::{Scheme, Variant};
+use crate::scratch::Scratch;
 use crate::setting::Setting;
 use crate::tag::{MAX_TAG, Tag};
-use cred_argon::{Kind, Params, Version, argon2, argon2_alone};
+use cred_argon::{Kind, Params, Version, argon2, argon2_alone, argon2_in};
 use cred_pool::Gate;
-use cred_scrypt::{ScryptParams, scrypt, scrypt_alone};
+use cred_scrypt::{ScryptParams, scrypt, scrypt_alone, scrypt_in};
 use std::alloc::Global;
 use std::marker::Sync;
 use std::thread::Threads;
@@ -115,6 +116,44 @@ pub fn tag_alone<G: Gate>(
             tag_made(argon2_alone(alloc, gate, &params, pw, salt, b"", b""))
         }
         Function::Scrypt(params) => tag_made(scrypt_alone(alloc, gate, &params, pw, salt)),
+    }
+}
+
+/// The same in memory that is kept from tag to tag. What an earlier tag left there is never read. A
+/// thread that makes many tags so spares the system from taking its memory back each time and
+/// giving it out anew.
+///
+/// Errors: `Memory` if there is too little for the setting. The scratch is good for the next tag
+/// then, too.
+pub fn tag_in<G: Gate>(
+    scratch: &mut Scratch,
+    alloc: Global,
+    gate: &G,
+    setting: &Setting,
+    len: u8,
+    pw: &[u8],
+) -> Result<Tag, TagError>
+    requires low { 4 ≤ len }
+    requires high { len ≤ 64 }
+    requires password { length pw.now < 2 ^ 32 }
+    ensures made { IfOk result (λ t. t ≡ tag setting.now len pw.now) }
+    ensures ranges { IfOk result IsTag }
+    ensures most { scratch.new ≡ scratch.old }
+{
+    let salt = setting.salt();
+    match Function::of(setting, len) {
+        Function::Argon2(params) => {
+            let mut kept = scratch.take_argon2(alloc);
+            let made = argon2_in(&mut kept, alloc, gate, &params, pw, salt, b"", b"");
+            scratch.keep_argon2(kept);
+            tag_made(made)
+        }
+        Function::Scrypt(params) => {
+            let mut kept = scratch.take_scrypt(alloc);
+            let made = scrypt_in(&mut kept, alloc, gate, &params, pw, salt);
+            scratch.keep_scrypt(kept);
+            tag_made(made)
+        }
     }
 }
 

@@ -12,6 +12,7 @@ mod pieces;
 mod record;
 mod salt;
 mod scheme;
+mod scratch;
 mod setting;
 mod short_bytes;
 mod tag;
@@ -19,7 +20,7 @@ mod write;
 
 pub use cred_argon::Version;
 pub use error::PhcError;
-pub use hashing::{TagError, argon2_params, tag_alone, tag_of};
+pub use hashing::{TagError, argon2_params, tag_alone, tag_in, tag_of};
 pub use laws::{
     equal_passwords, equal_records, equal_schemes, equal_settings, equal_tags, equal_variants,
     equal_versions, known_faults, known_texts, old_not_read, one_value_each,
@@ -32,6 +33,7 @@ pub use pieces::Pieces;
 pub use record::Record;
 pub use salt::draw_salt;
 pub use scheme::{Scheme, Variant};
+pub use scratch::Scratch;
 pub use setting::Setting;
 pub use short_bytes::ShortBytes;
 pub use tag::Tag;

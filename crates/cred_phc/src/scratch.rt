@@ -1,0 +1,98 @@
+//! Memory that is kept from tag to tag.
+ghost use Rattle.std.specs.Prelude.{◌≡◌, ◌≤◌};
+
+use cred_argon::ArgonScratch;
+use cred_scrypt::ScryptScratch;
+use std::alloc::Global;
+use std::marker::Model;
+use std::mem;
+
+/// Memory for tags that are made one after another, by [`tag_in`](crate::tag_in). It is kept from
+/// tag to tag, up to a bound, and what is kept holds zeros alone.
+#[derive(Drop)]
+pub struct Scratch {
+    /// How many KiB are kept at most.
+    most: u32,
+    memory: Memory,
+}
+
+/// The memory of the function that made the last tag.
+#[derive(Drop)]
+enum Memory {
+    Argon2(ArgonScratch),
+    Scrypt(ScryptScratch),
+}
+
+impl Model for Scratch {
+    ghost use Rattle.std.specs.Prelude.{ℕ};
+    ghost use Rattle.cred_phc.specs.Scratches.{KeepsAtMost};
+
+    ghost Value = { ℕ };
+
+    ghost view = { λ s. s.most };
+
+    ghost invariant = { λ s. KeepsAtMost s.most s.memory };
+}
+
+impl Scratch {
+    /// Memory that is yet to be taken. Between two tags at most so many KiB are kept: what a tag
+    /// takes above them is given back.
+    pub fn new(alloc: Global, most: u32) -> Scratch
+        ensures { result ≡ most }
+    {
+        Scratch {
+            most,
+            memory: Memory::Argon2(ArgonScratch::new(alloc, most)),
+        }
+    }
+
+    /// How many KiB are kept now.
+    pub fn kept(&self) -> usize
+        ensures { result ≤ self.now }
+    {
+        match &self.memory {
+            Memory::Argon2(scratch) => scratch.kept(),
+            Memory::Scrypt(scratch) => scratch.kept(),
+        }
+    }
+
+    /// The memory of Argon2. That of scrypt is given back.
+    pub(crate) fn take_argon2(&mut self, alloc: Global) -> ArgonScratch
+        ensures taken { result ≡ self.old }
+        ensures most { self.new ≡ self.old }
+    {
+        let none = ArgonScratch::new(alloc, self.most);
+        match mem::replace(&mut self.memory, Memory::Argon2(none)) {
+            Memory::Argon2(scratch) => scratch,
+            Memory::Scrypt(_) => ArgonScratch::new(alloc, self.most),
+        }
+    }
+
+    /// The memory of scrypt. That of Argon2 is given back.
+    pub(crate) fn take_scrypt(&mut self, alloc: Global) -> ScryptScratch
+        ensures taken { result ≡ self.old }
+        ensures most { self.new ≡ self.old }
+    {
+        let none = ScryptScratch::new(alloc, self.most);
+        match mem::replace(&mut self.memory, Memory::Scrypt(none)) {
+            Memory::Scrypt(scratch) => scratch,
+            Memory::Argon2(_) => ScryptScratch::new(alloc, self.most),
+        }
+    }
+
+    /// Keeps the memory of Argon2 until the next tag.
+    pub(crate) fn keep_argon2(&mut self, scratch: ArgonScratch)
+        requires { scratch ≡ self.old }
+        ensures { self.new ≡ self.old }
+    {
+        self.memory = Memory::Argon2(scratch);
+    }
+
+    /// Keeps the memory of scrypt until the next tag.
+    pub(crate) fn keep_scrypt(&mut self, scratch: ScryptScratch)
+        requires { scratch ≡ self.old }
+        ensures { self.new ≡ self.old }
+    {
+        self.memory = Memory::Scrypt(scratch);
+    }
+}
