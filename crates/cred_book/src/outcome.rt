@@ -8,9 +8,10 @@ ghost use denote.Param.Send.{IsSync};
 use crate::reply::Reply;
 use crate::request::Request;
 use crate::ticket::Ticket;
-use cred_phc::{Password, Record, Setting, Tag, TagError, tag_alone, tag_of};
+use cred_phc::{Password, Record, Scratch, Setting, Tag, TagError, tag_alone, tag_in, tag_of};
 use cred_pool::Gate;
 use std::alloc::Global;
+use std::cell::Cell;
 use std::thread::Threads;
 
 /// The length of the tag of a new record in bytes.
@@ -142,6 +143,35 @@ impl<G: Gate> TagMaker for HashingAlone<'_, G> {
 
     fn tag(&self, setting: &Setting, len: u8, pw: &Password) -> Result<Tag, TagError> {
         tag_alone(self.alloc, self.gate, setting, len, pw.bytes())
+    }
+}
+
+/// The caller's thread with memory that it keeps from tag to tag. A maker is shared while it makes
+/// a tag, so the memory is in a cell.
+#[derive(Drop)]
+pub(crate) struct HashingIn<'a, G> {
+    pub(crate) alloc: Global,
+    pub(crate) gate: &'a G,
+    pub(crate) scratch: Cell<Scratch>,
+}
+
+impl<G: Gate> TagMaker for HashingIn<'_, G> {
+    ghost use Rattle.std.specs.Prelude.{⊤};
+
+    ghost ready = { λ _. ⊤ };
+
+    fn tag(&self, setting: &Setting, len: u8, pw: &Password) -> Result<Tag, TagError> {
+        let mut scratch = self.scratch.replace(Scratch::new(self.alloc, 0));
+        let made = tag_in(
+            &mut scratch,
+            self.alloc,
+            self.gate,
+            setting,
+            len,
+            pw.bytes(),
+        );
+        self.scratch.set(scratch);
+        made
     }
 }
 

@@ -7,14 +7,16 @@ ghost use Rattle.cred_book.specs.Commits.{judgement_at};
 ghost use Rattle.cred_book.specs.Works.{is_verify, whole};
 
 use crate::change::Change;
-use crate::outcome::{Hashing, HashingAlone, Operations, Outcome};
+use crate::outcome::{Hashing, HashingAlone, HashingIn, Operations, Outcome};
 use crate::reply::Reply;
 use crate::request::Request;
 use crate::same::is_same;
-use cred_phc::{Record, TagError};
+use cred_phc::{Record, Scratch, TagError};
 use cred_pool::Gate;
 use std::alloc::Global;
+use std::cell::Cell;
 use std::marker::Model;
+use std::mem;
 use std::thread::Threads;
 
 /// A request with a copy of its account's record, taken at the begin.
@@ -87,6 +89,31 @@ impl Ticket {
     {
         let maker = HashingAlone { alloc, gate };
         let outcome = Operations { maker }.outcome(&self);
+        self.worked(outcome)
+    }
+
+    /// The same in memory that is kept from hash to hash, for a thread that works many tickets.
+    ///
+    /// Errors: the ticket comes back if memory runs out. The scratch is good for the next ticket
+    /// then, too.
+    pub fn work_in<G: Gate>(
+        self,
+        scratch: &mut Scratch,
+        alloc: Global,
+        gate: &G,
+    ) -> Result<Worked, Ticket>
+        ensures worked { IfOk result (λ worked. worked ≡ self) }
+        ensures back { IfErr result (λ ticket. ticket ≡ self) }
+    {
+        let kept = mem::replace(scratch, Scratch::new(alloc, 0));
+        let maker = HashingIn {
+            alloc,
+            gate,
+            scratch: Cell::new(kept),
+        };
+        let operations = Operations { maker };
+        let outcome = operations.outcome(&self);
+        *scratch = operations.maker.scratch.into_inner();
         self.worked(outcome)
     }
 
