@@ -4,6 +4,7 @@ pub mod Schema
 pub mod Table
 pub mod Edits
 pub mod Keeps
+pub mod Kept
 pub mod Together
 pub mod Opening
 pub mod Drafts

@@ -43,21 +43,14 @@ pub struct FileBook<S: Alter> {
 }
 
 impl<S: Alter> Model for FileBook<S> {
-    ghost use Rattle.std.specs.Prelude.{Option};
-    ghost use Rattle.std.specs.Coded.{coded×, coded_option};
-    ghost use Rattle.sqlite.specs.Held.{Held, held_code};
-    ghost use Rattle.cred_book.specs.Accounts.{Accounts};
-    ghost use Rattle.cred_book.specs.contracts.register.Register as kept;
-    ghost use Rattle.cred_file.specs.declared.fault.Lost.{Lost};
-    ghost use Rattle.cred_file.specs.contracts.fault.Lost as loss;
+    ghost use Rattle.cred_file.specs.Kept.{Kept, kept_code};
     ghost use Rattle.cred_file.specs.Keeps.{Keeps};
 
-    ghost Value = { Accounts × (Option Lost × Held S) };
+    ghost Value = { Kept S };
 
-    ghost coded = { coded× kept.the_row.coded
-        (coded× (coded_option loss.the_row.coded) (held_code S.code)) };
+    ghost coded = { kept_code S.code };
 
-    ghost view = { λ b. (b.book, (b.lost, b.conn)) };
+    ghost view = { λ b. record { book = b.book; lost = b.lost; conn = b.conn } };
 
     ghost invariant = { λ b. Keeps S.Store b.conn b.book b.lost };
 }
@@ -71,7 +64,7 @@ impl<S: Alter> FileBook<S> {
         mut conn: Connection<S>,
     ) -> Result<FileBook<S>, (OpenFault, Connection<S>)>
         requires autocommit { conn.in_transaction ≡ false }
-        ensures empty { IfOk result (λ b. (b.0 ≡ fin.empty) × (b.1.0 ≡ None)) }
+        ensures empty { IfOk result (λ b. (b.book ≡ fin.empty) × (b.lost ≡ None)) }
         ensures begun { IfOk result (λ _. (state S.Store conn).now.schema ≡ no_schema) }
         ensures refused { IfErr result (λ e. IsUnbegun S.Store conn e.1 e.0) }
         ensures left { IfErr result (λ e. HasCleanDisk (state S.Store e.1)
@@ -102,13 +95,13 @@ impl<S: Alter> FileBook<S> {
         mut conn: Connection<S>,
     ) -> Result<FileBook<S>, (OpenFault, Connection<S>)>
         requires autocommit { conn.in_transaction ≡ false }
-        ensures whole { IfOk result (λ b. b.1.0 ≡ None) }
-        ensures found { IfOk result (λ b. HasCleanDisk (state S.Store b.1.1)
-            → IsFound (state S.Store conn) (state S.Store b.1.1) b.0) }
+        ensures whole { IfOk result (λ b. b.lost ≡ None) }
+        ensures found { IfOk result (λ b. HasCleanDisk (state S.Store b.conn)
+            → IsFound (state S.Store conn) (state S.Store b.conn) b.book) }
         ensures refused { IfErr result (λ e. HasCleanDisk (state S.Store e.1)
             → IsUnopened (state S.Store conn) (state S.Store e.1) e.0) }
         ensures kept { IfOk result (λ b.
-            Survives (state S.Store conn) (state S.Store b.1.1) (λ _. ⊥)) }
+            Survives (state S.Store conn) (state S.Store b.conn) (λ _. ⊥)) }
         ensures left { IfErr result (λ e.
             Survives (state S.Store conn) (state S.Store e.1) (λ _. ⊥)) }
     {
@@ -130,14 +123,14 @@ impl<S: Alter> FileBook<S> {
 
     /// The book, as the answers so far have told it.
     pub fn book(&self) -> &Register
-        ensures { result.now ≡ self.now.0 }
+        ensures { result.now ≡ self.now.book }
     {
         &self.book
     }
 
     /// The change that was under way as the database failed, if it did.
     pub fn lost(&self) -> Option<&Lost>
-        ensures { option_map (λ l. l.now) result ≡ self.now.1.0 }
+        ensures { option_map (λ l. l.now) result ≡ self.now.lost }
     {
         self.lost.as_ref()
     }
@@ -145,15 +138,15 @@ impl<S: Alter> FileBook<S> {
     /// Tells what is kept: the table is the book's until a change is lost, and a crash leaves the
     /// book, or the book with the lost change.
     pub fn keeps(&self)
-        ensures { Keeps S.Store self.now.1.1 self.now.0 self.now.1.0 }
+        ensures { Keeps S.Store self.now.conn self.now.book self.now.lost }
     {
         let _ = &self.lost;
     }
 
     /// Gives the connection back, which keeps the book.
     pub fn close(self) -> Connection<S>
-        ensures same { result ≡ self.1.1 }
-        ensures kept { Keeps S.Store result self.0 self.1.0 }
+        ensures same { result ≡ self.conn }
+        ensures kept { Keeps S.Store result self.book self.lost }
     {
         self.conn
     }
@@ -176,28 +169,28 @@ impl<S: Alter> Keeper for FileBook<S> {
     ghost use Rattle.cred_file.specs.Failures.{FailsToPut, IsLossOf};
     ghost use Rattle.cred_file.specs.declared.fault.Edit.TheVariants as Edit;
 
-    ghost book = { λ b. b.0 };
+    ghost book = { λ b. b.book };
 
     ghost capacity = { register_capacity };
 
     fn admit<R: Wait>(&mut self, _rt: &R, name: Name) -> Result<(), BookError>
-        ensures done { AdmitsWithin register_capacity self.old.0 self.new.0 name result }
-        ensures written { OnOk result ((self.old.1.0 ≡ None) × (self.new.1.0 ≡ None)) }
-        ensures remembered { IfSome self.old.1.0 (λ l. self.new.1.0 ≡ Some l) }
-        ensures lost { self.old.1.0 ≡ None → IfSome self.new.1.0 (IsLossOf (Edit.Put name None)
-            (FailsToPut S.Store self.old.1.1 self.new.1.1 false name None)) }
+        ensures done { AdmitsWithin register_capacity self.old.book self.new.book name result }
+        ensures written { OnOk result ((self.old.lost ≡ None) × (self.new.lost ≡ None)) }
+        ensures remembered { IfSome self.old.lost (λ l. self.new.lost ≡ Some l) }
+        ensures lost { self.old.lost ≡ None → IfSome self.new.lost (IsLossOf (Edit.Put name None)
+            (FailsToPut S.Store self.old.conn self.new.conn false name None)) }
     {
         self.enter(name, None)
     }
 
     #[tactic(auto, using(crate::proofs::Keeping::shown_there))]
     fn load<R: Wait>(&mut self, _rt: &R, name: &Name, stored: Record) -> Result<(), BookError>
-        ensures done { Loads self.old.0 self.new.0 name.now stored result }
-        ensures written { OnOk result ((self.old.1.0 ≡ None) × (self.new.1.0 ≡ None)) }
-        ensures remembered { IfSome self.old.1.0 (λ l. self.new.1.0 ≡ Some l) }
-        ensures lost { self.old.1.0 ≡ None → IfSome self.new.1.0
+        ensures done { Loads self.old.book self.new.book name.now stored result }
+        ensures written { OnOk result ((self.old.lost ≡ None) × (self.new.lost ≡ None)) }
+        ensures remembered { IfSome self.old.lost (λ l. self.new.lost ≡ Some l) }
+        ensures lost { self.old.lost ≡ None → IfSome self.new.lost
             (IsLossOf (Edit.Put name.now (Some stored))
-            (FailsToPut S.Store self.old.1.1 self.new.1.1 true name.now (Some stored))) }
+            (FailsToPut S.Store self.old.conn self.new.conn true name.now (Some stored))) }
     {
         if self.book.show(name).is_err() {
             return Err(BookError::NoAccount);
@@ -215,15 +208,15 @@ impl<S: Alter> Keeper for FileBook<S> {
 
     #[tactic(auto, using(crate::proofs::Judged::judged_change, crate::proofs::Judged::judged_still, crate::proofs::Judged::judged_there))]
     fn commit<R: Wait>(&mut self, _rt: &R, worked: Worked) -> Result<Reply, (Worked, BookError)>
-        ensures done { Commits self.old.0 self.new.0 worked result }
-        ensures refused { IfSome self.old.1.0 (λ _.
-            is_ok result ≡ not (judgement self.old.0 worked).2) }
-        ensures written { OnOk result (self.new.1.0 ≡ self.old.1.0) }
-        ensures remembered { IfSome self.old.1.0 (λ l. self.new.1.0 ≡ Some l) }
-        ensures lost { self.old.1.0 ≡ None → IfSome self.new.1.0
-            (IsLossOf (Edit.Put (name_of worked.0) (judgement self.old.0 worked).1)
-            (FailsToPut S.Store self.old.1.1 self.new.1.1 true (name_of worked.0)
-            (judgement self.old.0 worked).1)) }
+        ensures done { Commits self.old.book self.new.book worked result }
+        ensures refused { IfSome self.old.lost (λ _.
+            is_ok result ≡ not (judgement self.old.book worked).2) }
+        ensures written { OnOk result (self.new.lost ≡ self.old.lost) }
+        ensures remembered { IfSome self.old.lost (λ l. self.new.lost ≡ Some l) }
+        ensures lost { self.old.lost ≡ None → IfSome self.new.lost
+            (IsLossOf (Edit.Put (name_of worked.0) (judgement self.old.book worked).1)
+            (FailsToPut S.Store self.old.conn self.new.conn true (name_of worked.0)
+            (judgement self.old.book worked).1)) }
     {
         let (reply, after, changes) = self.book.judge(&worked);
         if !changes {

@@ -22,8 +22,8 @@ pub fn crash_and_open<S: Alter + Reopen + Drop>(
     alloc: Global,
     book: FileBook<S>,
 ) -> Option<Result<FileBook<S>, (OpenFault, Connection<S>)>>
-    ensures kept { IfSome result (λ r. IfOk r (λ b. HasCleanDisk (state S.Store b.1.1)
-        → IsOrWith book.0 book.1.0 b.0)) }
+    ensures kept { IfSome result (λ r. IfOk r (λ b. HasCleanDisk (state S.Store b.conn)
+        → IsOrWith book.book book.lost b.book)) }
     ensures refused { IfSome result (λ r. IfErr r (λ e. HasCleanDisk (state S.Store e.1)
         → IsForWant e.0)) }
 {

@@ -31,8 +31,8 @@ pub fn count_accounts<S: Alter>(
     conn: Connection<S>,
 ) -> (Connection<S>, Result<usize, OpenFault>)
     requires autocommit { conn.in_transaction ≡ false }
-    ensures found { HasCleanDisk (state S.Store result.0) → IfOk result.1 (λ count. (book : Accounts)
-        × IsFound (state S.Store conn) (state S.Store result.0) book
+    ensures found { HasCleanDisk (state S.Store result.0) → IfOk result.1 (λ count.
+        (book : Accounts) × IsFound (state S.Store conn) (state S.Store result.0) book
         × (count ≡ map.len book)) }
     ensures refused { HasCleanDisk (state S.Store result.0)
         → IfErr result.1 (IsUnopened (state S.Store conn) (state S.Store result.0)) }
@@ -88,8 +88,8 @@ pub fn copy_into<S: Alter, D: Alter>(
 ) -> (Connection<D>, Result<usize, CopyFault>)
     requires autocommit { target.in_transaction ≡ false }
     ensures copied { HasCleanDisk (state D.Store result.0) → IfOk result.1 (λ count.
-        IsTableOf (state D.Store result.0) book.now.0 × (count ≡ map.len book.now.0)) }
-    ensures refused { IfErr result.1 (IsUnwritten D.Store target result.0 book.now.0) }
+        IsTableOf (state D.Store result.0) book.now.book × (count ≡ map.len book.now.book)) }
+    ensures refused { IfErr result.1 (IsUnwritten D.Store target result.0 book.now.book) }
 {
     match FileBook::create_copy(alloc, target, book.book()) {
         Ok(copy) => {

@@ -4,7 +4,8 @@ ghost use Rattle.std.specs.Prelude.{◌≡◌, ◌⊎◌, ◌≤◌, ◌<◌, If
 ghost use Rattle.std.specs.FinMap as map;
 ghost use Rattle.cred_book.specs.Accounts.{register_capacity};
 ghost use Rattle.cred_admin.specs.Edits.{Edits, deletion, disabling, renaming};
-ghost use Rattle.cred_admin.specs.declared.edit_reply.EditReply.TheVariants.{Deleted, Disabled, Renamed};
+ghost use Rattle.cred_admin.specs.declared.edit_reply.EditReply.TheVariants.{Deleted, Disabled};
+ghost use Rattle.cred_admin.specs.declared.edit_reply.EditReply.TheVariants.{Renamed};
 ghost use Rattle.cred_cli.specs.Watched.{writing};
 
 use cred_admin::{EditReply, Fault, Status, answer_edit};
@@ -23,7 +24,7 @@ pub(crate) fn disable<S: Alter, W: Write>(
     name: &Name,
     writer: &mut Watched<W>,
 ) -> Result<Status, Fault>
-    ensures { Edits register_capacity (disabling book.old.0 name.now) book.old.0 book.new.0
+    ensures { Edits register_capacity (disabling book.old.book name.now) book.old.book book.new.book
         (writing W.contents writer.old writer.new) result }
 {
     let reply = take_record(book, name)?;
@@ -31,10 +32,11 @@ pub(crate) fn disable<S: Alter, W: Write>(
 }
 
 fn take_record<S: Alter>(book: &mut FileBook<S>, name: &Name) -> Result<EditReply, Fault>
-    ensures done { IfOk result (λ reply. (reply, book.new.0) ≡ disabling book.old.0 name.now) }
-    ensures stays { OnErr result (book.new.0 ≡ book.old.0) }
+    ensures done { IfOk result (λ reply.
+        (reply, book.new.book) ≡ disabling book.old.book name.now) }
+    ensures stays { OnErr result (book.new.book ≡ book.old.book) }
     ensures memory { IfErr result (λ e. (e ≡ Fault.Memory)
-        × ((disabling book.old.0 name.now).0 ≡ Disabled)) }
+        × ((disabling book.old.book name.now).0 ≡ Disabled)) }
 {
     match book.book().show(name) {
         Ok(Some(_)) => {}
@@ -56,7 +58,7 @@ pub(crate) fn delete<S: Alter, W: Write>(
     name: &Name,
     writer: &mut Watched<W>,
 ) -> Result<Status, Fault>
-    ensures { Edits register_capacity (deletion book.old.0 name.now) book.old.0 book.new.0
+    ensures { Edits register_capacity (deletion book.old.book name.now) book.old.book book.new.book
         (writing W.contents writer.old writer.new) result }
 {
     let reply = take_account(book, name)?;
@@ -64,10 +66,11 @@ pub(crate) fn delete<S: Alter, W: Write>(
 }
 
 fn take_account<S: Alter>(book: &mut FileBook<S>, name: &Name) -> Result<EditReply, Fault>
-    ensures done { IfOk result (λ reply. (reply, book.new.0) ≡ deletion book.old.0 name.now) }
-    ensures stays { OnErr result (book.new.0 ≡ book.old.0) }
+    ensures done { IfOk result (λ reply.
+        (reply, book.new.book) ≡ deletion book.old.book name.now) }
+    ensures stays { OnErr result (book.new.book ≡ book.old.book) }
     ensures memory { IfErr result (λ e. (e ≡ Fault.Memory)
-        × ((deletion book.old.0 name.now).0 ≡ Deleted)) }
+        × ((deletion book.old.book name.now).0 ≡ Deleted)) }
 {
     match book.delete(name) {
         Ok(()) => Ok(EditReply::Deleted),
@@ -86,8 +89,8 @@ pub(crate) fn rename<S: Alter, W: Write>(
     other: &Name,
     writer: &mut Watched<W>,
 ) -> Result<Status, Fault>
-    ensures { Edits register_capacity (renaming book.old.0 name.now other.now) book.old.0
-        book.new.0 (writing W.contents writer.old writer.new) result }
+    ensures { Edits register_capacity (renaming book.old.book name.now other.now) book.old.book
+        book.new.book (writing W.contents writer.old writer.new) result }
 {
     let reply = change_name(book, name, other)?;
     answer_edit(reply, writer)
@@ -99,12 +102,12 @@ fn change_name<S: Alter>(
     other: &Name,
 ) -> Result<EditReply, Fault>
     ensures done { IfOk result (λ reply.
-        (reply, book.new.0) ≡ renaming book.old.0 name.now other.now) }
-    ensures stays { OnErr result (book.new.0 ≡ book.old.0) }
-    ensures due { OnErr result ((renaming book.old.0 name.now other.now).0 ≡ Renamed) }
+        (reply, book.new.book) ≡ renaming book.old.book name.now other.now) }
+    ensures stays { OnErr result (book.new.book ≡ book.old.book) }
+    ensures due { OnErr result ((renaming book.old.book name.now other.now).0 ≡ Renamed) }
     ensures fault { IfErr result (λ e.
-        ((e ≡ Fault.Memory) × (map.len book.old.0 < register_capacity))
-        ⊎ ((e ≡ Fault.Full) × (register_capacity ≤ map.len book.old.0))) }
+        ((e ≡ Fault.Memory) × (map.len book.old.book < register_capacity))
+        ⊎ ((e ≡ Fault.Full) × (register_capacity ≤ map.len book.old.book))) }
 {
     match book.rename(name, other) {
         Ok(()) => Ok(EditReply::Renamed),

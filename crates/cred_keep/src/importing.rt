@@ -62,7 +62,8 @@ pub(crate) fn import<S: Alter, R: Read>(
     how: Importing,
     reader: &mut Watched<R>,
 ) -> Result<Imported, ImportFault>
-    ensures { Imports how (reading R.remaining reader.old reader.new) book.old.0 book.new.0 result }
+    ensures { Imports how (reading R.remaining reader.old reader.new) book.old.book book.new.book
+        result }
 {
     let Gathered {
         accounts,
@@ -92,7 +93,7 @@ fn take<S: Alter>(
     added: Register,
     changed: Register,
 ) -> Result<(), ImportFault>
-    ensures { Takes effect book.old.0 book.new.0 added changed result }
+    ensures { Takes effect book.old.book book.new.book added changed result }
 {
     match effect {
         Effect::Foretold if book.has_room_for(&added) => Ok(()),

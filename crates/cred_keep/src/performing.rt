@@ -41,13 +41,13 @@ pub fn serve<T: Threads + Wait + Sync, S: Alter, R: Read, W: Write, F: Write>(
     requires new_reader { IsNew reader.old }
     requires new_writer { IsNew writer.old }
     ensures done { (ended : _) × Ends order.now (seen (reading R.remaining reader.old reader.new)
-        (writing W.contents writer.old writer.new) book.old.0 book.new.0) book.new.1.0 ended
+        (writing W.contents writer.old writer.new) book.old.book book.new.book) book.new.lost ended
         × (result ≡ status_of_end ended) }
     ensures unread { is_unread order.now ≡ true → reader.new ≡ reader.old }
-    ensures table { HasCleanDisk (state S.Store book.new.1.1) → book.new.1.0 ≡ None
-        → IsTableOf (state S.Store book.new.1.1) book.new.0 }
-    ensures crash { HasCleanDisk (state S.Store book.new.1.1)
-        → LeavesOnly (state S.Store book.new.1.1) (IsOrWith book.new.0 book.new.1.0) }
+    ensures table { HasCleanDisk (state S.Store book.new.conn) → book.new.lost ≡ None
+        → IsTableOf (state S.Store book.new.conn) book.new.book }
+    ensures crash { HasCleanDisk (state S.Store book.new.conn)
+        → LeavesOnly (state S.Store book.new.conn) (IsOrWith book.new.book book.new.lost) }
 {
     match perform(tools, book, order, reader, writer) {
         Ok(ending) => {
@@ -75,14 +75,15 @@ pub fn perform<T: Threads + Wait + Sync, S: Alter, R: Read, W: Write>(
     requires new_reader { IsNew reader.old }
     requires new_writer { IsNew writer.old }
     ensures done { Ends order.now (seen (reading R.remaining reader.old reader.new)
-        (writing W.contents writer.old writer.new) book.old.0 book.new.0) book.new.1.0 result }
+        (writing W.contents writer.old writer.new) book.old.book book.new.book) book.new.lost
+        result }
     ensures unread { is_unread order.now ≡ true → reader.new ≡ reader.old }
-    ensures kept { OnOk result (HasCleanDisk (state S.Store book.new.1.1)
-        → IsTableOf (state S.Store book.new.1.1) book.new.0) }
-    ensures table { HasCleanDisk (state S.Store book.new.1.1) → book.new.1.0 ≡ None
-        → IsTableOf (state S.Store book.new.1.1) book.new.0 }
-    ensures crash { HasCleanDisk (state S.Store book.new.1.1)
-        → LeavesOnly (state S.Store book.new.1.1) (IsOrWith book.new.0 book.new.1.0) }
+    ensures kept { OnOk result (HasCleanDisk (state S.Store book.new.conn)
+        → IsTableOf (state S.Store book.new.conn) book.new.book) }
+    ensures table { HasCleanDisk (state S.Store book.new.conn) → book.new.lost ≡ None
+        → IsTableOf (state S.Store book.new.conn) book.new.book }
+    ensures crash { HasCleanDisk (state S.Store book.new.conn)
+        → LeavesOnly (state S.Store book.new.conn) (IsOrWith book.new.book book.new.lost) }
 {
     let ended = obey(tools, book, order, reader, writer);
     book.keeps();
@@ -102,7 +103,7 @@ fn obey<T: Threads + Wait + Sync, S: Alter, R: Read, W: Write>(
     requires new_reader { IsNew reader.old }
     requires new_writer { IsNew writer.old }
     ensures done { Performs order.now (seen (reading R.remaining reader.old reader.new)
-        (writing W.contents writer.old writer.new) book.old.0 book.new.0) result }
+        (writing W.contents writer.old writer.new) book.old.book book.new.book) result }
     ensures unread { is_unread order.now ≡ true → reader.new ≡ reader.old }
 {
     match order {
@@ -138,7 +139,7 @@ fn run<T: Threads + Wait + Sync, S: Alter, R: Read, W: Write>(
     requires new_reader { IsNew reader.old }
     requires new_writer { IsNew writer.old }
     ensures { RunsWithin longest_script (seen (reading R.remaining reader.old reader.new)
-        (writing W.contents writer.old writer.new) book.old.0 book.new.0) result }
+        (writing W.contents writer.old writer.new) book.old.book book.new.book) result }
 {
     run_on_file(tools.rt, tools.alloc, tools.workers, book, reader, writer)
 }
@@ -152,7 +153,7 @@ fn serve_lines<T: Threads + Wait + Sync, S: Alter, R: Read, W: Write>(
     requires new_reader { IsNew reader.old }
     requires new_writer { IsNew writer.old }
     ensures { RunsWithin longest_service (seen (reading R.remaining reader.old reader.new)
-        (writing W.contents writer.old writer.new) book.old.0 book.new.0) result }
+        (writing W.contents writer.old writer.new) book.old.book book.new.book) result }
 {
     serve_on_file(tools.rt, tools.alloc, tools.workers, book, reader, writer)
 }

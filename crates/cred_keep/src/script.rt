@@ -35,22 +35,23 @@ pub fn run_on_file<T: Threads + Wait + Sync, S: Alter, R: Read, W: Write>(
     requires new_reader { IsNew reader.old }
     requires new_writer { IsNew writer.old }
     ensures done { IfOk result (λ end. IfSome (R.remaining (inner_of reader.old)) (λ bytes.
-        IsAnswered register_capacity book.old.0 bytes (W.contents (inner_of writer.old))
-        (W.contents (inner_of writer.new)) book.new.0 end.lines)) }
+        IsAnswered register_capacity book.old.book bytes (W.contents (inner_of writer.old))
+        (W.contents (inner_of writer.new)) book.new.book end.lines)) }
     ensures short { OnOk result (IfSome (R.remaining (inner_of reader.old))
         (λ bytes. length bytes ≤ longest_script)) }
     ensures fault { IfErr result (λ fault. IfSome (R.remaining (inner_of reader.old)) (λ bytes.
-        ScriptFails register_capacity book.old.0 bytes (R.remaining (inner_of reader.new))
-        (W.contents (inner_of writer.old)) (W.contents (inner_of writer.new)) book.new.0 fault)) }
+        ScriptFails register_capacity book.old.book bytes (R.remaining (inner_of reader.new))
+        (W.contents (inner_of writer.old)) (W.contents (inner_of writer.new)) book.new.book
+        fault)) }
     ensures cause { IfErr result (HasCause (failed_of reader.new) (failed_of writer.new)) }
     ensures prompt { IfSome (R.remaining (inner_of reader.old)) (λ bytes. IsPrompt register_capacity
-        (script_start book.old.0 bytes (W.contents (inner_of writer.old)))
+        (script_start book.old.book bytes (W.contents (inner_of writer.old)))
         (name_of writer.old) (log_of reader.new)) }
     ensures calls { calls_of reader.new ≤ most_calls }
-    ensures crash { HasCleanDisk (state S.Store book.new.1.1)
-        → LeavesOnly (state S.Store book.new.1.1) (IsOrWith book.new.0 book.new.1.0) }
-    ensures table { HasCleanDisk (state S.Store book.new.1.1) → book.new.1.0 ≡ None
-        → IsTableOf (state S.Store book.new.1.1) book.new.0 }
+    ensures crash { HasCleanDisk (state S.Store book.new.conn)
+        → LeavesOnly (state S.Store book.new.conn) (IsOrWith book.new.book book.new.lost) }
+    ensures table { HasCleanDisk (state S.Store book.new.conn) → book.new.lost ≡ None
+        → IsTableOf (state S.Store book.new.conn) book.new.book }
 {
     let result = run_script(rt, alloc, workers, book, reader, writer);
     book.keeps();
@@ -72,24 +73,24 @@ pub fn serve_on_file<T: Threads + Wait + Sync, S: Alter, R: Read, W: Write>(
     requires new_reader { IsNew reader.old }
     requires new_writer { IsNew writer.old }
     ensures done { IfOk result (λ end. IfSome (R.remaining (inner_of reader.old)) (λ bytes.
-        IsAnswered register_capacity book.old.0 bytes (W.contents (inner_of writer.old))
-        (W.contents (inner_of writer.new)) book.new.0 end.lines)) }
+        IsAnswered register_capacity book.old.book bytes (W.contents (inner_of writer.old))
+        (W.contents (inner_of writer.new)) book.new.book end.lines)) }
     ensures short { OnOk result (IfSome (R.remaining (inner_of reader.old))
         (λ bytes. length bytes ≤ longest_service)) }
     ensures fault { IfErr result (λ fault. IfSome (R.remaining (inner_of reader.old)) (λ bytes.
-        FailsWithin longest_service register_capacity book.old.0 bytes
+        FailsWithin longest_service register_capacity book.old.book bytes
         (R.remaining (inner_of reader.new)) (W.contents (inner_of writer.old))
-        (W.contents (inner_of writer.new)) book.new.0 fault)) }
+        (W.contents (inner_of writer.new)) book.new.book fault)) }
     ensures cause { IfErr result (HasCause (failed_of reader.new) (failed_of writer.new)) }
     ensures prompt { IfSome (R.remaining (inner_of reader.old)) (λ bytes. IsPrompt register_capacity
-        (script_start book.old.0 bytes (W.contents (inner_of writer.old)))
+        (script_start book.old.book bytes (W.contents (inner_of writer.old)))
         (name_of writer.old) (log_of reader.new)) }
     ensures calls { IfSome (R.remaining (inner_of reader.old))
         (λ bytes. calls_of reader.new ≤ length bytes + 1) }
-    ensures crash { HasCleanDisk (state S.Store book.new.1.1)
-        → LeavesOnly (state S.Store book.new.1.1) (IsOrWith book.new.0 book.new.1.0) }
-    ensures table { HasCleanDisk (state S.Store book.new.1.1) → book.new.1.0 ≡ None
-        → IsTableOf (state S.Store book.new.1.1) book.new.0 }
+    ensures crash { HasCleanDisk (state S.Store book.new.conn)
+        → LeavesOnly (state S.Store book.new.conn) (IsOrWith book.new.book book.new.lost) }
+    ensures table { HasCleanDisk (state S.Store book.new.conn) → book.new.lost ≡ None
+        → IsTableOf (state S.Store book.new.conn) book.new.book }
 {
     let result = serve(rt, alloc, workers, book, reader, writer);
     book.keeps();

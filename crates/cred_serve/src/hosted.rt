@@ -22,7 +22,7 @@ pub struct Hosted<S: Alter> {
 impl<S: Alter> Keeper for Hosted<S> {
     ghost use Rattle.cred_book.specs.Accounts.{register_capacity};
 
-    ghost book = { λ h. h.book.0 };
+    ghost book = { λ h. h.book.book };
 
     ghost capacity = { register_capacity };
 
@@ -66,7 +66,8 @@ impl<S: Alter> Host for Hosted<S> {
 }
 
 fn disable<S: Alter>(book: &mut FileBook<S>, name: &Name) -> Result<EditReply, BookError>
-    ensures { EditsWithin register_capacity book.old.0 book.new.0 (edit.Disable name.now) result }
+    ensures { EditsWithin register_capacity book.old.book book.new.book
+        (edit.Disable name.now) result }
 {
     match book.book().show(name) {
         Ok(Some(_)) => {}
@@ -80,7 +81,8 @@ fn disable<S: Alter>(book: &mut FileBook<S>, name: &Name) -> Result<EditReply, B
 }
 
 fn delete<S: Alter>(book: &mut FileBook<S>, name: &Name) -> Result<EditReply, BookError>
-    ensures { EditsWithin register_capacity book.old.0 book.new.0 (edit.Delete name.now) result }
+    ensures { EditsWithin register_capacity book.old.book book.new.book
+        (edit.Delete name.now) result }
 {
     match book.delete(name) {
         Ok(()) => Ok(EditReply::Deleted),
@@ -95,7 +97,7 @@ fn rename<S: Alter>(
     name: &Name,
     other: &Name,
 ) -> Result<EditReply, BookError>
-    ensures { EditsWithin register_capacity book.old.0 book.new.0
+    ensures { EditsWithin register_capacity book.old.book book.new.book
         (edit.Rename name.now other.now) result }
 {
     let accounts = book.book();

@@ -51,15 +51,15 @@ where
     R: Read + Send + Drop + 'static,
     W: Write + Drop,
     G: Rng + Send + Drop + 'static,
-    ensures served { ∥ HasServed register_capacity (service book.0 (R.remaining reader)
+    ensures served { ∥ HasServed register_capacity (service book.book (R.remaining reader)
         (W.contents (inner_of writer)) means.now.costs (G.stream salts))
-        (W.contents (inner_of result.writer)) result.book.0 result.fault result.lines ∥₁ }
+        (W.contents (inner_of result.writer)) result.book.book result.fault result.lines ∥₁ }
     ensures all { result.fault ≡ None → result.reading ≡ None
         → IfSome (R.remaining reader) (λ all. result.lines ≡ length (lines_of all)) }
-    ensures crash { HasCleanDisk (state S.Store result.book.1.1)
-        → LeavesOnly (state S.Store result.book.1.1) (IsOrWith result.book.0 result.book.1.0) }
-    ensures table { HasCleanDisk (state S.Store result.book.1.1) → result.book.1.0 ≡ None
-        → IsTableOf (state S.Store result.book.1.1) result.book.0 }
+    ensures crash { HasCleanDisk (state S.Store result.book.conn)
+        → LeavesOnly (state S.Store result.book.conn) (IsOrWith result.book.book result.book.lost) }
+    ensures table { HasCleanDisk (state S.Store result.book.conn) → result.book.lost ≡ None
+        → IsTableOf (state S.Store result.book.conn) result.book.book }
 {
     let served = serve_tagged(tools, means, Hosted { book }, salts, reader, writer);
     let Served {

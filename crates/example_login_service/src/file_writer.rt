@@ -58,12 +58,12 @@ impl<J: Naming, S: Alter> Model for FileWriter<J, S> {
 
     ghost coded = { book.the_row.coded };
 
-    ghost view = { λ w. w.file.0 };
+    ghost view = { λ w. w.file.book };
 }
 
 impl<J: Naming, S: Alter> FileWriter<J, S> {
     pub(crate) fn new(file: FileBook<S>) -> FileWriter<J, S>
-        ensures { result ≡ file.0 }
+        ensures { result ≡ file.book }
     {
         FileWriter {
             file,
@@ -72,7 +72,7 @@ impl<J: Naming, S: Alter> FileWriter<J, S> {
     }
 
     pub(crate) fn into_book(self) -> FileBook<S>
-        ensures { result.0 ≡ self }
+        ensures { result.book ≡ self }
     {
         self.file
     }

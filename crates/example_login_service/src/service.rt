@@ -105,7 +105,7 @@ fn serve_named<J: Naming + Send + Sync, R: Threads + Wait + Sync, S: Alter + Dro
     requires name { IsNamed J.Naming opened }
     requires opening { StartsAt J.Naming book.now DOORS }
     requires loads { J.loads ≡ true }
-    requires file { file.0 ≡ J.opening }
+    requires file { file.book ≡ J.opening }
 {
     let writer = FileWriter::new(file);
     let made = KeptDesk::<J, FileWriter<J, S>>::new(rt, alloc, opened, book, DOORS, writer);
@@ -209,7 +209,7 @@ fn end<J: Naming, R: Wait, S: Alter + Drop>(
     handed: Handed<J>,
     sessions: Vec<Session<J>>,
 ) -> Ended<S>
-    ensures { result.file.0 ≡ after J.opening (handed ++ result.journal.items) }
+    ensures { result.file.book ≡ after J.opening (handed ++ result.journal.items) }
 {
     match desk.close(rt, handed, sessions) {
         Ok(kept) => {

@@ -26,7 +26,7 @@ impl<S: Alter> FileBook<S> {
         accounts: &Register,
     ) -> Result<FileBook<S>, (OpenFault, Connection<S>)>
         requires autocommit { conn.in_transaction ≡ false }
-        ensures copied { IfOk result (λ b. (b.0 ≡ accounts.now) × (b.1.0 ≡ None)) }
+        ensures copied { IfOk result (λ b. (b.book ≡ accounts.now) × (b.lost ≡ None)) }
         ensures begun { IfOk result (λ _. (state S.Store conn).now.schema ≡ no_schema) }
         ensures refused { IfErr result (λ e. IsUncopied S.Store conn e.1 e.0) }
         ensures left { IfErr result (λ e. HasCleanDisk (state S.Store e.1)

@@ -26,13 +26,14 @@ impl<S: Alter> FileBook<S> {
     /// if the database fails, and if a change is lost.
     #[tactic(auto, using(crate::proofs::Keeping::put_replaced))]
     pub fn put(&mut self, name: &Name, stored: Option<Record>) -> Result<(), BookError>
-        ensures done { PutsEntry register_capacity self.old.0 self.new.0 name.now stored result }
-        ensures written { OnOk result ((self.old.1.0 ≡ None) × (self.new.1.0 ≡ None)) }
-        ensures remembered { IfSome self.old.1.0 (λ l. self.new.1.0 ≡ Some l) }
-        ensures lost { self.old.1.0 ≡ None → IfSome self.new.1.0
+        ensures done { PutsEntry register_capacity self.old.book self.new.book name.now stored
+            result }
+        ensures written { OnOk result ((self.old.lost ≡ None) × (self.new.lost ≡ None)) }
+        ensures remembered { IfSome self.old.lost (λ l. self.new.lost ≡ Some l) }
+        ensures lost { self.old.lost ≡ None → IfSome self.new.lost
             (IsLossOf (Edit.Put name.now stored)
-            (FailsToPut S.Store self.old.1.1 self.new.1.1 (fin.contains_key self.old.0 name.now)
-            name.now stored)) }
+            (FailsToPut S.Store self.old.conn self.new.conn
+            (fin.contains_key self.old.book name.now) name.now stored)) }
     {
         if self.book.contains(name) {
             self.replace(name, stored)
@@ -46,11 +47,11 @@ impl<S: Alter> FileBook<S> {
     /// Errors: `NoAccount` if the name isn't there; `Memory` if the database fails, and if a change
     /// is lost.
     pub fn delete(&mut self, name: &Name) -> Result<(), BookError>
-        ensures done { Deletes self.old.0 self.new.0 name.now result }
-        ensures written { OnOk result ((self.old.1.0 ≡ None) × (self.new.1.0 ≡ None)) }
-        ensures remembered { IfSome self.old.1.0 (λ l. self.new.1.0 ≡ Some l) }
-        ensures lost { self.old.1.0 ≡ None → IfSome self.new.1.0 (IsLossOf (Edit.Delete name.now)
-            (FailsToDelete S.Store self.old.1.1 self.new.1.1 name.now)) }
+        ensures done { Deletes self.old.book self.new.book name.now result }
+        ensures written { OnOk result ((self.old.lost ≡ None) × (self.new.lost ≡ None)) }
+        ensures remembered { IfSome self.old.lost (λ l. self.new.lost ≡ Some l) }
+        ensures lost { self.old.lost ≡ None → IfSome self.new.lost (IsLossOf (Edit.Delete name.now)
+            (FailsToDelete S.Store self.old.conn self.new.conn name.now)) }
     {
         if self.book.show(name).is_err() {
             return Err(BookError::NoAccount);
@@ -78,12 +79,13 @@ impl<S: Alter> FileBook<S> {
     /// database fails, and if a change is lost.
     #[tactic(auto, using(crate::proofs::Keeping::not_entered, crate::proofs::Keeping::shown_there, crate::proofs::Keeping::shown_absent))]
     pub fn rename(&mut self, name: &Name, other: &Name) -> Result<(), BookError>
-        ensures done { Renames register_capacity self.old.0 self.new.0 name.now other.now result }
-        ensures written { OnOk result ((self.old.1.0 ≡ None) × (self.new.1.0 ≡ None)) }
-        ensures remembered { IfSome self.old.1.0 (λ l. self.new.1.0 ≡ Some l) }
-        ensures lost { self.old.1.0 ≡ None → IfSome self.new.1.0
+        ensures done { Renames register_capacity self.old.book self.new.book name.now other.now
+            result }
+        ensures written { OnOk result ((self.old.lost ≡ None) × (self.new.lost ≡ None)) }
+        ensures remembered { IfSome self.old.lost (λ l. self.new.lost ≡ Some l) }
+        ensures lost { self.old.lost ≡ None → IfSome self.new.lost
             (IsLossOf (Edit.Rename name.now other.now)
-            (FailsToRename S.Store self.old.1.1 self.new.1.1 name.now other.now)) }
+            (FailsToRename S.Store self.old.conn self.new.conn name.now other.now)) }
     {
         let Ok(stored) = self.book.show(name) else {
             return Err(BookError::NoAccount);
@@ -120,11 +122,12 @@ impl<S: Alter> FileBook<S> {
 
     /// Adds a name, with a record or none.
     pub(super) fn enter(&mut self, name: Name, stored: Option<Record>) -> Result<(), BookError>
-        ensures done { EntersWithin register_capacity self.old.0 self.new.0 name stored result }
-        ensures written { OnOk result ((self.old.1.0 ≡ None) × (self.new.1.0 ≡ None)) }
-        ensures remembered { IfSome self.old.1.0 (λ l. self.new.1.0 ≡ Some l) }
-        ensures lost { self.old.1.0 ≡ None → IfSome self.new.1.0 (IsLossOf (Edit.Put name stored)
-            (FailsToPut S.Store self.old.1.1 self.new.1.1 false name stored)) }
+        ensures done { EntersWithin register_capacity self.old.book self.new.book name stored
+            result }
+        ensures written { OnOk result ((self.old.lost ≡ None) × (self.new.lost ≡ None)) }
+        ensures remembered { IfSome self.old.lost (λ l. self.new.lost ≡ Some l) }
+        ensures lost { self.old.lost ≡ None → IfSome self.new.lost (IsLossOf (Edit.Put name stored)
+            (FailsToPut S.Store self.old.conn self.new.conn false name stored)) }
     {
         if self.book.contains(&name) {
             return Err(BookError::Exists);
@@ -153,13 +156,13 @@ impl<S: Alter> FileBook<S> {
         stored: &Option<Record>,
         value: ValueRef<'_>,
     ) -> Result<(), BookError>
-        requires none { self.old.1.0 ≡ None }
+        requires none { self.old.lost ≡ None }
         requires value { Tells (owned value) stored.now }
-        ensures done { EntersWithin register_capacity self.old.0 self.new.0 name.now stored.now
-            result }
-        ensures written { OnOk result (self.new.1.0 ≡ None) }
-        ensures lost { IfSome self.new.1.0 (IsLossOf (Edit.Put name.now stored.now)
-            (FailsToPut S.Store self.old.1.1 self.new.1.1 false name.now stored.now)) }
+        ensures done { EntersWithin register_capacity self.old.book self.new.book name.now
+            stored.now result }
+        ensures written { OnOk result (self.new.lost ≡ None) }
+        ensures lost { IfSome self.new.lost (IsLossOf (Edit.Put name.now stored.now)
+            (FailsToPut S.Store self.old.conn self.new.conn false name.now stored.now)) }
     {
         match self.book.enter(*name, *stored) {
             Ok(()) => {}
@@ -177,14 +180,15 @@ impl<S: Alter> FileBook<S> {
 
     /// Puts a record, or none, at a name that is there.
     pub(super) fn replace(&mut self, name: &Name, stored: Option<Record>) -> Result<(), BookError>
-        requires { fin.contains_key self.old.0 name.now ≡ true }
-        ensures done { OnOk result (self.new.0 ≡ fin.insert self.old.0 name.now stored) }
-        ensures memory { IfErr result (λ e. (e ≡ BookError.Memory) × (self.new.0 ≡ self.old.0)) }
-        ensures written { OnOk result ((self.old.1.0 ≡ None) × (self.new.1.0 ≡ None)) }
-        ensures remembered { IfSome self.old.1.0 (λ l. self.new.1.0 ≡ Some l) }
-        ensures lost { self.old.1.0 ≡ None → IfSome self.new.1.0
+        requires { fin.contains_key self.old.book name.now ≡ true }
+        ensures done { OnOk result (self.new.book ≡ fin.insert self.old.book name.now stored) }
+        ensures memory { IfErr result (λ e.
+            (e ≡ BookError.Memory) × (self.new.book ≡ self.old.book)) }
+        ensures written { OnOk result ((self.old.lost ≡ None) × (self.new.lost ≡ None)) }
+        ensures remembered { IfSome self.old.lost (λ l. self.new.lost ≡ Some l) }
+        ensures lost { self.old.lost ≡ None → IfSome self.new.lost
             (IsLossOf (Edit.Put name.now stored)
-            (FailsToPut S.Store self.old.1.1 self.new.1.1 true name.now stored)) }
+            (FailsToPut S.Store self.old.conn self.new.conn true name.now stored)) }
     {
         if self.lost.is_some() {
             return Err(BookError::Memory);
@@ -208,14 +212,15 @@ impl<S: Alter> FileBook<S> {
         stored: Option<Record>,
         value: ValueRef<'_>,
     ) -> Result<(), BookError>
-        requires there { fin.contains_key self.old.0 name.now ≡ true }
-        requires none { self.old.1.0 ≡ None }
+        requires there { fin.contains_key self.old.book name.now ≡ true }
+        requires none { self.old.lost ≡ None }
         requires value { Tells (owned value) stored }
-        ensures done { OnOk result (self.new.0 ≡ fin.insert self.old.0 name.now stored) }
-        ensures memory { IfErr result (λ e. (e ≡ BookError.Memory) × (self.new.0 ≡ self.old.0)) }
-        ensures written { OnOk result (self.new.1.0 ≡ None) }
-        ensures lost { IfSome self.new.1.0 (IsLossOf (Edit.Put name.now stored)
-            (FailsToPut S.Store self.old.1.1 self.new.1.1 true name.now stored)) }
+        ensures done { OnOk result (self.new.book ≡ fin.insert self.old.book name.now stored) }
+        ensures memory { IfErr result (λ e.
+            (e ≡ BookError.Memory) × (self.new.book ≡ self.old.book)) }
+        ensures written { OnOk result (self.new.lost ≡ None) }
+        ensures lost { IfSome self.new.lost (IsLossOf (Edit.Put name.now stored)
+            (FailsToPut S.Store self.old.conn self.new.conn true name.now stored)) }
     {
         match update_row(&mut self.conn, name, value) {
             Ok(()) => {

@@ -23,11 +23,11 @@ impl<S: Alter> FileBook<S> {
     /// one of the others; `Full` if there would be over 2^24 accounts; `Memory` if it runs out, if
     /// the database fails, and if a change is lost.
     pub fn take_in(&mut self, added: Register, changed: Register) -> Result<(), BookError>
-        ensures done { TakesIn register_capacity self.old.0 self.new.0 added changed result }
-        ensures written { OnOk result ((self.old.1.0 ≡ None) × (self.new.1.0 ≡ None)) }
-        ensures remembered { IfSome self.old.1.0 (λ l. self.new.1.0 ≡ Some l) }
-        ensures lost { self.old.1.0 ≡ None
-            → IfSome self.new.1.0 (λ l. l.edit ≡ Edit.TakeIn added changed) }
+        ensures done { TakesIn register_capacity self.old.book self.new.book added changed result }
+        ensures written { OnOk result ((self.old.lost ≡ None) × (self.new.lost ≡ None)) }
+        ensures remembered { IfSome self.old.lost (λ l. self.new.lost ≡ Some l) }
+        ensures lost { self.old.lost ≡ None
+            → IfSome self.new.lost (λ l. l.edit ≡ Edit.TakeIn added changed) }
     {
         if meets(&self.book, &added) {
             return Err(BookError::Exists);
@@ -54,8 +54,8 @@ impl<S: Alter> FileBook<S> {
     /// Whether there would be at most 2^24 accounts with these.
     pub fn has_room_for(&self, added: &Register) -> bool
         ensures { MatchBool result
-            (fin.len self.now.0 + fin.len added.now ≤ register_capacity)
-            (register_capacity < fin.len self.now.0 + fin.len added.now) }
+            (fin.len self.now.book + fin.len added.now ≤ register_capacity)
+            (register_capacity < fin.len self.now.book + fin.len added.now) }
     {
         has_room(&self.book, added)
     }

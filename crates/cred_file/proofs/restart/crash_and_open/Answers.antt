@@ -15,7 +15,7 @@ returns-clause-kept g c =
     let view = g.S.Store.view in
     let conn = c.in-Ok-over.conn in
     let old = state g.S.Store conn in
-    of_ok (λ b. HasCleanDisk (state g.S.Store b.1.1) → IsFound old (state g.S.Store b.1.1) b.0) (λ b. Survives old (state g.S.Store b.1.1) (λ _. ⊥)) _ c.open.result
+    of_ok (λ b. HasCleanDisk (state g.S.Store b.conn) → IsFound old (state g.S.Store b.conn) b.book) (λ b. Survives old (state g.S.Store b.conn) (λ _. ⊥)) _ c.open.result
     (λ again opened survived clean.
     let found = opened clean in
     let was_clean : HasCleanDisk old = omega (arith, survived.clean) in
@@ -24,7 +24,7 @@ returns-clause-kept g c =
     let db : Trees = (view c.crash_and_reopen.new.self).committed in
     let trees = c.in-Ok-over.ensures.trees was_clean ∙ c.in-Ok.ensures.fresh.clean in
     found_again g.S.Store c.close.result _ _ _ c.close.ensures.kept first_clean db (c.into_store-store.ensures.quiet.outcomes db (c.in-Ok.ensures.found came_clean))
-    (subst (λ (t : Trees). StandsFor (t 0) again.0) trees found.stands))
+    (subst (λ (t : Trees). StandsFor (t 0) again.book) trees found.stands))
     c.open.ensures.found c.open.ensures.kept
 
 pub returns-clause-refused : goal.returns-clause-refused

@@ -10,7 +10,7 @@ pub returns-in-Ok-clause-found : goal.returns-in-Ok-clause-found
 returns-in-Ok-clause-found g c clean =
     let same = c.close.ensures.same in
     let was = subst (λ h. HasCleanDisk (state g.S.Store h)) same clean in (
-      c.in-Ok.book.0,
-      subst (λ h. IsFound (state g.S.Store c.args.conn) (state g.S.Store h) c.in-Ok.book.0) (sym same) (c.in-Ok.ensures.found was),
+      c.in-Ok.book.book,
+      subst (λ h. IsFound (state g.S.Store c.args.conn) (state g.S.Store h) c.in-Ok.book.book) (sym same) (c.in-Ok.ensures.found was),
       c.len-count.ensures.len ∙ ap (λ (b : Accounts). map.len b) c.book.ensures,
     )

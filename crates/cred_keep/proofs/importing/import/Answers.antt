@@ -11,4 +11,4 @@ returns-in_err-take g c =
     let found = c.in_ok-accounts.ensures.done in
     let same = ap (λ (t : Tally). t.accounts) found.2 ∙ ap (λ b. (tally c.args.how.rules b found.0).accounts) c.book.ensures in
     rw (told.1, told.2)
-    (not_taken c.args.how (reading g.R.Read.remaining c.args.reader.now c.gather.new.reader) c.args.book.now.0 c.take.new.book.0 c.in_ok-accounts.field-0.accounts c.in_ok-accounts.field-0.changed found.0 found.1 same _ c.in_err-take.ensures)
+    (not_taken c.args.how (reading g.R.Read.remaining c.args.reader.now c.gather.new.reader) c.args.book.now.book c.take.new.book.book c.in_ok-accounts.field-0.accounts c.in_ok-accounts.field-0.changed found.0 found.1 same _ c.in_err-take.ensures)

@@ -10,7 +10,7 @@ use Rattle.cred_file.proofs.file_book.FileBook.enter_value.Goals as goal
 pub invariant_of-self-in-Ok-insert_row : goal.invariant_of-self-in-Ok-insert_row
 invariant_of-self-in-Ok-insert_row g c =
     let entered = c.in-Ok.ensures in
-    let none = ap (λ v. v.1.0) c.self.view_is ∙ c.requires.none in
+    let none = ap (λ v. v.lost) c.self.view_is ∙ c.requires.none in
     subst (λ b. Keeps g.S.Store c.insert_row.new.conn b c.self.inside.lost) (sym entered.2)
     (keeps_done g.S.Store c.self.inside.conn c.insert_row.new.conn c.self.inside.book c.self.inside.lost c.self.invariant none c.in-Ok-insert_row.ensures.clean
     (fin.insert c.self.inside.book c.args.name.now c.args.stored.now) (len_new c.self.inside.book c.args.name.now c.args.stored.now entered.0 entered.1)
@@ -19,7 +19,7 @@ invariant_of-self-in-Ok-insert_row g c =
 pub invariant_of-self-in-Err-insert_row : goal.invariant_of-self-in-Err-insert_row
 invariant_of-self-in-Err-insert_row g c =
     let entered = c.in-Ok.ensures in
-    let none = ap (λ v. v.1.0) c.self.view_is ∙ c.requires.none in
+    let none = ap (λ v. v.lost) c.self.view_is ∙ c.requires.none in
     let back : c.remove.new.self ≡ c.self.inside.book = c.remove.ensures ∙ ap (λ b. fin.remove b c.args.name.now) entered.2 ∙ remove_again c.self.inside.book c.args.name.now c.args.stored.now entered.0 in
     subst (λ b. Keeps g.S.Store c.insert_row.new.conn b (Some c.put.result)) (sym back)
     (subst (λ l. Keeps g.S.Store c.insert_row.new.conn c.self.inside.book (Some l)) (sym c.put.ensures)
@@ -30,7 +30,7 @@ invariant_of-self-in-Err-insert_row g c =
 pub returns-in-Err-insert_row-clause-done : goal.returns-in-Err-insert_row-clause-done
 returns-in-Err-insert_row-clause-done g c =
     let entered = c.in-Ok.ensures in
-    let is = ap (λ v. v.0) c.self.view_is in (
+    let is = ap (λ v. v.book) c.self.view_is in (
       subst (λ b. fin.contains_key b c.args.name.now ≡ false) is entered.0,
       subst (λ b. fin.len b < register_capacity) is entered.1,
       c.remove.ensures ∙ ap (λ b. fin.remove b c.args.name.now) entered.2 ∙ remove_again c.self.inside.book c.args.name.now c.args.stored.now entered.0 ∙ is,

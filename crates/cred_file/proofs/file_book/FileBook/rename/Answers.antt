@@ -55,7 +55,7 @@ returns-in-Ok-rename_row-clause-done g c =
     let entered = c.in-Ok-enter.ensures in
     let absent = entered.0 in
     let is : c.remove.new.self ≡ renamed book name other = c.remove.ensures ∙ ap (λ (b : Accounts). fin.remove b name) entered.2 ∙ renamed_is book name other stored c.in-Ok.ensures absent in
-    subst (λ (b : Accounts). MayRename b name other × (c.remove.new.self ≡ renamed b name other)) (ap (λ v. v.0) c.self.view_is) ((there, absent), is)
+    subst (λ (b : Accounts). MayRename b name other × (c.remove.new.self ≡ renamed b name other)) (ap (λ v. v.book) c.self.view_is) ((there, absent), is)
 
 pub returns-in-Err-rename_row-clause-done : goal.returns-in-Err-rename_row-clause-done
 returns-in-Err-rename_row-clause-done g c =
@@ -68,4 +68,4 @@ returns-in-Err-rename_row-clause-done g c =
     let entered = c.in-Ok-enter.ensures in
     let absent = entered.0 in
     let back : c.remove-in-Err-rename_row.new.self ≡ book = c.remove-in-Err-rename_row.ensures ∙ ap (λ (b : Accounts). fin.remove b other) entered.2 ∙ remove_again book other stored absent in
-    subst (λ (b : Accounts). MayRename b name other × (fin.len b < register_capacity) × (c.remove-in-Err-rename_row.new.self ≡ b)) (ap (λ v. v.0) c.self.view_is) ((there, absent), entered.1, back)
+    subst (λ (b : Accounts). MayRename b name other × (fin.len b < register_capacity) × (c.remove-in-Err-rename_row.new.self ≡ b)) (ap (λ v. v.book) c.self.view_is) ((there, absent), entered.1, back)

@@ -35,4 +35,4 @@ returns-in-Err-clause-done g c =
     let book = c.self.inside.book in
     let back : c.remove_all.new.book ≡ book = undone book c.args.added c.take_together.new.book c.remove_all.new.book c.if-meets.ensures c.in-Err.ensures.part c.remove_all.ensures in
     let room : fin.len book + fin.len c.args.added ≤ register_capacity = c.if-not-has_room.ensures in
-    subst (λ (b : Accounts). MayTakeIn b c.args.added c.args.changed × (fin.len b + fin.len c.args.added ≤ register_capacity) × (c.remove_all.new.book ≡ b)) (ap (λ v. v.0) c.self.view_is) ((c.if-meets.ensures, c.if-misses.ensures), room, back)
+    subst (λ (b : Accounts). MayTakeIn b c.args.added c.args.changed × (fin.len b + fin.len c.args.added ≤ register_capacity) × (c.remove_all.new.book ≡ b)) (ap (λ v. v.book) c.self.view_is) ((c.if-meets.ensures, c.if-misses.ensures), room, back)

@@ -1,0 +1,23 @@
+-- What contracts see of a kept book.
+use Rattle.std.specs.Prelude.{Option, refl}
+use Rattle.std.specs.Coded.{Coded, code_by, coded×, coded_option}
+use Rattle.sqlite.specs.Held.{Held, held_code}
+use Rattle.cred_book.specs.Accounts.{Accounts}
+use Rattle.cred_book.specs.contracts.register.Register as accounts
+use Rattle.cred_file.specs.declared.fault.Lost.{Lost}
+use Rattle.cred_file.specs.contracts.fault.Lost as loss
+
+-- the book as the answers so far have told it, the change that was under way as the database
+-- failed, and the connection to the database that keeps them
+pub record Kept (S : Type 0) : Type 0 where
+  pub book : Accounts
+  pub lost : Option Lost
+  pub conn : Held S
+
+-- how the logic stores one
+abbrev pub kept_code : {S : Type 0} → Coded S → Coded (Kept S)
+kept_code {S} store =
+    code_by (Accounts × (Option Lost × Held S))
+    (coded× accounts.the_row.coded (coded× (coded_option loss.the_row.coded) (held_code store)))
+    (λ k. (k.book, (k.lost, k.conn)))
+    (λ p. record { book = p.0; lost = p.1.0; conn = p.1.1 }) (λ _. refl)
