@@ -256,6 +256,9 @@ not_entered room old new name v error.Memory h = h.2
 not_entered room old new name v error.Name h = absurd h
 not_entered room old new name v error.NoAccount h = absurd h
 
+-- what is known of a name that was asked for, or wasn't entered
+pub ruleset shown_so = (not_entered, shown_there, shown_absent)
+
 -- so is one that is replaced
 pub put_replaced : (room : ℕ) (old new : Accounts) (name : List ℕ) (v : Option RecordValue) (r : Result (Unit {0}) BookError) → fin.contains_key old name ≡ true → OnOk r (new ≡ fin.insert old name v) → IfErr r (λ e. (e ≡ error.Memory) × (new ≡ old)) → PutsEntry room old new name v r
 put_replaced room old new name v (Ok u) there done memory = (ap (λ b. b || nat_lt (fin.len old) room) there, done)

@@ -1,5 +1,6 @@
 -- Why no book is begun, and what is said of a change that is lost.
-use Rattle.std.specs.Prelude.{◌≡◌, ◌≢◌, ℕ, Bool, if◌then◌else◌, List, [], ◌∷◌, Option, Err}
+use Rattle.std.specs.Prelude.{◌≡◌, ◌≢◌, ℕ, Bool, if◌then◌else◌, List, [], ◌∷◌, Option, Some, None}
+use Rattle.std.specs.Prelude.{IfSome, OnOk, Result, Err}
 use Rattle.sqlite.specs.declared.error.Error.{Error}
 use Rattle.sqlite.specs.declared.types.Value.{Value}
 use Rattle.sqlite.specs.declared.types.Value.TheVariants.{Text}
@@ -8,10 +9,12 @@ use Rattle.sqlite.specs.Order.{Row}
 use Rattle.sqlite.specs.State.{Executes, HasCleanDisk}
 use Rattle.sqlite.specs.Store.{Ghosts}
 use Rattle.cred_phc.specs.Values.{RecordValue}
+use Rattle.cred_book.specs.declared.error.BookError.{BookError}
 use Rattle.cred_file.specs.declared.fault.Edit.{Edit}
 use Rattle.cred_file.specs.declared.fault.Lost.{Lost}
 use Rattle.cred_file.specs.declared.fault.OpenFault.{OpenFault}
 use Rattle.cred_file.specs.declared.fault.OpenFault.TheVariants as fault
+use Rattle.cred_file.specs.Kept.{Kept}
 use Rattle.cred_file.specs.Schema.{create_text, delete_text, insert_text, no_schema}
 use Rattle.cred_file.specs.Schema.{rename_text, update_text}
 use Rattle.cred_file.specs.Table.{Tells}
@@ -57,3 +60,17 @@ FailsToRename g old new name other = Refuses g old new rename_text (Text name �
 pub record IsLossOf (edit : Edit) (Fails : Error → Type 0) (l : Lost) : Type 0 where
   pub edit_is : l.edit ≡ edit
   pub error : Fails l.error
+
+-- A change that was lost stays so. If none was, none but this one is, with the error of its
+-- statement.
+pub record Loses {S : Type 0} (edit : Edit) (Fails : Error → Type 0) (old new : Kept S)
+    : Type 0 where
+  pub remembered : IfSome old.lost (λ l. new.lost ≡ Some l)
+  pub lost : old.lost ≡ None → IfSome new.lost (IsLossOf edit Fails)
+
+-- likewise, and the call that makes this change answers Ok only if it is written, so that nothing
+-- was lost and nothing is
+pub record Remembers {S : Type 0} (edit : Edit) (Fails : Error → Type 0) (old new : Kept S)
+    (result : Result (Unit {0}) BookError) : Type 0 where
+  pub written : OnOk result ((old.lost ≡ None) × (new.lost ≡ None))
+  pub loses : Loses edit Fails old new

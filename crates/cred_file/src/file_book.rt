@@ -166,7 +166,7 @@ impl<S: Alter> Keeper for FileBook<S> {
     ghost use Rattle.cred_book.specs.Calls.{AdmitsWithin, Loads};
     ghost use Rattle.cred_book.specs.Commits.{Commits, judgement};
     ghost use Rattle.cred_book.specs.Works.{makes_change, name_of};
-    ghost use Rattle.cred_file.specs.Failures.{FailsToPut, IsLossOf};
+    ghost use Rattle.cred_file.specs.Failures.{FailsToPut, Loses, Remembers};
     ghost use Rattle.cred_file.specs.declared.fault.Edit.TheVariants as Edit;
 
     ghost book = { λ b. b.book };
@@ -175,10 +175,9 @@ impl<S: Alter> Keeper for FileBook<S> {
 
     fn admit<R: Wait>(&mut self, _rt: &R, name: Name) -> Result<(), BookError>
         ensures done { AdmitsWithin register_capacity self.old.book self.new.book name result }
-        ensures written { OnOk result ((self.old.lost ≡ None) × (self.new.lost ≡ None)) }
-        ensures remembered { IfSome self.old.lost (λ l. self.new.lost ≡ Some l) }
-        ensures lost { self.old.lost ≡ None → IfSome self.new.lost (IsLossOf (Edit.Put name None)
-            (FailsToPut S.Store self.old.conn self.new.conn false name None)) }
+        ensures remembers { Remembers (Edit.Put name None)
+            (FailsToPut S.Store self.old.conn self.new.conn false name None)
+            self.old self.new result }
     {
         self.enter(name, None)
     }
@@ -186,11 +185,9 @@ impl<S: Alter> Keeper for FileBook<S> {
     #[tactic(auto, using(crate::proofs::Keeping::shown_there))]
     fn load<R: Wait>(&mut self, _rt: &R, name: &Name, stored: Record) -> Result<(), BookError>
         ensures done { Loads self.old.book self.new.book name.now stored result }
-        ensures written { OnOk result ((self.old.lost ≡ None) × (self.new.lost ≡ None)) }
-        ensures remembered { IfSome self.old.lost (λ l. self.new.lost ≡ Some l) }
-        ensures lost { self.old.lost ≡ None → IfSome self.new.lost
-            (IsLossOf (Edit.Put name.now (Some stored))
-            (FailsToPut S.Store self.old.conn self.new.conn true name.now (Some stored))) }
+        ensures remembers { Remembers (Edit.Put name.now (Some stored))
+            (FailsToPut S.Store self.old.conn self.new.conn true name.now (Some stored))
+            self.old self.new result }
     {
         if self.book.show(name).is_err() {
             return Err(BookError::NoAccount);
@@ -206,17 +203,15 @@ impl<S: Alter> Keeper for FileBook<S> {
         self.book.begin(request)
     }
 
-    #[tactic(auto, using(crate::proofs::Judged::judged_change, crate::proofs::Judged::judged_still, crate::proofs::Judged::judged_there))]
+    #[tactic(auto, using(crate::proofs::Judged::judged))]
     fn commit<R: Wait>(&mut self, _rt: &R, worked: Worked) -> Result<Reply, (Worked, BookError)>
         ensures done { Commits self.old.book self.new.book worked result }
         ensures refused { IfSome self.old.lost (λ _.
             is_ok result ≡ not (judgement self.old.book worked).2) }
         ensures written { OnOk result (self.new.lost ≡ self.old.lost) }
-        ensures remembered { IfSome self.old.lost (λ l. self.new.lost ≡ Some l) }
-        ensures lost { self.old.lost ≡ None → IfSome self.new.lost
-            (IsLossOf (Edit.Put (name_of worked.0) (judgement self.old.book worked).1)
+        ensures loses { Loses (Edit.Put (name_of worked.0) (judgement self.old.book worked).1)
             (FailsToPut S.Store self.old.conn self.new.conn true (name_of worked.0)
-            (judgement self.old.book worked).1)) }
+            (judgement self.old.book worked).1) self.old self.new }
     {
         let (reply, after, changes) = self.book.judge(&worked);
         if !changes {

@@ -1,12 +1,12 @@
 //! The changes of a kept book. What needs memory is had before the row is written, so nothing can
 //! fail after that; if the database refuses, the book is as it was.
 
-ghost use Rattle.std.specs.Prelude.{◌≡◌, true, false, IfErr, IfSome, None, OnOk, Some};
+ghost use Rattle.std.specs.Prelude.{◌≡◌, true, false, IfErr, None, OnOk};
 ghost use Rattle.std.specs.FinMap as fin;
 ghost use Rattle.cred_book.specs.Accounts.{register_capacity};
 ghost use Rattle.cred_book.specs.Calls.{EntersWithin};
 ghost use Rattle.cred_file.specs.Edits.{Deletes, PutsEntry, Renames};
-ghost use Rattle.cred_file.specs.Failures.{FailsToDelete, FailsToPut, FailsToRename, IsLossOf};
+ghost use Rattle.cred_file.specs.Failures.{FailsToDelete, FailsToPut, FailsToRename, Remembers};
 ghost use Rattle.cred_file.specs.Table.{Tells};
 ghost use Rattle.cred_file.specs.declared.fault.Edit.TheVariants as Edit;
 ghost use Rattle.sqlite_value.specs.Value.{owned};
@@ -28,12 +28,9 @@ impl<S: Alter> FileBook<S> {
     pub fn put(&mut self, name: &Name, stored: Option<Record>) -> Result<(), BookError>
         ensures done { PutsEntry register_capacity self.old.book self.new.book name.now stored
             result }
-        ensures written { OnOk result ((self.old.lost ≡ None) × (self.new.lost ≡ None)) }
-        ensures remembered { IfSome self.old.lost (λ l. self.new.lost ≡ Some l) }
-        ensures lost { self.old.lost ≡ None → IfSome self.new.lost
-            (IsLossOf (Edit.Put name.now stored)
+        ensures remembers { Remembers (Edit.Put name.now stored)
             (FailsToPut S.Store self.old.conn self.new.conn
-            (fin.contains_key self.old.book name.now) name.now stored)) }
+            (fin.contains_key self.old.book name.now) name.now stored) self.old self.new result }
     {
         if self.book.contains(name) {
             self.replace(name, stored)
@@ -48,10 +45,9 @@ impl<S: Alter> FileBook<S> {
     /// is lost.
     pub fn delete(&mut self, name: &Name) -> Result<(), BookError>
         ensures done { Deletes self.old.book self.new.book name.now result }
-        ensures written { OnOk result ((self.old.lost ≡ None) × (self.new.lost ≡ None)) }
-        ensures remembered { IfSome self.old.lost (λ l. self.new.lost ≡ Some l) }
-        ensures lost { self.old.lost ≡ None → IfSome self.new.lost (IsLossOf (Edit.Delete name.now)
-            (FailsToDelete S.Store self.old.conn self.new.conn name.now)) }
+        ensures remembers { Remembers (Edit.Delete name.now)
+            (FailsToDelete S.Store self.old.conn self.new.conn name.now)
+            self.old self.new result }
     {
         if self.book.show(name).is_err() {
             return Err(BookError::NoAccount);
@@ -77,15 +73,13 @@ impl<S: Alter> FileBook<S> {
     /// Errors: `NoAccount` if the name isn't there; `Exists` if the other one is; `Full` if there
     /// are 2^24 names, since both are in memory for a moment; `Memory` if it runs out, if the
     /// database fails, and if a change is lost.
-    #[tactic(auto, using(crate::proofs::Keeping::not_entered, crate::proofs::Keeping::shown_there, crate::proofs::Keeping::shown_absent))]
+    #[tactic(auto, using(crate::proofs::Keeping::shown_so))]
     pub fn rename(&mut self, name: &Name, other: &Name) -> Result<(), BookError>
         ensures done { Renames register_capacity self.old.book self.new.book name.now other.now
             result }
-        ensures written { OnOk result ((self.old.lost ≡ None) × (self.new.lost ≡ None)) }
-        ensures remembered { IfSome self.old.lost (λ l. self.new.lost ≡ Some l) }
-        ensures lost { self.old.lost ≡ None → IfSome self.new.lost
-            (IsLossOf (Edit.Rename name.now other.now)
-            (FailsToRename S.Store self.old.conn self.new.conn name.now other.now)) }
+        ensures remembers { Remembers (Edit.Rename name.now other.now)
+            (FailsToRename S.Store self.old.conn self.new.conn name.now other.now)
+            self.old self.new result }
     {
         let Ok(stored) = self.book.show(name) else {
             return Err(BookError::NoAccount);
@@ -124,10 +118,9 @@ impl<S: Alter> FileBook<S> {
     pub(super) fn enter(&mut self, name: Name, stored: Option<Record>) -> Result<(), BookError>
         ensures done { EntersWithin register_capacity self.old.book self.new.book name stored
             result }
-        ensures written { OnOk result ((self.old.lost ≡ None) × (self.new.lost ≡ None)) }
-        ensures remembered { IfSome self.old.lost (λ l. self.new.lost ≡ Some l) }
-        ensures lost { self.old.lost ≡ None → IfSome self.new.lost (IsLossOf (Edit.Put name stored)
-            (FailsToPut S.Store self.old.conn self.new.conn false name stored)) }
+        ensures remembers { Remembers (Edit.Put name stored)
+            (FailsToPut S.Store self.old.conn self.new.conn false name stored)
+            self.old self.new result }
     {
         if self.book.contains(&name) {
             return Err(BookError::Exists);
@@ -160,9 +153,9 @@ impl<S: Alter> FileBook<S> {
         requires value { Tells (owned value) stored.now }
         ensures done { EntersWithin register_capacity self.old.book self.new.book name.now
             stored.now result }
-        ensures written { OnOk result (self.new.lost ≡ None) }
-        ensures lost { IfSome self.new.lost (IsLossOf (Edit.Put name.now stored.now)
-            (FailsToPut S.Store self.old.conn self.new.conn false name.now stored.now)) }
+        ensures remembers { Remembers (Edit.Put name.now stored.now)
+            (FailsToPut S.Store self.old.conn self.new.conn false name.now stored.now)
+            self.old self.new result }
     {
         match self.book.enter(*name, *stored) {
             Ok(()) => {}
@@ -184,11 +177,9 @@ impl<S: Alter> FileBook<S> {
         ensures done { OnOk result (self.new.book ≡ fin.insert self.old.book name.now stored) }
         ensures memory { IfErr result (λ e.
             (e ≡ BookError.Memory) × (self.new.book ≡ self.old.book)) }
-        ensures written { OnOk result ((self.old.lost ≡ None) × (self.new.lost ≡ None)) }
-        ensures remembered { IfSome self.old.lost (λ l. self.new.lost ≡ Some l) }
-        ensures lost { self.old.lost ≡ None → IfSome self.new.lost
-            (IsLossOf (Edit.Put name.now stored)
-            (FailsToPut S.Store self.old.conn self.new.conn true name.now stored)) }
+        ensures remembers { Remembers (Edit.Put name.now stored)
+            (FailsToPut S.Store self.old.conn self.new.conn true name.now stored)
+            self.old self.new result }
     {
         if self.lost.is_some() {
             return Err(BookError::Memory);
@@ -218,9 +209,9 @@ impl<S: Alter> FileBook<S> {
         ensures done { OnOk result (self.new.book ≡ fin.insert self.old.book name.now stored) }
         ensures memory { IfErr result (λ e.
             (e ≡ BookError.Memory) × (self.new.book ≡ self.old.book)) }
-        ensures written { OnOk result (self.new.lost ≡ None) }
-        ensures lost { IfSome self.new.lost (IsLossOf (Edit.Put name.now stored)
-            (FailsToPut S.Store self.old.conn self.new.conn true name.now stored)) }
+        ensures remembers { Remembers (Edit.Put name.now stored)
+            (FailsToPut S.Store self.old.conn self.new.conn true name.now stored)
+            self.old self.new result }
     {
         match update_row(&mut self.conn, name, value) {
             Ok(()) => {

@@ -1,9 +1,10 @@
 //! Many accounts that are added to a kept book at once, and many whose records are replaced.
 
-ghost use Rattle.std.specs.Prelude.{◌≡◌, ◌+◌, ◌≤◌, ◌<◌, None, IfSome, MatchBool, OnOk, Some};
+ghost use Rattle.std.specs.Prelude.{◌+◌, ◌≤◌, ◌<◌, MatchBool, ⊤};
 ghost use Rattle.std.specs.FinMap as fin;
 ghost use Rattle.cred_book.specs.Accounts.{register_capacity};
 ghost use Rattle.cred_file.specs.Edits.{AreApart, AreThere, Meet, Misses, TakesIn};
+ghost use Rattle.cred_file.specs.Failures.{Remembers};
 ghost use Rattle.cred_file.specs.declared.fault.Edit.TheVariants as Edit;
 
 use super::FileBook;
@@ -24,10 +25,8 @@ impl<S: Alter> FileBook<S> {
     /// the database fails, and if a change is lost.
     pub fn take_in(&mut self, added: Register, changed: Register) -> Result<(), BookError>
         ensures done { TakesIn register_capacity self.old.book self.new.book added changed result }
-        ensures written { OnOk result ((self.old.lost ≡ None) × (self.new.lost ≡ None)) }
-        ensures remembered { IfSome self.old.lost (λ l. self.new.lost ≡ Some l) }
-        ensures lost { self.old.lost ≡ None
-            → IfSome self.new.lost (λ l. l.edit ≡ Edit.TakeIn added changed) }
+        ensures remembers { Remembers (Edit.TakeIn added changed) (λ _. ⊤)
+            self.old self.new result }
     {
         if meets(&self.book, &added) {
             return Err(BookError::Exists);
