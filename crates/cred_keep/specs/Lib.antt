@@ -12,4 +12,5 @@ pub use Rattle.cred_cli.specs.Script
 pub use Rattle.cred_cli.specs.Watched
 pub use Rattle.cred_file.specs.Copies
 pub use Rattle.cred_file.specs.Keeps
+pub use Rattle.cred_file.specs.Kept
 pub use Rattle.cred_file.specs.Opening

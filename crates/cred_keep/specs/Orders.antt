@@ -24,9 +24,12 @@ use Rattle.cred_cli.specs.Script.{script_start}
 use Rattle.cred_cli.specs.declared.fault.ScriptFault.{ScriptFault}
 use Rattle.cred_cli.specs.declared.fault.ScriptFault.TheVariants as script
 use Rattle.cred_cli.specs.declared.script.End.{End}
+use Rattle.cred_file.specs.Keeps.{Keeps as IsKept}
+use Rattle.cred_file.specs.Kept.{Kept}
 use Rattle.cred_file.specs.declared.fault.Lost.{Lost}
 use Rattle.cred_file.specs.declared.fault.OpenFault.{OpenFault}
 use Rattle.cred_file.specs.declared.fault.OpenFault.TheVariants as open_fault
+use Rattle.sqlite.specs.Store.{Ghosts}
 use Rattle.sqlite.specs.declared.error.Error.{Error}
 use Rattle.sqlite.specs.declared.error.Error.TheVariants as sqlite
 use Rattle.sqlite.specs.declared.error.ErrorCode.{ErrorCode}
@@ -163,6 +166,13 @@ Performs (Import how) s ended =
 abbrev pub Ends : Order → Seen → Option Lost → Result Ending Failure → Type 0
 Ends order s lost ended =
     (r : Result Ending Failure) × Performs order s r × (ended ≡ unless_lost lost r)
+
+-- how an order leaves the book that it is done on: it ends so, and the table stands for the book
+-- until a change is lost
+pub record Leaves {S : Type 0} (g : Ghosts S) (order : Order) (s : Seen) (kept : Kept S)
+    (ended : Result Ending Failure) : Type 0 where
+  pub ends : Ends order s kept.lost ended
+  pub keeps : IsKept g kept.conn kept.book kept.lost
 
 -- the order reads nothing
 abbrev pub is_unread : Order → Bool

@@ -1,12 +1,10 @@
 //! Doing what is asked of a kept book.
 
-ghost use Rattle.std.specs.Prelude.{◌≡◌, None, OnOk, true};
-ghost use Rattle.cred_cli.specs.Outcome.{longest_script, longest_service};
+ghost use Rattle.std.specs.Prelude.{◌≡◌, OnOk, true};
 ghost use Rattle.cred_cli.specs.Watched.{IsNew, reading, writing};
 ghost use Rattle.cred_admin.specs.Seen.{seen};
-ghost use Rattle.cred_file.specs.Keeps.{IsOrWith, IsTableOf, LeavesOnly};
-ghost use Rattle.cred_keep.specs.Orders.{Ends, Performs, RunsWithin, is_unread};
-ghost use Rattle.cred_keep.specs.Orders.{status_of_end};
+ghost use Rattle.cred_file.specs.Keeps.{IsTableOf};
+ghost use Rattle.cred_keep.specs.Orders.{Leaves, Performs, is_unread, status_of_end};
 ghost use Rattle.sqlite.specs.State.{HasCleanDisk};
 ghost use Rattle.sqlite.specs.Held.{state};
 
@@ -20,7 +18,7 @@ use crate::script::{run_on_file, serve_on_file};
 use cred_admin::{
     Status, add, change, check, export, list, list_costs, remove, reset, show, upgrade,
 };
-use cred_cli::{End, ScriptFault, Tools, Watched};
+use cred_cli::{Tools, Watched};
 use cred_file::FileBook;
 use sqlite::Alter;
 use std::io::{Read, Write};
@@ -40,14 +38,10 @@ pub fn serve<T: Threads + Wait + Sync, S: Alter, R: Read, W: Write, F: Write>(
 ) -> Status
     requires new_reader { IsNew reader.old }
     requires new_writer { IsNew writer.old }
-    ensures done { (ended : _) × Ends order.now (seen (reading R.remaining reader.old reader.new)
-        (writing W.contents writer.old writer.new) book.old.book book.new.book) book.new.lost ended
-        × (result ≡ status_of_end ended) }
+    ensures done { (ended : _) × Leaves S.Store order.now (seen
+        (reading R.remaining reader.old reader.new) (writing W.contents writer.old writer.new)
+        book.old.book book.new.book) book.new ended × (result ≡ status_of_end ended) }
     ensures unread { is_unread order.now ≡ true → reader.new ≡ reader.old }
-    ensures table { HasCleanDisk (state S.Store book.new.conn) → book.new.lost ≡ None
-        → IsTableOf (state S.Store book.new.conn) book.new.book }
-    ensures crash { HasCleanDisk (state S.Store book.new.conn)
-        → LeavesOnly (state S.Store book.new.conn) (IsOrWith book.new.book book.new.lost) }
 {
     match perform(tools, book, order, reader, writer) {
         Ok(ending) => {
@@ -74,16 +68,11 @@ pub fn perform<T: Threads + Wait + Sync, S: Alter, R: Read, W: Write>(
 ) -> Result<Ending, Failure>
     requires new_reader { IsNew reader.old }
     requires new_writer { IsNew writer.old }
-    ensures done { Ends order.now (seen (reading R.remaining reader.old reader.new)
-        (writing W.contents writer.old writer.new) book.old.book book.new.book) book.new.lost
-        result }
+    ensures done { Leaves S.Store order.now (seen (reading R.remaining reader.old reader.new)
+        (writing W.contents writer.old writer.new) book.old.book book.new.book) book.new result }
     ensures unread { is_unread order.now ≡ true → reader.new ≡ reader.old }
     ensures kept { OnOk result (HasCleanDisk (state S.Store book.new.conn)
         → IsTableOf (state S.Store book.new.conn) book.new.book) }
-    ensures table { HasCleanDisk (state S.Store book.new.conn) → book.new.lost ≡ None
-        → IsTableOf (state S.Store book.new.conn) book.new.book }
-    ensures crash { HasCleanDisk (state S.Store book.new.conn)
-        → LeavesOnly (state S.Store book.new.conn) (IsOrWith book.new.book book.new.lost) }
 {
     let ended = obey(tools, book, order, reader, writer);
     book.keeps();
@@ -107,8 +96,12 @@ fn obey<T: Threads + Wait + Sync, S: Alter, R: Read, W: Write>(
     ensures unread { is_unread order.now ≡ true → reader.new ≡ reader.old }
 {
     match order {
-        Order::Run => run_end(run(tools, book, reader, writer)),
-        Order::Serve => run_end(serve_lines(tools, book, reader, writer)),
+        Order::Run => {
+            run_end(run_on_file(tools.rt, tools.alloc, tools.workers, book, reader, writer))
+        }
+        Order::Serve => {
+            run_end(serve_on_file(tools.rt, tools.alloc, tools.workers, book, reader, writer))
+        }
         Order::Add { name, new } => command_end(add(tools, book, name, new, reader, writer)),
         Order::Check { name } => command_end(check(tools, book, name, reader, writer)),
         Order::Change { name, new } => {
@@ -128,32 +121,4 @@ fn obey<T: Threads + Wait + Sync, S: Alter, R: Read, W: Write>(
         Order::Export => command_end(export(tools.alloc, book.book(), writer)),
         Order::Import { how } => import_end(import(tools.alloc, book, *how, reader)),
     }
-}
-
-fn run<T: Threads + Wait + Sync, S: Alter, R: Read, W: Write>(
-    tools: &Tools<'_, T>,
-    book: &mut FileBook<S>,
-    reader: &mut Watched<R>,
-    writer: &mut Watched<W>,
-) -> Result<End, ScriptFault>
-    requires new_reader { IsNew reader.old }
-    requires new_writer { IsNew writer.old }
-    ensures { RunsWithin longest_script (seen (reading R.remaining reader.old reader.new)
-        (writing W.contents writer.old writer.new) book.old.book book.new.book) result }
-{
-    run_on_file(tools.rt, tools.alloc, tools.workers, book, reader, writer)
-}
-
-fn serve_lines<T: Threads + Wait + Sync, S: Alter, R: Read, W: Write>(
-    tools: &Tools<'_, T>,
-    book: &mut FileBook<S>,
-    reader: &mut Watched<R>,
-    writer: &mut Watched<W>,
-) -> Result<End, ScriptFault>
-    requires new_reader { IsNew reader.old }
-    requires new_writer { IsNew writer.old }
-    ensures { RunsWithin longest_service (seen (reading R.remaining reader.old reader.new)
-        (writing W.contents writer.old writer.new) book.old.book book.new.book) result }
-{
-    serve_on_file(tools.rt, tools.alloc, tools.workers, book, reader, writer)
 }
