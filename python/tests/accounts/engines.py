@@ -57,9 +57,7 @@ class Base(unittest.TestCase):
 
     def table(self, record="VARCHAR(512)", more="", key="VARCHAR(150)"):
         self.execute("DROP TABLE IF EXISTS users")
-        self.execute(
-            f"CREATE TABLE users (name {key} PRIMARY KEY, record {record}) {more}"
-        )
+        self.execute(f"CREATE TABLE users (name {key} PRIMARY KEY, record {record}) {more}")
 
     def accounts(self, hasher=LOW, dialect=None, **more):
         connect = more.pop("connect", self.server.connect)
@@ -189,9 +187,7 @@ class Base(unittest.TestCase):
         self.execute(begin, conn=caller)
         self.assertIs(accounts.commit_in(caller, worked).reply, Reply.YES)
         owner = self.accounts()
-        thread = threading.Thread(
-            target=lambda: done.append(owner.change("ann", "one", "two"))
-        )
+        thread = threading.Thread(target=lambda: done.append(owner.change("ann", "one", "two")))
         thread.start()
         time.sleep(0.5)
         self.assertEqual(done, [])

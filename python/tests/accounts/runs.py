@@ -46,8 +46,7 @@ class Run:
         said = {
             "reason": found and found.reason,
             "part": found and [str(it) for it in found.part],
-            "summary": logs.summary(accounts.values())
-            + f", {self.torture.killed} killed",
+            "summary": logs.summary(accounts.values()) + f", {self.torture.killed} killed",
         }
         (self.folder / "said").write_text(json.dumps(said))
 

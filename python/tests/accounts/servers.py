@@ -333,9 +333,7 @@ class MariaServer(Server):
     def root(self):
         import pymysql
 
-        return pymysql.connect(
-            unix_socket=f"{self.folder}.sock", user="root", autocommit=True
-        )
+        return pymysql.connect(unix_socket=f"{self.folder}.sock", user="root", autocommit=True)
 
     def ready(self):
         import pymysql
@@ -352,9 +350,7 @@ class MariaServer(Server):
         with self.root() as conn, conn.cursor() as cursor:
             cursor.execute("CREATE DATABASE IF NOT EXISTS store CHARACTER SET utf8mb4")
             for host in ("localhost", "127.0.0.1"):
-                cursor.execute(
-                    f"CREATE USER IF NOT EXISTS store@'{host}' IDENTIFIED BY 'store'"
-                )
+                cursor.execute(f"CREATE USER IF NOT EXISTS store@'{host}' IDENTIFIED BY 'store'")
                 cursor.execute(f"GRANT ALL ON store.* TO store@'{host}'")
         return self
 

@@ -354,9 +354,7 @@ class OnMariaDB(AtOnce, engines.Base):
         from pymysql.constants import CLIENT
 
         self.put(LOW.hash("one"))
-        accounts = self.accounts(
-            connect=lambda: self.server.connect(client_flag=CLIENT.FOUND_ROWS)
-        )
+        accounts = self.accounts(connect=lambda: self.server.connect(client_flag=CLIENT.FOUND_ROWS))
         self.assertIs(accounts.change("ann", "one", "two"), Reply.REPLACED)
         self.assertTrue(LOW.verify(self.stands(), "two"))
 

@@ -36,9 +36,7 @@ class Commands(Base):
         self.assertEqual(self.run_command("init"), "")
         self.assertIn("already exists", self.run_command("init", status=2))
         self.assertEqual(self.run_command("add", "ann@x", given=b"one"), "enrolled\n")
-        self.assertEqual(
-            self.run_command("add", "ann@x", given=b"two", status=1), "exists\n"
-        )
+        self.assertEqual(self.run_command("add", "ann@x", given=b"two", status=1), "exists\n")
         self.assertEqual(self.run_command("check", "ann@x", given=b"one\n"), "yes\n")
         for wrong in (b"two", b"one ", b"one\n\n"):
             said = self.run_command("check", "ann@x", given=wrong, status=1)
@@ -71,9 +69,7 @@ class Commands(Base):
         file = folder / "names"
         lines = [f"user {number}@x {record}" for number in range(1200)]
         file.write_text("\n".join(lines) + "\n")
-        self.assertEqual(
-            self.run_command("import", str(file)), "1200 added, 0 there already\n"
-        )
+        self.assertEqual(self.run_command("import", str(file)), "1200 added, 0 there already\n")
         lines[7] = f"user 7@x {LOW.hash('two')}"
         file.write_text("\r\n".join([*lines, f"new {record}"]))
         said = self.run_command("import", str(file), status=1)
@@ -185,9 +181,7 @@ class Commands(Base):
             row = ("ann", record.strip())
             self.conn.execute("INSERT INTO accounts VALUES (?, ?)", row)
             taken = given.removesuffix(b"\n")
-            said = self.run_command(
-                "check", "ann", given=given, status=int(owner != taken)
-            )
+            said = self.run_command("check", "ann", given=given, status=int(owner != taken))
             near = (taken + b"\n", taken.removesuffix(b"\n"))
             self.assertEqual("at its end" in said, owner != taken and owner in near)
         self.assertEqual(shell("verify", record.strip(), given=b"one")[0], "yes\n")

@@ -249,14 +249,10 @@ class OnPostgres(OnServer, engines.Base):
                     NOT_UNIQUE,
                 ),
                 (
-                    table.format("text")
-                    + "); CREATE UNIQUE INDEX ON users (lower(name))",
+                    table.format("text") + "); CREATE UNIQUE INDEX ON users (lower(name))",
                     NOT_UNIQUE,
                 ),
-                (
-                    table.format("text")
-                    + "); CREATE UNIQUE INDEX ON users (name) INCLUDE (record)",
-                ),
+                (table.format("text") + "); CREATE UNIQUE INDEX ON users (name) INCLUDE (record)",),
             ]
         )
 
@@ -391,9 +387,7 @@ class OnMariaDB(OnServer, engines.Base):
         self.assertIs(accounts.verify("ann", "one"), Reply.YES)
 
     def test_checks(self):
-        table = (
-            "CREATE TABLE users (name VARCHAR(90) PRIMARY KEY, record TEXT CHECK ({}))"
-        )
+        table = "CREATE TABLE users (name VARCHAR(90) PRIMARY KEY, record TEXT CHECK ({}))"
         refused = "no record can be put: OperationalError 4025"
         self.each_table(
             [

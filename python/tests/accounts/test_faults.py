@@ -122,9 +122,7 @@ class Faulty(Base):
         def connect():
             raise ConnectionError("nobody there")
 
-        accounts = self.accounts(
-            dialect=MariaDB("t", "k", "r"), connect=connect, patience=1.0
-        )
+        accounts = self.accounts(dialect=MariaDB("t", "k", "r"), connect=connect, patience=1.0)
         begun = time.monotonic()
         with self.assertRaises(Unavailable):
             accounts.login("ann", "one")
@@ -240,9 +238,7 @@ class Faulty(Base):
 
     def test_busy(self):
         self.put("ann", LOW.hash("one"))
-        accounts = self.accounts(
-            HIGH, connect=lambda: self.connect(timeout=0.01), patience=0.3
-        )
+        accounts = self.accounts(HIGH, connect=lambda: self.connect(timeout=0.01), patience=0.3)
         self.conn.execute("BEGIN IMMEDIATE")
         begun = time.monotonic()
         with self.assertRaises(Unavailable):

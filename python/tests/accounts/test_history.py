@@ -131,9 +131,7 @@ def made(rng):
     """A small history: legal at first, and then bent a few times."""
     first = rng.choice([None, "r0"])
     account = Account(
-        Operation(
-            "seed", "seed", "one", -math.inf, None, 1, -math.inf, "seed", None, first
-        ),
+        Operation("seed", "seed", "one", -math.inf, None, 1, -math.inf, "seed", None, first),
         Operation("end", "end", None, 60.0, reply="end"),
     )
     state = (first, "one" if first else None, 1)
@@ -240,9 +238,7 @@ class Small(unittest.TestCase):
                 found["part"] += 1
                 for it in part:
                     rest = [other for other in part if other is not it]
-                    self.assertIsNone(
-                        history.conflict(rest), f"history {number}: {shown}"
-                    )
+                    self.assertIsNone(history.conflict(rest), f"history {number}: {shown}")
         self.assertGreater(found[True], HISTORIES // 4)
         self.assertGreater(found[False], HISTORIES // 5)
         self.assertGreater(found["part"], HISTORIES // 10)
@@ -254,16 +250,11 @@ class Small(unittest.TestCase):
             account = made(rng)
             events = [account.seed, *account.operations, account.end]
             events = [it for it in events if it.reply and rng.random() < 0.7]
-            if any(
-                it.kind not in ("seed", "end") and not shaped(it, events)
-                for it in events
-            ):
+            if any(it.kind not in ("seed", "end") and not shaped(it, events) for it in events):
                 continue
             verdict = history.conflict(events) is None
             shown = [str(it) for it in events]
-            self.assertEqual(
-                verdict, some_order_of_part(events), f"part {number}: {shown}"
-            )
+            self.assertEqual(verdict, some_order_of_part(events), f"part {number}: {shown}")
             found[verdict] += 1
         self.assertGreater(min(found.values()), HISTORIES // 50)
         print(dict(found))
@@ -274,29 +265,19 @@ def shaped(op, events):
     makers = [it for it in events if it.makes_change and it.after == op.before]
     if op.before is not None and makers:
         maker = makers[0]
-        new = (
-            maker.new_password if maker.kind in ("change", "reset") else maker.password
-        )
+        new = maker.new_password if maker.kind in ("change", "reset") else maker.password
         states = [(op.before, new, maker.costs)]
     else:
-        states = [
-            (op.before, word, costs) for word in ("one", "two") for costs in (1, 2)
-        ]
+        states = [(op.before, word, costs) for word in ("one", "two") for costs in (1, 2)]
     return any(after(op, it, (op.before, op.after, op.reply)) for it in states)
 
 
-def operation(
-    name, kind, called, answered, reply, before, after, password="one", new=None
-):
-    return Operation(
-        name, kind, password, called, new, 1, answered, reply, before, after
-    )
+def operation(name, kind, called, answered, reply, before, after, password="one", new=None):
+    return Operation(name, kind, password, called, new, 1, answered, reply, before, after)
 
 
 def seed(record, password="one"):
-    return Operation(
-        "seed", "seed", password, -math.inf, None, 1, -math.inf, "seed", None, record
-    )
+    return Operation("seed", "seed", password, -math.inf, None, 1, -math.inf, "seed", None, record)
 
 
 def end(record):
@@ -399,9 +380,7 @@ class Said(unittest.TestCase):
 
     def test_a_change_to_the_same_record(self):
         ops = [operation("a", "change", 1, 2, "replaced", "old", "old", "one", "one")]
-        self.assertIn(
-            "put old", str(self.refused(Account(seed("old"), end("old"), ops)))
-        )
+        self.assertIn("put old", str(self.refused(Account(seed("old"), end("old"), ops))))
 
     def refused(self, account):
         with self.assertRaises(Illegal) as raised:
@@ -422,11 +401,7 @@ class Said(unittest.TestCase):
 
     def test_a_stale_answer(self):
         """Among a thousand looks, the two that show it are found."""
-        ops = [
-            operation(
-                "change", "change", 10, 11, "replaced", "old", "new", "one", "two"
-            )
-        ]
+        ops = [operation("change", "change", 10, 11, "replaced", "old", "new", "one", "two")]
         for number in range(1000):
             ops.append(operation(f"early{number}", "verify", 1, 2, "yes", "old", "old"))
             ops.append(operation(f"late{number}", "verify", 20, 21, "no", "new", "new"))
@@ -525,8 +500,7 @@ class Logs(unittest.TestCase):
             '{"event": "end", "key": 7, "time": 99, "record": "b"}',
             '{"event": "call", "id": "1", "time": 1, "kind": "change", "key": 7,'
             ' "password": "one", "new_password": "two", "costs": 1}',
-            '{"event": "try", "id": "1", "before": "a", "after": "b",'
-            ' "reply": "replaced"}',
+            '{"event": "try", "id": "1", "before": "a", "after": "b",' ' "reply": "replaced"}',
         ]
         with tempfile.TemporaryDirectory() as folder:
             path = os.path.join(folder, "log")

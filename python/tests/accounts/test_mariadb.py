@@ -134,9 +134,7 @@ class OnMariaDB(Base):
 
         self.table()
         self.put(LOW.hash("one"))
-        accounts = self.accounts(
-            connect=lambda: self.server.connect(client_flag=CLIENT.FOUND_ROWS)
-        )
+        accounts = self.accounts(connect=lambda: self.server.connect(client_flag=CLIENT.FOUND_ROWS))
         self.assertIs(accounts.change("ann", "one", "one"), Reply.REPLACED)
         slow = self.worked(accounts, Kind.CHANGE, "one", "two")
         self.assertIs(accounts.change("ann", "one", "one"), Reply.REPLACED)
@@ -238,9 +236,7 @@ class OnMariaDB(Base):
 
         self.table()
         self.put(LOW.hash("one"))
-        accounts = self.accounts(
-            connect=lambda: self.server.connect(cursorclass=DictCursor)
-        )
+        accounts = self.accounts(connect=lambda: self.server.connect(cursorclass=DictCursor))
         self.assertIs(accounts.change("ann", "one", "two"), Reply.REPLACED)
         self.execute("DROP TABLE users")
         self.execute(self.dialect.create())

@@ -95,9 +95,7 @@ class Operations(Base):
         self.put("ann", LOW.hash("one"))
         accounts = self.accounts()
         slow = accounts.work(accounts.begin(Request(Kind.UPGRADE, "ann", "one")))
-        change = accounts.work(
-            accounts.begin(Request(Kind.CHANGE, "ann", "one", "two"))
-        )
+        change = accounts.work(accounts.begin(Request(Kind.CHANGE, "ann", "one", "two")))
         self.assertIs(slow.reply, Reply.KEPT)
         self.assertIs(accounts.commit(change).reply, Reply.REPLACED)
         late = accounts.commit(slow)
@@ -291,9 +289,7 @@ class Operations(Base):
         accounts = self.accounts(HIGH)
         for turn in range(5):
             self.put("ann", LOW.hash("one"))
-            replies = self.in_threads(
-                lambda n: accounts.change("ann", "one", f"new{n}"), 8
-            )
+            replies = self.in_threads(lambda n: accounts.change("ann", "one", f"new{n}"), 8)
             said = sorted(it.value for it in replies)
             self.assertEqual(said, ["replaced"] + ["wrong"] * 7)
             self.put("ann", LOW.hash("one"))
@@ -304,8 +300,7 @@ class Operations(Base):
     def in_threads(self, act, count):
         replies = []
         threads = [
-            threading.Thread(target=lambda n=n: replies.append(act(n)))
-            for n in range(count)
+            threading.Thread(target=lambda n=n: replies.append(act(n))) for n in range(count)
         ]
         for thread in threads:
             thread.start()
@@ -413,9 +408,7 @@ class CallersTransactions(Base):
         self.put("ann", LOW.hash("one"))
         self.conn.execute("CREATE TABLE sessions (name TEXT)")
         accounts = self.accounts()
-        worked = accounts.work(
-            accounts.begin(Request(Kind.CHANGE, "ann", "one", "two"))
-        )
+        worked = accounts.work(accounts.begin(Request(Kind.CHANGE, "ann", "one", "two")))
         for end, right in (("ROLLBACK", "one"), ("COMMIT", "two")):
             self.conn.execute("BEGIN IMMEDIATE")
             answer = accounts.commit_in(self.conn, worked)
@@ -448,9 +441,7 @@ class CallersTransactions(Base):
             self.conn.execute("ROLLBACK")
 
     def test_keys_of_another_type(self):
-        worked = Worked(
-            Ticket(Request(Kind.RESET, 7, "", "x"), None), Reply.ENROLLED, "x"
-        )
+        worked = Worked(Ticket(Request(Kind.RESET, 7, "", "x"), None), Reply.ENROLLED, "x")
         self.conn.execute("BEGIN IMMEDIATE")
         with self.assertRaises(TypeError):
             self.accounts().commit_in(self.conn, worked)
@@ -459,9 +450,7 @@ class CallersTransactions(Base):
     def test_a_transaction_is_needed(self):
         self.put("ann", LOW.hash("one"))
         accounts = self.accounts()
-        worked = accounts.work(
-            accounts.begin(Request(Kind.CHANGE, "ann", "one", "two"))
-        )
+        worked = accounts.work(accounts.begin(Request(Kind.CHANGE, "ann", "one", "two")))
         with self.assertRaises(StoreFault):
             accounts.commit_in(self.conn, worked)
         self.assertTrue(self.is_right("one"))

@@ -86,9 +86,7 @@ class OnPostgres(Base):
         self.tried_bytes("abcDEF", "ABCdef")
         self.table("char(20)")
         self.put("abc")
-        self.assertEqual(
-            self.execute_count(self.dialect.update, ("x", "ann", "ABC")), 0
-        )
+        self.assertEqual(self.execute_count(self.dialect.update, ("x", "ann", "ABC")), 0)
 
     def test_columns_that_will_not_do(self):
         for column, words in (
@@ -141,9 +139,7 @@ class OnPostgres(Base):
             conn.execute("SET synchronous_commit = off")
             return conn
 
-        self.assertIn(
-            "synchronous_commit is off", self.said(self.accounts(connect=careless))
-        )
+        self.assertIn("synchronous_commit is off", self.said(self.accounts(connect=careless)))
 
     def test_names_with_signs(self):
         """Of a table and columns, in statements with values and without."""
@@ -190,8 +186,7 @@ class OnPostgres(Base):
             " upper(record); END IF; RETURN NULL; END'"
         )
         self.execute(
-            "CREATE TRIGGER tr AFTER UPDATE ON users FOR EACH ROW"
-            " EXECUTE FUNCTION shout()"
+            "CREATE TRIGGER tr AFTER UPDATE ON users FOR EACH ROW" " EXECUTE FUNCTION shout()"
         )
         self.assertIn("trigger tr", self.said(self.accounts()))
         self.assertIs(self.accounts().change("ann", "one", "two"), Reply.REPLACED)
@@ -214,9 +209,7 @@ class OnPostgres(Base):
             accounts = self.accounts(connect=connect)
             threads = [
                 threading.Thread(
-                    target=lambda n=n: replies.append(
-                        accounts.change("ann", "one", f"new{n}")
-                    )
+                    target=lambda n=n: replies.append(accounts.change("ann", "one", f"new{n}"))
                 )
                 for n in range(6)
             ]
@@ -300,8 +293,7 @@ class OnPostgres(Base):
             " AS 'BEGIN RETURN NULL; END'"
         )
         self.execute(
-            "CREATE TRIGGER tr BEFORE UPDATE ON users FOR EACH ROW"
-            " EXECUTE FUNCTION nothing()"
+            "CREATE TRIGGER tr BEFORE UPDATE ON users FOR EACH ROW" " EXECUTE FUNCTION nothing()"
         )
         accounts = self.accounts()
         with self.assertRaises(StoreFault):
@@ -338,9 +330,7 @@ class OnPostgres(Base):
 
         self.table()
         self.put(LOW.hash("one"))
-        accounts = self.accounts(
-            connect=lambda: self.server.connect(row_factory=dict_row)
-        )
+        accounts = self.accounts(connect=lambda: self.server.connect(row_factory=dict_row))
         self.assertIs(accounts.change("ann", "one", "two"), Reply.REPLACED)
         self.assertEqual(accounts.examine(), [])
 
@@ -545,15 +535,11 @@ class OnPostgres(Base):
         self.assertIs(await low.login("bob", "one"), Reply.NO_ACCOUNT)
         self.assertIs(await high.login("ann", "one"), Reply.YES)
         self.assertIs(await high.upgrade("ann", "one"), Reply.KEPT)
-        replies = await asyncio.gather(
-            *(low.change("ann", "one", f"new{n}") for n in range(8))
-        )
+        replies = await asyncio.gather(*(low.change("ann", "one", f"new{n}") for n in range(8)))
         said = sorted(it.value for it in replies)
         self.assertEqual(said, ["replaced"] + ["wrong"] * 7)
         self.assertIs(await low.reset("ann", "one"), Reply.REPLACED)
-        worked = await low.work(
-            await low.begin(Request(Kind.CHANGE, "ann", "one", "two"))
-        )
+        worked = await low.work(await low.begin(Request(Kind.CHANGE, "ann", "one", "two")))
         async with await connect() as conn:
             with self.assertRaises(StoreFault):
                 await low.commit_in(conn, worked)

@@ -152,9 +152,7 @@ class Refusals(Base):
             def connect():
                 raise ConnectionError(text)
 
-            accounts = self.accounts(
-                dialect=MariaDB("t", "k", "r"), connect=connect, patience=0.0
-            )
+            accounts = self.accounts(dialect=MariaDB("t", "k", "r"), connect=connect, patience=0.0)
             with self.assertRaises(Unavailable) as raised:
                 accounts.verify("ann", "x")
             found = str(raised.exception)
@@ -195,9 +193,7 @@ class Refusals(Base):
             self.assertIs(type(request.key), str)
             self.assertEqual(request.key, "ann")
         with self.assertRaises(TypeError):
-            self.accounts(dialect=Sqlite("users", "name", "record", int)).verify(
-                Safe("7"), "x"
-            )
+            self.accounts(dialect=Sqlite("users", "name", "record", int)).verify(Safe("7"), "x")
 
     def test_passwords_are_bytes_or_text(self):
         accounts = self.accounts(connect=self.untouched())

@@ -39,9 +39,7 @@ class Tables(Base):
         ):
             self.table(sql)
             self.assertIn(words, "; ".join(accounts.examine()), sql)
-        self.table(
-            "CREATE TABLE users (id INTEGER PRIMARY KEY, name TEXT UNIQUE, record TEXT)"
-        )
+        self.table("CREATE TABLE users (id INTEGER PRIMARY KEY, name TEXT UNIQUE, record TEXT)")
         self.assertEqual(accounts.examine(), [])
         self.conn.execute("CREATE TRIGGER tr AFTER UPDATE ON users BEGIN SELECT 1; END")
         self.assertIn("trigger tr", "; ".join(accounts.examine()))
@@ -90,14 +88,10 @@ class Tables(Base):
             self.assertEqual(said[: len(words)] if words else said, words, column)
 
     def test_bytes_are_compared(self):
-        self.table(
-            "CREATE TABLE users (name TEXT PRIMARY KEY, record TEXT COLLATE NOCASE)"
-        )
+        self.table("CREATE TABLE users (name TEXT PRIMARY KEY, record TEXT COLLATE NOCASE)")
         self.put("ann", LOW.hash("one"))
         accounts = self.accounts()
-        worked = accounts.work(
-            accounts.begin(Request(Kind.CHANGE, "ann", "one", "two"))
-        )
+        worked = accounts.work(accounts.begin(Request(Kind.CHANGE, "ann", "one", "two")))
         self.conn.execute("UPDATE users SET record = ?", (self.stands().swapcase(),))
         self.assertIs(accounts.commit(worked).reply, Reply.CHANGED)
 
@@ -130,17 +124,13 @@ class Tables(Base):
         accounts = self.accounts()
         with self.assertRaises(StoreFault):
             accounts.verify("ann", "one")
-        worked = accounts.work(
-            Ticket(Request(Kind.CHANGE, "ann", "one", "two"), record)
-        )
+        worked = accounts.work(Ticket(Request(Kind.CHANGE, "ann", "one", "two"), record))
         with self.assertRaises(StoreFault):
             accounts.commit(worked)
         self.assertEqual(self.stands(), record)
 
     def test_names_with_quotes_and_schemas(self):
-        self.conn.execute(
-            'CREATE TABLE "a""b%c" ("k%""1" INTEGER PRIMARY KEY, "r s" TEXT)'
-        )
+        self.conn.execute('CREATE TABLE "a""b%c" ("k%""1" INTEGER PRIMARY KEY, "r s" TEXT)')
         self.conn.execute('INSERT INTO "a""b%c" VALUES (7, NULL)')
         dialect = Sqlite('main.a"b%c', 'k%"1', "r s", int)
         accounts = self.accounts(dialect=dialect)

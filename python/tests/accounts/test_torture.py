@@ -123,9 +123,7 @@ class Tortures(Base):
                 setattr(accounts, name, mock.Mock(side_effect=RuntimeError))
 
             with self.subTest(name=name), self.assertRaises(StoreFault):
-                self.run_one(
-                    alter=broken, table=f"t{name}", seconds=10, ways=(way,), mix=mix
-                )
+                self.run_one(alter=broken, table=f"t{name}", seconds=10, ways=(way,), mix=mix)
 
     def test_an_unknown_outcome_is_no_failure(self):
         def unknown(accounts):
