@@ -1,7 +1,11 @@
 # Rigzumal as a whole. What each part needs says docs/BUILDING.md.
 #
 #     make build                    the programs, the library for C and Python, and libargon2
-#     make test                     the gate and the tests after it, and the library's tests
+#     make test                     the gate and the tests after it, and those of the library, of the package
+#                                   for Python, of the crate and of the code on the pages
+#     make deb                      Debian's packages: in c/out, python/out and c/pam/out, with programs that run
+#                                   on every x86-64 processor
+#     make wheel                    the package for Python with the library in it, in python/out
 #     make bench                    the library beside libargon2, libsodium and OpenSSL
 #     make interop                  other programs' strings, both ways
 #     make install PREFIX=/usr/local [DESTDIR=..]
@@ -21,7 +25,7 @@ PROGRAMS := credbook credkeep
 BUILT := $(foreach name,$(PROGRAMS),crates/$(name)/out/$(name))
 CPU ?=
 
-.PHONY: build programs library test bench interop install uninstall
+.PHONY: build programs library test deb wheel bench interop install uninstall
 .DELETE_ON_ERROR:
 # Each of these works on crates side by side, and no two may work on the same ones.
 .NOTPARALLEL:
@@ -38,6 +42,16 @@ library:
 test:
 	.ci/run
 	$(MAKE) -C c test RT='$(RT)' PYTHON='$(PYTHON)'
+	$(MAKE) -C python test RT='$(RT)' PYTHON='$(PYTHON)'
+	$(PYTHON) rust/tests/run.py
+	$(PYTHON) docs/tests/run.py
+
+deb: library
+	$(MAKE) programs CPU=x86-64 RT='$(RT)' PYTHON='$(PYTHON)'
+	for folder in c python c/pam; do $(MAKE) -C $$folder deb PYTHON='$(PYTHON)' || exit 1; done
+
+wheel: library
+	$(MAKE) -C python wheel RT='$(RT)' PYTHON='$(PYTHON)'
 
 bench: library
 	$(PYTHON) bench/c/run.py
@@ -47,6 +61,7 @@ interop: programs
 
 install: build
 	$(MAKE) -C c install PREFIX='$(PREFIX)' DESTDIR='$(DESTDIR)' RT='$(RT)'
+	$(MAKE) -C python install PREFIX='$(PREFIX)' DESTDIR='$(DESTDIR)'
 	install -d $(DESTDIR)$(PREFIX)/bin $(DESTDIR)$(PREFIX)/share/man/man1 $(DESTDIR)$(PREFIX)/share/man/man5
 	install -m 755 $(BUILT) bin/credkeep-ask $(DESTDIR)$(PREFIX)/bin
 	install -m 644 $(PROGRAMS:%=man/%.1) $(DESTDIR)$(PREFIX)/share/man/man1
@@ -62,6 +77,7 @@ install: build
 
 uninstall:
 	$(MAKE) -C c uninstall PREFIX='$(PREFIX)' DESTDIR='$(DESTDIR)'
+	$(MAKE) -C python uninstall PREFIX='$(PREFIX)' DESTDIR='$(DESTDIR)'
 	rm -f $(PROGRAMS:%=$(DESTDIR)$(PREFIX)/bin/%) $(DESTDIR)$(PREFIX)/bin/credkeep-ask
 	rm -f $(PROGRAMS:%=$(DESTDIR)$(BASH_DIR)/%) $(PROGRAMS:%=$(DESTDIR)$(ZSH_DIR)/_%)
 	rm -f $(PROGRAMS:%=$(DESTDIR)$(PREFIX)/share/man/man1/%.1) $(DESTDIR)$(PREFIX)/share/man/man5/rigzumal-script.5

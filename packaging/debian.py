@@ -1,9 +1,9 @@
 """Makes Debian's packages of what `make` has built: librigzumal1, librigzumal-dev, python3-rigzumal.
 
-    python3 packaging/debian.py VERSION FOLDER
+    python3 packaging/debian.py VERSION FOLDER NAME..
 
-`make -C c deb` runs it. It needs dpkg-dev (dpkg-deb, dpkg-shlibdeps). MAINTAINER in the environment
-is who packs them: "Name <address>".
+`make deb` runs it: in c/ for the first two, in python/ for the last. It needs dpkg-dev (dpkg-deb,
+dpkg-shlibdeps). MAINTAINER in the environment is who packs them: "Name <address>".
 """
 
 from __future__ import annotations
@@ -20,7 +20,8 @@ from dataclasses import dataclass
 from email.utils import formatdate
 
 TOP = pathlib.Path(__file__).resolve().parent.parent
-OUT = TOP / "out"
+C, PYTHON = TOP / "c", TOP / "python"
+OUT = C / "out"
 LIBRARIES = "usr/lib/x86_64-linux-gnu"
 SONAME = "librigzumal.so.1"
 MAINTAINER = os.environ.get("MAINTAINER", "The Rigzumal authors <rigzumal@example.org>")
@@ -50,8 +51,8 @@ class Package:
 
 def packages(version: str) -> list[Package]:
     python = {
-        f"usr/lib/python3/dist-packages/{it.relative_to(TOP / 'python')}": it
-        for it in sorted((TOP / "python/rigzumal").rglob("*"))
+        f"usr/lib/python3/dist-packages/{it.relative_to(PYTHON)}": it
+        for it in sorted((PYTHON / "rigzumal").rglob("*"))
         if it.is_file() and it.suffix != ".pyc"
     }
     return [
@@ -76,9 +77,9 @@ def packages(version: str) -> list[Package]:
             " The header, the static library, the manual page and the file for pkg-config\n"
             " of librigzumal1.\n",
             {
-                "usr/include/rigzumal.h": TOP / "include/rigzumal.h",
+                "usr/include/rigzumal.h": C / "include/rigzumal.h",
                 f"{LIBRARIES}/librigzumal.a": OUT / "librigzumal.a",
-                "usr/share/man/man3/rigzumal.3.gz": TOP / "man/rigzumal.3",
+                "usr/share/man/man3/rigzumal.3.gz": C / "man/rigzumal.3",
             },
         ),
         Package(
@@ -128,7 +129,7 @@ def put_files(package: Package, root: pathlib.Path, version: str) -> None:
     write(documents / "changelog.gz", gzip.compress(changes.encode(), mtime=0))
     if package.name == "librigzumal-dev":
         (root / LIBRARIES / "librigzumal.so").symlink_to(SONAME)
-        pkgconfig = (TOP / "rigzumal.pc.in").read_text().replace("@PREFIX@", "/usr")
+        pkgconfig = (C / "rigzumal.pc.in").read_text().replace("@PREFIX@", "/usr")
         pkgconfig = pkgconfig.replace("@LIBDIR@", f"/{LIBRARIES}").replace(
             "@VERSION@", version
         )
@@ -179,25 +180,35 @@ Description: {package.summary}
             (root / "DEBIAN" / script).chmod(0o755)
 
 
+def write_deb(
+    package: Package, room: pathlib.Path, version: str, folder: pathlib.Path
+) -> pathlib.Path:
+    """Packs a package below the room, and answers the file in the folder."""
+    root, depends = room / package.name, package.depends
+    put_files(package, root, version)
+    if "${shlibs}" in depends:
+        libraries = [it for it in package.files.values() if it.name.endswith(".so.1")]
+        depends = depends.replace("${shlibs}", needed_libraries(room, libraries))
+    put_control(package, root, version, depends)
+    architecture = "all" if package.multi_arch == "foreign" else "amd64"
+    deb = folder / f"{package.name}_{version}_{architecture}.deb"
+    root.chmod(0o755)
+    subprocess.run(
+        ["dpkg-deb", "--root-owner-group", "--build", root, deb],
+        check=True,
+        stdout=subprocess.DEVNULL,
+    )
+    return deb
+
+
 def main() -> None:
     version, folder = sys.argv[1], pathlib.Path(sys.argv[2]).resolve()
+    folder.mkdir(exist_ok=True)
+    wanted = {it.name: it for it in packages(version)}
     room = pathlib.Path(tempfile.mkdtemp(prefix="rigzumal-deb-"))
     try:
-        shlibs = needed_libraries(room, [OUT / SONAME, OUT / "libargon2.so.1"])
-        for package in packages(version):
-            root = room / package.name
-            put_files(package, root, version)
-            put_control(
-                package, root, version, package.depends.replace("${shlibs}", shlibs)
-            )
-            name = f"{package.name}_{version}_{'all' if package.multi_arch == 'foreign' else 'amd64'}.deb"
-            root.chmod(0o755)
-            subprocess.run(
-                ["dpkg-deb", "--root-owner-group", "--build", root, folder / name],
-                check=True,
-                stdout=subprocess.DEVNULL,
-            )
-            print(folder / name)
+        for name in sys.argv[3:]:
+            print(write_deb(wanted[name], room, version, folder))
     finally:
         shutil.rmtree(room)
 

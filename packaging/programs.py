@@ -20,7 +20,7 @@ from email.utils import formatdate
 
 from debian import COPYRIGHT, MAINTAINER, needed_libraries, write
 
-TOP = pathlib.Path(__file__).resolve().parent.parent.parent
+TOP = pathlib.Path(__file__).resolve().parent.parent
 SECURITY = "lib/x86_64-linux-gnu/security"
 UNITS = "lib/systemd/system"
 NAME = "credkeep-server"

@@ -1,4 +1,4 @@
-"""Makes the wheel: pip calls it (PEP 517), and so does `make -C c wheel`.
+"""Makes the wheel: pip calls it (PEP 517), and so does `make -C python wheel`.
 
     python3 build_backend.py FOLDER
 
@@ -18,8 +18,8 @@ import zipfile
 from typing import Any, Optional
 
 HERE = pathlib.Path(__file__).resolve().parent
-LIBRARY = HERE.parent / "out" / "librigzumal.so.1"
-HEADER = HERE.parent / "include" / "rigzumal.h"
+LIBRARY = HERE.parent / "c" / "out" / "librigzumal.so.1"
+HEADER = HERE.parent / "c" / "include" / "rigzumal.h"
 
 
 def version() -> str:
@@ -119,7 +119,7 @@ def build_sdist(
     sdist_directory: str, config_settings: Optional[dict[str, Any]] = None
 ) -> str:
     """There is none: the library's proved code isn't built by Python."""
-    sys.exit("there is no sdist: build a wheel, by `make -C c wheel`")
+    sys.exit("there is no sdist: build a wheel, by `make -C python wheel`")
 
 
 if __name__ == "__main__":

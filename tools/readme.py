@@ -5,7 +5,7 @@
 
 A session is a block marked `sh`; the block marked `text` that follows is what it has to print. All sessions of a page run in one bash and
 one folder, in their order, with the built programs of crates/*/out (`rt run` builds them) and this Python as `python3` in their path, and
-the Python package of c/ beside them. The folder holds links to crates/ and c/ and nothing else. A session with no text below it is named
+the Python package beside them. The folder holds links to crates/, c/ and python/ and nothing else. A session with no text below it is named
 and not run. One that needs a program that isn't there is named and skipped. The last line is `N passed, M failed`, and the status is 1
 if anything failed or nothing passed.
 """
@@ -62,10 +62,10 @@ def printed(scripts, path, room):
     """What each of these scripts prints, in one bash and one folder."""
     folder = room / "sessions"
     folder.mkdir()
-    for name in ("crates", "c"):
+    for name in ("crates", "c", "python"):
         (folder / name).symlink_to(TOP / name)
     whole = "".join(f"{script}\nprintf '%s\\n' '{MARK}'\n" for script in scripts)
-    env = {**os.environ, "PATH": path, "PYTHONPATH": str(TOP / "c/python")}
+    env = {**os.environ, "PATH": path, "PYTHONPATH": str(TOP / "python")}
     done = subprocess.run(["bash", "-c", whole], cwd=folder, env=env, stdout=subprocess.PIPE, text=True, timeout=600)
     return done.stdout.split(f"{MARK}\n")[:-1]
 

@@ -1,19 +1,26 @@
-"""What the tests of the library share: how a command is run, and how a test in C is built."""
+"""What the tests of the library share: how a test in C is built, and under what it runs."""
 
+import functools
 import os
 import pathlib
 import re
-import shlex
-import shutil
-import signal
-import subprocess
 import sys
-import tempfile
 
 HERE = pathlib.Path(__file__).resolve().parent
 TOP = HERE.parent
+sys.path.insert(0, str(TOP.parent / "tools"))
+
+import testing
+from testing import (  # noqa: F401 (the tests take them from here)
+    ROOM,
+    Failed,
+    Skipped,
+    compiler,
+    need,
+    need_module,
+)
+
 OUT = TOP / "out"
-ROOM = pathlib.Path(tempfile.mkdtemp(prefix="rigzumal-"))
 ORIGINAL = pathlib.Path("/usr/lib/x86_64-linux-gnu/libargon2.so.1")
 OURS = {"LD_LIBRARY_PATH": str(OUT)}
 ALL_WARNINGS = "-Wall -Wextra -Wpedantic -Werror"
@@ -26,10 +33,6 @@ LIBARGON2 = [it for it in C_FILES if it.startswith("src/libargon2")]
 SOURCES = [it for it in C_FILES if it not in LIBARGON2] + BUILDS
 ARCHIVE = ["out/librigzumal.a"]
 VALGRIND = "valgrind -q --error-exitcode=9 --leak-check=full --errors-for-leak-kinds=all".split()
-
-# Seconds after which a command hangs: it and all that it started are ended, whatever signals they
-# block. Nothing here comes near it.
-LIMIT = float(os.environ.get("TEST_LIMIT", "1800"))
 
 # The functions that the linker puts before those of the C library, or of this one.
 WRAPPED = {
@@ -46,68 +49,13 @@ WRAPPED = {
 # Has tags of every size worked in threads where a call asks for them.
 IN_THREADS = "-DLEAST_SHARED_MEMORY=1"
 
-
-class Skipped(Exception):
-    """What isn't there."""
-
-
-class Failed(Exception):
-    """What went wrong."""
-
-
-def end(process):
-    """Ends a command and all that it started."""
-    os.killpg(process.pid, signal.SIGKILL)
-    process.communicate()
-
-
-def run(*words, given=b"", env=None, status=0, at=TOP):
-    """What a command wrote on both streams, if it ended with the status."""
-    line = [str(word) for word in words]
-    process = subprocess.Popen(
-        line,
-        stdin=subprocess.PIPE,
-        stdout=subprocess.PIPE,
-        stderr=subprocess.STDOUT,
-        cwd=at,
-        env={**os.environ, **(env or {})},
-        start_new_session=True,
-    )
-    try:
-        written, _ = process.communicate(given, LIMIT)
-    except subprocess.TimeoutExpired:
-        end(process)
-        raise Failed(f"{shlex.join(line)}: it hangs: {LIMIT:.0f} seconds") from None
-    except BaseException:
-        end(process)
-        raise
-    text = written.decode(errors="replace")
-    if process.returncode != status:
-        raise Failed(f"{shlex.join(line)}: status {process.returncode}\n{text}")
-    return text
-
-
-def need(*programs):
-    for program in programs:
-        if shutil.which(program) is None:
-            raise Skipped(f"{program} is not there")
-
-
-def need_module(*modules):
-    for module in modules:
-        if subprocess.run(
-            [sys.executable, "-c", f"import {module}"], capture_output=True
-        ).returncode:
-            raise Skipped(f"Python's {module} is not there")
+# What a command wrote, in the library's folder.
+run = functools.partial(testing.run, at=TOP)
 
 
 def need_original():
     if not ORIGINAL.exists():
         raise Skipped("libargon2-1 is not there")
-
-
-def compiler():
-    return os.environ.get("CC", "cc")
 
 
 def wraps(name):

@@ -1,45 +1,48 @@
-"""Tests of the code on the pages: each piece of C, Python and Rust is compiled or run."""
+"""Runs the tests of the code on the pages: each piece of C, Python, Rust, PHP and shell that a page
+shows is compiled or run.
+
+    /usr/bin/python3 docs/tests/run.py [NAME ..]
+
+They need `make -C c`. What a test needs and this machine doesn't have is named, and the test is
+skipped. Debian's packages for all of it: cargo, python3-django, python3-psycopg, postgresql,
+php-cli, php-sqlite3, php-laravel-framework, php-symfony-security-http,
+php-symfony-password-hasher, apache2-utils, dovecot-core, python3-passlib, python3-argon2,
+python3-bcrypt; and credkeep, if it is built.
+"""
 
 import os
 import pathlib
 import re
 import shutil
 import sys
+import tempfile
 
-from harness import (
-    HERE,
-    OUT,
-    ROOM,
-    TOP,
-    WARNINGS,
-    Failed,
-    Skipped,
-    compiler,
-    need,
-    need_module,
-    run,
-)
+HERE = pathlib.Path(__file__).resolve().parent
+REPOSITORY = HERE.parent.parent
+C, PYTHON, LIBRARIES = (REPOSITORY / name for name in ("c", "python", "c/out"))
+sys.path.insert(0, str(REPOSITORY / "tools"))
 
-REPOSITORY = TOP.parent
+import testing
+from testing import ROOM, Failed, Skipped, compiler, need, need_module, run
+
+OVER_PACKAGE = {"PYTHONPATH": str(PYTHON)}
 BLOCK = re.compile(r"^```(c|python|rust)\n(.*?)^```$", re.MULTILINE | re.DOTALL)
+FROM_FILE = re.compile(r"^<!-- from \S+ -->\n```.*?^```$", re.MULTILINE | re.DOTALL)
 
-# The tests of each piece, page by page and in their order. Those of other files: of Django's
-# settings and of its tests to copy frameworks/run.py, of the client tools/credkeep_tagged_tests.py;
-# what a page takes from a file of Rattle is compared with that file by tools/pages.py.
+# The tests of each piece, page by page and in their order. What a page takes from a file is compared
+# with that file by tools/pages.py.
 TESTED = {
     "README.md": (
         ("c", "test_sample_of_c"),
         ("python", "test_sample_of_accounts"),
-        ("python", "test_samples_of_django"),
-        ("rust", "tools/pages.py"),
     ),
     "docs/DJANGO.md": (
-        ("python", "c/tests/frameworks/run.py"),
+        ("python", "test_django_page"),
         ("python", "test_samples_of_django"),
         ("python", "test_samples_of_django"),
         ("python", "test_samples_of_django"),
         ("python", "test_samples_of_django"),
-        ("python", "c/tests/frameworks/run.py"),
+        ("python", "test_django_page"),
     ),
     "docs/SERVING.md": (
         ("python", "tools/credkeep_tagged_tests.py"),
@@ -50,8 +53,8 @@ TESTED = {
 
 
 def samples(page):
-    """The pieces of code on a page, each with its language."""
-    return BLOCK.findall((REPOSITORY / page).read_text())
+    """The pieces of code on a page, each with its language, but for those that stand in a file."""
+    return BLOCK.findall(FROM_FILE.sub("", (REPOSITORY / page).read_text()))
 
 
 def sample_for(page, test):
@@ -62,7 +65,7 @@ def sample_for(page, test):
 def test_samples():
     """Each piece of code on a page has a test here, or a file that runs it."""
     pages = [REPOSITORY / "README.md", *(REPOSITORY / "docs").glob("*.md")]
-    pages += [*TOP.rglob("*.md"), *(REPOSITORY / "rust").glob("*.md")]
+    pages += [it for name in ("c", "python", "rust") for it in (REPOSITORY / name).rglob("*.md")]
     for path in pages:
         page = str(path.relative_to(REPOSITORY))
         held = [language for language, _ in samples(page)]
@@ -71,7 +74,7 @@ def test_samples():
             raise Failed(f"{page} has code in {held}, and tests of {known}")
     for page, tests in TESTED.items():
         for _, test in tests:
-            if test.startswith("test_") and test in globals() or test == "tools/pages.py":
+            if test.startswith("test_") and test in globals():
                 continue
             if pathlib.Path(page).name not in (REPOSITORY / test).read_text():
                 raise Failed(f"{test} doesn't read {page}")
@@ -99,8 +102,9 @@ def test_sample_of_c():
     source = ROOM / "sample.c"
     source.write_text(code if "main(" in code else FUNCTION % code.replace("...", "return 1;"))
     program = ROOM / "of-sample"
-    run(compiler(), *WARNINGS, source, f"-L{OUT}", "-lrigzumal", "-o", program)
-    run(program, env={"LD_LIBRARY_PATH": str(OUT)})
+    words = ["-std=c11", "-Wall", "-Wextra", "-Wpedantic", "-Werror", f"-I{C / 'include'}"]
+    run(compiler(), *words, source, f"-L{LIBRARIES}", "-lrigzumal", "-o", program)
+    run(program, env={"LD_LIBRARY_PATH": str(LIBRARIES)})
 
 
 def test_sample_of_rust():
@@ -114,7 +118,7 @@ def test_sample_of_rust():
     (crate / "examples/page.rs").write_text(
         f"{used}\n\nfn main() -> Result<(), Error> {{\n{rest}\n    Ok(())\n}}\n"
     )
-    env = {"CARGO_TARGET_DIR": str(ROOM / "cargo"), "RIGZUMAL_LIB_DIR": str(OUT)}
+    env = {"CARGO_TARGET_DIR": str(ROOM / "cargo"), "RIGZUMAL_LIB_DIR": str(LIBRARIES)}
     run("cargo", "run", "-q", "--offline", "--locked", "--example", "page", env=env, at=crate)
 
 
@@ -124,23 +128,20 @@ def test_sample_of_accounts():
     (code,) = sample_for("README.md", "test_sample_of_accounts")
     page = ROOM / "accounts.py"
     page.write_text(code)
-    path = os.pathsep.join(("python", str(HERE / "accounts")))
-    said = run(sys.executable, "tests/sample_of_accounts.py", page, env={"PYTHONPATH": path})
+    path = os.pathsep.join(map(str, (PYTHON, PYTHON / "tests/accounts")))
+    said = run(sys.executable, HERE / "sample_of_accounts.py", page, env={"PYTHONPATH": path})
     if said.startswith("not there: "):
         raise Skipped(said.strip())
 
 
 def test_samples_of_django():
-    """The pages' settings, model, URLs and views, in a project of their own."""
+    """The page's settings, model, URLs and views, in a project of their own."""
     need_module("django")
-    (settings,) = sample_for("README.md", "test_samples_of_django")
-    parts = (settings, *sample_for("docs/DJANGO.md", "test_samples_of_django"))
-    files = [ROOM / f"django{number}.py" for number in range(len(parts))]
-    for file, code in zip(files, parts):
+    settings, *parts = [code for _, code in samples("docs/DJANGO.md")][:-1]
+    files = [ROOM / f"django{number}.py" for number in range(len(parts) + 1)]
+    for file, code in zip(files, (settings, *parts)):
         file.write_text(code)
-    files.append(ROOM / "django-of-the-page.py")
-    files[-1].write_text(samples("docs/DJANGO.md")[0][1])
-    run(sys.executable, "tests/samples_of_django.py", *files, env={"PYTHONPATH": "python"})
+    run(sys.executable, HERE / "samples_of_django.py", *files, env=OVER_PACKAGE)
 
 
 def test_sample_of_a_co_process():
@@ -156,3 +157,75 @@ def test_sample_of_a_co_process():
     said = run(sys.executable, "-c", code, env={"PATH": path}, at=room)
     if said != "ok\nnone\n":
         raise Failed(said)
+
+
+def test_django_page():
+    """docs/DJANGO.md's settings and tests, in a new project: nothing is amiss."""
+    need_module("django")
+    need("django-admin")
+    code = [block for _, block in samples("docs/DJANGO.md")]
+    folder = pathlib.Path(tempfile.mkdtemp(dir=ROOM))
+    run("django-admin", "startproject", "service", ".", at=folder, env=OVER_PACKAGE)
+    with open(folder / "service/settings.py", "a") as settings:
+        settings.write(code[0])
+    (folder / "tests.py").write_text(code[-1])
+
+    def manage(*words):
+        env = {**OVER_PACKAGE, "DJANGO_SETTINGS_MODULE": "service.settings"}
+        return run(sys.executable, "manage.py", *words, at=folder, env=env)
+
+    manage("migrate", "-v", "0")
+    said = manage("check", "--database", "default").strip()
+    if said != "System check identified no issues (0 silenced).":
+        raise Failed(said)
+    return next(line for line in manage("test").splitlines() if line.startswith("Ran "))
+
+
+def php(name, test):
+    """Runs a test over the code of docs/PHP.md that begins with this name."""
+    blocks = re.findall(r"^```php\n(.*?)```", (HERE.parent / "PHP.md").read_text(), re.S | re.M)
+    code = ROOM / name
+    code.write_text(next(it for it in blocks if it.startswith(f"<?php // {name}")))
+    return run(need("php"), HERE / test, code, env={"LD_LIBRARY_PATH": str(LIBRARIES)})
+
+
+def test_php():
+    """docs/PHP.md's plain code, on SQLite."""
+    if "pdo_sqlite" not in run(need("php"), "-m"):
+        raise Skipped("PHP's pdo_sqlite is not there")
+    return php("accounts.php", "php_accounts.php")
+
+
+def test_laravel():
+    """docs/PHP.md's provider for Laravel, on SQLite."""
+    if not pathlib.Path("/usr/share/php/Illuminate/autoload.php").exists():
+        raise Skipped("php-laravel-framework is not there")
+    return php("CompareAndSetUserProvider.php", "php_laravel.php")
+
+
+def test_symfony():
+    """docs/PHP.md's upgrader for Symfony, on SQLite."""
+    if not pathlib.Path("/usr/share/php/Symfony/Component/Security/Http/autoload.php").exists():
+        raise Skipped("php-symfony-security-http is not there")
+    return php("CompareAndSetUpgrader.php", "php_symfony.php")
+
+
+def test_migrating():
+    """The commands of docs/MIGRATING.md write what stands there."""
+    need("doveadm", "htpasswd", "php")
+    need_module("django", "passlib", "argon2", "bcrypt")
+    text = (HERE.parent / "MIGRATING.md").read_text()
+    blocks = re.findall(r"```(sh|text)\n(.*?)```", text, re.S)
+    script = "".join(block for kind, block in blocks if kind == "sh")
+    expected = "".join(block for kind, block in blocks if kind == "text")
+    folder, programs = tempfile.mkdtemp(dir=ROOM), pathlib.Path(tempfile.mkdtemp(dir=ROOM))
+    (programs / "python3").symlink_to(sys.executable)
+    path = f"{programs}:{os.environ['PATH']}"
+    found = run("bash", "-euc", script, at=folder, env={**OVER_PACKAGE, "PATH": path})
+    if found.strip() != expected.strip():
+        raise Failed(f"it wrote:\n{found}")
+    return f"{script.count('python3')} commands"
+
+
+if __name__ == "__main__":
+    sys.exit(testing.main(testing.tests_of(sys.modules[__name__])))

@@ -152,7 +152,7 @@ def _path() -> str:
     if named:
         return named
     here = pathlib.Path(__file__).resolve().parent
-    for folder in (here, here.parent.parent / "out"):
+    for folder in (here, here.parent.parent / "c" / "out"):
         if (folder / NAME).exists():
             return str(folder / NAME)
     return NAME

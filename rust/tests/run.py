@@ -1,11 +1,23 @@
-"""Tests of the crate for Rust."""
+"""Runs the tests of the crate for Rust, after `make -C c`.
 
+    /usr/bin/python3 rust/tests/run.py [NAME ..]
+
+What a test needs and this machine doesn't have is named, and the test is skipped. Debian's
+packages for all of it: cargo, rust-clippy, rustfmt, argon2.
+"""
+
+import pathlib
 import re
+import sys
 
-from harness import OUT, ROOM, TOP, Failed, need, run
+CRATE = pathlib.Path(__file__).resolve().parent.parent
+sys.path.insert(0, str(CRATE.parent / "tools"))
 
-CRATE = TOP.parent / "rust"
-ROOM_OF_CARGO = {"CARGO_TARGET_DIR": str(ROOM / "cargo"), "RIGZUMAL_LIB_DIR": str(OUT)}
+import testing
+from testing import ROOM, Failed, need, run
+
+LIBRARIES = CRATE.parent / "c/out"
+ROOM_OF_CARGO = {"CARGO_TARGET_DIR": str(ROOM / "cargo"), "RIGZUMAL_LIB_DIR": str(LIBRARIES)}
 STRICT = {"RUSTDOCFLAGS": "-D warnings", **ROOM_OF_CARGO}
 MOST_UNSAFE_LINES = 120
 
@@ -48,3 +60,7 @@ def test_rust_unsafe():
         raise Failed("unsafe code is not denied")
     if lib.count("allow(unsafe_code)") != 1:
         raise Failed("unsafe code is allowed in another module too")
+
+
+if __name__ == "__main__":
+    sys.exit(testing.main(testing.tests_of(sys.modules[__name__])))

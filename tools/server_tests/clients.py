@@ -28,7 +28,7 @@ from common import TOP, Skipped, field_of, holds, need, run_tests, same, serving
 
 def ours() -> Any:
     """The package, whose library has to be there."""
-    sys.path.insert(0, str(TOP / "c/python"))
+    sys.path.insert(0, str(TOP / "python"))
     try:
         return importlib.import_module("rigzumal.server"), importlib.import_module("rigzumal.server.aio")
     except ImportError as fault:

@@ -30,7 +30,7 @@ from typing import Optional, TypeVar
 from common import CHEAP, FAST_BOOK, TOP, Client, Given, chosen_book, command, field_of, same, until
 
 # The checker alone: its package needs the built library.
-sys.path.insert(0, str(TOP / "c/python/rigzumal/accounts"))
+sys.path.insert(0, str(TOP / "python/rigzumal/accounts"))
 from history import Account, Attempt, Illegal, Operation, check  # noqa: E402
 
 NAMES = [f"user{number}" for number in range(8)]

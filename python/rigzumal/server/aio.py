@@ -122,7 +122,9 @@ class Client:
 
     async def _line(self, tag: bytes, asked: Question) -> bytes:
         """The line that answers under a tag; empty if the connection ends first."""
-        if self._connecting is None:  # not before: until Python 3.10 it takes its loop as it is made
+        if (
+            self._connecting is None
+        ):  # not before: until Python 3.10 it takes its loop as it is made
             self._connecting = asyncio.Lock()
         async with self._connecting:
             if self._reading is None or self._reading.done():

@@ -1,6 +1,6 @@
 """Operations a second on private servers, beside a plain UPDATE with no comparison.
 
-    PYTHONPATH=c/python python3 c/tests/accounts/bench.py [sqlite] [postgres] [mariadb] [galera] [--seconds 10] [--turns 10] [--processes 1,4,8,16]
+    PYTHONPATH=python python3 python/tests/accounts/bench.py [sqlite] [postgres] [mariadb] [galera] [--seconds 10] [--turns 10] [--processes 1,4,8,16]
 
 Prints the tables of docs/SCALE.md in Markdown, in some half an hour for all engines:
 operations a second under costs that are next to nothing (64 KiB), so that what is seen

@@ -1,6 +1,6 @@
 """Many processes on real servers: which histories are legal, and which must be refused.
 
-    PYTHONPATH=c/python python3 c/tests/accounts/histories.py [NAME..]
+    PYTHONPATH=python python3 python/tests/accounts/histories.py [NAME..]
 
 RIGZUMAL_SECONDS is how long each runs. What the machine doesn't have is skipped by
 name.

@@ -96,9 +96,7 @@ class ThreeServers(unittest.TestCase):
         for turn in range(40):
             for it in upgrading:
                 it.send("log_in", "ada@example.org", str(turn))
-            self.assertTrue(
-                changing.ask("change", "ada@example.org", str(turn), str(turn + 1))
-            )
+            self.assertTrue(changing.ask("change", "ada@example.org", str(turn), str(turn + 1)))
             for it in upgrading:
                 it.answer()
             self.assertTrue(changing.ask("log_in", "ada@example.org", str(turn + 1)))

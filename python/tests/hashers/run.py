@@ -1,37 +1,38 @@
-"""Tests of the Python package."""
+"""Runs the tests of the hashers: rigzumal's own, and argon2-cffi's names.
+
+    /usr/bin/python3 python/tests/hashers/run.py [NAME ..]
+
+What a test needs and this machine doesn't have is named, and the test is skipped. Debian's
+packages for all of it: python3-argon2, python3-passlib. argon2-cffi's own tests need
+python3-pytest, python3-hypothesis and ARGON2_CFFI_SOURCE, a folder with its source.
+"""
 
 import os
+import pathlib
 import shutil
 import sys
 
-from harness import (
-    HERE,
-    ROOM,
-    TOP,
-    WARNINGS,
-    Failed,
-    Skipped,
-    compiler,
-    need,
-    need_module,
-    passlibs,
-    run,
-)
+HERE = pathlib.Path(__file__).resolve().parent
+sys.path.insert(0, str(HERE.parent))
+
+from harness import PYTHON, python, testing
+from testing import ROOM, Failed, Skipped, compiler, need_module, run
 
 
 def test_python_package():
     """The package, with a getrandom that says which salts are its own."""
     shim = ROOM / "getrandom.so"
-    run(compiler(), *WARNINGS, "-fPIC", "-shared", "tests/getrandom.c", "-o", shim)
-    env = {"PYTHONPATH": "python", "GETRANDOM_SHIM": str(shim)}
+    words = ["-std=c11", "-Wall", "-Wextra", "-Wpedantic", "-Werror", "-fPIC", "-shared"]
+    run(compiler(), *words, HERE / "getrandom.c", "-o", shim)
+    env = {"GETRANDOM_SHIM": str(shim)}
     for name in ("python", "hashers", "calibrate"):
-        run(sys.executable, "-W", "error", f"tests/test_{name}.py", env=env)
+        python("-W", "error", HERE / f"test_{name}.py", env=env)
 
 
 def test_argon2_cffi():
     """The names of argon2-cffi, beside the installed one."""
     need_module("argon2")
-    run(sys.executable, "-W", "error", "tests/test_argon2_cffi.py", env={"PYTHONPATH": "python"})
+    python("-W", "error", HERE / "test_argon2_cffi.py")
 
 
 def test_argon2_cffi_own():
@@ -40,45 +41,42 @@ def test_argon2_cffi_own():
     source = os.environ.get("ARGON2_CFFI_SOURCE")
     if source is None:
         raise Skipped("ARGON2_CFFI_SOURCE names no folder of argon2-cffi's source")
-    path = os.pathsep.join(("python", os.environ.get("PYTHONPATH", "")))
-    said = run(sys.executable, "tests/argon2_cffi_own.py", source, env={"PYTHONPATH": path})
-    return said.splitlines()[-1]
-
-
-def test_python_layout():
-    need("black")
-    run("black", "-q", "--check", "python/rigzumal", "python/build_backend.py", "packaging")
-    run("black", "-q", "--check", "-l", "100", *(TOP / "tests").glob("*.py"))
-
-
-def test_python_types():
-    need("mypy")
-    cache = f"--cache-dir={ROOM / 'mypy'}"
-    run("mypy", "--strict", cache, "rigzumal", at=TOP / "python")
+    env = {"PYTHONPATH": os.environ.get("PYTHONPATH", "")}
+    return python(HERE / "argon2_cffi_own.py", source, env=env).splitlines()[-1]
 
 
 def test_missing_library():
     """A package without its library says how to build it."""
     room = ROOM / "bare"
-    shutil.copytree(TOP / "python/rigzumal", room / "rigzumal")
+    shutil.copytree(PYTHON / "rigzumal", room / "rigzumal")
     clean = {"PYTHONPATH": str(room), "LD_LIBRARY_PATH": ""}
     said = run(sys.executable, "-c", "import rigzumal", env=clean, at=room, status=1)
     if "make -C c" not in said and "No such file" in said:
         raise Failed(said)
-    shutil.copytree(TOP / "python", room / "python")
+    shutil.copytree(PYTHON, room / "python", ignore=shutil.ignore_patterns("tests", "out"))
     said = run(sys.executable, "python/build_backend.py", room, at=room, status=1)
     if "make -C c" not in said:
         raise Failed(said)
 
 
+def passlibs(module, env):
+    """How many of passlib's tests ran."""
+    said = python("-W", "ignore", "-m", "unittest", f"passlib.tests.{module}", env=env)
+    return said.partition("Ran ")[2].split()[0]
+
+
 def test_passlib_scrypt():
     """passlib's own tests for scrypt, with this library as a backend."""
     need_module("passlib.tests.test_crypto_scrypt")
-    env = {"PYTHONPATH": os.pathsep.join((str(HERE / "passlib_scrypt"), "python"))}
+    env = {"PYTHONPATH": str(HERE / "passlib_scrypt")}
     chosen = (
         "from passlib.crypto import scrypt; scrypt._set_backend('scrypt'); print(scrypt.backend)"
     )
-    if "scrypt" not in run(sys.executable, "-W", "ignore", "-c", chosen, env=env):
+    if "scrypt" not in python("-W", "ignore", "-c", chosen, env=env):
         raise Failed("passlib doesn't take the backend")
-    ran = [passlibs(it, env)[0][0] for it in ("test_crypto_scrypt", "test_handlers_scrypt")]
+    ran = [passlibs(it, env) for it in ("test_crypto_scrypt", "test_handlers_scrypt")]
     return f"{' and '.join(ran)} tests"
+
+
+if __name__ == "__main__":
+    sys.exit(testing.main(testing.tests_of(sys.modules[__name__])))

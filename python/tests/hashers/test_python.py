@@ -474,7 +474,7 @@ class Shell(unittest.TestCase):
             self.assertEqual((refused.returncode, b"Traceback" in refused.stderr), (2, False))
 
     def test_the_version_is_the_headers(self):
-        header = pathlib.Path(__file__).parent.parent / "include/rigzumal.h"
+        header = pathlib.Path(__file__).parents[3] / "c/include/rigzumal.h"
         self.assertIn(
             f'#define RIGZUMAL_LIBRARY_VERSION "{rigzumal.version()}"', header.read_text()
         )
