@@ -9,6 +9,7 @@
 - docs/PLANTED.md names each wrong body that the gate has to try, with the file or the test that it stands in: each is there.
 - docs/PLANTED.md says how many bugs there are in how many lists: those of plants/. Each fits the code (tools/plant.py --fits),
   and what is said to refuse each that no clause refuses is there.
+- Each bug that is planted in C, Python and Rust fits the code (tools/planting.py --fits).
 - docs/PROMISES.md names calls, clauses, wrong bodies, tests and files (tools/promises.py).
 - Each link between pages leads to a file, and each picture has a text for those who can't see it.
 - Each library and program of crates.txt has a page, crates/NAME/README.md, and stands in docs/pictures/crates.svg.
@@ -26,6 +27,7 @@ import sys
 import textwrap
 
 import plant
+import planting
 import promises
 
 TOP = pathlib.Path(__file__).resolve().parent.parent
@@ -154,7 +156,7 @@ def walks():
 
 
 def main():
-    found = [*figures(), *logic(), *planted(), *bugs(), *let_through(), *rooms(), *walks()]
+    found = [*figures(), *logic(), *planted(), *bugs(), *let_through(), *([*planting.misfits()] or [None]), *rooms(), *walks()]
     for page in PAGES:
         found += [*links(page), *callers(page)]
     passed, failures = promises.check()
