@@ -30,6 +30,9 @@ COPIED = ("bin", "c", "docs", "examples", "packaging", "python", "rust", "tools"
 LEFT_OUT = shutil.ignore_patterns("__pycache__", "*.whl", "*.deb", ".mypy_cache", "target", "data")
 FRAMEWORKS = "python/tests/frameworks"
 
+# What compilers and linkers say: such a bug would be refused by any test.
+UNBUILT = re.compile(r"^\S+:\d+(:\d+)?: (fatal )?error: |^error: could not compile|ld returned|PHP Parse error", re.M)
+
 # A test that takes so many times what it takes with no bug, and so many seconds at least, hangs.
 PATIENCE, LEAST_PATIENCE = 20, 120
 
@@ -67,10 +70,11 @@ class Suite:
             ran = re.search(r"^Ran (\d+) tests?.*\n\nOK(?: \(.*?skipped=(\d+))?", said, re.M)
             word = "skipped" if ran and ran[1] == ran[2] else "passed"
         else:
-            failed = re.search(r"^(FAIL|ERROR|PHP Fatal|FAILED)\b", said, re.M) and "_FailedTest" not in said
-            word = "FAILED" if failed else None
-        failed = word and word.lower() == "failed"
-        return "unbuilt" if failed and re.search(r"(?<!runtime) error: |SyntaxError", said) else "FAILED" if failed else word
+            is_judged = re.search(r"^(FAIL|ERROR)\b", said, re.M) and "_FailedTest" not in said
+            word = "FAILED" if is_judged else None
+        if word is None or word.lower() != "failed":
+            return word
+        return "unbuilt" if UNBUILT.search(said) else "FAILED"
 
 
 def unittests(at, words, **env):
