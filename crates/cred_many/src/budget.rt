@@ -3,7 +3,8 @@
 use std::sync::{Condvar, Mutex, Wait};
 
 /// So many KiB for all hashes that are worked at once. They take their turn: one that asks for more
-/// than is free waits, and others wait behind it.
+/// than is free waits, and others wait behind it. What a thread keeps between two hashes isn't
+/// counted, so nobody waits for a thread that is idle.
 #[derive(Drop)]
 pub(crate) struct Budget {
     total: u64,

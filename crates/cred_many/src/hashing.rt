@@ -6,7 +6,7 @@ use crate::job::{Hashed, Job};
 use crate::message::Message;
 use crate::naming::Naming;
 use cred_book::{Request, Ticket};
-use cred_phc::{Password, Setting, TagError, tag_alone};
+use cred_phc::{Password, Scratch, Setting, TagError, tag_in};
 use cred_pool::NoGate;
 use crossbeam_channel::{Receiver, Sender};
 use std::alloc::Global;
@@ -27,49 +27,53 @@ pub(crate) struct Hashing {
 }
 
 impl Hashing {
-    /// Hashes jobs as long as they come.
+    /// Hashes jobs as long as they come. The memory of a hash is kept for the next one, as far as
+    /// the costs of new records go.
     pub(crate) fn work<J: Naming, T: Wait>(
         &self,
         rt: &T,
         jobs: Receiver<Job<J>>,
         book: Sender<Message<J>>,
     ) {
+        let most = u32::try_from(self.costs.memory()).unwrap_or(u32::MAX);
+        let mut scratch = Scratch::new(self.alloc, most);
         for _ in rt.forever() {
             let Ok(job) = jobs.recv(rt) else {
                 return;
             };
-            if book.send(rt, self.hashed(rt, job)).is_err() {
+            if book.send(rt, self.hashed(rt, &mut scratch, job)).is_err() {
                 return;
             }
         }
     }
 
     /// Hashes a job, once the memory for it is free.
-    fn hashed<J: Naming, T: Wait>(&self, rt: &T, job: Job<J>) -> Message<J> {
+    fn hashed<J: Naming, T: Wait>(&self, rt: &T, scratch: &mut Scratch, job: Job<J>) -> Message<J> {
         let kib = self.memory_of(&job.ticket);
         if !self.budget.take(rt, kib) {
             return job.without_memory();
         }
-        let message = self.hash(job);
+        let message = self.hash(scratch, job);
         self.budget.give_back(rt, kib);
         message
     }
 
     /// Hashes a job. A name that isn't there, and an account without a record, take a hash too.
-    fn hash<J: Naming>(&self, job: Job<J>) -> Message<J> {
-        if job.ticket.copy().is_none() && self.hash_for_nothing(&job.ticket.request()).is_err() {
+    fn hash<J: Naming>(&self, scratch: &mut Scratch, job: Job<J>) -> Message<J> {
+        let request = job.ticket.request();
+        if job.ticket.copy().is_none() && self.hash_for_nothing(scratch, &request).is_err() {
             return job.without_memory();
         }
-        job.work(self.alloc)
+        job.work(scratch, self.alloc)
     }
 
     /// Hashes the password that would be compared if there were a record.
-    fn hash_for_nothing(&self, request: &Request) -> Result<(), TagError> {
+    fn hash_for_nothing(&self, scratch: &mut Scratch, request: &Request) -> Result<(), TagError> {
         let Some(pw) = compared(request) else {
             return Ok(());
         };
         let setting = self.costs.setting(&NO_SALT);
-        tag_alone(self.alloc, &NoGate, &setting, NEW_TAG, pw.bytes())?;
+        tag_in(scratch, self.alloc, &NoGate, &setting, NEW_TAG, pw.bytes())?;
         Ok(())
     }
 

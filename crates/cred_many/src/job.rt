@@ -6,6 +6,7 @@ use crate::line::Line;
 use crate::message::Message;
 use crate::naming::Naming;
 use cred_book::{Ticket, Worked};
+use cred_phc::Scratch;
 use cred_pool::NoGate;
 use std::alloc::Global;
 use std::marker::Model;
@@ -53,10 +54,10 @@ impl<J: Naming> Job<J> {
         Job { line, ticket }
     }
 
-    /// Hashes it, on this thread alone.
-    pub(crate) fn work(self, alloc: Global) -> Message<J> {
+    /// Hashes it, on this thread alone, in the memory that the thread keeps.
+    pub(crate) fn work(self, scratch: &mut Scratch, alloc: Global) -> Message<J> {
         let Job { line, ticket } = self;
-        match ticket.work_alone(alloc, &NoGate) {
+        match ticket.work_in(scratch, alloc, &NoGate) {
             Ok(worked) => Message::Hashed(Hashed::new(line, worked)),
             Err(_) => Message::NoMemory(line),
         }
