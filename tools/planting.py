@@ -282,7 +282,7 @@ def verdict(bug, unplanted):
                     raise Unplanted(f"{test} is {found.word}: {found.said[-300:]}")
         return "**let through**", False
     except Unplanted as reason:
-        return f"not planted: {reason}", False
+        return f"not planted: {' '.join(str(reason).split())[:300]}", False
 
 
 def section(name, bugs, verdicts):
