@@ -39,3 +39,6 @@ module _ (room : ℕ) (book : Accounts) (name other : List ℕ) where
       let tested : nat_lt (fin.len book) room ≡ true = grind (arith, nat_tests, low) in
       let insert_is : new ≡ fin.insert (fin.remove book name) other v = rw found at is in
       rw (found, absent, tested) (refl, ap (λ b. (reply.Renamed, b)) insert_is)
+
+-- the four together
+pub ruleset renaming = (no_name, taken, no_room, moved)

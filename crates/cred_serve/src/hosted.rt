@@ -91,7 +91,7 @@ fn delete<S: Alter>(book: &mut FileBook<S>, name: &Name) -> Result<EditReply, Bo
     }
 }
 
-#[tactic(auto, using(crate::proofs::Renaming::no_name, crate::proofs::Renaming::taken, crate::proofs::Renaming::no_room, crate::proofs::Renaming::moved))]
+#[tactic(auto, using(crate::proofs::Renaming::renaming))]
 fn rename<S: Alter>(
     book: &mut FileBook<S>,
     name: &Name,

@@ -4,11 +4,9 @@ ghost use Rattle.std.specs.Prelude.{◌≡◌, IfSome, None, length};
 ghost use Rattle.cred_book.specs.Accounts.{register_capacity};
 ghost use Rattle.cred_cli.specs.Script.{lines_of};
 ghost use Rattle.cred_cli.specs.Watched.{inner_of};
-ghost use Rattle.cred_file.specs.Keeps.{IsOrWith, IsTableOf, LeavesOnly};
+ghost use Rattle.cred_file.specs.Keeps.{Keeps};
 ghost use Rattle.cred_many.specs.Served.{HasServed};
 ghost use Rattle.cred_many.specs.Service.{service};
-ghost use Rattle.sqlite.specs.State.{HasCleanDisk};
-ghost use Rattle.sqlite.specs.Held.{state};
 
 use crate::hosted::Hosted;
 use cred_cli::{Tools, Watched};
@@ -56,10 +54,7 @@ where
         (W.contents (inner_of result.writer)) result.book.book result.fault result.lines ∥₁ }
     ensures all { result.fault ≡ None → result.reading ≡ None
         → IfSome (R.remaining reader) (λ all. result.lines ≡ length (lines_of all)) }
-    ensures crash { HasCleanDisk (state S.Store result.book.conn)
-        → LeavesOnly (state S.Store result.book.conn) (IsOrWith result.book.book result.book.lost) }
-    ensures table { HasCleanDisk (state S.Store result.book.conn) → result.book.lost ≡ None
-        → IsTableOf (state S.Store result.book.conn) result.book.book }
+    ensures keeps { Keeps S.Store result.book.conn result.book.book result.book.lost }
 {
     let served = serve_tagged(tools, means, Hosted { book }, salts, reader, writer);
     let Served {
