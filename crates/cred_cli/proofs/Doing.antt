@@ -1,10 +1,11 @@
 -- What a begin and a commit do, step by step.
-use Rattle.std.proofs.Common.{◌≡◌, ℕ, zero, suc, ◌-◌, List, [], ◌∷◌, Option, Some, None, Ok, true, false, is_some, set, get_or, refl, sym, ap, ◌∙◌}
+use Rattle.std.specs.Bool.{Decides}
+use Rattle.std.proofs.Common.{◌≡◌, Bool, ℕ, zero, suc, ◌-◌, List, [], ◌∷◌, Option, Some, None, Result, Ok, Err, IfOk, true, false, is_some, set, get_or, refl, sym, ap, ◌∙◌}
 use Rattle.std.specs.FinMap as map
 use Rattle.cred_phc.specs.Values.{RecordValue}
 use Rattle.cred_book.specs.Accounts.{Accounts}
 use Rattle.cred_book.specs.Commits.{Begins, Commits, commit_outcome}
-use Rattle.cred_book.specs.Works.{Task, name_of}
+use Rattle.cred_book.specs.Works.{Task, name_of, same}
 use Rattle.cred_book.specs.declared.error.BookError.TheVariants as error
 use Rattle.cred_book.specs.declared.reply.Reply.{Reply}
 use Rattle.cred_book.specs.declared.reply.Reply.TheVariants as reply
@@ -15,7 +16,15 @@ use Rattle.cred_cli.specs.Answers.{IsDone, line_bytes}
 use Rattle.cred_cli.specs.History.{Answer, Begun, Refused}
 use Rattle.cred_cli.specs.Steps.{Step, stay, slot, begin_step, begin_step_at, commit_step, reply_answer}
 use Rattle.cred_cli.specs.Texts.{line_of, reply_line}
+use Rattle.std.proofs.lemmas.List.{set-get_or, set-set}
+use Rattle.cred_book.proofs.Commitments.{committed_found}
+use Rattle.cred_book.proofs.Equality.{same-Decides}
 use Rattle.cred_cli.proofs.Simulation.{begun-at, committing-at}
+
+-- what a result tells is as much as this
+pub ok_then : {T E : Type 0} (r : Result T E) (P Q : T → Type 0) → IfOk r P → ((t : T) → P t → Q t) → IfOk r Q
+ok_then (Ok t) P Q h each = each t h
+ok_then (Err e) P Q h each = tt
 
 -- an answer that leaves all as it is
 pub stays_done : (line : AnswerLine) (step : Step) (answer : Answer) (book : Accounts) (slots : List (Option Task)) → step ≡ stay answer book slots →
@@ -62,6 +71,24 @@ pub commits_done : (old new : Accounts) (slots left : List (Option Task)) (key :
 commits_done old new slots left key task work reply some closed is commits =
     let done : commit_outcome old task ≡ (reply, new) = ap (commit_outcome old) (sym is) ∙ sym commits in
     committing-at old slots key (Some task) (sym some) ∙ ap (λ c. record { answer = reply_answer c.0; book = c.1; slots = set slots (key - 1) None }) done ∙ ap (λ s. record { answer = reply_answer reply; book = new; slots = s }) (sym closed)
+
+pub false_true : false ≡ true → ⊥
+false_true e = cc
+
+is_false : {P : Type 0} (b : Bool) → Decides b P → (P → ⊥) → b ≡ false
+is_false true d never = absurd (never (d.0 refl))
+is_false false d never = refl
+
+pub commits_changed : (book : Accounts) (slots left : List (Option Task)) (key : ℕ) (task : Task) (now : Option RecordValue) → slot slots key ≡ Some task → left ≡ set slots (key - 1) None → map.get book (name_of task.0) ≡ Some now →
+    (now ≡ task.1 → ⊥) → commit_step book slots key ≡ record { answer = reply_answer (reply.Changed now); book = book; slots = left }
+commits_changed book slots left key task now some closed found other =
+    let done : commit_outcome book task ≡ (reply.Changed now, book) = committed_found book task (name_of task.0) refl (Some now) found ∙ rw (is_false (same now task.1) (same-Decides now task.1) other) refl in
+    committing-at book slots key (Some task) some ∙ ap (λ c. record { answer = reply_answer c.0; book = c.1; slots = set slots (key - 1) None }) done ∙ ap (λ s. record { answer = reply_answer (reply.Changed now); book = book; slots = s }) (sym closed)
+
+-- a ticket that is taken out and put back
+pub opened_again : (slots left back : List (Option Task)) (key : ℕ) (task : Task) → slot slots key ≡ Some task → left ≡ set slots (key - 1) None → back ≡ set left (key - 1) (Some task) → back ≡ slots
+opened_again slots left back key task some closed again =
+    again ∙ ap (λ s. set s (key - 1) (Some task)) closed ∙ set-set slots (key - 1) None (Some task) ∙ ap (set slots (key - 1)) (sym some) ∙ set-get_or slots (key - 1) None
 
 -- a reply's line is that of its answer
 pub line_of_reply : (r : Reply) → reply_line r ≡ line_of (reply_answer r)

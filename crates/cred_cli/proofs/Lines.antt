@@ -1,5 +1,5 @@
 -- The lines of bytes that come in pieces.
-use Rattle.std.proofs.Common.{◌≡◌, ℕ, suc, ◌<◌, ◌≢◌, List, [], ◌∷◌, ◌++◌, length, take, true, if◌then◌else◌, nat_lt, refl, sym, ap, ◌∙◌, arith, append-nil, inl, inr}
+use Rattle.std.proofs.Common.{◌≡◌, ℕ, suc, ◌<◌, ◌≤◌, ◌≢◌, List, [], ◌∷◌, ◌++◌, length, take, true, if◌then◌else◌, nat_lt, refl, sym, ap, ◌∙◌, arith, append-nil, inl, inr}
 use Rattle.std.specs.Bool.{◌==◌}
 use Rattle.std.proofs.lemmas.Bool.Decides.{eqb_tells, nat_tests}
 use Rattle.std.proofs.lemmas.Bool.{cases_lt}
@@ -111,4 +111,12 @@ pub event_of-kept : (line : List ℕ) → event_of (take most_kept line) ≡ eve
 event_of-kept line = elim (cases_lt longest_line (length line)) [
   | inl long ↦ too_long (take most_kept line) (rw length-take (omega (arith, long))) ∙ sym (too_long line long)
   | inr short ↦ ap event_of (take_all most_kept line (omega (arith, short)))
+]
+
+-- a longer front has no fewer
+pub line_ends_longer : (front more : List ℕ) → line_ends front ≤ line_ends (front ++ more)
+line_ends_longer [] more = omega arith
+line_ends_longer (c ∷ cs) more = elim (eqb_tells c 10) [
+  | inl w ↦ rw w.0 (omega (arith, line_ends_longer cs more))
+  | inr w ↦ rw w.0 (line_ends_longer cs more)
 ]

@@ -114,7 +114,7 @@ pub done-suc : (capacity : ℕ) (book : Accounts) (events : List Event) (i : ℕ
 unfolding deeds_before
 done-suc capacity book events i = refl
 
-names_at-zero : (capacity : ℕ) (book : Accounts) (events : List Event) → names_at capacity book events 0 ≡ map.keys book
+pub names_at-zero : (capacity : ℕ) (book : Accounts) (events : List Event) → names_at capacity book events 0 ≡ map.keys book
 unfolding names_at
 names_at-zero capacity book events = refl
 

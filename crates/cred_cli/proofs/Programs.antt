@@ -1,5 +1,5 @@
 -- How the program ends.
-use Rattle.std.proofs.Common.{◌≡◌, ℕ, List, [], Option, Some, None, Bool, IfSome, inr, refl, sym}
+use Rattle.std.proofs.Common.{◌≡◌, ℕ, List, [], Option, Some, None, Bool, Err, IfSome, inr, refl, sym}
 use Rattle.std.specs.FinMap as map
 use Rattle.std.proofs.KnownBytes.{Appends-nil}
 use Rattle.cred_book.specs.Accounts.{Accounts, most_accounts}
@@ -9,12 +9,16 @@ use Rattle.cred_cli.specs.Statuses.{status_number, status_of}
 use Rattle.cred_cli.specs.Commands.{Runs}
 use Rattle.cred_cli.specs.Outcome.{FailsWithin, HasCause, ScriptFails, StandsAfter}
 use Rattle.cred_cli.specs.Prompt.{IsPrompt}
-use Rattle.cred_cli.specs.Script.{events_of, script_start}
+use Rattle.cred_cli.specs.Script.{events_of, script_start, start_as}
+use Rattle.cred_cli.specs.Starving.{EndsAs, IsHistory}
+use Rattle.cred_cli.specs.declared.event.Event.{Event}
+use Rattle.cred_cli.specs.declared.starving.Starving.{Starving}
+use Rattle.cred_cli.proofs.Starvings.{history_asked}
 use Rattle.cred_cli.specs.Watched.{Reading, Writing}
 use Rattle.cred_cli.proofs.Names.{book_at-zero}
 use Rattle.cred_cli.proofs.Prompts.{no_calls}
 use Rattle.cred_cli.proofs.Readings.{if_known}
-use Rattle.cred_cli.proofs.Runs.{answers_before-zero}
+use Rattle.cred_cli.proofs.Answered.{answers_before-zero}
 
 pub nothing_done : (capacity : ℕ) (book : Accounts) (bytes : List ℕ) (before : Option (List ℕ)) → StandsAfter capacity book (events_of bytes) 0 before before book
 nothing_done capacity book bytes before = record {
@@ -23,8 +27,22 @@ nothing_done capacity book bytes before = record {
 }
 
 -- there was no memory to begin a script with
-pub script_unbegun : (longest capacity : ℕ) (known before : Option (List ℕ)) (book : Accounts) → IfSome known (λ bytes. FailsWithin longest capacity book bytes known before before book Memory)
-script_unbegun longest capacity known before book = if_known known (λ bytes. FailsWithin longest capacity book bytes known before before book Memory) (λ bytes is. (0, inr refl, nothing_done capacity book bytes before))
+pub script_unbegun : (longest capacity : ℕ) (left before : Option (List ℕ)) (book : Accounts) (bytes : List ℕ) → FailsWithin longest capacity book bytes left before before book Memory
+script_unbegun longest capacity left before book bytes = (0, inr refl, nothing_done capacity book bytes before)
+
+pub unbegun : (starving : Starving) (longest capacity : ℕ) (book : Accounts) (before : Option (List ℕ)) (failed : Bool) (name : ℕ) (r : Reading) → r.log ≡ [] → IfSome r.input (λ bytes. (events : List Event)
+    × IsHistory starving capacity book (events_of bytes) events
+    × EndsAs longest capacity (start_as book bytes before events) r (record { before = before; now = before; failed = failed; name = name }) book (Err Memory))
+unbegun starving longest capacity book before failed name r unread = if_known r.input _ (λ all known. (
+  events_of all,
+  history_asked starving capacity book (events_of all),
+  record {
+    done = tt;
+    fault = script_unbegun longest capacity r.left before book all;
+    short = tt;
+    prompt = rw unread tt;
+  },
+))
 
 -- there was no memory to begin with
 pub no_memory : (r : Reading) (before : Option (List ℕ)) (failed : Bool) (name status : ℕ) → r.log ≡ [] → status ≡ status_number (status_of Memory) → Runs r (record { before = before; now = before; failed = failed; name = name }) status

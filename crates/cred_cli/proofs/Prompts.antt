@@ -7,46 +7,65 @@ use Rattle.cred_cli.specs.Calls.{Call}
 use Rattle.cred_cli.specs.Feeding.{IsAt, Standing}
 use Rattle.cred_cli.specs.History.{book_at}
 use Rattle.cred_cli.specs.Prompt.{HasFewer, IsPrompt, IsPromptAt, left_length}
-use Rattle.cred_cli.specs.Script.{ScriptStart, answers_before, events_of, line_ends, script_start}
+use Rattle.cred_cli.specs.Script.{ScriptStart, answers_before, events_of, line_ends, script_start, with_events}
+use Rattle.cred_cli.specs.Starving.{GoesOn, IsSameBefore}
+use Rattle.cred_cli.specs.declared.event.Event.{Event}
+use Rattle.cred_cli.specs.declared.starving.Starving.{Starving}
+use Rattle.cred_cli.proofs.Fronts.{stands_front}
+use Rattle.cred_cli.proofs.Lines.{line_ends_longer}
+use Rattle.cred_cli.proofs.Starvings.{at_again}
 use Rattle.cred_cli.proofs.Readings.{HasCome, cut_behind, if_known}
 
 -- ---- while a script is read
 
 -- a script is read so far, and each call on its reader was prompt
-pub record IsReadTo (capacity : ℕ) (script : ScriptStart) (name : ℕ) (left : Option (List ℕ)) (s : Standing) (calls : List Call) : Type 0 where
+pub record IsReadTo (starving : Starving) (capacity : ℕ) (script : ScriptStart) (name : ℕ) (left : Option (List ℕ)) (s : Standing) (calls : List Call) : Type 0 where
   pub front : List ℕ
   pub rest : List ℕ
   pub cut : script.bytes ≡ front ++ rest
   pub left_is : left ≡ Some rest
-  pub at : IsAt capacity script front s
-  pub prompt : IsPrompt capacity script name calls
+  pub events : List Event
+  pub at : IsAt starving capacity (with_events script events) front s
+  -- whatever the lines behind it come to
+  pub prompt : (later : List Event) → IsSameBefore (line_ends front) events later → IsPrompt capacity (with_events script later) name calls
   pub fewer : HasFewer (Some rest) calls
 
 -- the reader was not called yet
-pub read_to_start : (capacity : ℕ) (script : ScriptStart) (name : ℕ) (left : Option (List ℕ)) (s : Standing) (calls : List Call) → left ≡ Some script.bytes → IsAt capacity script [] s → calls ≡ [] → IsReadTo capacity script name left s calls
-read_to_start capacity script name left s calls known at none =
-    record { front = []; rest = script.bytes; cut = refl; left_is = known; at = at; prompt = rw none tt; fewer = rw none tt }
+pub read_to_start : (starving : Starving) (capacity : ℕ) (script : ScriptStart) (name : ℕ) (left : Option (List ℕ)) (s : Standing) (calls : List Call) → left ≡ Some script.bytes → IsAt starving capacity script [] s → calls ≡ [] → IsReadTo starving capacity script name left s calls
+read_to_start starving capacity script name left s calls known at none = record {
+  front = [];
+  rest = script.bytes;
+  cut = refl;
+  left_is = known;
+  events = script.events;
+  at = at_again starving capacity script [] s at;
+  prompt = λ later same. rw none tt;
+  fewer = rw none tt;
+}
 
 -- the call that stands on earlier ones
 abbrev pub call_at : Option (List ℕ) → ℕ → Standing → Call
 call_at left beside s = record { left = left; beside = beside; written = s.written; accounts = s.accounts }
 
 -- one call more is prompt, whatever comes of it
-pub prompt_call : {capacity : ℕ} {script : ScriptStart} {name : ℕ} {left : Option (List ℕ)} {s : Standing} {earlier calls : List Call} (beside : ℕ)
-    → IsReadTo capacity script name left s earlier → beside ≡ name → calls ≡ call_at left beside s ∷ earlier → IsPrompt capacity script name calls
-prompt_call {s = s} beside read named are = rw are
-    (record { front = read.front; came = rw read.left_is read.cut; beside = named; stands = rw (← read.at.lines_are) read.at.stands }, rw read.left_is read.fewer, read.prompt)
+pub prompt_call : {starving : Starving} {capacity : ℕ} {script : ScriptStart} {name : ℕ} {left : Option (List ℕ)} {s : Standing} {earlier calls : List Call} (beside : ℕ) (read : IsReadTo starving capacity script name left s earlier)
+    → beside ≡ name → calls ≡ call_at left beside s ∷ earlier → (later : List Event) → IsSameBefore (line_ends read.front) read.events later → IsPrompt capacity (with_events script later) name calls
+prompt_call {capacity = capacity} {script = script} {s = s} beside read named are later same =
+    let stands = stands_front capacity script.book read.events later (line_ends read.front) same script.before s.written s.accounts (rw (← read.at.lines_are) read.at.stands) in
+    rw are (record { front = read.front; came = rw read.left_is read.cut; beside = named; stands = stands }, rw read.left_is read.fewer, read.prompt later same)
 
 -- and where it gave bytes that are taken, the script is read behind them
-pub read_on : {capacity : ℕ} {script : ScriptStart} {name : ℕ} {left now : Option (List ℕ)} {old new : Standing} {earlier calls : List Call} (beside : ℕ) (bytes : List ℕ) (read : IsReadTo capacity script name left old earlier)
-    → HasCome read.rest bytes now → 0 < length bytes → beside ≡ name → calls ≡ call_at left beside old ∷ earlier → IsAt capacity script (read.front ++ bytes) new → IsReadTo capacity script name now new calls
-read_on {script = script} beside bytes read more some named are fed = record {
+pub read_on : {starving : Starving} {capacity : ℕ} {script : ScriptStart} {name : ℕ} {left now : Option (List ℕ)} {old new : Standing} {earlier calls : List Call} (beside : ℕ) (bytes : List ℕ) (read : IsReadTo starving capacity script name left old earlier)
+    → HasCome read.rest bytes now → 0 < length bytes → beside ≡ name → calls ≡ call_at left beside old ∷ earlier → (events : List Event) → GoesOn starving capacity (with_events script read.events) (line_ends read.front) events
+    → IsAt starving capacity (with_events script events) (read.front ++ bytes) new → IsReadTo starving capacity script name now new calls
+read_on {script = script} beside bytes read more some named are events goes_on fed = record {
   front = read.front ++ bytes;
   rest = more.left;
   cut = cut_behind script.bytes read.front read.rest bytes more.left read.cut more.cut;
   left_is = more.now_is;
+  events = events;
   at = fed;
-  prompt = prompt_call beside read named are;
+  prompt = λ later same. prompt_call beside read named are later (λ j before. same j (omega (arith, before, line_ends_longer read.front bytes)) ∙ goes_on.same j before);
   fewer = rw (are, read.left_is) (omega (arith, some, ap length more.cut, length-append bytes more.left));
 }
 

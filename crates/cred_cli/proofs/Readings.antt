@@ -1,6 +1,6 @@
 -- What a read makes of a script: its start, the bytes that came, and its end.
 use Rattle.std.proofs.Common.{◌≡◌, ℕ, zero, suc, get_or, ◌-◌, replicate, List, [], ◌++◌, take, Option, Some, None, IfSome, Result, Ok, Err, IfOk, IfErr, OnOk, MatchResult, refl, sym, ap, ◌∙◌, append_assoc}
-use Rattle.std.specs.Io.KnownBytes.{Consumes, IsAtEnd}
+use Rattle.std.specs.Io.KnownBytes.{Consumes, IsAtEnd, Keeps}
 use Rattle.std.proofs.KnownBytes.{Appends-nil}
 use Rattle.cred_book.specs.Accounts.{Accounts}
 use Rattle.cred_cli.specs.declared.progress.Progress.{Progress}
@@ -10,9 +10,11 @@ use Rattle.cred_cli.specs.declared.event.Event.{Event}
 use Rattle.cred_cli.specs.Feeding.{IsAt}
 use Rattle.cred_cli.specs.Tickets.{HoldTickets}
 use Rattle.cred_cli.proofs.Openings.{open_at-zero}
-use Rattle.cred_cli.specs.Script.{events_of}
+use Rattle.cred_cli.specs.Script.{events_of, start_as}
+use Rattle.cred_cli.specs.declared.starving.Starving.{Starving}
 use Rattle.cred_cli.proofs.Names.{book_at-zero}
-use Rattle.cred_cli.proofs.Runs.{answers_before-zero}
+use Rattle.cred_cli.proofs.Answered.{answers_before-zero}
+use Rattle.cred_cli.proofs.Starvings.{history_asked}
 
 no_task : (n k : ℕ) → get_or (replicate {A = Option Task} n None) k None ≡ None
 no_task zero k = refl
@@ -26,9 +28,11 @@ no_tickets capacity book events slots empty = record {
 }
 
 -- no byte was taken
-pub opening : (capacity : ℕ) (book : Accounts) (all : List ℕ) (before : Option (List ℕ)) (slots : List (Option Task)) (progress : Progress) → slots ≡ replicate 64 None → progress.start ≡ [] → progress.lines ≡ 0 → progress.taken ≡ 0 →
-    IsAt capacity (record { book = book; bytes = all; before = before }) [] (record { written = before; accounts = book; slots = slots; progress = progress })
-opening capacity book all before slots progress empty start lines taken = record {
+pub opening : (starving : Starving) (capacity : ℕ) (book : Accounts) (all : List ℕ) (before : Option (List ℕ)) (slots : List (Option Task)) (progress : Progress) → slots ≡ replicate 64 None → progress.start ≡ [] → progress.lines ≡ 0 → progress.taken ≡ 0 →
+    IsAt starving capacity (start_as book all before (events_of all)) [] (record { written = before; accounts = book; slots = slots; progress = progress })
+opening starving capacity book all before slots progress empty start lines taken = record {
+  history = history_asked starving capacity book (events_of all);
+  behind = λ i after. refl;
   stands = record {
     written = rw (lines, answers_before-zero capacity book (events_of all)) (Appends-nil before);
     accounts_are = rw lines (sym (book_at-zero capacity book (events_of all)));
@@ -57,6 +61,14 @@ came_to_end (Some xs) None rest buffer n none known consumed end = absurd consum
 came_to_end (Some xs) (Some ys) rest buffer n none known consumed end =
     let these : xs ≡ ys = rw none at consumed in
     cc
+
+-- a read that failed took nothing
+pub kept_left : (old now : Option (List ℕ)) (bytes front rest : List ℕ) → old ≡ Some rest → Keeps old now → bytes ≡ front ++ rest → Consumes (Some bytes) now front
+kept_left None now bytes front rest known kept cut = cc
+kept_left (Some xs) None bytes front rest known kept cut = absurd kept
+kept_left (Some xs) (Some ys) bytes front rest known kept cut =
+    let same : ys ≡ rest = cc in
+    rw same cut
 
 -- what is known may be asked of as it is
 pub if_known : (known : Option (List ℕ)) (P : List ℕ → Type 0) → ((all : List ℕ) → known ≡ Some all → P all) → IfSome known P

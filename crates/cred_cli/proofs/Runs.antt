@@ -1,5 +1,5 @@
 -- A line that was done, or that met a fault.
-use Rattle.std.proofs.Common.{◌≡◌, ℕ, suc, ◌<◌, List, [], ◌++◌, length, Option, Some, Bool, false, Result, Ok, Err, OnOk, IfErr, MatchResult, refl, ap, ◌∙◌, inl, slice_get}
+use Rattle.std.proofs.Common.{◌≡◌, ℕ, suc, ◌<◌, List, length, Option, Some, Bool, false, Result, Ok, Err, OnOk, IfErr, MatchResult, ap, ◌∙◌, inl, slice_get}
 use Rattle.std.specs.Io.KnownBytes.{Appends}
 use Rattle.std.proofs.KnownBytes.{Appends-trans}
 use Rattle.cred_book.specs.Accounts.{Accounts}
@@ -12,19 +12,12 @@ use Rattle.cred_cli.specs.Answers.{IsDone, line_bytes}
 use Rattle.cred_cli.specs.Events.{IsSound}
 use Rattle.cred_cli.specs.Tickets.{HoldTickets}
 use Rattle.cred_cli.specs.History.{answer_at}
-use Rattle.cred_cli.specs.Outcome.{FailsWithin, FrontWritten, HasCause, StandsAfter, StopsIn}
-use Rattle.cred_cli.specs.Script.{answers_before, events_of}
+use Rattle.cred_cli.specs.Outcome.{FailsAs, FrontWritten, HasCause, StandsAfter, StopsIn}
+use Rattle.cred_cli.specs.Script.{ScriptStart}
 use Rattle.cred_cli.specs.Steps.{LineFails, WriteFails, step}
 use Rattle.cred_cli.specs.Texts.{line_of}
+use Rattle.cred_cli.proofs.Answered.{answers_before-suc}
 use Rattle.cred_cli.proofs.Simulation.{IsStep, stepped_at}
-
-answers_before-suc : (capacity : ℕ) (book : Accounts) (events : List Event) (i : ℕ) → answers_before capacity book events (suc i) ≡ answers_before capacity book events i ++ line_of (answer_at capacity book events i)
-unfolding answers_before
-answers_before-suc capacity book events i = refl
-
-pub answers_before-zero : (capacity : ℕ) (book : Accounts) (events : List Event) → answers_before capacity book events 0 ≡ []
-unfolding answers_before
-answers_before-zero capacity book events = refl
 
 write_fault : (capacity : ℕ) (book : Accounts) (events : List Event) (i : ℕ) (before now : Option (List ℕ)) (accounts : Accounts) (e : ScriptFault) → e ≡ Write →
     StopsIn capacity book events i before now accounts → LineFails capacity book events i before now accounts e
@@ -66,12 +59,12 @@ module _ (capacity : ℕ) (book : Accounts) (events : List Event) (i : ℕ) (eve
       write_fault capacity book events i before now later e is_write (line_stops later left line done front)
 
 -- a line's fault is the script's
-pub fails_at : (longest capacity : ℕ) (book : Accounts) (all : List ℕ) (i : ℕ) (left before now : Option (List ℕ)) (accounts : Accounts) (e : ScriptFault) → i < length (events_of all) →
-    LineFails capacity book (events_of all) i before now accounts e → FailsWithin longest capacity book all left before now accounts e
-fails_at longest capacity book all i left before now accounts Read within fails = absurd fails
-fails_at longest capacity book all i left before now accounts Write within fails = (i, within, fails)
-fails_at longest capacity book all i left before now accounts Memory within fails = (i, inl within, fails)
-fails_at longest capacity book all i left before now accounts TooLong within fails = absurd fails
+pub fails_at : (longest capacity : ℕ) (script : ScriptStart) (i : ℕ) (left now : Option (List ℕ)) (accounts : Accounts) (e : ScriptFault) → i < length script.events →
+    LineFails capacity script.book script.events i script.before now accounts e → FailsAs longest capacity script left now accounts e
+fails_at longest capacity script i left now accounts Read within fails = absurd fails
+fails_at longest capacity script i left now accounts Write within fails = (i, within, fails)
+fails_at longest capacity script i left now accounts Memory within fails = (i, inl within, fails)
+fails_at longest capacity script i left now accounts TooLong within fails = absurd fails
 
 -- where the reader is in no fault, the writer may be
 pub cause_of : (reader writer : Bool) (e : ScriptFault) → HasCause false writer e → HasCause reader writer e

@@ -230,7 +230,7 @@ module _ (capacity : ℕ) (book : Accounts) (events : List Event) (i : ℕ) (slo
     began : map.get (book_after book (take opened.place (deeds_before capacity book events i))) (name_of opened.request) ≡ Some task.1
     began = ap (λ past. map.get (book_after book past) (name_of opened.request)) (take-done capacity book events opened.place i (omega (arith, known.earlier))) ∙ copied
 
-    stale : is_stale book (deeds_before capacity book events i) opened ≡ not (same now task.1)
+    pub stale : is_stale book (deeds_before capacity book events i) opened ≡ not (same now task.1)
     stale = stale-at book (deeds_before capacity book events i) opened now task.1 found began
 
     commits : commit_outcome (book_at capacity book events i) task ≡ commit_outcome_at (book_at capacity book events i) task (Some now)

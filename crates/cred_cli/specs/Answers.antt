@@ -1,10 +1,16 @@
 -- The bytes of an answer as the code holds them, and what an event that was done leaves.
-use Rattle.std.specs.Prelude.{◌≡◌, ℕ, List, Option}
+use Rattle.std.specs.Prelude.{◌≡◌, ◌⊎◌, ℕ, List, Option, Some, true}
+use Rattle.std.specs.FinMap as map
 use Rattle.cred_book.specs.Accounts.{Accounts}
-use Rattle.cred_book.specs.Works.{Task}
+use Rattle.cred_book.specs.Works.{Task, name_of}
 use Rattle.cred_cli.specs.declared.answer.AnswerLine.{AnswerLine}
 use Rattle.cred_cli.specs.declared.answer.AnswerLine.TheVariants.{Fixed, Made}
-use Rattle.cred_cli.specs.Steps.{Step}
+use Rattle.cred_cli.specs.declared.event.Event.{Event}
+use Rattle.cred_cli.specs.declared.event.Event.TheVariants.{Commit}
+use Rattle.cred_cli.specs.declared.starving.Starving.{Starving}
+use Rattle.cred_cli.specs.declared.starving.Starving.TheVariants.{Answered}
+use Rattle.cred_cli.specs.Starving.{hashes, starved}
+use Rattle.cred_cli.specs.Steps.{Step, slot, step}
 use Rattle.cred_cli.specs.Texts.{line_of}
 
 abbrev pub line_bytes : AnswerLine → List ℕ
@@ -15,3 +21,22 @@ line_bytes (Made bytes) = bytes.items
 abbrev pub IsDone : Step → Accounts → List (Option Task) → AnswerLine → Type 0
 IsDone step book slots line =
     (line_bytes line ≡ line_of step.answer) × (book ≡ step.book) × (slots ≡ step.slots)
+
+-- the event is a commit that needs a hash: its ticket has the record that stands, at which the
+-- operation hashes
+pub record MayStarve (starving : Starving) (book : Accounts) (slots : List (Option Task))
+    (event : Event) : Type 0 where
+  pub answered : starving ≡ Answered
+  pub key : ℕ
+  pub commits : event ≡ Commit key
+  pub task : Task
+  pub is_open : slot slots key ≡ Some task
+  pub stands : map.get book (name_of task.0) ≡ Some task.1
+  pub hashed : hashes task.0 task.1 ≡ true
+
+-- what an event that was done, or that was starved, leaves
+abbrev pub IsDoneOrStarved : Starving → ℕ → Accounts → List (Option Task) → Event → Accounts
+    → List (Option Task) → AnswerLine → Type 0
+IsDoneOrStarved starving capacity book slots event now left line =
+    IsDone (step capacity book slots event) now left line
+    ⊎ MayStarve starving book slots event × IsDone (step capacity book slots starved) now left line

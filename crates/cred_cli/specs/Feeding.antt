@@ -9,11 +9,13 @@ use Rattle.cred_cli.specs.declared.fault.ScriptFault.{ScriptFault}
 use Rattle.cred_cli.specs.declared.progress.Progress.{Progress}
 use Rattle.cred_cli.specs.declared.run.Run.{Run}
 use Rattle.cred_cli.specs.declared.script.End.{End}
-use Rattle.cred_cli.specs.Outcome.{FailsWithin, IsAnswered, StandsAfter}
-use Rattle.cred_cli.specs.Script.{ScriptStart, events_of, line_ends}
+use Rattle.cred_cli.specs.declared.starving.Starving.{Starving}
+use Rattle.cred_cli.specs.Outcome.{FailsAs, IsAnsweredAs, StandsAfter}
+use Rattle.cred_cli.specs.Script.{ScriptStart, events_of, line_ends, with_events}
+use Rattle.cred_cli.specs.Starving.{Becomes, EndsAs, GoesOn, IsHistory}
 use Rattle.cred_cli.specs.Steps.{LineFails}
 use Rattle.cred_cli.specs.Tickets.{HoldTickets}
-use Rattle.cred_cli.specs.Watched.{Reading}
+use Rattle.cred_cli.specs.Watched.{Reading, Writing}
 
 -- the bytes after the last line end
 abbrev pub unfinished_from : List ℕ → List ℕ → List ℕ
@@ -46,22 +48,35 @@ abbrev pub between : Option (List ℕ) → Accounts → List (Option Task) → B
 between written accounts slots =
     record { written = written; accounts = accounts; slots = slots }
 
--- from wherever the next of some lines is this one: it is answered too, or a fault ends the run
-abbrev pub TakesLine : ℕ → List ℕ → Between → Between → Result (Unit {0}) ScriptFault → Type 0
-TakesLine capacity line old new r = (book : Accounts) (events : List Event) (i : ℕ)
+-- the next of some lines comes to an event, and is answered too, or a fault ends the run
+pub record TakesLineAs (starving : Starving) (capacity : ℕ) (book : Accounts)
+    (events : List Event) (i : ℕ) (before : Option (List ℕ)) (new : Between)
+    (r : Result (Unit {0}) ScriptFault) (now : List Event) : Type 0 where
+  pub becomes : Becomes starving capacity book events i now
+  pub ended : MatchResult r (λ _. StandsAfter capacity book now (suc i) before new.written
+      new.accounts × HoldTickets capacity book now (suc i) new.slots)
+      (LineFails capacity book now i before new.written new.accounts)
+
+-- from wherever the next of some lines is this one
+abbrev pub TakesLine : Starving → ℕ → List ℕ → Between → Between
+    → Result (Unit {0}) ScriptFault → Type 0
+TakesLine starving capacity line old new r = (book : Accounts) (events : List Event) (i : ℕ)
     (before : Option (List ℕ))
     → StandsAfter capacity book events i before old.written old.accounts
     → HoldTickets capacity book events i old.slots
     → slice_get events i ≡ Some (event_of line)
-    → MatchResult r (λ _. StandsAfter capacity book events (suc i) before new.written new.accounts
-    × HoldTickets capacity book events (suc i) new.slots)
-    (LineFails capacity book events i before new.written new.accounts)
+    → (now : List Event) × TakesLineAs starving capacity book events i before new r now
 
--- the whole lines of the front are answered, and the start of the next is kept
-pub record IsAt (capacity : ℕ) (script : ScriptStart) (front : List ℕ) (s : Standing) : Type 0 where
-  pub stands : StandsAfter capacity script.book (events_of script.bytes) s.progress.lines
+-- the whole lines of the front are answered, and the start of the next is kept; the events of the
+-- lines behind them are what these ask for
+pub record IsAt (starving : Starving) (capacity : ℕ) (script : ScriptStart) (front : List ℕ)
+    (s : Standing) : Type 0 where
+  pub history : IsHistory starving capacity script.book (events_of script.bytes) script.events
+  pub behind : (i : ℕ) → s.progress.lines ≤ i
+      → slice_get script.events i ≡ slice_get (events_of script.bytes) i
+  pub stands : StandsAfter capacity script.book script.events s.progress.lines
       script.before s.written s.accounts
-  pub tickets : HoldTickets capacity script.book (events_of script.bytes) s.progress.lines s.slots
+  pub tickets : HoldTickets capacity script.book script.events s.progress.lines s.slots
   pub lines_are : s.progress.lines ≡ line_ends front
   pub start_is : s.progress.start ≡ take most_kept (unfinished_from [] front)
   pub taken_is : s.progress.taken ≡ length front
@@ -69,31 +84,47 @@ pub record IsAt (capacity : ℕ) (script : ScriptStart) (front : List ℕ) (s : 
 -- what stands after a fault, whatever the reader has left
 abbrev pub Breaks : ℕ → ScriptStart → Standing → Standing → ScriptFault → Type 0
 Breaks capacity script old new e = (left : Option (List ℕ))
-    → FailsWithin old.progress.limit capacity script.book script.bytes left script.before
-    new.written new.accounts e
+    → FailsAs old.progress.limit capacity script left new.written new.accounts e
 
--- from wherever a script's next bytes are these: they are taken, or a fault ends the run
-abbrev pub Takes : ℕ → List ℕ → Standing → Standing → Result (Unit {0}) ScriptFault → Type 0
-Takes capacity bytes old new r = (script : ScriptStart) (front rest : List ℕ)
-    → script.bytes ≡ front ++ bytes ++ rest → IsAt capacity script front old
-    → MatchResult r (λ _. IsAt capacity script (front ++ bytes) new)
-    (Breaks capacity script old new)
+-- the script goes on as this one, and the bytes are taken, or a fault ends the run
+pub record TakesAs (starving : Starving) (capacity : ℕ) (script : ScriptStart)
+    (front bytes : List ℕ) (old new : Standing) (r : Result (Unit {0}) ScriptFault)
+    (events : List Event) : Type 0 where
+  pub goes_on : GoesOn starving capacity script (line_ends front) events
+  pub ended : MatchResult r
+      (λ _. IsAt starving capacity (with_events script events) (front ++ bytes) new)
+      (Breaks capacity (with_events script events) old new)
+
+-- from wherever a script's next bytes are these
+abbrev pub Takes : Starving → ℕ → List ℕ → Standing → Standing → Result (Unit {0}) ScriptFault
+    → Type 0
+Takes starving capacity bytes old new r = (script : ScriptStart) (front rest : List ℕ)
+    → script.bytes ≡ front ++ bytes ++ rest → IsAt starving capacity script front old
+    → (events : List Event) × TakesAs starving capacity script front bytes old new r events
 
 -- every line is answered
 abbrev pub IsWhole : ℕ → ScriptStart → Standing → ℕ → Type 0
-IsWhole capacity script new lines = IsAnswered capacity script.book script.bytes script.before
-    new.written new.accounts lines
+IsWhole capacity script new lines =
+    IsAnsweredAs capacity script new.written new.accounts lines
 
--- from the end of a script: its last line is answered too, or a fault ends the run
-abbrev pub Finishes : ℕ → Standing → Standing → Result ℕ ScriptFault → Type 0
-Finishes capacity old new r = (script : ScriptStart) → IsAt capacity script script.bytes old
-    → MatchResult r (IsWhole capacity script new) (Breaks capacity script old new)
+-- the last line of a script is answered too, or a fault ends the run
+pub record FinishesAs (starving : Starving) (capacity : ℕ) (script : ScriptStart)
+    (old new : Standing) (r : Result ℕ ScriptFault) (events : List Event) : Type 0 where
+  pub goes_on : GoesOn starving capacity script (line_ends script.bytes) events
+  pub ended : MatchResult r (IsWhole capacity (with_events script events) new)
+      (Breaks capacity (with_events script events) old new)
+
+-- from the end of a script
+abbrev pub Finishes : Starving → ℕ → Standing → Standing → Result ℕ ScriptFault → Type 0
+Finishes starving capacity old new r = (script : ScriptStart)
+    → IsAt starving capacity script script.bytes old
+    → (events : List Event) × FinishesAs starving capacity script old new r events
 
 -- from the start of the script that a reader has: each line is answered, or a fault ends the run
-abbrev pub Plays : ℕ → Reading → Standing → Standing → Result End ScriptFault → Type 0
-Plays capacity reading old new r = (script : ScriptStart) → reading.input ≡ Some script.bytes
-    → IsAt capacity script [] old
-    → MatchResult r (λ end. IsWhole capacity script new end.lines
-    × (length script.bytes ≤ old.progress.limit))
-    (FailsWithin old.progress.limit capacity script.book script.bytes reading.left script.before
-    new.written new.accounts)
+abbrev pub Plays : Starving → ℕ → Reading → Writing → Standing → Standing → Result End ScriptFault
+    → Type 0
+Plays starving capacity r w old new result = (script : ScriptStart)
+    → r.input ≡ Some script.bytes → IsAt starving capacity script [] old
+    → (events : List Event)
+    × IsHistory starving capacity script.book (events_of script.bytes) events
+    × EndsAs old.progress.limit capacity (with_events script events) r w new.accounts result

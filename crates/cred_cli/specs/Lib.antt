@@ -13,6 +13,7 @@ pub mod Outcome
 pub mod Prompt
 pub mod Refusals
 pub mod Script
+pub mod Starving
 pub mod Steps
 pub mod Texts
 pub mod Tickets

@@ -7,7 +7,7 @@ use Rattle.cred_cli.specs.declared.event.Event.{Event}
 use Rattle.cred_cli.specs.declared.fault.ScriptFault.{ScriptFault}
 use Rattle.cred_cli.specs.declared.fault.ScriptFault.TheVariants.{Read, Write, Memory, TooLong}
 use Rattle.cred_cli.specs.History.{answer_at, book_at}
-use Rattle.cred_cli.specs.Script.{answers_before, events_of, line_ends, out}
+use Rattle.cred_cli.specs.Script.{ScriptStart, answers_before, line_ends, script_start}
 use Rattle.cred_cli.specs.Texts.{line_of}
 
 -- the longest script in bytes
@@ -29,11 +29,18 @@ abbrev pub FrontWritten : Option (List ℕ) → Option (List ℕ) → List ℕ �
 FrontWritten before now bytes = (n : ℕ) × (n < length bytes) × Appends before now (take n bytes)
 
 -- every line is answered, and the book is that after them
-pub record IsAnswered (capacity : ℕ) (book : Accounts) (bytes : List ℕ)
-    (before now : Option (List ℕ)) (accounts : Accounts) (lines : ℕ) : Type 0 where
-  pub written : Appends before now (out capacity book bytes)
-  pub accounts_are : accounts ≡ book_at capacity book (events_of bytes) (length (events_of bytes))
-  pub lines_are : lines ≡ length (events_of bytes)
+pub record IsAnsweredAs (capacity : ℕ) (script : ScriptStart) (now : Option (List ℕ))
+    (accounts : Accounts) (lines : ℕ) : Type 0 where
+  pub written : Appends script.before now
+      (answers_before capacity script.book script.events (length script.events))
+  pub accounts_are : accounts ≡ book_at capacity script.book script.events (length script.events)
+  pub lines_are : lines ≡ length script.events
+
+-- and each line comes to what it asks for
+abbrev pub IsAnswered : ℕ → Accounts → List ℕ → Option (List ℕ) → Option (List ℕ) → Accounts → ℕ
+    → Type 0
+IsAnswered capacity book bytes before now accounts lines =
+    IsAnsweredAs capacity (script_start book bytes before) now accounts lines
 
 -- the first i lines are answered, and the book is that after them
 pub record StandsAfter (capacity : ℕ) (book : Accounts) (events : List Event) (i : ℕ)
@@ -52,21 +59,27 @@ pub record StopsIn (capacity : ℕ) (book : Accounts) (events : List Event) (i :
 
 -- what stands after a fault if at most so many bytes are read; left is what the reader has left.
 -- Memory was refused to the line after those that are answered, or before the first line
+abbrev pub FailsAs : ℕ → ℕ → ScriptStart → Option (List ℕ) → Option (List ℕ) → Accounts
+    → ScriptFault → Type 0
+FailsAs longest capacity script left now accounts Read =
+    (front : List ℕ) × Consumes (Some script.bytes) left front
+    × StandsAfter capacity script.book script.events (line_ends front) script.before now accounts
+FailsAs longest capacity script left now accounts Write =
+    (i : ℕ) × (i < length script.events)
+    × StopsIn capacity script.book script.events i script.before now accounts
+FailsAs longest capacity script left now accounts Memory =
+    (i : ℕ) × ((i < length script.events) ⊎ (i ≡ 0))
+    × StandsAfter capacity script.book script.events i script.before now accounts
+FailsAs longest capacity script left now accounts TooLong =
+    (longest < length script.bytes)
+    × StandsAfter capacity script.book script.events (line_ends (take longest script.bytes))
+    script.before now accounts
+
+-- where each line comes to what it asks for
 abbrev pub FailsWithin : ℕ → ℕ → Accounts → List ℕ → Option (List ℕ) → Option (List ℕ)
     → Option (List ℕ) → Accounts → ScriptFault → Type 0
-FailsWithin longest capacity book bytes left before now accounts Read =
-    (front : List ℕ) × Consumes (Some bytes) left front
-    × StandsAfter capacity book (events_of bytes) (line_ends front) before now accounts
-FailsWithin longest capacity book bytes left before now accounts Write =
-    (i : ℕ) × (i < length (events_of bytes))
-    × StopsIn capacity book (events_of bytes) i before now accounts
-FailsWithin longest capacity book bytes left before now accounts Memory =
-    (i : ℕ) × ((i < length (events_of bytes)) ⊎ (i ≡ 0))
-    × StandsAfter capacity book (events_of bytes) i before now accounts
-FailsWithin longest capacity book bytes left before now accounts TooLong =
-    (longest < length bytes)
-    × StandsAfter capacity book (events_of bytes) (line_ends (take longest bytes))
-    before now accounts
+FailsWithin longest capacity book bytes left before now accounts e =
+    FailsAs longest capacity (script_start book bytes before) left now accounts e
 
 -- what stands after a fault of a script
 abbrev pub ScriptFails : ℕ → Accounts → List ℕ → Option (List ℕ) → Option (List ℕ) → Option (List ℕ)

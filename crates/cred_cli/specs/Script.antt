@@ -7,15 +7,6 @@ use Rattle.cred_cli.specs.Events.{event_of}
 use Rattle.cred_cli.specs.History.{answer_at}
 use Rattle.cred_cli.specs.Texts.{line_of}
 
--- a script at its start: the book, its bytes, and what was written before it
-pub record ScriptStart : Type 0 where
-  pub book : Accounts
-  pub bytes : List ℕ
-  pub before : Option (List ℕ)
-
-abbrev pub script_start : Accounts → List ℕ → Option (List ℕ) → ScriptStart
-script_start book bytes before = record { book = book; bytes = bytes; before = before }
-
 abbrev pub onto_first : ℕ → List (List ℕ) → List (List ℕ)
 onto_first c [] = (c ∷ []) ∷ []
 onto_first c (line ∷ lines) = (c ∷ line) ∷ lines
@@ -27,6 +18,26 @@ lines_of (c ∷ cs) = if c == 10 then [] ∷ lines_of cs else onto_first c (line
 
 abbrev pub events_of : List ℕ → List Event
 events_of bytes = map event_of (lines_of bytes)
+
+-- a script at its start: the book, its bytes, what was written before it, and the events that its
+-- lines come to
+pub record ScriptStart : Type 0 where
+  pub book : Accounts
+  pub bytes : List ℕ
+  pub before : Option (List ℕ)
+  pub events : List Event
+
+abbrev pub start_as : Accounts → List ℕ → Option (List ℕ) → List Event → ScriptStart
+start_as book bytes before events =
+    record { book = book; bytes = bytes; before = before; events = events }
+
+-- each line comes to what it asks for
+abbrev pub script_start : Accounts → List ℕ → Option (List ℕ) → ScriptStart
+script_start book bytes before = start_as book bytes before (events_of bytes)
+
+-- its lines come to other events
+abbrev pub with_events : ScriptStart → List Event → ScriptStart
+with_events script events = start_as script.book script.bytes script.before events
 
 -- the answers to the first events, a line each
 unfoldable pub answers_before : ℕ → Accounts → List Event → ℕ → List ℕ

@@ -1,24 +1,27 @@
 //! What an event does, and the line that answers it.
 
-ghost use Rattle.std.specs.Prelude.{◌≡◌, IfErr, IfOk, OnOk, OnErr, true};
+ghost use Rattle.std.specs.Prelude.{◌≡◌, ◌↔◌, ◌-◌, IfErr, IfOk, IsTrue, List, None};
+ghost use Rattle.std.specs.Prelude.{OnOk, OnErr, Option, Some, slice_set, true};
 ghost use Rattle.std.specs.Io.KnownBytes.{Appends};
-ghost use Rattle.cred_book.specs.Works.{is_for_current};
-ghost use Rattle.cred_cli.specs.Answers.{IsDone, line_bytes};
+ghost use Rattle.cred_book.specs.Works.{Task, is_for_current};
+ghost use Rattle.cred_cli.specs.Answers.{IsDone, IsDoneOrStarved, line_bytes};
 ghost use Rattle.cred_cli.specs.Events.{IsSound};
 ghost use Rattle.cred_cli.specs.History.{Done, Refused, Shown};
-ghost use Rattle.cred_cli.specs.Steps.{WriteFails, begin_step, commit_step, step};
+ghost use Rattle.cred_cli.specs.Starving.{hashes};
+ghost use Rattle.cred_cli.specs.Steps.{WriteFails, begin_step, slot};
 ghost use Rattle.cred_cli.specs.Texts.{line_of, reply_line};
+ghost use Rattle.cred_cli.specs.declared.event.Event.TheVariants.{Commit};
 ghost use Rattle.cred_cli.specs.Watched.{failed_of, inner_of, name_of};
 
 use crate::event::Event;
 use crate::fault::ScriptFault;
 use crate::key::Key;
 use crate::refusal::Refusal;
+use crate::starving::{Engine, Starving};
 use crate::tickets::Tickets;
-use crate::tools::Tools;
 use crate::watched::Watched;
 use crate::writing::write_whole;
-use cred_book::{BookError, Keeper, Reply, Request};
+use cred_book::{BookError, Keeper, Reply, Request, Ticket};
 use cred_phc::{Record, write_record};
 use cred_pool::NoGate;
 use std::alloc::{AllocError, Global};
@@ -54,33 +57,32 @@ impl AnswerLine {
 
 /// Does the event on the keeper's book and the open tickets. If memory runs out the book stays.
 pub(crate) fn do_event<T: Threads + Wait + Sync, K: Keeper>(
-    tools: &Tools<'_, T>,
+    engine: &Engine<'_, T>,
     keeper: &mut K,
     tickets: &mut Tickets,
     event: Event,
 ) -> Result<AnswerLine, AllocError>
     requires { IsSound event }
-    ensures done { IfOk result
-        (IsDone (step K.capacity (K.book keeper.old) tickets.old event)
-        (K.book keeper.new) tickets.new) }
+    ensures done { IfOk result (IsDoneOrStarved engine.now.starving K.capacity
+        (K.book keeper.old) tickets.old event (K.book keeper.new) tickets.new) }
     ensures refused { OnErr result (K.book keeper.new ≡ K.book keeper.old) }
 {
     match event {
-        Event::Account(name) => match keeper.admit(tools.rt, name) {
+        Event::Account(name) => match keeper.admit(engine.tools.rt, name) {
             Ok(()) => Ok(AnswerLine::Fixed(b"ok\n")),
             Err(refusal) => refused(refusal),
         },
-        Event::Load(name, stored) => match keeper.load(tools.rt, &name, stored) {
+        Event::Load(name, stored) => match keeper.load(engine.tools.rt, &name, stored) {
             Ok(()) => Ok(AnswerLine::Fixed(b"ok\n")),
             Err(refusal) => refused(refusal),
         },
         Event::Show(name) => match keeper.show(&name) {
             Ok(None) => Ok(AnswerLine::Fixed(b"none\n")),
-            Ok(Some(stored)) => shown(tools.alloc, &stored),
+            Ok(Some(stored)) => shown(engine.tools.alloc, &stored),
             Err(refusal) => refused(refusal),
         },
         Event::Begin(key, request) => Ok(begin(keeper, tickets, key, request)),
-        Event::Commit(key) => commit(tools, keeper, tickets, key),
+        Event::Commit(key) => commit(engine, keeper, tickets, key),
         Event::Bad(why) => Ok(bad(why)),
     }
 }
@@ -103,25 +105,77 @@ fn begin<K: Keeper>(keeper: &K, tickets: &mut Tickets, key: Key, request: Reques
 }
 
 fn commit<T: Threads + Wait + Sync, K: Keeper>(
-    tools: &Tools<'_, T>,
+    engine: &Engine<'_, T>,
     keeper: &mut K,
     tickets: &mut Tickets,
     key: Key,
 ) -> Result<AnswerLine, AllocError>
-    ensures done { IfOk result
-        (IsDone (commit_step (K.book keeper.old) tickets.old key) (K.book keeper.new) tickets.new) }
+    ensures done { IfOk result (IsDoneOrStarved engine.now.starving K.capacity
+        (K.book keeper.old) tickets.old (Commit key) (K.book keeper.new) tickets.new) }
     ensures refused { OnErr result (K.book keeper.new ≡ K.book keeper.old) }
 {
     let Some(ticket) = tickets.close(key) else {
         return Ok(bad(Refusal::Idle));
     };
-    let Ok(worked) = ticket.work(tools.rt, tools.alloc, tools.workers, &NoGate) else {
-        return Err(AllocError);
+    let tools = &engine.tools;
+    let worked = match ticket.work(tools.rt, tools.alloc, tools.workers, &NoGate) {
+        Ok(worked) => worked,
+        Err(ticket) => return starve(engine.starving, keeper, tickets, key, ticket),
     };
     let Ok(reply) = keeper.commit(tools.rt, worked) else {
         return Err(AllocError);
     };
     Ok(AnswerLine::Fixed(reply_line(&reply)))
+}
+
+/// Answers a commit for whose hash there was no memory. If its record is another by now, it needs
+/// none.
+fn starve<K: Keeper>(
+    starving: Starving,
+    keeper: &K,
+    tickets: &mut Tickets,
+    key: Key,
+    ticket: Ticket,
+) -> Result<AnswerLine, AllocError>
+    ensures { IfOk result (λ line. (slots : List (Option Task)) → slot slots key ≡ Some ticket
+        → tickets.old ≡ slice_set slots (key - 1) None
+        → IsDoneOrStarved starving K.capacity (K.book keeper.now) slots (Commit key)
+        (K.book keeper.now) tickets.new line) }
+{
+    if !starving.is_answered() {
+        return Err(AllocError);
+    }
+    let request = ticket.request();
+    let Ok(now) = keeper.show(&request.name()) else {
+        return Err(AllocError);
+    };
+    if !is_equal(&now, &ticket.copy()) {
+        return Ok(AnswerLine::Fixed(reply_line(&Reply::Changed { now })));
+    }
+    if !hashes(&request, &now) {
+        return Err(AllocError);
+    }
+    tickets.open(key, ticket);
+    Ok(bad(Refusal::Book(BookError::Memory)))
+}
+
+fn is_equal(a: &Option<Record>, b: &Option<Record>) -> bool
+    ensures { IsTrue result ↔ (a.now ≡ b.now) }
+{
+    *a == *b
+}
+
+/// Whether the whole operation at this record hashes.
+fn hashes(request: &Request, stored: &Option<Record>) -> bool
+    ensures { result ≡ hashes request.now stored.now }
+{
+    match request {
+        Request::Enrol { .. } => stored.is_none(),
+        Request::Verify { .. }
+        | Request::Change { .. }
+        | Request::Upgrade { .. }
+        | Request::Remove { .. } => stored.is_some(),
+    }
 }
 
 /// The reply's word with the line end. It stands ready, so that a change that was made needs no

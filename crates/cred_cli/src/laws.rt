@@ -1,6 +1,7 @@
 //! Laws of the definitions of a history and of a line, which show that they say what they should.
 
-ghost use Rattle.std.specs.Prelude.{◌≡◌, ◌+◌, ◌≤◌, ◌++◌, ℕ, List, length, take, Some};
+ghost use Rattle.std.specs.Prelude.{◌≡◌, ◌+◌, ◌≤◌, ◌++◌, ◌∷◌, [], ℕ, List, codes};
+ghost use Rattle.std.specs.Prelude.{Some, length, suc, take};
 ghost use Rattle.std.specs.List.{join_with_byte};
 ghost use Rattle.std.specs.FinMap as map;
 ghost use Rattle.cred_book.specs.Accounts.{Accounts};
@@ -8,10 +9,13 @@ ghost use Rattle.cred_cli.specs.declared.event.Event.{Event};
 ghost use Rattle.cred_cli.specs.Calls.{Call};
 ghost use Rattle.cred_cli.specs.EventLines.{IsLineOf};
 ghost use Rattle.cred_cli.specs.Events.{event_of};
-ghost use Rattle.cred_cli.specs.History.{book_at, deeds_before, is_among, names_at};
+ghost use Rattle.cred_cli.specs.History.{answer_at, book_at, deeds_before, is_among, names_at};
+ghost use Rattle.cred_cli.specs.History.{open_at};
 ghost use Rattle.cred_cli.specs.Prompt.{IsPrompt, IsPromptAt};
 ghost use Rattle.cred_cli.specs.Script.{ScriptStart, answers_before, events_of, line_ends};
 ghost use Rattle.cred_cli.specs.Script.{script_start};
+ghost use Rattle.cred_cli.specs.Starving.{IsStarved};
+ghost use Rattle.cred_cli.specs.Texts.{line_of};
 
 /// The law that the names that a history counts are those of the book that it leaves, at every
 /// place.
@@ -28,6 +32,20 @@ pub fn names_are_the_books()
 pub fn history_is_a_front()
     ensures { (capacity : ℕ) (book : Accounts) (events : List Event) (j i : ℕ) → j ≤ i
         → take j (deeds_before capacity book events i) ≡ deeds_before capacity book events j }
+{}
+
+/// The law that a starved commit changes nothing: the book stays, and so does each open number,
+/// its own too; and its answer is `bad 4 memory`.
+pub fn starved_commits_change_nothing()
+    ensures book { (capacity : ℕ) (book : Accounts) (asked events : List Event) (i : ℕ)
+        → IsStarved capacity book asked events i
+        → book_at capacity book events (suc i) ≡ book_at capacity book events i }
+    ensures open { (capacity : ℕ) (book : Accounts) (asked events : List Event) (i key : ℕ)
+        → IsStarved capacity book asked events i
+        → open_at capacity book events (suc i) key ≡ open_at capacity book events i key }
+    ensures answer { (capacity : ℕ) (book : Accounts) (asked events : List Event) (i : ℕ)
+        → IsStarved capacity book asked events i
+        → line_of (answer_at capacity book events i) ≡ codes "bad 4 memory" ++ 10 ∷ [] }
 {}
 
 /// The law that a line that asks for something is its event's word and fields with one space

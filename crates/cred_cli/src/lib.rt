@@ -26,6 +26,7 @@ mod run;
 mod script;
 mod service;
 mod single;
+mod starving;
 mod tickets;
 mod tools;
 mod watched;
@@ -37,6 +38,7 @@ pub use event::{first_pieces, is_too_long};
 pub use fault::ScriptFault;
 pub use laws::{
     history_is_a_front, line_is_its_events, names_are_the_books, prompt_calls_are_answered,
+    starved_commits_change_nothing,
 };
 pub use process::run_program;
 pub use program::command;

@@ -8,8 +8,8 @@ ghost use Rattle.cred_cli.specs.Watched.{failed_of, inner_of, name_of};
 use crate::answer::do_event;
 use crate::event::Event;
 use crate::fault::ScriptFault;
+use crate::starving::Engine;
 use crate::tickets::Tickets;
-use crate::tools::Tools;
 use crate::watched::Watched;
 use cred_book::Keeper;
 use std::io::Write;
@@ -18,18 +18,18 @@ use std::thread::Threads;
 
 /// Does what the line asks for, and writes its answer.
 pub(crate) fn answer_line<T: Threads + Wait + Sync, K: Keeper, W: Write>(
-    tools: &Tools<'_, T>,
+    engine: &Engine<'_, T>,
     keeper: &mut K,
     tickets: &mut Tickets,
     writer: &mut Watched<W>,
     line: &[u8],
 ) -> Result<(), ScriptFault>
-    ensures answered { TakesLine K.capacity line.now
+    ensures answered { TakesLine engine.now.starving K.capacity line.now
         (between (W.contents (inner_of writer.old)) (K.book keeper.old) tickets.old)
         (between (W.contents (inner_of writer.new)) (K.book keeper.new) tickets.new) result }
     ensures named { name_of writer.new ≡ name_of writer.old }
     ensures cause { IfErr result (HasCause false (failed_of writer.new)) }
 {
-    let answer = do_event(tools, keeper, tickets, Event::of_line(line))?;
+    let answer = do_event(engine, keeper, tickets, Event::of_line(line))?;
     answer.write_to(writer)
 }

@@ -1,22 +1,23 @@
 //! A script that is being run: its bytes are read and taken in turn, and each whole line is
 //! answered.
 
-ghost use Rattle.std.specs.Prelude.{◌≡◌, ◌+◌, ◌≤◌, false, [], ◌∷◌, length, Some};
-ghost use Rattle.std.specs.Prelude.{IfErr, IfOk, IfSome, OnOk};
+ghost use Rattle.std.specs.Prelude.{◌≡◌, ◌+◌, ◌≤◌, false, List, [], ◌∷◌, length, Some};
+ghost use Rattle.std.specs.Prelude.{IfErr, IfSome, OnOk};
 ghost use Rattle.cred_cli.specs.Feeding.{Finishes, IsAt, Plays, Takes, standing};
-ghost use Rattle.cred_cli.specs.Outcome.{FailsWithin, HasCause, IsAnswered};
-ghost use Rattle.cred_cli.specs.Prompt.{IsPrompt};
-ghost use Rattle.cred_cli.specs.Script.{ScriptStart, script_start};
+ghost use Rattle.cred_cli.specs.Outcome.{HasCause};
+ghost use Rattle.cred_cli.specs.Script.{ScriptStart, events_of, start_as};
+ghost use Rattle.cred_cli.specs.Starving.{EndsAs, IsHistory};
 ghost use Rattle.cred_cli.specs.Watched.{IsNew, calls_of, failed_of, inner_of, name_of};
-ghost use Rattle.cred_cli.specs.Watched.{reading, log_of};
+ghost use Rattle.cred_cli.specs.Watched.{reading, writing};
+ghost use Rattle.cred_cli.specs.declared.event.Event.{Event};
 
 use crate::fault::ScriptFault;
 use crate::limit::Limit;
 use crate::line::answer_line;
 use crate::progress::Progress;
 use crate::script::End;
+use crate::starving::Engine;
 use crate::tickets::Tickets;
-use crate::tools::Tools;
 use crate::watched::Watched;
 use cred_book::Keeper;
 use std::io::{Read, Write};
@@ -28,7 +29,7 @@ const CHUNK: usize = 4096;
 
 /// Answers the lines that the reader gives, to its end or to the limit.
 pub(crate) fn answer_all<T: Threads + Wait + Sync, K: Keeper, R: Read, W: Write>(
-    tools: &Tools<'_, T>,
+    engine: &Engine<'_, T>,
     limit: Limit,
     keeper: &mut K,
     reader: &mut Watched<R>,
@@ -36,27 +37,21 @@ pub(crate) fn answer_all<T: Threads + Wait + Sync, K: Keeper, R: Read, W: Write>
 ) -> Result<End, ScriptFault>
     requires new_reader { IsNew reader.old }
     requires new_writer { IsNew writer.old }
-    ensures done { IfOk result (λ end. IfSome (R.remaining (inner_of reader.old)) (λ bytes.
-        IsAnswered K.capacity (K.book keeper.old) bytes (W.contents (inner_of writer.old))
-        (W.contents (inner_of writer.new)) (K.book keeper.new) end.lines)) }
-    ensures short { OnOk result
-        (IfSome (R.remaining (inner_of reader.old)) (λ bytes. length bytes ≤ limit)) }
-    ensures fault { IfErr result (λ fault. IfSome (R.remaining (inner_of reader.old)) (λ bytes.
-        FailsWithin limit K.capacity (K.book keeper.old) bytes (R.remaining (inner_of reader.new))
-        (W.contents (inner_of writer.old)) (W.contents (inner_of writer.new))
-        (K.book keeper.new) fault)) }
+    ensures ended { IfSome (R.remaining (inner_of reader.old)) (λ bytes. (events : List Event)
+        × IsHistory engine.now.starving K.capacity (K.book keeper.old) (events_of bytes) events
+        × EndsAs limit K.capacity
+        (start_as (K.book keeper.old) bytes (W.contents (inner_of writer.old)) events)
+        (reading R.remaining reader.old reader.new) (writing W.contents writer.old writer.new)
+        (K.book keeper.new) result) }
     ensures cause { IfErr result (HasCause (failed_of reader.new) (failed_of writer.new)) }
-    ensures prompt { IfSome (R.remaining (inner_of reader.old)) (λ bytes. IsPrompt K.capacity
-        (script_start (K.book keeper.old) bytes (W.contents (inner_of writer.old)))
-        (name_of writer.old) (log_of reader.new)) }
     ensures calls { calls_of reader.new ≤ limit + 1 }
     ensures few { IfSome (R.remaining (inner_of reader.old))
         (λ bytes. calls_of reader.new ≤ length bytes + 1) }
 {
-    let tickets = Tickets::new(tools.alloc)?;
+    let tickets = Tickets::new(engine.tools.alloc)?;
     let progress = Progress::new(limit);
     let mut run = Run { tickets, progress };
-    run.read_all(tools, keeper, reader, writer)
+    run.read_all(engine, keeper, reader, writer)
 }
 
 /// The open tickets of a script, and how far it has been read.
@@ -70,12 +65,12 @@ impl Run {
     /// Takes one byte more. At a line end the line is answered.
     pub(crate) fn take_byte<T: Threads + Wait + Sync, K: Keeper, W: Write>(
         &mut self,
-        tools: &Tools<'_, T>,
+        engine: &Engine<'_, T>,
         keeper: &mut K,
         writer: &mut Watched<W>,
         byte: u8,
     ) -> Result<(), ScriptFault>
-        ensures fed { Takes K.capacity (byte ∷ [])
+        ensures fed { Takes engine.now.starving K.capacity (byte ∷ [])
             (standing (W.contents (inner_of writer.old)) (K.book keeper.old) self.old)
             (standing (W.contents (inner_of writer.new)) (K.book keeper.new) self.new) result }
         ensures taken { OnOk result (self.new.progress.taken ≡ self.old.progress.taken + 1) }
@@ -92,7 +87,7 @@ impl Run {
             return Ok(());
         }
         answer_line(
-            tools,
+            engine,
             keeper,
             &mut self.tickets,
             writer,
@@ -107,12 +102,12 @@ impl Run {
     /// Takes the bytes in turn.
     pub(crate) fn take_bytes<T: Threads + Wait + Sync, K: Keeper, W: Write>(
         &mut self,
-        tools: &Tools<'_, T>,
+        engine: &Engine<'_, T>,
         keeper: &mut K,
         writer: &mut Watched<W>,
         bytes: &[u8],
     ) -> Result<(), ScriptFault>
-        ensures fed { Takes K.capacity bytes.now
+        ensures fed { Takes engine.now.starving K.capacity bytes.now
             (standing (W.contents (inner_of writer.old)) (K.book keeper.old) self.old)
             (standing (W.contents (inner_of writer.new)) (K.book keeper.new) self.new) result }
         ensures taken { OnOk result (self.new.progress.taken
@@ -122,7 +117,7 @@ impl Run {
         ensures cause { IfErr result (HasCause false (failed_of writer.new)) }
     {
         for byte in bytes {
-            self.take_byte(tools, keeper, writer, *byte)?;
+            self.take_byte(engine, keeper, writer, *byte)?;
         }
         Ok(())
     }
@@ -130,11 +125,11 @@ impl Run {
     /// Answers what is left when the script has no further byte, and counts the lines.
     pub(crate) fn finish<T: Threads + Wait + Sync, K: Keeper, W: Write>(
         &mut self,
-        tools: &Tools<'_, T>,
+        engine: &Engine<'_, T>,
         keeper: &mut K,
         writer: &mut Watched<W>,
     ) -> Result<u64, ScriptFault>
-        ensures answered { Finishes K.capacity
+        ensures answered { Finishes engine.now.starving K.capacity
             (standing (W.contents (inner_of writer.old)) (K.book keeper.old) self.old)
             (standing (W.contents (inner_of writer.new)) (K.book keeper.new) self.new) result }
         ensures cause { IfErr result (HasCause false (failed_of writer.new)) }
@@ -143,7 +138,7 @@ impl Run {
             return Ok(self.progress.lines);
         }
         answer_line(
-            tools,
+            engine,
             keeper,
             &mut self.tickets,
             writer,
@@ -155,24 +150,22 @@ impl Run {
     /// Reads the script to its end.
     pub(crate) fn read_all<T: Threads + Wait + Sync, K: Keeper, R: Read, W: Write>(
         &mut self,
-        tools: &Tools<'_, T>,
+        engine: &Engine<'_, T>,
         keeper: &mut K,
         reader: &mut Watched<R>,
         writer: &mut Watched<W>,
     ) -> Result<End, ScriptFault>
         requires new_reader { IsNew reader.old }
         requires new_progress { self.old.progress.taken ≡ 0 }
-        ensures ended { Plays K.capacity (reading R.remaining reader.old reader.new)
+        ensures ended { Plays engine.now.starving K.capacity
+            (reading R.remaining reader.old reader.new) (writing W.contents writer.old writer.new)
             (standing (W.contents (inner_of writer.old)) (K.book keeper.old) self.old)
             (standing (W.contents (inner_of writer.new)) (K.book keeper.new) self.new) result }
         ensures cause { IfErr result (HasCause (failed_of reader.new) (failed_of writer.new)) }
-        ensures prompt { (script : ScriptStart)
-            → R.remaining (inner_of reader.old) ≡ Some script.bytes → IsAt K.capacity script []
-            (standing (W.contents (inner_of writer.old)) (K.book keeper.old) self.old)
-            → IsPrompt K.capacity script (name_of writer.old) (log_of reader.new) }
         ensures calls { calls_of reader.new ≤ self.old.progress.limit + 1 }
         ensures few { (script : ScriptStart)
-            → R.remaining (inner_of reader.old) ≡ Some script.bytes → IsAt K.capacity script []
+            → R.remaining (inner_of reader.old) ≡ Some script.bytes
+            → IsAt engine.now.starving K.capacity script []
             (standing (W.contents (inner_of writer.old)) (K.book keeper.old) self.old)
             → calls_of reader.new ≤ length script.bytes + 1 }
     {
@@ -180,10 +173,10 @@ impl Run {
         for _call in 0..u64::MAX {
             match reader.read_beside(keeper, writer, &mut buffer) {
                 Ok(0) => {
-                    let lines = self.finish(tools, keeper, writer)?;
+                    let lines = self.finish(engine, keeper, writer)?;
                     return Ok(End { lines });
                 }
-                Ok(n) => self.take_bytes(tools, keeper, writer, &buffer[..n])?,
+                Ok(n) => self.take_bytes(engine, keeper, writer, &buffer[..n])?,
                 Err(_) => return Err(ScriptFault::Read),
             }
         }

@@ -1,16 +1,16 @@
 //! A script with no end: its lines are answered as they come.
 
-ghost use Rattle.std.specs.Prelude.{◌+◌, ◌≤◌, length, IfErr, IfOk, IfSome, OnOk};
-ghost use Rattle.cred_cli.specs.Outcome.{FailsWithin, HasCause, IsAnswered, longest_service};
-ghost use Rattle.cred_cli.specs.Prompt.{IsPrompt};
-ghost use Rattle.cred_cli.specs.Script.{script_start};
-ghost use Rattle.cred_cli.specs.Watched.{IsNew, calls_of, failed_of, inner_of, name_of};
-ghost use Rattle.cred_cli.specs.Watched.{log_of};
+ghost use Rattle.std.specs.Prelude.{◌+◌, ◌≤◌, length, IfErr, IfSome};
+ghost use Rattle.cred_cli.specs.Outcome.{HasCause};
+ghost use Rattle.cred_cli.specs.Starving.{Serves};
+ghost use Rattle.cred_cli.specs.Watched.{IsNew, calls_of, failed_of, inner_of};
+ghost use Rattle.cred_cli.specs.Watched.{reading, writing};
 
 use crate::fault::ScriptFault;
 use crate::limit::Limit;
 use crate::run::answer_all;
 use crate::script::End;
+use crate::starving::{Engine, Starving};
 use crate::tools::Tools;
 use crate::watched::Watched;
 use cred_book::Keeper;
@@ -20,6 +20,9 @@ use std::sync::Wait;
 use std::thread::Threads;
 
 /// Answers lines as [`run_script`](crate::run_script) does, however many come.
+///
+/// A commit that needs a hash for which there is no memory is refused as `bad 4 memory`: it does
+/// nothing, its number stays open, and the next line is answered. Memory may run out elsewhere.
 ///
 /// Whenever the reader is called, each whole line that came is done and its answer is written, and
 /// nothing else is: what is written is the answers of one history of those lines, and the keeper's
@@ -41,22 +44,15 @@ pub fn serve<T: Threads + Wait + Sync, K: Keeper, R: Read, W: Write>(
 ) -> Result<End, ScriptFault>
     requires new_reader { IsNew reader.old }
     requires new_writer { IsNew writer.old }
-    ensures done { IfOk result (λ end. IfSome (R.remaining (inner_of reader.old)) (λ bytes.
-        IsAnswered K.capacity (K.book keeper.old) bytes (W.contents (inner_of writer.old))
-        (W.contents (inner_of writer.new)) (K.book keeper.new) end.lines)) }
-    ensures short { OnOk result
-        (IfSome (R.remaining (inner_of reader.old)) (λ bytes. length bytes ≤ longest_service)) }
-    ensures fault { IfErr result (λ fault. IfSome (R.remaining (inner_of reader.old)) (λ bytes.
-        FailsWithin longest_service K.capacity (K.book keeper.old) bytes
-        (R.remaining (inner_of reader.new)) (W.contents (inner_of writer.old))
-        (W.contents (inner_of writer.new)) (K.book keeper.new) fault)) }
+    ensures served { Serves K.capacity (reading R.remaining reader.old reader.new)
+        (writing W.contents writer.old writer.new) (K.book keeper.old) (K.book keeper.new) result }
     ensures cause { IfErr result (HasCause (failed_of reader.new) (failed_of writer.new)) }
-    ensures prompt { IfSome (R.remaining (inner_of reader.old)) (λ bytes. IsPrompt K.capacity
-        (script_start (K.book keeper.old) bytes (W.contents (inner_of writer.old)))
-        (name_of writer.old) (log_of reader.new)) }
     ensures calls { IfSome (R.remaining (inner_of reader.old))
         (λ bytes. calls_of reader.new ≤ length bytes + 1) }
 {
-    let tools = Tools { rt, alloc, workers };
-    answer_all(&tools, Limit::service(), keeper, reader, writer)
+    let engine = Engine {
+        tools: Tools { rt, alloc, workers },
+        starving: Starving::Answered,
+    };
+    answer_all(&engine, Limit::service(), keeper, reader, writer)
 }

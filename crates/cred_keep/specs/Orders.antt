@@ -1,6 +1,6 @@
 -- What an order makes of a kept book.
 use Rattle.std.specs.Prelude.{◌≡◌, ℕ, ◌≤◌, Bool, true, false, List, length, Option, Some, None}
-use Rattle.std.specs.Prelude.{IfSome, Result, Ok, Err}
+use Rattle.std.specs.Prelude.{IfErr, IfSome, Result, Ok, Err}
 use Rattle.std.specs.FinMap as map
 use Rattle.std.specs.Io.KnownBytes.{Keeps}
 use Rattle.cred_book.specs.Accounts.{Accounts, register_capacity}
@@ -18,9 +18,9 @@ use Rattle.cred_admin.specs.declared.gathering.ImportFault.TheVariants as import
 use Rattle.cred_admin.specs.declared.status.Status.{Status}
 use Rattle.cred_admin.specs.declared.status.Status.TheVariants.{Done, Io, Memory, Database, Data}
 use Rattle.cred_cli.specs.Outcome.{FailsWithin, HasCause, IsAnswered, longest_script}
-use Rattle.cred_cli.specs.Outcome.{longest_service}
 use Rattle.cred_cli.specs.Prompt.{IsPrompt}
 use Rattle.cred_cli.specs.Script.{script_start}
+use Rattle.cred_cli.specs.Starving.{Serves}
 use Rattle.cred_cli.specs.declared.fault.ScriptFault.{ScriptFault}
 use Rattle.cred_cli.specs.declared.fault.ScriptFault.TheVariants as script
 use Rattle.cred_cli.specs.declared.script.End.{End}
@@ -123,6 +123,12 @@ RunsWithin longest s (Err e) = HasCause s.reading.failed s.writing.failed e
     × IfSome s.reading.input (λ bytes. FailsWithin longest register_capacity s.old bytes
     s.reading.left s.writing.before s.writing.now s.new e) × RunsPrompt s
 
+-- lines were answered for as long as they came, but for commits that need a hash and were refused
+-- memory for it, or they met a fault
+pub record ServesLines (s : Seen) (r : Result End ScriptFault) : Type 0 where
+  pub served : Serves register_capacity s.reading s.writing s.old s.new r
+  pub cause : IfErr r (HasCause s.reading.failed s.writing.failed)
+
 -- a command, of which this holds at its end, ends so
 abbrev pub Commands : (Result Status Fault → Type 0) → Result Ending Failure → Type 0
 Commands Holds ended = (r : Result Status Fault) × Holds r × (ended ≡ command_end r)
@@ -141,7 +147,7 @@ abbrev pub Performs : Order → Seen → Result Ending Failure → Type 0
 Performs Run s ended =
     (r : Result End ScriptFault) × RunsWithin longest_script s r × (ended ≡ run_end r)
 Performs Serve s ended =
-    (r : Result End ScriptFault) × RunsWithin longest_service s r × (ended ≡ run_end r)
+    (r : Result End ScriptFault) × ServesLines s r × (ended ≡ run_end r)
 Performs (Add name new) s ended = Commands (Adds register_capacity name new s) ended
 Performs (Check name) s ended = Commands (Asks (λ pw. request.Verify name pw) s) ended
 Performs (Change name new) s ended =

@@ -2,10 +2,10 @@
 
 ghost use Rattle.std.specs.Prelude.{◌+◌, ◌≤◌, IfSome, length};
 ghost use Rattle.cred_admin.specs.Seen.{seen};
-ghost use Rattle.cred_cli.specs.Outcome.{longest_script, longest_service, most_calls};
+ghost use Rattle.cred_cli.specs.Outcome.{longest_script, most_calls};
 ghost use Rattle.cred_cli.specs.Watched.{IsNew, calls_of, inner_of, reading, writing};
 ghost use Rattle.cred_file.specs.Keeps.{Keeps};
-ghost use Rattle.cred_keep.specs.Orders.{RunsWithin};
+ghost use Rattle.cred_keep.specs.Orders.{RunsWithin, ServesLines};
 
 use cred_cli::{End, ScriptFault, Watched, run_script, serve};
 use cred_file::FileBook;
@@ -41,8 +41,10 @@ pub fn run_on_file<T: Threads + Wait + Sync, S: Alter, R: Read, W: Write>(
 
 /// Answers lines on a kept book for as long as they come, as `serve` does.
 ///
-/// Each change is in the database before it is answered. A crash leaves the book after the lines
-/// that were done, perhaps with the change that was under way as the database failed.
+/// Each change is in the database before it is answered. A commit for whose hash there is no memory
+/// is refused, and the service goes on; the keeper's own want of memory ends it. A crash leaves the
+/// book after the lines that were done, perhaps with the change that was under way as the database
+/// failed.
 pub fn serve_on_file<T: Threads + Wait + Sync, S: Alter, R: Read, W: Write>(
     rt: &T,
     alloc: Global,
@@ -53,7 +55,7 @@ pub fn serve_on_file<T: Threads + Wait + Sync, S: Alter, R: Read, W: Write>(
 ) -> Result<End, ScriptFault>
     requires new_reader { IsNew reader.old }
     requires new_writer { IsNew writer.old }
-    ensures runs { RunsWithin longest_service (seen (reading R.remaining reader.old reader.new)
+    ensures runs { ServesLines (seen (reading R.remaining reader.old reader.new)
         (writing W.contents writer.old writer.new) book.old.book book.new.book) result }
     ensures calls { IfSome (R.remaining (inner_of reader.old))
         (λ bytes. calls_of reader.new ≤ length bytes + 1) }

@@ -1,10 +1,15 @@
-use Rattle.std.proofs.Common.{refl, ◌∙◌}
-use Rattle.cred_cli.proofs.Doing.{stays_done, commits_idle, commits_done, line_of_reply}
+use Rattle.std.proofs.Common.{ap, Some, inl, refl, sym, ◌∙◌}
+use Rattle.cred_cli.proofs.Doing.{stays_done, commits_idle, commits_done, line_of_reply, ok_then}
 use Rattle.cred_cli.proofs.answer.commit.Goals as goal
 
 pub returns-in_default-clause-done : goal.returns-in_default-clause-done
-returns-in_default-clause-done g c = stays_done c.bad.result _ _ _ _ (commits_idle _ _ _ _ c.in_default.ensures.ticket c.close.ensures.closed) c.bad.ensures
+returns-in_default-clause-done g c = inl (stays_done c.bad.result _ _ _ _ (commits_idle _ _ _ _ c.in_default.ensures.ticket c.close.ensures.closed) c.bad.ensures)
+
+-- there was no memory for the hash
+pub returns-in-Err-clause-done : goal.returns-in-Err-clause-done
+returns-in-Err-clause-done g c =
+    ok_then c.starve.result _ _ c.starve.ensures (λ line told. told c.args.tickets.now (sym c.in-Some.ensures.ticket ∙ ap Some (sym c.in-Err.ensures.back)) c.close.ensures.closed)
 
 pub returns-clause-done : goal.returns-clause-done
 returns-clause-done g c =
-    rw (commits_done _ _ _ _ _ _ _ c.in-Ok-commit.reply c.in-Some.ensures.ticket c.close.ensures.closed c.in-Ok.ensures.worked c.in-Ok-commit.ensures) (c.reply_line.ensures ∙ line_of_reply c.in-Ok-commit.reply, refl, refl)
+    inl (rw (commits_done _ _ _ _ _ _ _ c.in-Ok-commit.reply c.in-Some.ensures.ticket c.close.ensures.closed c.in-Ok.ensures.worked c.in-Ok-commit.ensures) (c.reply_line.ensures ∙ line_of_reply c.in-Ok-commit.reply, refl, refl))

@@ -1,7 +1,14 @@
-use Rattle.std.proofs.Common.{sym, ◌∙◌, ap, Some}
-use Rattle.cred_cli.proofs.Runs.{line_ended}
+use Rattle.std.proofs.Common.{sym, ◌∙◌, ap, Some, inl, refl}
+use Rattle.std.proofs.lemmas.Result.{err_from_is_err_and}
+use Rattle.cred_cli.proofs.Starvings.{line_taken}
 use Rattle.cred_cli.proofs.line.answer_line.Goals as goal
+
+-- memory was refused, and not to a hash that may be
+pub returns-in_err-answer-clause-answered : goal.returns-in_err-answer-clause-answered
+returns-in_err-answer-clause-answered g c = λ book events i before stands held here.
+    let told = err_from_is_err_and c.from_residual.result c.from_residual.ensures.1 in
+    (events, record { becomes = inl refl; ended = rw (told.1, told.2, c.in_err-answer.ensures.refused) stands })
 
 pub returns-clause-answered : goal.returns-clause-answered
 returns-clause-answered g c = λ book events i before stands held here.
-    line_ended _ book events i c.of_line.result c.of_line.ensures.sound (here ∙ ap Some (sym c.of_line.ensures.event)) before _ _ _ stands _ held _ _ c.in_ok-answer.answer _ c.write_to.result c.in_ok-answer.ensures.done c.write_to.ensures.done c.write_to.ensures.fails
+    line_taken _ book events i c.of_line.result c.of_line.ensures.sound (here ∙ ap Some (sym c.of_line.ensures.event)) before _ _ _ stands _ held _ _ _ c.in_ok-answer.answer _ c.write_to.result c.in_ok-answer.ensures.done c.write_to.ensures.done c.write_to.ensures.fails

@@ -1,13 +1,15 @@
 use Rattle.std.proofs.Common.{rules, ◌≡◌, arith, sym, refl, ap, ◌∙◌, append-nil, ◌≤◌, ◌<◌, ◌+◌, ◌-◌, ◌^◌, length, length-take-le, take}
 use Rattle.std.proofs.Math.Nat.{min-eq_left}
 use Rattle.std.proofs.lemmas.Result.{err_from_is_err_and}
+use Rattle.cred_cli.specs.Script.{line_ends, with_events}
+use Rattle.cred_cli.specs.Starving.{IsSameBefore}
 use Rattle.cred_cli.proofs.Prompts.{prompt_call, read_on, read_to_start}
-use Rattle.cred_cli.proofs.Readings.{came, came_to_end, cut_behind}
+use Rattle.cred_cli.proofs.Readings.{came, came_to_end, cut_behind, kept_left}
 use Rattle.cred_cli.proofs.run.Run.read_all.Goals as goal
 
 pub loop-call-init : goal.loop-call-init
 loop-call-init g c = record {
-  at = λ script known at. read_to_start _ script _ _ _ _ known at c.requires.new_reader.log;
+  at = λ script known at. read_to_start _ _ script _ _ _ _ known at c.requires.new_reader.log;
   limit = refl;
   calls = c.requires.new_reader.calls;
   taken = omega (arith, c.requires.new_progress);
@@ -20,22 +22,66 @@ returns-in-Ok-eq0-clause-ended g c = λ script known at.
     let read = c.loop-call.invariant.at script known at in
     let none = came_to_end _ _ read.rest _ _ c.in-Ok-eq0.field-0-test read.left_is c.in-Ok-eq0.ensures.bytes.0 (c.in-Ok-eq0.ensures.bytes.1 c.in-Ok-eq0.field-0-test (omega (arith, c.loop-call.invariant.size))) in
     let whole : read.front ≡ script.bytes = sym (rw (none, append-nil) at read.cut) in
-    let done = rw whole at read.at in
-    (c.in_ok-lines-in-Ok-eq0.ensures.answered script done, omega (arith, done.taken_is, c.loop-call.self.progress.not_too_long, c.loop-call.invariant.limit))
+    let at_end = rw whole at read.at in
+    let done = c.in_ok-lines-in-Ok-eq0.ensures.answered (with_events script read.events) at_end in
+    let same : IsSameBefore (line_ends read.front) read.events done.0 = λ j before. done.1.goes_on.same j (omega (arith, before, ap line_ends whole)) in (
+      done.0,
+      done.1.goes_on.history,
+      record {
+        done = done.1.ended;
+        fault = tt;
+        short = omega (arith, at_end.taken_is, c.loop-call.self.progress.not_too_long, c.loop-call.invariant.limit);
+        prompt = prompt_call _ read c.loop-call.invariant.named c.read_beside.ensures.logged done.0 same;
+      },
+    )
 
 pub returns-in_err-lines-in-Ok-eq0-clause-ended : goal.returns-in_err-lines-in-Ok-eq0-clause-ended
 returns-in_err-lines-in-Ok-eq0-clause-ended g c = λ script known at.
     let read = c.loop-call.invariant.at script known at in
     let none = came_to_end _ _ read.rest _ _ c.in-Ok-eq0.field-0-test read.left_is c.in-Ok-eq0.ensures.bytes.0 (c.in-Ok-eq0.ensures.bytes.1 c.in-Ok-eq0.field-0-test (omega (arith, c.loop-call.invariant.size))) in
     let whole : read.front ≡ script.bytes = sym (rw (none, append-nil) at read.cut) in
-    let told = err_from_is_err_and c.from_residual.result c.from_residual.ensures.1 in rw (told.1, told.2, ← c.loop-call.invariant.limit) (c.in_err-lines-in-Ok-eq0.ensures.answered script (rw whole at read.at) _)
+    let done = c.in_err-lines-in-Ok-eq0.ensures.answered (with_events script read.events) (rw whole at read.at) in
+    let same : IsSameBefore (line_ends read.front) read.events done.0 = λ j before. done.1.goes_on.same j (omega (arith, before, ap line_ends whole)) in
+    let told = err_from_is_err_and c.from_residual.result c.from_residual.ensures.1 in (
+      done.0,
+      done.1.goes_on.history,
+      record {
+        done = rw told.1 tt;
+        fault = rw (told.1, told.2, ← c.loop-call.invariant.limit) (done.1.ended _);
+        short = rw told.1 tt;
+        prompt = prompt_call _ read c.loop-call.invariant.named c.read_beside.ensures.logged done.0 same;
+      },
+    )
 
 pub returns-in_err-take_bytes-in-Ok-clause-ended : goal.returns-in_err-take_bytes-in-Ok-clause-ended
 returns-in_err-take_bytes-in-Ok-clause-ended g c = λ script known at.
     let read = c.loop-call.invariant.at script known at in
     let more = came _ _ read.rest _ read.left_is c.in-Ok.ensures.bytes.0 in
-    let told = err_from_is_err_and c.from_residual-in_err-take_bytes-in-Ok.result c.from_residual-in_err-take_bytes-in-Ok.ensures.1 in
-    rw (told.1, told.2, ← c.loop-call.invariant.limit) (c.in_err-take_bytes-in-Ok.ensures.fed script read.front more.left (cut_behind script.bytes read.front read.rest _ _ read.cut more.cut) read.at _)
+    let done = c.in_err-take_bytes-in-Ok.ensures.fed (with_events script read.events) read.front more.left (cut_behind script.bytes read.front read.rest _ _ read.cut more.cut) read.at in
+    let told = err_from_is_err_and c.from_residual-in_err-take_bytes-in-Ok.result c.from_residual-in_err-take_bytes-in-Ok.ensures.1 in (
+      done.0,
+      done.1.goes_on.history,
+      record {
+        done = rw told.1 tt;
+        fault = rw (told.1, told.2, ← c.loop-call.invariant.limit) (done.1.ended _);
+        short = rw told.1 tt;
+        prompt = prompt_call _ read c.loop-call.invariant.named c.read_beside.ensures.logged done.0 done.1.goes_on.same;
+      },
+    )
+
+-- the reader failed
+pub returns-in-Err-clause-ended : goal.returns-in-Err-clause-ended
+returns-in-Err-clause-ended g c = λ script known at.
+    let read = c.loop-call.invariant.at script known at in (
+      read.events,
+      read.at.history,
+      record {
+        done = tt;
+        fault = (read.front, kept_left _ _ script.bytes read.front read.rest read.left_is c.in-Err.ensures.bytes read.cut, rw (← read.at.lines_are) read.at.stands);
+        short = tt;
+        prompt = prompt_call _ read c.loop-call.invariant.named c.read_beside.ensures.logged read.events (λ j before. refl);
+      },
+    )
 
 pub loop-call-preserved : goal.loop-call-preserved
 loop-call-preserved g c =
@@ -46,8 +92,8 @@ loop-call-preserved g c =
           let read = c.loop-call.invariant.at script known at in
           let more = came _ _ read.rest _ read.left_is c.in-Ok.ensures.bytes.0 in
           let some : 0 < length (take c.in-Ok.n c.read_beside.new.buf) = omega (arith, c.in-Ok.n-test, length-take-le c.in-Ok.n c.read_beside.new.buf within) in
-          let fed = c.in_ok-take_bytes-in-Ok.ensures.fed script read.front more.left (cut_behind script.bytes read.front read.rest _ _ read.cut more.cut) read.at in
-          read_on _ _ read more some c.loop-call.invariant.named c.read_beside.ensures.logged fed;
+          let fed = c.in_ok-take_bytes-in-Ok.ensures.fed (with_events script read.events) read.front more.left (cut_behind script.bytes read.front read.rest _ _ read.cut more.cut) read.at in
+          read_on _ _ read more some c.loop-call.invariant.named c.read_beside.ensures.logged fed.0 fed.1.goes_on fed.1.ended;
       limit = c.in_ok-take_bytes-in-Ok.ensures.limit ∙ c.loop-call.invariant.limit;
       calls = c.read_beside.ensures.calls ∙ min-eq_left small ∙ ap (λ n. n + 1) c.loop-call.invariant.calls;
       taken = omega (arith, c.in_ok-take_bytes-in-Ok.ensures.taken, c.loop-call.invariant.taken, c.in-Ok.n-test, length-take-le c.in-Ok.n c.read_beside.new.buf within);
@@ -63,21 +109,3 @@ returns-in-Ok-eq0-clause-cause g c = search rules
 pub unreachable-requires : goal.unreachable-requires
 unreachable-requires g c =
     omega (arith, c.loop-call-test.false, c.loop-call.invariant.taken, c.loop-call.self.progress.not_too_long, c.loop-call.self.progress.countable)
-
--- ---- the call was prompt, however it ends
-
-pub returns-in-Ok-eq0-clause-prompt : goal.returns-in-Ok-eq0-clause-prompt
-returns-in-Ok-eq0-clause-prompt g c = λ script known at.
-    prompt_call _ (c.loop-call.invariant.at script known at) c.loop-call.invariant.named c.read_beside.ensures.logged
-
-pub returns-in_err-lines-in-Ok-eq0-clause-prompt : goal.returns-in_err-lines-in-Ok-eq0-clause-prompt
-returns-in_err-lines-in-Ok-eq0-clause-prompt g c = λ script known at.
-    prompt_call _ (c.loop-call.invariant.at script known at) c.loop-call.invariant.named c.read_beside.ensures.logged
-
-pub returns-in_err-take_bytes-in-Ok-clause-prompt : goal.returns-in_err-take_bytes-in-Ok-clause-prompt
-returns-in_err-take_bytes-in-Ok-clause-prompt g c = λ script known at.
-    prompt_call _ (c.loop-call.invariant.at script known at) c.loop-call.invariant.named c.read_beside.ensures.logged
-
-pub returns-in-Err-clause-prompt : goal.returns-in-Err-clause-prompt
-returns-in-Err-clause-prompt g c = λ script known at.
-    prompt_call _ (c.loop-call.invariant.at script known at) c.loop-call.invariant.named c.read_beside.ensures.logged

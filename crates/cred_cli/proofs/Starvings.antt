@@ -1,0 +1,229 @@
+-- A commit that is starved, and the history that it leaves.
+use Rattle.std.proofs.Common.{◌≡◌, ℕ, suc, ◌≤◌, ◌<◌, List, Option, Some, None, Bool, true, not, refl, sym, ap, ◌∙◌, arith, slice_get, set, length, inl, inr, ◌⊎◌, Result, Ok, Err, IfOk, OnOk, IfErr, IfSome, codes, ◌++◌, ◌∷◌, []}
+use Rattle.std.specs.Fmt.{digits}
+use Rattle.std.specs.FinMap as map
+use Rattle.std.specs.Io.KnownBytes.{Appends}
+use Rattle.std.proofs.lemmas.Bool.{cases_lt}
+use Rattle.std.proofs.lemmas.Option.{slice_get_within}
+use Rattle.std.proofs.Math.ListN.{length-set}
+use Rattle.cred_phc.specs.Values.{RecordValue}
+use Rattle.cred_book.specs.Accounts.{Accounts}
+use Rattle.cred_book.specs.Works.{Task, name_of, same}
+use Rattle.cred_book.proofs.Equality.{same-Decides}
+use Rattle.cred_cli.specs.declared.answer.AnswerLine.{AnswerLine}
+use Rattle.cred_cli.specs.declared.event.Event.{Event}
+use Rattle.cred_cli.specs.declared.event.Event.TheVariants.{Commit}
+use Rattle.cred_cli.specs.declared.fault.ScriptFault.{ScriptFault}
+use Rattle.cred_cli.specs.declared.starving.Starving.{Starving}
+use Rattle.cred_cli.specs.declared.starving.Starving.TheVariants.{Ends, Answered}
+use Rattle.cred_cli.specs.Answers.{IsDoneOrStarved, MayStarve, line_bytes}
+use Rattle.cred_cli.specs.Events.{IsSound}
+use Rattle.cred_cli.specs.History.{Opened, after, answer_at, answer_of, book_at, deed_of, deeds_before, names_at, open_after, open_at}
+use Rattle.cred_cli.specs.Texts.{line_of}
+use Rattle.cred_cli.proofs.Names.{book_at-suc}
+use Rattle.cred_cli.proofs.Openings.{open_at-suc}
+use Rattle.cred_cli.specs.Outcome.{FailsAs, FailsWithin, IsAnswered, StandsAfter}
+use Rattle.cred_cli.specs.Prompt.{IsPrompt}
+use Rattle.cred_cli.specs.Watched.{Reading, Writing}
+use Rattle.cred_cli.specs.declared.script.End.{End}
+use Rattle.cred_cli.specs.Feeding.{IsAt, Standing, TakesLineAs, between}
+use Rattle.cred_cli.specs.Script.{ScriptStart, events_of, script_start, start_as, with_events}
+use Rattle.cred_cli.specs.Starving.{Becomes, EndsAs, GoesOn, IsHistory, IsSameBefore, IsServed, IsStarved, NeedsHash, starved}
+use Rattle.cred_cli.specs.Steps.{WriteFails, slot}
+use Rattle.cred_cli.specs.Tickets.{HoldTickets, IsTicketOf}
+use Rattle.cred_cli.proofs.Fronts.{needs_front, set_before, set_elsewhere, set_here, stands_front, tickets_front}
+use Rattle.cred_cli.proofs.Runs.{line_ended}
+use Rattle.cred_cli.proofs.Simulation.{stale}
+
+-- a record is the same as itself
+same_again : (stored : Option RecordValue) → same stored stored ≡ true
+same_again stored = (same-Decides stored stored).1 refl
+
+module _ (capacity : ℕ) (book : Accounts) (events : List Event) (i : ℕ) (slots : List (Option Task)) (held : HoldTickets capacity book events i slots) where
+  -- a ticket whose record stands is that of a begin that isn't stale
+  ticket_needs : (key : ℕ) (low : 1 ≤ key) (high : key ≤ 64) → slice_get events i ≡ Some (Commit key) → (accounts : Accounts) → accounts ≡ book_at capacity book events i → (starving : Starving) (event : Event) (may : MayStarve starving accounts slots event) → may.key ≡ key →
+      NeedsHash capacity book events i key
+  ticket_needs key low high here accounts is starving event may same_key =
+      by_opened (open_at capacity book events i key) refl (slot slots key) (rw same_key at may.is_open) (held.each key low high)
+    where
+      by_opened : (opened : Option Opened) → open_at capacity book events i key ≡ opened → (task : Option Task) → task ≡ Some may.task → IsTicketOf capacity book events opened task → NeedsHash capacity book events i key
+      by_opened None is_none None none h = cc
+      by_opened None is_none (Some task) some h = absurd h
+      by_opened (Some opened) is_some None none h = absurd h
+      by_opened (Some opened) is_some (Some task) some h =
+          let this : task ≡ may.task = cc in
+          let asked : may.task.0 ≡ opened.request = ap (λ (t : Task). t.0) (sym this) ∙ h.0 in
+          let copied : map.get (book_at capacity book events opened.place) (name_of opened.request) ≡ Some may.task.1 = h.1 ∙ ap (λ (t : Task). Some t.1) this in
+          let found : map.get (book_at capacity book events i) (name_of opened.request) ≡ Some may.task.1 = rw (is, asked) at may.stands in
+          record {
+            opened = opened;
+            is_open = is_some;
+            fresh = stale capacity book events i slots held key low high here opened may.task is_some asked copied may.task.1 found ∙ ap not (same_again may.task.1);
+            stored = may.task.1;
+            stands = found;
+            hashed = rw asked at may.hashed;
+          }
+
+-- ---- a line that is done or starved
+
+module _ (capacity : ℕ) (book : Accounts) (events : List Event) (i : ℕ) (event : Event) (sound : IsSound event) (here : slice_get events i ≡ Some event) (before mid now : Option (List ℕ)) (accounts : Accounts)
+    (stands : StandsAfter capacity book events i before mid accounts) (slots : List (Option Task)) (held : HoldTickets capacity book events i slots) where
+  wants : (starving : Starving) (may : MayStarve starving accounts slots event) → NeedsHash capacity book events i may.key
+  wants starving may =
+      let bounds = rw may.commits at sound in
+      ticket_needs capacity book events i slots held may.key bounds.0 bounds.1 (here ∙ ap Some may.commits) accounts stands.accounts_are starving event may refl
+
+  pub line_taken : (starving : Starving) (later : Accounts) (left : List (Option Task)) (line : AnswerLine) (failed : Bool) (r : Result (Unit {0}) ScriptFault) → IsDoneOrStarved starving capacity accounts slots event later left line →
+      OnOk r (Appends mid now (line_bytes line)) → IfErr r (WriteFails mid now (line_bytes line) failed) →
+      (then_ : List Event) × TakesLineAs starving capacity book events i before (between now later left) r then_
+  line_taken starving later left line failed r (inl done) written fails =
+      (events, record { becomes = inl refl; ended = line_ended capacity book events i event sound here before mid now accounts stands slots held later left line failed r done written fails })
+  line_taken starving later left line failed r (inr (may, done)) written fails =
+      let then_ = set events i starved in
+      let same = set_before events i starved in (
+        then_,
+        record {
+          becomes = inr (may.answered, may.key, here ∙ ap Some may.commits, wants starving may, refl);
+          ended = line_ended capacity book then_ i starved tt (set_here events i starved (slice_get_within events i event here)) before mid now accounts
+              (stands_front capacity book events then_ i same before mid accounts stands) slots (tickets_front capacity book events then_ i same slots held) later left line failed r done written fails;
+        },
+      )
+
+-- ---- the history goes on
+
+pub history_asked : (starving : Starving) (capacity : ℕ) (book : Accounts) (asked : List Event) → IsHistory starving capacity book asked asked
+history_asked Ends capacity book asked = refl
+history_asked Answered capacity book asked = record { size = refl; each = λ i. inl refl }
+
+pub history-size : (starving : Starving) (capacity : ℕ) (book : Accounts) (asked events : List Event) → IsHistory starving capacity book asked events → length events ≡ length asked
+history-size Ends capacity book asked events history = ap length history
+history-size Answered capacity book asked events history = history.size
+
+-- the events from a place on are what their lines ask for
+abbrev pub IsBehind : ℕ → List Event → List Event → Type 0
+IsBehind i asked events = (j : ℕ) → i ≤ j → slice_get events j ≡ slice_get asked j
+
+module _ (capacity : ℕ) (book : Accounts) (asked events : List Event) (i : ℕ) (behind : IsBehind i asked events) where
+  set_behind : IsBehind (suc i) asked (set events i starved)
+  set_behind j after = set_elsewhere events i j starved (λ e. absurd (omega (arith, after, e))) ∙ behind j (omega (arith, after))
+
+  set_served : IsServed capacity book asked events → (key : ℕ) → slice_get events i ≡ Some (Commit key) → NeedsHash capacity book events i key → IsServed capacity book asked (set events i starved)
+  set_served served key here needs = record {
+    size = length-set events i starved ∙ served.size;
+    each = λ j. elim (cases_lt j i) [
+      | inl before ↦ earlier j before (served.each j)
+      | inr after ↦ later j after
+    ];
+  }
+    where
+      then_ : List Event
+      then_ = set events i starved
+
+      earlier : (j : ℕ) → j < i → (slice_get events j ≡ slice_get asked j) ⊎ IsStarved capacity book asked events j → (slice_get then_ j ≡ slice_get asked j) ⊎ IsStarved capacity book asked then_ j
+      earlier j before (inl is) = inl (set_before events i starved j before ∙ is)
+      earlier j before (inr was) = inr (record {
+        key = was.key;
+        commits = was.commits;
+        refused = set_before events i starved j before ∙ was.refused;
+        needs = needs_front capacity book events then_ j was.key (λ k sooner. set_before events i starved k (omega (arith, sooner, before))) was.needs;
+      })
+
+      later : (j : ℕ) → i ≤ j → (slice_get then_ j ≡ slice_get asked j) ⊎ IsStarved capacity book asked then_ j
+      later j after = elim (cases_lt i j) [
+        | inl behind_it ↦ inl (set_behind j behind_it)
+        | inr le ↦
+            let this : i ≡ j = omega (arith, after, le) in
+            rw (← this) (inr (record {
+              key = key;
+              commits = sym (behind i (omega arith)) ∙ here;
+              refused = set_here events i starved (slice_get_within events i _ here);
+              needs = needs_front capacity book events then_ i key (set_before events i starved) needs;
+            }))
+      ]
+
+-- what a line makes of the history
+pub record Grows (starving : Starving) (capacity : ℕ) (book : Accounts) (asked events now : List Event) (i : ℕ) : Type 0 where
+  pub same : IsSameBefore i events now
+  pub history : IsHistory starving capacity book asked now
+  pub behind : IsBehind (suc i) asked now
+
+never : Ends ≡ Answered → ⊥
+never e = cc
+
+pub grows : (starving : Starving) (capacity : ℕ) (book : Accounts) (asked events now : List Event) (i : ℕ) → IsHistory starving capacity book asked events → IsBehind i asked events → Becomes starving capacity book events i now →
+    Grows starving capacity book asked events now i
+grows starving capacity book asked events now i history behind (inl is) =
+    rw is (record { same = λ j before. refl; history = history; behind = λ j after. behind j (omega (arith, after)) })
+grows Ends capacity book asked events now i history behind (inr (answered, key, here, needs, is)) = absurd (never answered)
+grows Answered capacity book asked events now i history behind (inr (answered, key, here, needs, is)) = rw is (record {
+  same = set_before events i starved;
+  history = set_served capacity book asked events i behind history key here needs;
+  behind = set_behind capacity book asked events i behind;
+})
+
+-- ---- the script goes on
+
+pub goes_nowhere : (starving : Starving) (capacity : ℕ) (script : ScriptStart) (i : ℕ) → IsHistory starving capacity script.book (events_of script.bytes) script.events → GoesOn starving capacity script i script.events
+goes_nowhere starving capacity script i history = record { same = λ j before. refl; history = history }
+
+pub goes_then : (starving : Starving) (capacity : ℕ) (script : ScriptStart) (events later : List Event) (i k : ℕ) → i ≤ k → GoesOn starving capacity script i events → GoesOn starving capacity (with_events script events) k later →
+    GoesOn starving capacity script i later
+goes_then starving capacity script events later i k le first then_ =
+    record { same = λ j before. then_.same j (omega (arith, before, le)) ∙ first.same j before; history = then_.history }
+
+-- the limit stays the same
+pub fails_within : (longest within capacity : ℕ) (script : ScriptStart) (now : Option (List ℕ)) (accounts : Accounts) (e : ScriptFault) → within ≡ longest → ((left : Option (List ℕ)) → FailsAs within capacity script left now accounts e) →
+    (left : Option (List ℕ)) → FailsAs longest capacity script left now accounts e
+fails_within longest within capacity script now accounts e same fails left = rw (← same) (fails left)
+
+pub at_again : (starving : Starving) (capacity : ℕ) (script : ScriptStart) (front : List ℕ) (s : Standing) → IsAt starving capacity script front s → IsAt starving capacity (with_events script script.events) front s
+at_again starving capacity script front s at = record {
+  history = at.history;
+  behind = at.behind;
+  stands = at.stands;
+  tickets = at.tickets;
+  lines_are = at.lines_are;
+  start_is = at.start_is;
+  taken_is = at.taken_is;
+}
+
+-- ---- a run that ends where memory is refused
+
+-- its lines come to what they ask for
+module _ (longest capacity : ℕ) (r : Reading) (w : Writing) (old new : Accounts) where
+  abbrev Asked : List ℕ → Result End ScriptFault → Type 0
+  Asked bytes result = EndsAs longest capacity (script_start old bytes w.before) r w new result
+
+  asked_alone : (bytes : List ℕ) (result : Result End ScriptFault) → (events : List Event) × IsHistory Ends capacity old (events_of bytes) events × EndsAs longest capacity (start_as old bytes w.before events) r w new result → Asked bytes result
+  asked_alone bytes result (events, is, ended) = rw is at ended
+
+  pub as_asked : (result : Result End ScriptFault) → IfSome r.input (λ bytes. (events : List Event) × IsHistory Ends capacity old (events_of bytes) events × EndsAs longest capacity (start_as old bytes w.before events) r w new result) →
+      IfOk result (λ end. IfSome r.input (λ bytes. IsAnswered capacity old bytes w.before w.now new end.lines))
+      × OnOk result (IfSome r.input (λ bytes. length bytes ≤ longest))
+      × IfErr result (λ fault. IfSome r.input (λ bytes. FailsWithin longest capacity old bytes r.left w.before w.now new fault))
+      × IfSome r.input (λ bytes. IsPrompt capacity (script_start old bytes w.before) w.name r.log)
+  as_asked result ended = by_input r.input result ended
+    where
+      by_input : (input : Option (List ℕ)) (result : Result End ScriptFault) → IfSome input (λ bytes. (events : List Event) × IsHistory Ends capacity old (events_of bytes) events × EndsAs longest capacity (start_as old bytes w.before events) r w new result) →
+          IfOk result (λ end. IfSome input (λ bytes. IsAnswered capacity old bytes w.before w.now new end.lines))
+          × OnOk result (IfSome input (λ bytes. length bytes ≤ longest))
+          × IfErr result (λ fault. IfSome input (λ bytes. FailsWithin longest capacity old bytes r.left w.before w.now new fault))
+          × IfSome input (λ bytes. IsPrompt capacity (script_start old bytes w.before) w.name r.log)
+      by_input None (Ok end) ended = (tt, tt, tt, tt)
+      by_input None (Err e) ended = (tt, tt, tt, tt)
+      by_input (Some bytes) (Ok end) ended = let alone = asked_alone bytes (Ok end) ended in (alone.done, alone.short, tt, alone.prompt)
+      by_input (Some bytes) (Err e) ended = let alone = asked_alone bytes (Err e) ended in (tt, tt, alone.fault, alone.prompt)
+
+-- ---- a starved commit changes nothing
+
+pub starved-book : (capacity : ℕ) (book : Accounts) (asked events : List Event) (i : ℕ) → IsStarved capacity book asked events i → book_at capacity book events (suc i) ≡ book_at capacity book events i
+starved-book capacity book asked events i was =
+    book_at-suc capacity book events i ∙ ap (λ e. after (book_at capacity book events i) (deed_of capacity book events i (deeds_before capacity book events i) e)) was.refused
+
+pub starved-open : (capacity : ℕ) (book : Accounts) (asked events : List Event) (i key : ℕ) → IsStarved capacity book asked events i → open_at capacity book events (suc i) key ≡ open_at capacity book events i key
+starved-open capacity book asked events i key was =
+    open_at-suc capacity book events i key ∙ ap (open_after (names_at capacity book events i) i key (open_at capacity book events i key)) was.refused
+
+pub starved-answer : (capacity : ℕ) (book : Accounts) (asked events : List Event) (i : ℕ) → IsStarved capacity book asked events i → line_of (answer_at capacity book events i) ≡ codes "bad 4 memory" ++ 10 ∷ []
+unfolding digits
+starved-answer capacity book asked events i was = ap (λ e. line_of (answer_of capacity book events i e)) was.refused ∙ refl

@@ -1,0 +1,105 @@
+-- The history of a service: a commit for whose hash there is no memory may be refused. It does
+-- nothing then, so its number stays open.
+use Rattle.std.specs.Prelude.{◌≡◌, ◌⊎◌, ℕ, ◌<◌, ◌≤◌, Bool, true, false, Option, Some, None}
+use Rattle.std.specs.Prelude.{List, length, slice_get, slice_set, IfErr, IfOk, IfSome, OnOk}
+use Rattle.std.specs.Prelude.{Result}
+use Rattle.std.specs.FinMap as map
+use Rattle.cred_phc.specs.Values.{RecordValue}
+use Rattle.cred_book.specs.Accounts.{Accounts}
+use Rattle.cred_book.specs.Works.{name_of}
+use Rattle.cred_book.specs.declared.error.BookError.TheVariants.{Memory}
+use Rattle.cred_book.specs.declared.request.Request.{Request}
+use Rattle.cred_book.specs.declared.request.Request.TheVariants.{Enrol, Verify, Change, Upgrade}
+use Rattle.cred_book.specs.declared.request.Request.TheVariants.{Remove}
+use Rattle.cred_cli.specs.History.{Opened, book_at, deeds_before, is_stale, open_at}
+use Rattle.cred_cli.specs.Outcome.{FailsAs, IsAnsweredAs, longest_service}
+use Rattle.cred_cli.specs.Prompt.{IsPrompt}
+use Rattle.cred_cli.specs.Script.{ScriptStart, events_of, start_as}
+use Rattle.cred_cli.specs.Watched.{Reading, Writing}
+use Rattle.cred_cli.specs.declared.event.Event.{Event}
+use Rattle.cred_cli.specs.declared.event.Event.TheVariants.{Commit, Bad}
+use Rattle.cred_cli.specs.declared.fault.ScriptFault.{ScriptFault}
+use Rattle.cred_cli.specs.declared.refusal.Refusal.TheVariants.{Book}
+use Rattle.cred_cli.specs.declared.script.End.{End}
+use Rattle.cred_cli.specs.declared.starving.Starving.{Starving}
+use Rattle.cred_cli.specs.declared.starving.Starving.TheVariants.{Ends, Answered}
+
+-- what such a commit comes to
+abbrev pub starved : Event
+starved = Bad (Book Memory)
+
+-- the whole operation at this record hashes: it makes a first record, or compares a password
+abbrev pub hashes : Request → Option RecordValue → Bool
+hashes (Enrol name pw setting) None = true
+hashes (Enrol name pw setting) (Some stored) = false
+hashes (Verify name pw) None = false
+hashes (Verify name pw) (Some stored) = true
+hashes (Change name pw new setting) None = false
+hashes (Change name pw new setting) (Some stored) = true
+hashes (Upgrade name pw setting) None = false
+hashes (Upgrade name pw setting) (Some stored) = true
+hashes (Remove name pw) None = false
+hashes (Remove name pw) (Some stored) = true
+
+-- a commit of this number at place i needs a hash: it closes a begin, isn't stale, and the whole
+-- operation hashes at the record that stands
+pub record NeedsHash (capacity : ℕ) (book : Accounts) (events : List Event) (i key : ℕ)
+    : Type 0 where
+  pub opened : Opened
+  pub is_open : open_at capacity book events i key ≡ Some opened
+  pub fresh : is_stale book (deeds_before capacity book events i) opened ≡ false
+  pub stored : Option RecordValue
+  pub stands : map.get (book_at capacity book events i) (name_of opened.request) ≡ Some stored
+  pub hashed : hashes opened.request stored ≡ true
+
+-- the line at place i is a commit that needs a hash, and is refused memory for it
+pub record IsStarved (capacity : ℕ) (book : Accounts) (asked events : List Event) (i : ℕ)
+    : Type 0 where
+  pub key : ℕ
+  pub commits : slice_get asked i ≡ Some (Commit key)
+  pub refused : slice_get events i ≡ Some starved
+  pub needs : NeedsHash capacity book events i key
+
+-- each line comes to what it asks for, or it is starved
+pub record IsServed (capacity : ℕ) (book : Accounts) (asked events : List Event) : Type 0 where
+  pub size : length events ≡ length asked
+  pub each : (i : ℕ) → (slice_get events i ≡ slice_get asked i)
+      ⊎ IsStarved capacity book asked events i
+
+-- how lines ended that came to a script's events: all were answered, of at most so many bytes, or a
+-- fault was met; and whenever more was asked for, what had come was answered
+pub record EndsAs (longest capacity : ℕ) (script : ScriptStart) (r : Reading) (w : Writing)
+    (new : Accounts) (result : Result End ScriptFault) : Type 0 where
+  pub done : IfOk result (λ end. IsAnsweredAs capacity script w.now new end.lines)
+  pub fault : IfErr result (FailsAs longest capacity script r.left w.now new)
+  pub short : OnOk result (length script.bytes ≤ longest)
+  pub prompt : IsPrompt capacity script w.name r.log
+
+-- the same for lines that a service was sent, which come to some events of theirs
+abbrev pub Serves : ℕ → Reading → Writing → Accounts → Accounts → Result End ScriptFault → Type 0
+Serves capacity r w old new result = IfSome r.input (λ bytes. (events : List Event)
+    × IsServed capacity old (events_of bytes) events
+    × EndsAs longest_service capacity (start_as old bytes w.before events) r w new result)
+
+-- ---- while lines are taken
+
+-- the history of a run that ends where memory is refused, or that answers it
+abbrev pub IsHistory : Starving → ℕ → Accounts → List Event → List Event → Type 0
+IsHistory Ends capacity book asked events = events ≡ asked
+IsHistory Answered capacity book asked events = IsServed capacity book asked events
+
+-- the same events before place i
+abbrev pub IsSameBefore : ℕ → List Event → List Event → Type 0
+IsSameBefore i old new = (j : ℕ) → j < i → slice_get new j ≡ slice_get old j
+
+-- how a script's events may change while the lines from place i on are answered
+pub record GoesOn (starving : Starving) (capacity : ℕ) (script : ScriptStart) (i : ℕ)
+    (events : List Event) : Type 0 where
+  pub same : IsSameBefore i script.events events
+  pub history : IsHistory starving capacity script.book (events_of script.bytes) events
+
+-- how they may change while the line at place i is
+abbrev pub Becomes : Starving → ℕ → Accounts → List Event → ℕ → List Event → Type 0
+Becomes starving capacity book events i now = (now ≡ events)
+    ⊎ ((starving ≡ Answered) × (key : ℕ) × (slice_get events i ≡ Some (Commit key))
+    × NeedsHash capacity book events i key × (now ≡ slice_set events i starved))
