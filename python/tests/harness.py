@@ -22,10 +22,10 @@ def python(*words, at=TESTS, env=None):
 
 
 def unittests(text):
-    """How many tests a run of unittest was, and what it skipped; one that skipped all is skipped."""
+    """How many tests a run of unittest with -v was, and what it skipped; one that skipped all is skipped."""
     count = re.findall(r"^Ran (\d+) tests?", text, re.M)[-1]
-    reasons = re.findall(r"skipped '([^']*)'", text) + re.findall(r"\.\.\. skipped (.*)", text)
-    skipped = re.findall(r"skipped=(\d+)", text)
+    reasons = sorted(set(re.findall(r"\.\.\. skipped ['\"](.*)['\"]$", text, re.M)))
+    skipped = re.findall(r"^OK \(.*skipped=(\d+)", text, re.M)
     if skipped and skipped[-1] == count:
-        raise Skipped("; ".join(sorted(set(reasons))) or "all of it")
-    return "; ".join([f"{count} tests", *(f"skipped: {it}" for it in sorted(set(reasons)))])
+        raise Skipped("; ".join(reasons))
+    return "; ".join([f"{count} tests", *(f"skipped: {it}" for it in reasons)])

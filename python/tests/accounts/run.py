@@ -5,7 +5,7 @@
 A name is that of a file test_NAME.py here, or histories. Histories on real servers take some
 minutes; --quick leaves them out. What the machine doesn't have is named, and the test is skipped.
 Debian's packages for all of it: postgresql, mariadb-server, galera-4, rsync, python3-psycopg,
-python3-pymysql.
+python3-psycopg-pool, python3-pymysql.
 """
 
 import functools
@@ -21,7 +21,7 @@ from harness import python, testing, unittests
 def of_file(path):
     """The tests of a file. The drivers of the servers warn of what is theirs."""
     strict = () if "import servers" in path.read_text() else ("-W", "error")
-    return unittests(python(*strict, path.name, at=HERE))
+    return unittests(python(*strict, path.name, "-v", at=HERE))
 
 
 def test_histories():
