@@ -43,42 +43,42 @@ class Unplanted(Exception):
 
 @dataclass(frozen=True)
 class Suite:
-    """Tests of one program: where it runs, its words with the test's name in them, and what it has in its environment. It tells
-    `NAME: passed`, or else it is a unittest, whose status and last lines say the same."""
+    """Tests of one program, which says `NAME: passed`: the folder it runs in, its words with TEST for a test's name, and what
+    else is in its environment."""
 
     at: str
     words: str
-    tells: bool = True
-    path: str = "python"
     env: dict = field(default_factory=dict)
 
     def command(self, test):
         return [sys.executable, *(word.replace("TEST", test) for word in self.words.split())]
 
     def environment(self, copy):
-        path = os.pathsep.join(str(copy / it) for it in self.path.split())
+        path = os.pathsep.join(str(copy / it) for it in ("python", self.at))
         quiet = {"TEST_WARNINGS": "-w", "PYTHONWARNINGS": "ignore", "PYTHONDONTWRITEBYTECODE": "1"}
         own = {"PYTHONPATH": path, "FRAMEWORKS_ROOM": str(copy), "RIGZUMAL_LIBRARY": ""}
         return {**os.environ, **quiet, **own, **self.env}
 
+    def said_of(self, test, status, said):
+        """passed, skipped or failed; none if it says nothing of the test."""
+        found = re.search(rf"^{test}: (passed|skipped|failed)\b", said, re.M | re.I)
+        return found[1].lower() if found else None
+
     def word(self, test, status, said):
-        """How a test went: passed, skipped, FAILED, or unbuilt if it isn't compiled; none if it says nothing of itself."""
-        if self.tells:
-            found = re.search(rf"^{test}: (passed|skipped|failed)\b", said, re.M | re.I)
-            word = found[1] if found else None
-        elif status == 0:
-            ran = re.search(r"^Ran (\d+) tests?.*\n\nOK(?: \(.*?skipped=(\d+))?", said, re.M)
-            word = "skipped" if ran and ran[1] == ran[2] else "passed"
-        else:
+        """How a test went: passed, skipped, failed, or unbuilt if it isn't compiled; none if it says nothing of itself."""
+        word = self.said_of(test, status, said)
+        return "unbuilt" if word == "failed" and UNBUILT.search(said) else word
+
+
+class Unittests(Suite):
+    """Tests of Python's unittest, whose status says the same."""
+
+    def said_of(self, test, status, said):
+        if status:
             is_judged = re.search(r"^(FAIL|ERROR)\b", said, re.M) and "_FailedTest" not in said
-            word = "FAILED" if is_judged else None
-        if word is None or word.lower() != "failed":
-            return word
-        return "unbuilt" if UNBUILT.search(said) else "FAILED"
-
-
-def unittests(at, words, **env):
-    return Suite(at, words, tells=False, path=f"python {at}", env=env)
+            return "failed" if is_judged else None
+        ran = re.search(r"^Ran (\d+) tests?.*\n\nOK(?: \(.*?skipped=(\d+))?", said, re.M)
+        return "skipped" if ran and ran[1] == ran[2] else "passed"
 
 
 SUITES = {
@@ -90,10 +90,10 @@ SUITES = {
     "hashers": Suite("python", "tests/hashers/run.py TEST"),
     "package": Suite("python", "tests/package/run.py TEST"),
     "frameworks": Suite("python", "tests/frameworks/run.py TEST"),
-    "accounts": unittests("python/tests/accounts", "-m unittest -f TEST", RIGZUMAL_HISTORIES="2000"),
-    "django": unittests(FRAMEWORKS, "-m django test TEST", DJANGO_SETTINGS_MODULE="settings"),
-    "passlib": unittests(FRAMEWORKS, "test_passlib.py TEST", PASSLIB_TEST_MODE="full"),
-    "login_page": unittests(FRAMEWORKS, "test_login_page.py TEST"),
+    "accounts": Unittests("python/tests/accounts", "-m unittest -f TEST", {"RIGZUMAL_HISTORIES": "2000"}),
+    "django": Unittests(FRAMEWORKS, "-m django test TEST", {"DJANGO_SETTINGS_MODULE": "settings"}),
+    "passlib": Unittests(FRAMEWORKS, "test_passlib.py TEST", {"PASSLIB_TEST_MODE": "full"}),
+    "login_page": Unittests(FRAMEWORKS, "test_login_page.py TEST"),
 }
 
 
@@ -142,9 +142,13 @@ def check_syntax(file, text):
 
 
 def lists():
-    """Each list by its name."""
-    folders = (it for name in COPIED for it in (TOP / name).rglob("planted") if it.is_dir())
-    return {path.stem: path for folder in folders for path in sorted(folder.glob("*.txt"))}
+    """Each list by its name, which no other has."""
+    folders = [it for name in COPIED for it in (TOP / name).rglob("planted") if it.is_dir()]
+    paths = [path for folder in folders for path in sorted(folder.glob("*.txt"))]
+    found = {path.stem: path for path in paths}
+    if len(found) < len(paths):
+        sys.exit("two lists have one name")
+    return found
 
 
 def bugs_of(path):
@@ -245,7 +249,7 @@ def outcome(copy, test, limit=1800.0):
         said, _ = process.communicate(timeout=limit + 60)
         word = suite.word(test, process.returncode, said)
     except subprocess.TimeoutExpired:
-        said, word = ended(process) + "\nit hangs: ", "FAILED"
+        said, word = ended(process) + "\nit hangs: ", "failed"
     if word is None:
         raise Unplanted(f"{test} says neither: {said[-300:]}")
     return Outcome(word, time.monotonic() - begun, said.strip())
@@ -258,7 +262,7 @@ def unplanted_outcomes(tests):
         build(copy, ["c/Makefile"])
         for test in tests:
             found[test] = outcome(copy, test)
-            if found[test].word == "FAILED":
+            if found[test].word == "failed":
                 found[test] = outcome(copy, test)
             print(f"{test}: {found[test].word}, {found[test].seconds:.0f} s", file=sys.stderr, flush=True)
         return found
@@ -276,7 +280,7 @@ def verdict(bug, unplanted):
             build(copy, {edit.file for edit in bug.edits})
             for test in tests:
                 found = outcome(copy, test, max(LEAST_PATIENCE, PATIENCE * unplanted[test].seconds))
-                if found.word == "FAILED":
+                if found.word == "failed":
                     return test + (", which hangs" if "it hangs: " in found.said else ""), True
                 if found.word != "passed":
                     raise Unplanted(f"{test} is {found.word}: {found.said[-300:]}")
