@@ -12,7 +12,7 @@ use Rattle.cred_many.specs.declared.ask.Ask.{Ask}
 use Rattle.cred_many.specs.declared.open.Open.{Open}
 use Rattle.cred_many.specs.declared.open.Sight.{Sight}
 use Rattle.cred_many.specs.Asks.{Entry}
-use Rattle.cred_many.specs.Served.{IsLooked, IsSeen, IsWatched, IsWorn, book_after, change_from, changes, counted, done, name_asked, numbers, record_at, tries, unseen}
+use Rattle.cred_many.specs.Served.{AreClosed, IsLooked, IsSeen, IsWatched, IsWorn, book_after, change_from, changes, counted, done, name_asked, numbers, record_at, tries, unseen}
 
 -- ---- how often a record changed
 
@@ -47,7 +47,7 @@ module _ (capacity : ℕ) (name : List ℕ) where
   noticed book xs zero is = let none = ap (change_from (record_at book name)) (sym (stands book xs is)) ∙ alike (record_at book name) in omega (arith, none)
   noticed book xs (suc n) is = let one = small (same (record_at book name) (record_at (book_after capacity book xs) name)) in omega (arith, one)
 
-book_after-append : (capacity : ℕ) (book : Accounts) (xs ys : List Entry) → book_after capacity book (xs ++ ys) ≡ book_after capacity (book_after capacity book xs) ys
+pub book_after-append : (capacity : ℕ) (book : Accounts) (xs ys : List Entry) → book_after capacity book (xs ++ ys) ≡ book_after capacity (book_after capacity book xs) ys
 unfolding book_after
 book_after-append capacity book [] ys = refl
 book_after-append capacity book (x ∷ xs) ys = book_after-append capacity (done capacity book x.ask).1 xs ys
@@ -87,9 +87,13 @@ module _ (capacity : ℕ) (opening : Accounts) (list : List Entry) where
   pub watched_on : (more : List Entry) (left : List Open) → All (IsWatched capacity opening list) left → All (IsWatched capacity opening (list ++ more)) left
   watched_on more left all = All-weaker (IsWatched capacity opening list) (IsWatched capacity opening (list ++ more)) (λ o h. seen_on more o.sight h) left all
 
-  pub watched_closed : (left : List Open) (place : ℕ) → All (IsWatched capacity opening list) left → All (IsWatched capacity opening list) (take place left ++ drop (place + 1) left)
+  watched_closed : (left : List Open) (place : ℕ) → All (IsWatched capacity opening list) left → All (IsWatched capacity opening list) (take place left ++ drop (place + 1) left)
   watched_closed left place all =
       All-append (IsWatched capacity opening list) (take place left) (drop (place + 1) left) (All-take (IsWatched capacity opening list) place left all) (All-drop (IsWatched capacity opening list) (place + 1) left all)
+
+  pub watched_rest : (es : List Entry) (left rest : List Open) → AreClosed es left rest → All (IsWatched capacity opening list) left → All (IsWatched capacity opening list) rest
+  watched_rest [] left rest is all = All-same (IsWatched capacity opening list) rest left is all
+  watched_rest (e ∷ es) left rest (place, there, more) all = watched_rest es (take place left ++ drop (place + 1) left) rest more (watched_closed left place all)
 
   -- all that was seen to change did
   seen_few : (s : Sight) → IsSeen capacity opening list s → s.changes ≤ changes capacity opening s.name list

@@ -4,7 +4,7 @@ use Rattle.std.specs.List.{All}
 use Rattle.std.proofs.Math.Logic.{∥∥₁_map}
 use Rattle.std.proofs.lemmas.Bool.Decides.{eqb_tells, nat_tests}
 use Rattle.std.proofs.lemmas.List.{length-append}
-use Rattle.std.proofs.lemmas.List.Elements.{All-nil, All-push, All-same}
+use Rattle.std.proofs.lemmas.List.Elements.{All-head, All-nil, All-push, All-same, All-tail}
 use Rattle.std.specs.Io.KnownBytes.{Appends}
 use Rattle.std.proofs.KnownBytes.{Appends-nil, Appends-trans}
 use Rattle.cred_phc.specs.Values.{RecordValue}
@@ -18,26 +18,20 @@ use Rattle.cred_many.specs.declared.fault.ServiceFault.TheVariants as fault
 use Rattle.cred_many.specs.declared.open.Open.{Open}
 use Rattle.cred_many.specs.Asks.{Entry, entry}
 use Rattle.cred_many.specs.Reading.{IsCome}
-use Rattle.cred_many.specs.Served.{AllOwed, IsLooked, IsOwed, IsServed, IsWatched, IsWorn, answers, book_after, changes, done, entry_numbers, is_torn, line_at, name_asked, numbers, once_below, record_at, times, told_line, tries, unseen}
+use Rattle.cred_many.specs.Served.{AllOwed, AreClosed, IsLooked, IsOwed, IsServed, IsWatched, IsWorn, answers, book_after, changes, done, entry_numbers, is_torn, line_at, most_together, name_asked, numbers, once_below, record_at, times, told_line, tries, unseen}
 use Rattle.cred_many.specs.Service.{Service}
 use Rattle.cred_many.specs.Steps.{IsConcluded}
-use Rattle.cred_many.proofs.Seen.{looked_numbers, numbers-snoc, watched_closed, watched_looked, watched_on, worn}
+use Rattle.cred_many.proofs.Seen.{book_after-append, looked_numbers, numbers-snoc, watched_looked, watched_on, watched_rest, worn}
 
 -- ---- the list grows
 
-book_after-snoc : (capacity : ℕ) (book : Accounts) (list : List Entry) (e : Entry)
-    → book_after capacity book (list ++ e ∷ []) ≡ (done capacity (book_after capacity book list) e.ask).1
-unfolding book_after
-book_after-snoc capacity book [] e = refl
-book_after-snoc capacity book (x ∷ xs) e = book_after-snoc capacity (done capacity book x.ask).1 xs e
-
-answers-snoc : (capacity : ℕ) (book : Accounts) (list : List Entry) (e : Entry)
-    → answers capacity book (list ++ e ∷ []) ≡ answers capacity book list ++ line_at capacity (book_after capacity book list) e
+pub answers-append : (capacity : ℕ) (book : Accounts) (xs ys : List Entry)
+    → answers capacity book (xs ++ ys) ≡ answers capacity book xs ++ answers capacity (book_after capacity book xs) ys
 unfolding answers book_after
-answers-snoc capacity book [] e = append-nil (line_at capacity book e)
-answers-snoc capacity book (x ∷ xs) e =
-    ap (λ l. line_at capacity book x ++ l) (answers-snoc capacity (done capacity book x.ask).1 xs e)
-    ∙ sym (append_assoc (line_at capacity book x) (answers capacity (done capacity book x.ask).1 xs) (line_at capacity (book_after capacity (done capacity book x.ask).1 xs) e))
+answers-append capacity book [] ys = refl
+answers-append capacity book (x ∷ xs) ys =
+    ap (λ l. line_at capacity book x ++ l) (answers-append capacity (done capacity book x.ask).1 xs ys)
+    ∙ sym (append_assoc (line_at capacity book x) (answers capacity (done capacity book x.ask).1 xs) (answers capacity (book_after capacity (done capacity book x.ask).1 xs) ys))
 
 -- the line itself is owed
 pub owed_own : (capacity : ℕ) (s : Service) (input : Option (List ℕ)) (before : List Entry) (e : Entry) → IfSome input (λ bytes. IsCome s bytes e) → IfSome input (λ bytes. IsOwed capacity s bytes before e)
@@ -80,6 +74,16 @@ owed_all capacity s (Some bytes) list e all owed = λ before rest z is. elim (sn
   | inr w ↦ all before w.0 z w.1
 ]
 
+-- so are several that came
+pub owed_each : (capacity : ℕ) (s : Service) (input : Option (List ℕ)) (list es : List Entry) → IfSome input (λ bytes. AllOwed capacity s bytes list)
+    → IfSome input (λ bytes. All (IsCome s bytes) es) → IfSome input (λ bytes. AllOwed capacity s bytes (list ++ es))
+owed_each capacity s None list es all came = tt
+owed_each capacity s (Some bytes) list [] all came = subst (AllOwed capacity s bytes) (sym (append-nil list)) all
+owed_each capacity s (Some bytes) list (e ∷ es) all came =
+    subst (AllOwed capacity s bytes) (append_assoc list (e ∷ []) es)
+    (owed_each capacity s (Some bytes) (list ++ e ∷ []) es
+    (owed_all capacity s (Some bytes) list e all (owed_own capacity s (Some bytes) list e (All-head (IsCome s bytes) e es came))) (All-tail (IsCome s bytes) e es came))
+
 owed_none : (capacity : ℕ) (s : Service) (input : Option (List ℕ)) → IfSome input (λ bytes. AllOwed capacity s bytes [])
 owed_none capacity s None = tt
 owed_none capacity s (Some bytes) = λ before rest e is. let none : 0 ≡ length (before ++ e ∷ rest) = ap length is in absurd (omega (arith, none, length-append before (e ∷ rest)))
@@ -90,9 +94,9 @@ times-append : (k : ℕ) (xs ys : List ℕ) → times k (xs ++ ys) ≡ times k x
 times-append k [] ys = omega arith
 times-append k (x ∷ xs) ys = let r = times-append k xs ys in omega (arith, r)
 
-entry_numbers-snoc : (list : List Entry) (e : Entry) → entry_numbers (list ++ e ∷ []) ≡ entry_numbers list ++ e.number ∷ []
-entry_numbers-snoc [] e = refl
-entry_numbers-snoc (x ∷ xs) e = ap (λ ns. x.number ∷ ns) (entry_numbers-snoc xs e)
+entry_numbers-append : (xs ys : List Entry) → entry_numbers (xs ++ ys) ≡ entry_numbers xs ++ entry_numbers ys
+entry_numbers-append [] ys = refl
+entry_numbers-append (x ∷ xs) ys = ap (λ ns. x.number ∷ ns) (entry_numbers-append xs ys)
 
 -- an open line is taken out
 removal : (k n : ℕ) (left : List Open) (place : ℕ) → slice_get (numbers left) place ≡ Some n
@@ -104,17 +108,23 @@ removal k n (o ∷ os) zero is =
     omega (arith, one)
 removal k n (o ∷ os) (suc place) is = let r = removal k n os place is in omega (arith, r)
 
-pub once_answered : (list : List Entry) (e : Entry) (left : List Open) (place came k : ℕ) → slice_get (numbers left) place ≡ Some e.number
-    → times k (entry_numbers list) + times k (numbers left) ≡ once_below came k
-    → times k (entry_numbers (list ++ e ∷ [])) + times k (numbers (take place left ++ drop (place + 1) left)) ≡ once_below came k
-once_answered list e left place came k is once =
-    let r = removal k e.number left place is in
-    let a : times k (entry_numbers (list ++ e ∷ [])) ≡ times k (entry_numbers list) + times k (e.number ∷ []) =
-    ap (times k) (entry_numbers-snoc list e) ∙ times-append k (entry_numbers list) (e.number ∷ []) in
+-- so are several
+closed_times : (k : ℕ) (es : List Entry) (left rest : List Open) → AreClosed es left rest → times k (entry_numbers es) + times k (numbers rest) ≡ times k (numbers left)
+closed_times k [] left rest is = let same = ap (λ o. times k (numbers o)) is in omega (arith, same)
+closed_times k (e ∷ es) left rest (place, there, more) =
+    let deeper = closed_times k es (take place left ++ drop (place + 1) left) rest more in
     let next : place + 1 ≡ suc place = omega arith in
-    let b : times k (numbers (take place left ++ drop (place + 1) left)) ≡ times k (numbers (take place left ++ drop (suc place) left)) =
+    let same : times k (numbers (take place left ++ drop (place + 1) left)) ≡ times k (numbers (take place left ++ drop (suc place) left)) =
     ap (λ m. times k (numbers (take place left ++ drop m left))) next in
-    omega (arith, r, a, b, once)
+    omega (arith, deeper, same, removal k e.number left place there)
+
+once_closed : (list es : List Entry) (left rest : List Open) (came k : ℕ) → AreClosed es left rest
+    → times k (entry_numbers list) + times k (numbers left) ≡ once_below came k
+    → times k (entry_numbers (list ++ es)) + times k (numbers rest) ≡ once_below came k
+once_closed list es left rest came k closed once =
+    let all : times k (entry_numbers (list ++ es)) ≡ times k (entry_numbers list) + times k (entry_numbers es) =
+    ap (times k) (entry_numbers-append list es) ∙ times-append k (entry_numbers list) (entry_numbers es) in
+    omega (arith, all, closed_times k es left rest closed, once)
 
 one_more : (came k : ℕ) → once_below (came + 1) k ≡ once_below came k + times k (came ∷ [])
 one_more came k = elim (eqb_tells came k) [
@@ -143,47 +153,48 @@ served_first capacity s now book left none is same = rw none (record {
   text = rw same (Appends-nil s.before);
 })
 
-module _ (capacity : ℕ) (s : Service) (old now : Option (List ℕ)) (book later : Accounts) (e : Entry) (left : List Open) (place came : ℕ)
-    (served : IsServed capacity s old book None left came) (owed : IfSome s.input (λ bytes. IsOwed capacity s bytes served.list e))
-    (there : slice_get (numbers left) place ≡ Some e.number) (later_is : later ≡ (done capacity book e.ask).1) where
-  after_is : later ≡ book_after capacity s.opening (served.list ++ e ∷ [])
-  after_is = later_is ∙ ap (λ b. (done capacity b e.ask).1) served.book_is ∙ sym (book_after-snoc capacity s.opening served.list e)
+module _ (capacity : ℕ) (s : Service) (old now : Option (List ℕ)) (book later : Accounts) (es : List Entry) (left rest : List Open) (came : ℕ)
+    (served : IsServed capacity s old book None left came) (owed : IfSome s.input (λ bytes. AllOwed capacity s bytes (served.list ++ es)))
+    (few : length es ≤ most_together) (closed : AreClosed es left rest) (later_is : later ≡ book_after capacity book es) where
+  after_is : later ≡ book_after capacity s.opening (served.list ++ es)
+  after_is = later_is ∙ ap (λ b. book_after capacity b es) served.book_is ∙ sym (book_after-append capacity s.opening served.list es)
 
-  once_is : (k : ℕ) → times k (entry_numbers (served.list ++ e ∷ [])) + times k (numbers (take place left ++ drop (place + 1) left)) ≡ once_below came k
-  once_is k = once_answered served.list e left place came k there (served.once k)
+  once_is : (k : ℕ) → times k (entry_numbers (served.list ++ es)) + times k (numbers rest) ≡ once_below came k
+  once_is k = once_closed served.list es left rest came k closed (served.once k)
 
-  watched_is : All (IsWatched capacity s.opening (served.list ++ e ∷ [])) (take place left ++ drop (place + 1) left)
-  watched_is = watched_closed capacity s.opening (served.list ++ e ∷ []) left place (watched_on capacity s.opening served.list (e ∷ []) left served.watched)
+  watched_is : All (IsWatched capacity s.opening (served.list ++ es)) rest
+  watched_is = watched_rest capacity s.opening (served.list ++ es) es left rest closed (watched_on capacity s.opening served.list es left served.watched)
 
-  served_more : Appends old now (line_at capacity book e) → IsServed capacity s now later None (take place left ++ drop (place + 1) left) came
+  served_more : Appends old now (answers capacity book es) → IsServed capacity s now later None rest came
   served_more written = record {
-    list = served.list ++ e ∷ [];
-    owed = owed_all capacity s s.input served.list e served.owed owed;
+    list = served.list ++ es;
+    owed = owed;
     once = once_is;
     watched = watched_is;
     book_is = after_is;
-    text = rw answers-snoc (Appends-trans s.before old now _ _ served.text (rw served.book_is at written));
+    text = rw answers-append (Appends-trans s.before old now _ _ served.text (rw served.book_is at written));
   }
 
-  served_torn : FrontWritten old now (line_at capacity book e) → IsServed capacity s now later (Some fault.Write) (take place left ++ drop (place + 1) left) came
+  served_torn : FrontWritten old now (answers capacity book es) → IsServed capacity s now later (Some fault.Write) rest came
   served_torn (n, short, written) = record {
-    list = served.list ++ e ∷ [];
-    owed = owed_all capacity s s.input served.list e served.owed owed;
+    list = served.list ++ es;
+    owed = owed;
     once = once_is;
     watched = watched_is;
     book_is = after_is;
     text = record {
       front = served.list;
-      last = e;
+      last = es;
       split = refl;
+      few = few;
       cut = n;
       short = rw served.book_is at short;
       text = Appends-trans s.before old now _ _ served.text (rw served.book_is at written);
     };
   }
 
-  -- whether its answer was written whole or the writer failed
-  served_on : (f : Option ServiceFault) → IsConcluded (line_at capacity book e) old now f → IsServed capacity s now later f (take place left ++ drop (place + 1) left) came
+  -- whether their answers were written whole or the writer failed
+  pub served_on : (f : Option ServiceFault) → IsConcluded (answers capacity book es) old now f → IsServed capacity s now later f rest came
   served_on None written = served_more written
   served_on (Some fault.Write) torn = served_torn torn
   served_on (Some fault.Read) h = absurd h
@@ -212,11 +223,13 @@ module _ (capacity : ℕ) (s : Service) (old now : Option (List ℕ)) (book late
       → was ≡ None → slice_get (numbers left) place ≡ Some e.number → rest ≡ take place left ++ drop (place + 1) left
       → IsDone capacity book later e text → IsConcluded text old now f
       → ∥ IsServed capacity s old book was left came ∥₁ → ∥ IsServed capacity s now later f rest came ∥₁
-  concluded owed none there rest_is d told served =
-      ∥∥₁_map served (λ h. subst (λ r. IsServed capacity s now later f r came) (sym rest_is) (on (rw none at h)))
+  unfolding answers book_after
+  concluded owed none there rest_is d told served = ∥∥₁_map served (λ h. on (rw none at h))
     where
-      on : IsServed capacity s old book None left came → IsServed capacity s now later f (take place left ++ drop (place + 1) left) came
-      on h = served_on capacity s old now book later e left place came h (owed h) there d.book_is f (rw d.text_is at told)
+      on : IsServed capacity s old book None left came → IsServed capacity s now later f rest came
+      on h =
+          served_on capacity s old now book later (e ∷ []) left rest came h (owed_all capacity s s.input h.list e h.owed (owed h)) (omega arith) (place, there, rest_is) d.book_is f
+          (subst (λ t. IsConcluded t old now f) (d.text_is ∙ sym (append-nil (line_at capacity book e))) told)
 
   -- the line is answered
   pub answered : was ≡ None → ((before : List Entry) → IfSome s.input (λ bytes. IsOwed capacity s bytes before e)) → slice_get (numbers left) place ≡ Some e.number → rest ≡ take place left ++ drop (place + 1) left

@@ -1,7 +1,8 @@
 -- What an administrator's lines do.
 use Rattle.std.specs.Prelude.{◌≡◌, ℕ, List, [], ◌∷◌, ◌++◌, Bool, true, false, ◌&&◌, not}
-use Rattle.std.specs.Prelude.{nat_lt, codes, take, Result, Ok, Err}
+use Rattle.std.specs.Prelude.{nat_lt, codes, take, Option, Result, Ok, Err}
 use Rattle.std.specs.List.{filter}
+use Rattle.std.specs.Option.{option_or}
 use Rattle.std.specs.Ordering.{is_lt}
 use Rattle.std.specs.FinMap as fin
 use Rattle.cred_book.specs.Accounts.{Accounts}
@@ -38,6 +39,32 @@ EditsWithin room old new edit (Err error.Memory) = new ≡ old
 EditsWithin room old new edit (Err error.Name) = ⊥
 EditsWithin room old new edit (Err error.Exists) = ⊥
 EditsWithin room old new edit (Err error.NoAccount) = ⊥
+
+-- ---- records that are replaced together
+
+-- the accounts of these names have these records, and the others have theirs
+abbrev pub AreReplaced : Accounts → Accounts → Accounts → Type 0
+AreReplaced old changed new =
+    (name : List ℕ) → fin.get new name ≡ option_or (fin.get changed name) (fin.get old name)
+
+-- of each name that is to have another record there is an account
+abbrev pub HasAll : Accounts → Accounts → Type 0
+HasAll book changed = (name : List ℕ) → fin.contains_key changed name ≡ true
+    → fin.contains_key book name ≡ true
+
+-- of one of them there is none
+abbrev pub LacksOne : Accounts → Accounts → Type 0
+LacksOne book changed = (name : List ℕ) × (fin.contains_key changed name ≡ true)
+    × (fin.contains_key book name ≡ false)
+
+-- what a keeper does: all of the records are replaced, or none
+abbrev pub ReplacesAll : Accounts → Accounts → Accounts → Result (Unit {0}) BookError → Type 0
+ReplacesAll old new changed (Ok _) = HasAll old changed × AreReplaced old changed new
+ReplacesAll old new changed (Err error.NoAccount) = LacksOne old changed × (new ≡ old)
+ReplacesAll old new changed (Err error.Memory) = HasAll old changed × (new ≡ old)
+ReplacesAll old new changed (Err error.Full) = ⊥
+ReplacesAll old new changed (Err error.Name) = ⊥
+ReplacesAll old new changed (Err error.Exists) = ⊥
 
 -- ---- lists of names
 

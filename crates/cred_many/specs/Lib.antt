@@ -2,6 +2,7 @@
 pub mod Asks
 pub mod Costs
 pub mod Edits
+pub mod Groups
 pub mod Reading
 pub mod Served
 pub mod Service

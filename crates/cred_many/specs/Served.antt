@@ -1,7 +1,7 @@
 -- The history of one thread, which does lines one after another, each whole.
 use Rattle.std.specs.Prelude.{◌≡◌, ◌⊎◌, ℕ, ◌<◌, ◌+◌, ◌==◌, List, [], ◌∷◌, ◌++◌, Bool, true, false}
 use Rattle.std.specs.Prelude.{◌≤◌, All, if◌then◌else◌, IfSome, MatchBool, nat_lt, Option, Some, None}
-use Rattle.std.specs.Prelude.{length, map, set, slice_get, take, unwrap_or}
+use Rattle.std.specs.Prelude.{drop, length, map, set, slice_get, take, unwrap_or}
 use Rattle.std.specs.Str.{bytes_eq}
 use Rattle.std.specs.FinMap as fin
 use Rattle.std.specs.Io.KnownBytes.{Appends}
@@ -221,18 +221,30 @@ times k (n ∷ ns) = (if n == k then 1 else 0) + times k ns
 abbrev pub once_below : ℕ → ℕ → ℕ
 once_below bound k = if nat_lt k bound then 1 else 0
 
+-- the lines are open no more
+abbrev pub AreClosed : List Entry → List Open → List Open → Type 0
+AreClosed [] old new = new ≡ old
+AreClosed (e ∷ es) old new = (place : ℕ) × (slice_get (numbers old) place ≡ Some e.number)
+    × AreClosed es (take place old ++ drop (place + 1) old) new
+
 -- ---- what is written
 
--- the last line's answer is cut
+-- how many changes are made together at most
+abbrev pub most_together : ℕ
+most_together = 64
+
+-- The answers of the last lines, which were done together, are cut. A line that changes nothing is
+-- done alone.
 pub record IsCut (capacity : ℕ) (opening : Accounts) (before now : Option (List ℕ)) (list : List Entry)
     : Type 0 where
   pub front : List Entry
-  pub last : Entry
-  pub split : list ≡ front ++ last ∷ []
+  pub last : List Entry
+  pub split : list ≡ front ++ last
+  pub few : length last ≤ most_together
   pub cut : ℕ
-  pub short : cut < length (line_at capacity (book_after capacity opening front) last)
+  pub short : cut < length (answers capacity (book_after capacity opening front) last)
   pub text : Appends before now (answers capacity opening front
-      ++ take cut (line_at capacity (book_after capacity opening front) last))
+      ++ take cut (answers capacity (book_after capacity opening front) last))
 
 abbrev pub is_torn : Option ServiceFault → Bool
 is_torn None = false

@@ -11,6 +11,7 @@ mod costs;
 mod doing;
 mod edit;
 mod fault;
+mod group;
 mod hashing;
 mod host;
 mod intake;

@@ -2,8 +2,11 @@
 
 ghost use Rattle.std.specs.Prelude.{◌≡◌, ◌≤◌, ◌+◌, ◌<◌, ◌++◌, ◌∷◌, [], IfOk, IfSome, IsTrue, OnErr};
 ghost use Rattle.std.specs.Prelude.{OnOk, Some, drop, length, map, slice_get, take};
-ghost use Rattle.cred_many.specs.Served.{IsLooked, counted, numbers, unseen};
+ghost use Rattle.cred_many.specs.Groups.{lines_of};
+ghost use Rattle.cred_many.specs.Served.{AreClosed, IsLooked, counted, numbers, unseen};
 
+use crate::job::Hashed;
+use crate::naming::Naming;
 use cred_book::Name;
 use cred_phc::Record;
 use std::alloc::{AllocError, Global};
@@ -91,6 +94,22 @@ impl OpenLines {
         ensures { self.new ≡ take place self.old ++ drop (place + 1) self.old }
     {
         self.lines.remove(place);
+    }
+
+    /// The lines that are open when these are open no more, or nothing if one of them isn't open or
+    /// memory runs out.
+    pub(crate) fn without<J: Naming>(&self, works: &[Hashed<J>]) -> Option<OpenLines>
+        ensures { IfSome result (λ left. AreClosed (lines_of works.now) self.now left) }
+    {
+        let Ok(lines) = self.lines.clone() else {
+            return None;
+        };
+        let mut left = OpenLines { lines };
+        for work in works {
+            let place = left.place_of(work.line.number())?;
+            left.close(place);
+        }
+        Some(left)
     }
 
     /// Notes which record is copied for the line there, and says how often it was another one than

@@ -28,6 +28,17 @@ impl<W: Write> Output<W> {
             self.fault = Some(ServiceFault::Write);
         }
     }
+
+    /// Writes the answers of lines that were done together. If that fails nothing more is answered.
+    pub(crate) fn conclude_all(&mut self, answers: &[u8])
+        requires { self.old.fault ≡ None }
+        ensures { IsConcluded answers.now (W.contents (inner_of self.old.writer))
+            (W.contents (inner_of self.new.writer)) self.new.fault }
+    {
+        if write_whole(&mut self.writer, answers).is_err() {
+            self.fault = Some(ServiceFault::Write);
+        }
+    }
 }
 
 /// Writes the tag and the answer whole. If that fails a proper prefix of the line is written.

@@ -9,10 +9,11 @@ ghost use Rattle.cred_many.specs.Service.{service};
 use crate::budget::Budget;
 use crate::costs::Costs;
 use crate::fault::ServiceFault;
+use crate::group::MOST_TOGETHER;
 use crate::hashing::Hashing;
 use crate::host::Host;
 use crate::intake::Intake;
-use crate::job::Job;
+use crate::job::{Hashed, Job};
 use crate::message::{Ending, Message};
 use crate::naming::Naming;
 use crate::open::{MOST_OPEN, OpenLines};
@@ -26,8 +27,8 @@ use std::alloc::Global;
 use std::io::{Read, Write};
 use std::marker::Brand;
 use std::sync::Wait;
-use std::thread;
 use std::thread::Threads;
+use std::{mem, thread};
 
 /// What lines are hashed with where they say nothing of it.
 #[derive(Clone, Copy)]
@@ -251,7 +252,7 @@ where
         if !started {
             return Ending::cut(0, ServiceFault::Threads);
         }
-        attend(rt, tools.alloc, session, &inbox, &jobs, &room)
+        attend(rt, tools.alloc, session, &Desk { inbox, jobs, room })
     })
 }
 
@@ -272,60 +273,141 @@ where
     }
 }
 
+/// The ends of the channels that the thread with the book keeps.
+#[derive(Drop)]
+struct Desk<J: Naming> {
+    inbox: Receiver<Message<J>>,
+    jobs: Sender<Job<J>>,
+    room: Sender<()>,
+}
+
+/// What was handed over and isn't done yet.
+#[derive(Drop)]
+struct Waiting<J: Naming> {
+    /// Changes, which are made together.
+    changes: Vec<Hashed<J>>,
+    ending: Option<Ending<J>>,
+}
+
 /// Does what the other threads hand over, until all that came is answered or a fault ends it.
 fn attend<J: Naming, T: Wait, K: Host, W: Write + Drop>(
     rt: &T,
     alloc: Global,
     session: &mut Session<J, K, W>,
-    inbox: &Receiver<Message<J>>,
-    jobs: &Sender<Job<J>>,
-    room: &Sender<()>,
+    desk: &Desk<J>,
 ) -> Ending<J> {
-    let mut ending = None;
+    let mut waiting = Waiting {
+        changes: Vec::new(alloc),
+        ending: None,
+    };
     for _ in rt.forever() {
-        let message = match inbox.recv(rt) {
-            Ok(message) => message,
-            Err(_) => break,
+        let Ok(message) = desk.inbox.recv(rt) else {
+            break;
         };
-        match message {
-            Message::Ended(ended) => ending = Some(ended),
-            Message::Came(line) => {
-                let job = session.take(rt, alloc, line);
-                pass_on(rt, job, jobs, room);
-            }
-            Message::Hashed(hashed) => {
-                let job = session.commit(rt, hashed);
-                pass_on(rt, job, jobs, room);
-            }
-            Message::NoMemory(line) => {
-                session.no_memory(line);
-                pass_on(rt, None, jobs, room);
-            }
-        }
-        if session.output.fault.is_some() || (ending.is_some() && session.pending.is_empty()) {
+        take_in(rt, alloc, session, desk, message, &mut waiting);
+        gather(rt, alloc, session, desk, &mut waiting);
+        let changes = mem::replace(&mut waiting.changes, Vec::new(alloc));
+        commit(rt, alloc, session, desk, changes);
+        if session.output.fault.is_some()
+            || (waiting.ending.is_some() && session.pending.is_empty())
+        {
             break;
         }
     }
+    let Waiting {
+        changes: _changes,
+        ending,
+    } = waiting;
     match ending {
         Some(ending) => ending,
         None => Ending::cut(session.came, ServiceFault::Lost),
     }
 }
 
-/// Hands on what is to be hashed. If that is nothing, a line was answered, and there is room for
-/// another.
-fn pass_on<J: Naming, T: Wait>(
+/// While changes wait, does what else has been handed over by now, so that they are made with all
+/// that came as others were made. It ends after so many messages as there may be at once.
+fn gather<J: Naming, T: Wait, K: Host, W: Write + Drop>(
     rt: &T,
-    job: Option<Job<J>>,
-    jobs: &Sender<Job<J>>,
-    room: &Sender<()>,
+    alloc: Global,
+    session: &mut Session<J, K, W>,
+    desk: &Desk<J>,
+    waiting: &mut Waiting<J>,
 ) {
-    match job {
-        Some(job) => {
-            let _ = jobs.send(rt, job);
+    for _ in 0..MOST_OPEN {
+        if waiting.changes.is_empty() || waiting.changes.len() >= MOST_TOGETHER {
+            return;
         }
-        None => {
-            let _ = room.send(rt, ());
+        let Ok(message) = desk.inbox.try_recv(rt) else {
+            return;
+        };
+        take_in(rt, alloc, session, desk, message, waiting);
+    }
+}
+
+/// Does what a message asks for. A change that is hashed waits.
+fn take_in<J: Naming, T: Wait, K: Host, W: Write + Drop>(
+    rt: &T,
+    alloc: Global,
+    session: &mut Session<J, K, W>,
+    desk: &Desk<J>,
+    message: Message<J>,
+    waiting: &mut Waiting<J>,
+) {
+    match message {
+        Message::Ended(ending) => waiting.ending = Some(ending),
+        Message::Came(line) => {
+            let job = session.take(rt, alloc, line);
+            desk.pass_on(rt, job);
+        }
+        Message::Hashed(hashed) => {
+            if hashed.worked.reply().makes_change() {
+                if let Err(refused) = waiting.changes.push(hashed) {
+                    desk.pass_on(rt, session.commit(rt, refused.value));
+                }
+            } else {
+                desk.pass_on(rt, session.commit(rt, hashed));
+            }
+        }
+        Message::NoMemory(line) => {
+            session.no_memory(line);
+            desk.pass_on(rt, None);
+        }
+    }
+}
+
+/// Makes changes together, if there are several, and then those of them that are left one by one.
+fn commit<J: Naming, T: Wait, K: Host, W: Write + Drop>(
+    rt: &T,
+    alloc: Global,
+    session: &mut Session<J, K, W>,
+    desk: &Desk<J>,
+    changes: Vec<Hashed<J>>,
+) {
+    let lines = changes.len();
+    let others = if lines < 2 {
+        changes
+    } else {
+        session.commit_together(alloc, changes)
+    };
+    for _ in others.len()..lines {
+        desk.pass_on(rt, None);
+    }
+    for hashed in others {
+        desk.pass_on(rt, session.commit(rt, hashed));
+    }
+}
+
+impl<J: Naming> Desk<J> {
+    /// Hands on what is to be hashed. If that is nothing, a line was answered, and there is room
+    /// for another.
+    fn pass_on<T: Wait>(&self, rt: &T, job: Option<Job<J>>) {
+        match job {
+            Some(job) => {
+                let _ = self.jobs.send(rt, job);
+            }
+            None => {
+                let _ = self.room.send(rt, ());
+            }
         }
     }
 }

@@ -6,12 +6,14 @@ ghost use Rattle.cred_cli.specs.Watched.{inner_of};
 ghost use Rattle.cred_book.specs.Works.{is_for_current, name_of};
 ghost use Rattle.cred_phc.specs.Values.{RecordValue};
 ghost use Rattle.cred_many.specs.Asks.{IsJobOf, IsResetOf, NeedsNoHash};
+ghost use Rattle.cred_many.specs.Groups.{IsGroup, lines_of};
 ghost use Rattle.cred_many.specs.Served.{IsServed, IsWorn, numbers, record_at, told_reply};
 ghost use Rattle.cred_many.specs.Steps.{is_changed};
 
 use crate::ask::Ask;
 use crate::doing::{do_ask, put_in_place};
 use crate::fault::ServiceFault;
+use crate::group::{Change, Group, MOST_TOGETHER};
 use crate::host::Host;
 use crate::job::{Hashed, Job};
 use crate::line::Line;
@@ -163,6 +165,100 @@ impl<J: Naming, K: Host, W: Write> Session<J, K, W> {
         }
     }
 
+    /// Makes the changes of different accounts among these works together, and answers their lines.
+    /// The other works come back, in their order.
+    pub(crate) fn commit_together(
+        &mut self,
+        alloc: Global,
+        works: Vec<Hashed<J>>,
+    ) -> Vec<Hashed<J>> {
+        let mut group = Group::new(alloc);
+        let mut others = Vec::new(alloc);
+        for hashed in works {
+            let Err(hashed) = self.gather(&mut group, hashed) else {
+                continue;
+            };
+            if let Err(refused) = others.push(hashed) {
+                self.no_memory(refused.value.line);
+            }
+        }
+        if self.output.fault.is_none() && !group.works.is_empty() {
+            self.commit_group(group);
+        }
+        others
+    }
+
+    /// Takes a line into the group if it changes an account that no other line there does, and
+    /// otherwise gives it back.
+    fn gather(&self, group: &mut Group<J>, hashed: Hashed<J>) -> Result<(), Hashed<J>>
+        requires { IsGroup K.capacity J.service (K.book self.now.keeper) group.old.changed
+            (lines_of group.old.works.items) group.old.text.items }
+        ensures { IsGroup K.capacity J.service (K.book self.now.keeper) group.new.changed
+            (lines_of group.new.works.items) group.new.text.items }
+    {
+        match hashed.line.ask() {
+            Ask::Whole(_) | Ask::Login(..) => self.gather_whole(group, hashed),
+            _ => Err(hashed),
+        }
+    }
+
+    fn gather_whole(&self, group: &mut Group<J>, hashed: Hashed<J>) -> Result<(), Hashed<J>>
+        requires asked { (copy : Option RecordValue) → IsJobOf hashed.0.ask (hashed.1.0, copy) }
+        requires group { IsGroup K.capacity J.service (K.book self.now.keeper) group.old.changed
+            (lines_of group.old.works.items) group.old.text.items }
+        ensures { IsGroup K.capacity J.service (K.book self.now.keeper) group.new.changed
+            (lines_of group.new.works.items) group.new.text.items }
+    {
+        let (reply, stored, changes) = self.keeper.accounts().judge(&hashed.worked);
+        if !changes || group.works.len() >= MOST_TOGETHER {
+            return Err(hashed);
+        }
+        let change = Change {
+            name: hashed.worked.request().name(),
+            stored,
+            answer: reply_line(&told_reply(hashed.line.ask(), reply)),
+        };
+        let _tag = hashed.line.tag();
+        group.push(hashed, &change)
+    }
+
+    /// Makes the changes of a group, and answers its lines. If the keeper refuses none is made.
+    fn commit_group(&mut self, group: Group<J>)
+        requires going { self.old.output.fault ≡ None }
+        requires group { IsGroup K.capacity J.service (K.book self.old.keeper) group.changed
+            (lines_of group.works.items) group.text.items }
+    {
+        let Group {
+            works,
+            changed,
+            text,
+        } = group;
+        let Some(left) = self.pending.without(&works) else {
+            self.refuse_all(works);
+            return;
+        };
+        match self.keeper.replace_all(changed) {
+            Ok(()) => {
+                self.pending = left;
+                self.output.conclude_all(&text);
+            }
+            Err(_) => self.refuse_all(works),
+        }
+    }
+
+    /// Answers lines to whose changes the keeper refused memory, or ends all if it has failed.
+    fn refuse_all(&mut self, works: Vec<Hashed<J>>)
+        requires { self.old.output.fault ≡ None }
+    {
+        if self.keeper.has_failed() {
+            self.output.fault = Some(ServiceFault::Keeper);
+            return;
+        }
+        for hashed in works {
+            self.no_memory(hashed.line);
+        }
+    }
+
     fn commit_whole<T: Wait>(&mut self, rt: &T, line: Line<J>, worked: Worked) -> Option<Job<J>>
         requires going { self.old.output.fault ≡ None }
         requires asked { (copy : Option RecordValue) → IsJobOf line.ask (worked.0, copy) }
@@ -210,8 +306,10 @@ impl<J: Naming, K: Host, W: Write> Session<J, K, W> {
         }
     }
 
-    /// Answers a line for which there was no memory to hash.
-    pub(crate) fn no_memory(&mut self, line: Line<J>) {
+    /// Answers a line for which there was no memory.
+    pub(crate) fn no_memory(&mut self, line: Line<J>)
+        ensures { K.book self.new.keeper ≡ K.book self.old.keeper }
+    {
         if self.output.fault.is_none() {
             self.give_up(line);
         }
@@ -240,6 +338,7 @@ impl<J: Naming, K: Host, W: Write> Session<J, K, W> {
     /// Answers that nothing was done for want of memory.
     fn give_up(&mut self, line: Line<J>)
         requires { self.old.output.fault ≡ None }
+        ensures { K.book self.new.keeper ≡ K.book self.old.keeper }
     {
         let Some(place) = self.pending.place_of(line.number()) else {
             self.output.fault = Some(ServiceFault::Lost);

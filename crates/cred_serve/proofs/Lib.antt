@@ -1,2 +1,3 @@
--- Lemmas: accounts that are renamed.
+-- Lemmas: accounts that are renamed, and records that are replaced together.
 pub mod Renaming
+pub mod Replacing

@@ -2,7 +2,7 @@
 
 ghost use Rattle.std.specs.Prelude.{◌≡◌};
 ghost use Rattle.cred_book.specs.Accounts.{register_capacity};
-ghost use Rattle.cred_many.specs.Edits.{EditsWithin};
+ghost use Rattle.cred_many.specs.Edits.{EditsWithin, ReplacesAll};
 ghost use Rattle.cred_many.specs.declared.edit.Edit.TheVariants as edit;
 
 use cred_admin::EditReply;
@@ -11,11 +11,13 @@ use cred_file::FileBook;
 use cred_many::{Edit, Host};
 use cred_phc::Record;
 use sqlite::Alter;
+use std::alloc::Global;
 use std::sync::Wait;
 
 /// A kept book that is served.
 #[derive(Drop)]
 pub struct Hosted<S: Alter> {
+    pub alloc: Global,
     pub book: FileBook<S>,
 }
 
@@ -58,6 +60,10 @@ impl<S: Alter> Host for Hosted<S> {
             Edit::Delete(name) => delete(&mut self.book, &name),
             Edit::Rename(name, other) => rename(&mut self.book, &name, &other),
         }
+    }
+
+    fn replace_all(&mut self, changed: Register) -> Result<(), BookError> {
+        replace_all(self.alloc, &mut self.book, changed)
     }
 
     fn has_failed(&self) -> bool {
@@ -112,6 +118,22 @@ fn rename<S: Alter>(
     }
     match book.rename(name, other) {
         Ok(()) => Ok(EditReply::Renamed),
+        Err(_) => Err(BookError::Memory),
+    }
+}
+
+/// Replaces records by one transaction.
+#[tactic(auto, using(crate::proofs::Replacing::missed, crate::proofs::Replacing::refused))]
+fn replace_all<S: Alter>(
+    alloc: Global,
+    book: &mut FileBook<S>,
+    changed: Register,
+) -> Result<(), BookError>
+    ensures { ReplacesAll book.old.0 book.new.0 changed result }
+{
+    match book.take_in(Register::new(alloc), changed) {
+        Ok(()) => Ok(()),
+        Err(BookError::NoAccount) => Err(BookError::NoAccount),
         Err(_) => Err(BookError::Memory),
     }
 }

@@ -56,9 +56,11 @@ where
         → IfSome (R.remaining reader) (λ all. result.lines ≡ length (lines_of all)) }
     ensures keeps { Keeps S.Store result.book.conn result.book.book result.book.lost }
 {
-    let served = serve_tagged(tools, means, Hosted { book }, salts, reader, writer);
+    let alloc = tools.alloc;
+    let hosted = Hosted { alloc, book };
+    let served = serve_tagged(tools, means, hosted, salts, reader, writer);
     let Served {
-        keeper: Hosted { book },
+        keeper: Hosted { book, .. },
         writer,
         lines,
         fault,

@@ -1,0 +1,85 @@
+//! Changes that are made together.
+
+ghost use Rattle.std.specs.Prelude.{◌≡◌, ◌∷◌, ◌++◌, [], IfErr, None, OnErr, OnOk, length, take};
+ghost use Rattle.std.specs.FinMap as map;
+
+use crate::job::Hashed;
+use crate::naming::Naming;
+use cred_book::{Name, Register};
+use cred_phc::Record;
+use std::alloc::{AllocError, Global};
+
+/// How many changes are made together at most.
+pub(crate) const MOST_TOGETHER: usize = 64;
+
+/// Hashed lines, the records that they give their accounts, and their answers one after another.
+#[derive(Drop)]
+pub(crate) struct Group<J: Naming> {
+    pub(crate) works: Vec<Hashed<J>>,
+    pub(crate) changed: Register,
+    pub(crate) text: Vec<u8>,
+}
+
+/// What a line makes of an account.
+#[derive(Clone, Copy)]
+pub(crate) struct Change {
+    pub(crate) name: Name,
+    pub(crate) stored: Option<Record>,
+    /// With the line end.
+    pub(crate) answer: &'static [u8],
+}
+
+impl<J: Naming> Group<J> {
+    /// A group of no lines.
+    pub(crate) fn new(alloc: Global) -> Group<J>
+        ensures works { result.works.items ≡ [] }
+        ensures changed { result.changed ≡ map.empty }
+        ensures text { result.text.items ≡ [] }
+    {
+        Group {
+            works: Vec::new(alloc),
+            changed: Register::new(alloc),
+            text: Vec::new(alloc),
+        }
+    }
+
+    /// Takes a line in with its change. It comes back if memory runs out, and if the group changes
+    /// the account already.
+    pub(crate) fn push(&mut self, work: Hashed<J>, change: &Change) -> Result<(), Hashed<J>>
+        ensures works { OnOk result (self.new.works.items ≡ self.old.works.items ++ work ∷ []) }
+        ensures first { OnOk result
+            (map.get self.old.changed change.now.name ≡ None) }
+        ensures changed { OnOk result (self.new.changed
+            ≡ map.insert self.old.changed change.now.name change.now.stored) }
+        ensures text { OnOk result (self.new.text.items ≡ self.old.text.items
+            ++ work.0.tag ++ 32 ∷ change.now.answer.now) }
+        ensures back { IfErr result (λ back. back ≡ work) }
+        ensures same_works { OnErr result (self.new.works.items ≡ self.old.works.items) }
+        ensures same_changed { OnErr result (self.new.changed ≡ self.old.changed) }
+        ensures same_text { OnErr result (self.new.text.items ≡ self.old.text.items) }
+    {
+        if self.works.reserve(1).is_err() {
+            return Err(work);
+        }
+        let length = self.text.len();
+        if add_line(&mut self.text, work.line.tag(), change.answer).is_err()
+            || self.changed.enter(change.name, change.stored).is_err()
+        {
+            self.text.truncate(length);
+            return Err(work);
+        }
+        self.works.push_reserved(work);
+        Ok(())
+    }
+}
+
+/// Adds a tagged answer. If memory runs out a part of it may be added.
+fn add_line(text: &mut Vec<u8>, tag: &[u8], answer: &[u8]) -> Result<(), AllocError>
+    ensures added { OnOk result
+        (text.new.items ≡ text.old.items ++ tag.now ++ 32 ∷ answer.now) }
+    ensures front { take (length text.old.items) text.new.items ≡ text.old.items }
+{
+    text.extend_from_slice(tag)?;
+    text.push(b' ')?;
+    text.extend_from_slice(answer)
+}
