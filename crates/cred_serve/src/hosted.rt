@@ -129,7 +129,7 @@ fn replace_all<S: Alter>(
     book: &mut FileBook<S>,
     changed: Register,
 ) -> Result<(), BookError>
-    ensures { ReplacesAll book.old.0 book.new.0 changed result }
+    ensures { ReplacesAll book.old.book book.new.book changed result }
 {
     match book.take_in(Register::new(alloc), changed) {
         Ok(()) => Ok(()),
