@@ -10,6 +10,7 @@ and systemd-socket-activate. What is missing counts as a failure. The last line 
 import os
 import pathlib
 import random
+import resource
 import signal
 import socket
 import subprocess
@@ -23,14 +24,20 @@ from credkeep.keep import Ended, Keep, Room, begun, holds, main, same
 
 # More than a script may have.
 TWO_MIB = 2 * 1024 * 1024
+# What a service has where memory is short, in bytes, and two records' settings: one that asks for 2 GiB, one for 64 KiB.
+SHORT_MEMORY = 700_000_000
+COSTLY = b"$argon2id$v=19$m=2097152,t=1,p=1$c29tZXNhbHQ"
+CHEAP = b"$argon2id$v=19$m=64,t=1,p=1$c29tZXNhbHQ"
+TAG = b"A" * 43
 # After so many seconds a service is ended that hasn't: one that reads ahead of its answers waits for ever.
 LONGEST = 120
 
 
-def service(keep: Keep, *words: str) -> "subprocess.Popen[bytes]":
+def service(keep: Keep, *words: str, before: Callable[[], None] | None = None) -> "subprocess.Popen[bytes]":
     """Starts the program as a service of lines, which is killed if it is there for too long."""
     command = [str(keep.program), str(keep.path), "serve", *words]
-    run = subprocess.Popen(command, stdin=subprocess.PIPE, stdout=subprocess.PIPE, stderr=subprocess.PIPE)
+    pipe = subprocess.PIPE
+    run = subprocess.Popen(command, stdin=pipe, stdout=pipe, stderr=pipe, preexec_fn=before)
     guard = threading.Timer(LONGEST, run.kill)
     guard.daemon = True
     guard.start()
@@ -95,6 +102,89 @@ def answers_at_each_line(room: Room) -> None:
             same(asked(run, line), answer + b"\n")
         run.communicate(b"")
     same(len(keep.names()), 50)
+
+
+def short_of_memory() -> None:
+    """Gives the process little memory, until it is given more."""
+    resource.setrlimit(resource.RLIMIT_AS, (SHORT_MEMORY, resource.getrlimit(resource.RLIMIT_AS)[1]))
+
+
+def in_short_memory(keep: Keep, order: str, lines: list[bytes]) -> Ended:
+    """Gives the lines to the order, which has little memory."""
+    command = [str(keep.program), str(keep.path), order]
+    given = b"".join(line + b"\n" for line in lines)
+    done = subprocess.run(command, input=given, capture_output=True, timeout=LONGEST, preexec_fn=short_of_memory)
+    return Ended(done.returncode, done.stdout, done.stderr)
+
+
+def without_memory(room: Room) -> None:
+    """A commit for whose hash there is no memory is refused, changes nothing, and may be sent again; `run` ends there."""
+    keep, costly, cheap = begun(room), COSTLY + b"$" + TAG, CHEAP + b"$" + TAG
+    dialogue = [
+        (b"account ann", b"ok"),
+        (b"account bob", b"ok"),
+        (b"load ann " + costly, b"ok"),
+        (b"begin 1 verify ann cHc", b"begun"),
+        (b"commit 1", b"bad 4 memory"),
+        (b"show ann", costly),
+        (b"begin 1 verify ann cHc", b"bad 14 busy"),
+        (b"commit 1", b"bad 4 memory"),
+        # Each other operation that hashes, at the record and for a new one.
+        (b"begin 2 remove ann cHc", b"begun"),
+        (b"commit 2", b"bad 4 memory"),
+        (b"begin 3 change ann cHc cXc " + CHEAP, b"begun"),
+        (b"commit 3", b"bad 4 memory"),
+        (b"begin 4 upgrade ann cHc " + CHEAP, b"begun"),
+        (b"commit 4", b"bad 4 memory"),
+        (b"begin 64 enrol bob cHc " + COSTLY, b"begun"),
+        (b"commit 64", b"bad 4 memory"),
+        (b"show ann", costly),
+        (b"show bob", b"none"),
+        # What needs no hash is answered.
+        (b"begin 5 verify bob cHc", b"begun"),
+        (b"commit 5", b"absent"),
+        (b"begin 6 enrol ann cHc " + COSTLY, b"begun"),
+        (b"commit 6", b"exists"),
+        # So is what is stale, and closes its number.
+        (b"load ann " + cheap, b"ok"),
+        (b"commit 1", b"changed"),
+        (b"commit 1", b"bad 15 idle"),
+        # What hashes with less goes on.
+        (b"begin 1 verify ann cHc", b"begun"),
+        (b"commit 1", b"no"),
+        (b"load ann " + costly, b"ok"),
+        (b"commit 2", b"bad 4 memory"),
+        (b"begin 7 enrol bob cHc " + CHEAP, b"begun"),
+        (b"commit 7", b"enrolled"),
+        (b"commit 64", b"changed"),
+    ]
+    lines = [line for line, _ in dialogue]
+    ended = in_short_memory(keep, "serve", lines)
+    same((ended.status, ended.faults), (0, b""))
+    same(ended.written.split(b"\n")[:-1], [answer for _, answer in dialogue])
+    keep.is_sound()
+    same(in_short_memory(keep, "run", [*lines[3:5], b"account cat"]), Ended(3, b"begun\n", b"credkeep: out of memory\n"))
+    same(keep.names(), ["ann", "bob"])
+
+
+def memory_comes_back(room: Room) -> None:
+    """Once there is memory, the number whose commit was refused is committed."""
+    keep = begun(room)
+    with service(keep, before=short_of_memory) as run:
+        for line, answer in (
+            (b"account ann", b"ok"),
+            (b"load ann $argon2id$v=19$m=1000000,t=1,p=1$c29tZXNhbHQ$" + TAG, b"ok"),
+            (b"begin 1 verify ann cHc", b"begun"),
+            (b"commit 1", b"bad 4 memory"),
+            (b"show bob", b"bad 5 noaccount"),
+        ):
+            same(asked(run, line), answer + b"\n")
+        hard = resource.prlimit(run.pid, resource.RLIMIT_AS)[1]
+        resource.prlimit(run.pid, resource.RLIMIT_AS, (hard, hard))
+        same(asked(run, b"commit 1"), b"no\n")
+        same(asked(run, b"commit 1"), b"bad 15 idle\n")
+        run.communicate(b"")
+    same(run.returncode, 0)
 
 
 def kills(room: Room) -> None:
@@ -257,6 +347,8 @@ ALONE: list[Callable[[Room], None]] = [
     more_than_a_script,
     ends_of_input,
     answers_at_each_line,
+    without_memory,
+    memory_comes_back,
     kills,
     closed_pipe,
     full_pipe,

@@ -54,7 +54,7 @@ from credkeep.imports import (
 from credkeep.keep import Room, main
 from credkeep.kills import full_disk, kills
 from credkeep.orders import edits, edits_of_a_full_file, killed_edits, refused_edits
-from credkeep.refusals import refused_calls, refused_memory
+from credkeep.refusals import refused_calls, refused_memory, refused_memory_of_a_service
 from credkeep.terminals import asked_unseen, long_passwords, scripts, terminals
 from credkeep.texts import closed_files, help_and_version, lost_change, refused_words, texts_of_faults, texts_of_words
 from credkeep.work import equal_work, no_hash_in_vain, syncs, workers, workers_of_a_command
@@ -102,6 +102,7 @@ ALONE: list[Callable[[Room], None]] = [
     files_of_init,
     kills,
     refused_memory,
+    refused_memory_of_a_service,
     passwords_are_not_shown,
 ]
 

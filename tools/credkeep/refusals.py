@@ -46,6 +46,26 @@ def refused_memory(room: Room) -> None:
     each_request_refused(room, begun(room), "run", b"account a\naccount b\n", judge)
 
 
+def refused_memory_of_a_service(room: Room) -> None:
+    """A service answers `bad 4 memory` to a commit whose hash was refused memory, and goes on; otherwise it ends as a run does."""
+    record = b"$argon2id$v=19$m=64,t=1,p=1$c29tZXNhbHQ$" + b"A" * 43
+    lines = [b"account a", b"load a " + record, b"begin 1 verify a cHc", b"commit 1", b"account b", b"commit 1"]
+    answers = [b"ok", b"ok", b"begun", b"no", b"ok", b"bad 15 idle"]
+    starved = [*answers[:3], b"bad 4 memory", b"ok", b"no"]
+    went_on = []
+
+    def judge(ended: Ended, there: list[str]) -> None:
+        written = ended.written.split(b"\n")[:-1]
+        holds(written in (answers[: len(written)], starved[: len(written)]), f"{written}")
+        holds(ended.status != 0 or len(written) == len(lines), f"status {ended.status}: {written}")
+        named = written[:1].count(b"ok") + written[4:5].count(b"ok")
+        holds(there in (["a", "b"][:named], ["a", "b"][: named + 1]), f"{there}")
+        went_on.append(written == starved)
+
+    each_request_refused(room, begun(room), "serve", b"".join(line + b"\n" for line in lines), judge)
+    holds(any(went_on), "no request of a hash was refused")
+
+
 def each_request_refused(room: Room, empty: Keep, order: str, given: bytes, judge: Callable[[Ended, list[str]], None]) -> None:
     """Each request for memory of an order is refused in turn, by a shim before the C library, and what came of it is judged."""
     shim = refusing_shim(str(room.folder.parent))
