@@ -1,7 +1,7 @@
 //! The one who keeps a published book: what it changes, its sessions see.
 
-ghost use Rattle.std.specs.Prelude.{◌≡◌, ◌++◌, ◌∷◌, [], All, IfErr, IfOk, IsOk, MatchResult, None};
-ghost use Rattle.std.specs.Prelude.{Some, nat_le, true, vec_len};
+ghost use Rattle.std.specs.Prelude.{◌≡◌, ◌+◌, ◌^◌, ◌++◌, ◌∷◌, [], All, IfErr, IfOk, IsOk};
+ghost use Rattle.std.specs.Prelude.{MatchResult, None, Some, length, nat_le, true, vec_len};
 ghost use mathlib.Core.List.{IsPrefix};
 ghost use Rattle.cred_book.specs.Calls.{Admits, Loads};
 ghost use Rattle.cred_book.specs.Commits.{Commits};
@@ -94,8 +94,8 @@ impl<J: Naming> Committer<J> {
     /// Does the whole operation, if the record is the one that was copied, and otherwise nothing,
     /// and tells the list then.
     ///
-    /// Errors: `Memory` if it runs out for an entry; nothing changes then, and the work comes back.
-    /// A commit that makes no change takes no memory.
+    /// Errors: `Memory` for a change if the list has 2^64 - 1 entries, which isn't met: it takes no
+    /// memory. Nothing changes then, and the work comes back.
     pub fn commit_told<R: Wait>(
         &mut self,
         rt: &R,
@@ -110,6 +110,7 @@ impl<J: Naming> Committer<J> {
         ensures refused { IfErr result
             (λ e. (e.0 ≡ work) × (e.1 ≡ error.Memory) × (self.new ≡ self.old)) }
         ensures plain { entry_of (after J.opening self.old) work ≡ None → IsOk result }
+        ensures full { IfErr result (λ _. length self.old + 1 ≡ 2 ^ 64) }
     {
         let (reply, entry) = judge(self.publisher.book(), &work);
         if let Some(entry) = entry {
@@ -127,6 +128,7 @@ impl<J: Naming> Committer<J> {
         requires { IsAllowed J.loads (after J.opening self.old) entry }
         ensures list { MatchResult result (λ _. self.new ≡ self.old ++ entry ∷ [])
             (λ e. (self.new ≡ self.old) × (e ≡ memory)) }
+        ensures full { IfErr result (λ _. length self.old + 1 ≡ 2 ^ 64) }
         ensures lawful { IsLawful J.opening self.new }
         ensures legal { IsMade (after J.opening self.old) entry → IsLegal J.opening self.old
             → IsLegal J.opening self.new }
@@ -165,6 +167,7 @@ impl<J: Naming> Keeper for Committer<J> {
         ensures book { Admits (after J.opening self.old) (after J.opening self.new) name result }
         ensures list { MatchResult result (λ _. self.new ≡ self.old ++ entry name None ∷ [])
             (λ _. self.new ≡ self.old) }
+        ensures full { IfErr result (λ e. e ≡ memory → length self.old + 1 ≡ 2 ^ 64) }
         ensures lawful { IsLawful J.opening self.new }
     {
         if self.show(&name).is_ok() {
@@ -184,6 +187,7 @@ impl<J: Naming> Keeper for Committer<J> {
         ensures list { MatchResult result
             (λ _. self.new ≡ self.old ++ entry name.entry.now (Some stored) ∷ [])
             (λ _. self.new ≡ self.old) }
+        ensures full { IfErr result (λ e. e ≡ memory → length self.old + 1 ≡ 2 ^ 64) }
         ensures lawful { IsLawful J.opening self.new }
     {
         self.publisher.book().show(name)?;
@@ -206,6 +210,7 @@ impl<J: Naming> Keeper for Committer<J> {
             (λ _. self.new ≡ list_after self.old (entry_of (after J.opening self.old) worked))
             (λ _. self.new ≡ self.old) }
         ensures plain { entry_of (after J.opening self.old) worked ≡ None → IsOk result }
+        ensures full { IfErr result (λ _. length self.old + 1 ≡ 2 ^ 64) }
         ensures lawful { IsLawful J.opening self.new }
         ensures legal { IsLegal J.opening self.old → IsLegal J.opening self.new }
     {

@@ -106,7 +106,7 @@ impl<J: Naming> Publisher<J> {
 
     /// Whether it has as many entries as can be counted, 2^64 - 1.
     pub(crate) fn is_full(&self) -> bool
-        ensures { MatchBool result (Unit {0}) (length self.now + 1 < 2 ^ 64) }
+        ensures { MatchBool result (length self.now + 1 ≡ 2 ^ 64) (length self.now + 1 < 2 ^ 64) }
     {
         self.front().len() == u64::MAX
     }
