@@ -2,6 +2,7 @@
 //! refusals come.
 mod gates;
 mod places;
+mod scratch;
 mod tags;
 mod vectors;
 

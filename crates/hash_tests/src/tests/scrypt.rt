@@ -4,6 +4,7 @@
 mod keys;
 mod memory;
 mod params;
+mod scratch;
 mod standard;
 mod table;
 mod workers;
