@@ -56,7 +56,15 @@ from credkeep.kills import full_disk, kills
 from credkeep.orders import edits, edits_of_a_full_file, killed_edits, refused_edits
 from credkeep.refusals import refused_calls, refused_memory, refused_memory_of_a_service
 from credkeep.terminals import asked_unseen, long_passwords, scripts, terminals
-from credkeep.texts import closed_files, help_and_version, lost_change, refused_words, texts_of_faults, texts_of_words
+from credkeep.texts import (
+    closed_files,
+    commands_are_listed,
+    help_and_version,
+    lost_change,
+    refused_words,
+    texts_of_faults,
+    texts_of_words,
+)
 from credkeep.work import equal_work, no_hash_in_vain, syncs, workers, workers_of_a_command
 
 # What needs the toolchain alone.
@@ -76,6 +84,7 @@ ALONE: list[Callable[[Room], None]] = [
     setting_with_a_salt,
     help_and_version,
     refused_words,
+    commands_are_listed,
     texts_of_words,
     texts_of_faults,
     lost_change,

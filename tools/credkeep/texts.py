@@ -46,6 +46,24 @@ def refused_words(room: Room) -> None:
     same(keep("list"), Ended(0, b"", b""))
 
 
+def commands_are_listed(room: Room) -> None:
+    """Words of which none is a command are told which commands there are, those that help lists."""
+    keep = room.keep()
+    helped = keep("--help").written.decode().split("Commands:\n")[1].split("\n\n")[0]
+    commands = [line.split()[0] for line in helped.splitlines() if line[:2] == "  " and line[2] != " "]
+    holds({"init", "serve", "verify"} <= set(commands), f"{commands}")
+    for words, are_told in (
+        (["enroll", "ann"], True),
+        (["frob"], True),
+        (["add", "--frob", "ann"], False),
+        (["list", "ann"], False),
+    ):
+        ended = keep(*words)
+        same((ended.status, ended.written), (1, b""))
+        told = [line.split()[2:] for line in ended.faults.decode().splitlines() if line.startswith("The commands: ")]
+        same((words, told), (words, [commands] if are_told else []))
+
+
 def texts_of_words(room: Room) -> None:
     """What was wrong, why, and the number and the word to look it up by."""
     keep = room.keep()

@@ -2,6 +2,8 @@
 
 use clap::{Arg, ArgAction, Command};
 use std::alloc::{AllocError, Global};
+use std::io;
+use std::io::Write;
 
 const ABOUT: &str = "Keeps the password records of accounts in a database file";
 
@@ -258,6 +260,22 @@ static COMMANDS: [HelpText; 19] = [
         words: &[],
     },
 ];
+
+/// Whether one of the words is a command's.
+pub(crate) fn names_command(words: &[String]) -> bool {
+    words
+        .iter()
+        .any(|word| COMMANDS.iter().any(|text| text.word == word.as_str()))
+}
+
+/// Writes the words of all commands, in a line.
+pub(crate) fn write_commands<W: Write>(out: &mut W) -> io::Result<()> {
+    write!(out, "The commands:")?;
+    for text in &COMMANDS {
+        write!(out, " {}", text.word)?;
+    }
+    writeln!(out)
+}
 
 /// The program, with all its commands.
 pub(crate) fn credkeep<'a>(alloc: Global) -> Result<Command<'a>, AllocError> {

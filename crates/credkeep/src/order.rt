@@ -1,8 +1,9 @@
 //! What the words of the command line ask for.
 
-use crate::arguments::credkeep;
+use crate::arguments::{credkeep, names_command};
 use crate::tagged::{Tagged, kib_of};
 use crate::terminal::Echo;
+use clap::error::ErrorKind;
 use clap::{ArgMatches, Error};
 use cred_admin::{
     EmptyPassword, Existing, LockedRecords, NewPassword, NewSetting, Part, Rules, setting_of,
@@ -63,6 +64,8 @@ pub(crate) enum Act<'a> {
 pub(crate) enum Refusal<'a> {
     /// They don't parse, or ask for help or the version.
     Words(Error),
+    /// They don't parse, and none of them is a command.
+    NoCommand(Error),
     /// No account can have this name.
     Name { text: &'a str, why: BookError },
     /// The text of the setting has this fault.
@@ -94,7 +97,10 @@ pub(crate) fn asked_by<'a, R: RandomSource + AllocGlobal>(
     rt: &R,
     words: &'a [String],
 ) -> Result<Asked<'a>, Refusal<'a>> {
-    let matches = credkeep(rt.alloc())?.try_get_matches_from(words)?;
+    let matches = match credkeep(rt.alloc())?.try_get_matches_from(words) {
+        Ok(matches) => matches,
+        Err(error) => return Err(refusal_of(words, error)),
+    };
     let file = matches.get_str("file").unwrap_or("");
     let act = match matches.subcommand() {
         Some((word, values)) => act_of(rt, word, values)?,
@@ -102,6 +108,14 @@ pub(crate) fn asked_by<'a, R: RandomSource + AllocGlobal>(
     };
     let wait = matches.get_one("wait").unwrap_or(0);
     Ok(Asked { file, wait, act })
+}
+
+/// Why the words don't parse.
+fn refusal_of<'a>(words: &[String], error: Error) -> Refusal<'a> {
+    match error.kind() {
+        ErrorKind::UnknownArgument if !names_command(words) => Refusal::NoCommand(error),
+        _ => Refusal::Words(error),
+    }
 }
 
 fn act_of<'a, R: RandomSource + AllocGlobal>(

@@ -1,5 +1,6 @@
 //! What is said if nothing was opened, and the exit status that goes with it.
 
+use crate::arguments::write_commands;
 use crate::files::{FileFault, Unopened};
 use crate::order::Refusal;
 use crate::terminal::TypingFault;
@@ -19,6 +20,11 @@ const MAX_NAME: usize = 32;
 pub(crate) fn answer_refusal(host: &HostRuntime, refusal: &Refusal<'_>) -> Status {
     match refusal {
         Refusal::Words(error) => answer_words(host, error),
+        Refusal::NoCommand(error) => {
+            let _ = error.print(host);
+            let _ = write_commands(&mut host.stderr());
+            Status::Usage
+        }
         Refusal::Name { text, why } => refuse_name(host, text, *why),
         Refusal::Setting(why) => {
             let (number, word) = (why.number(), why.word());
