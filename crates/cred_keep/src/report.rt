@@ -7,12 +7,15 @@ use crate::ending::Ending;
 use crate::failure::Failure;
 use crate::importing::{Effect, Imported};
 use cred_admin::{BadLine, Fault, Hint, ImportFault, LineFault, Status};
-use cred_book::BookError;
+use cred_book::{BookError, Register};
 use cred_file::{Edit, Lost, OpenFault};
 use cred_phc::PhcError;
 use sqlite::{Error, ErrorCode};
 use std::io;
 use std::io::Write;
+
+/// How many accounts are named at most whose changes were lost together.
+const MOST_NAMED: usize = 64;
 
 /// What a name is, as faults say it.
 pub const NAME_RULE: &str = "names are a-z, 0-9, '.', '_', '-', 1 to 32 of them";
@@ -92,8 +95,22 @@ fn tell_lost<F: Write>(faults: &mut F, lost: &Lost) -> io::Result<()> {
             faults.write_all(name.bytes())?;
             writeln!(faults, " may be kept or not")
         }
+        Edit::TakeIn { added, changed } if added.len() == 0 => tell_lost_changes(faults, changed),
         Edit::TakeIn { added, changed } => tell_lost_import(faults, added.len(), changed.len()),
     }
+}
+
+/// Names the accounts whose records were to be replaced together, if they aren't too many.
+fn tell_lost_changes<F: Write>(faults: &mut F, changed: &Register) -> io::Result<()> {
+    write!(faults, "the changes of")?;
+    for (name, _) in changed.iter().take(MOST_NAMED) {
+        write!(faults, " ")?;
+        faults.write_all(name.bytes())?;
+    }
+    if changed.len() > MOST_NAMED {
+        write!(faults, " and {} others", changed.len() - MOST_NAMED)?;
+    }
+    writeln!(faults, " may be kept or not, all or none of them")
 }
 
 fn tell_lost_import<F: Write>(faults: &mut F, added: usize, changed: usize) -> io::Result<()> {

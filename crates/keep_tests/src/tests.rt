@@ -197,8 +197,7 @@ fn texts_of_lost_changes(rt: HostRuntime) {
     let changed = Register::new(rt.alloc());
     hold_lost(&rt, rt.alloc(), Edit::TakeIn { added, changed }, all);
     let added = Register::new(rt.alloc());
-    let all =
-        "the 0 new accounts and the records of 2 others may be kept or not, all or none of them";
+    let all = "the changes of ann bob may be kept or not, all or none of them";
     hold_lost(
         &rt,
         rt.alloc(),
