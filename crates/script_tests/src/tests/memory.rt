@@ -4,7 +4,7 @@ use super::committers::run_on_committer;
 use super::keepers::Shelf;
 use super::{Shown, hold, hold_bytes, hold_shown};
 use cred_book::{Book, BookError, Keeper};
-use cred_cli::{End, ScriptFault, Watched, command, run_script};
+use cred_cli::{End, ScriptFault, Watched, command, run_script, serve};
 use std::alloc::Global;
 use std::process::Abort;
 use std::sync::Wait;
@@ -46,6 +46,20 @@ begun
 removed
 none
 ";
+
+/// Lines of a service, of which the fourth needs a hash.
+const SERVICE: &str = "\
+account a
+load a $argon2id$v=19$m=256,t=2,p=1$c29tZXNhbHQ$nf65EOgLrQMR/uIPnA4rEsF5h7TKyQwu9U1bMCHGi/4
+begin 1 verify a cGFzc3dvcmQ
+commit 1
+commit 1
+";
+
+const SERVED: &str = "ok\nok\nbegun\nyes\nbad 15 idle\n";
+
+/// What they are answered if memory is refused to that hash: the number is open still.
+const STARVED: &str = "ok\nok\nbegun\nbad 4 memory\nyes\n";
 
 /// Holds whole answers from the front of those that the script has.
 fn hold_front<R: Abort>(rt: &R, whole: &str, written: &[u8]) {
@@ -109,6 +123,26 @@ fn judge_refused<K: Keeper, R: Threads + Wait + Sync + Abort>(
 fn refused_script(rt: HostRuntime) {
     if let Ok(mut book) = Book::new(rt.alloc()) {
         judge_refused(&rt, rt.alloc(), 1, &mut book);
+    }
+}
+
+#[test]
+fn refused_service(rt: HostRuntime) {
+    let (Ok(mut book), Ok(room)) = (
+        Book::new(rt.alloc()),
+        Vec::<u8>::with_capacity(rt.alloc(), 4096),
+    ) else {
+        return;
+    };
+    let mut reader = Watched::new(SERVICE.as_bytes());
+    let mut writer = Watched::new(room);
+    let end = serve(&rt, rt.alloc(), 1, &mut book, &mut reader, &mut writer);
+    let written = writer.into_inner();
+    if end != Ok(End { lines: 5 }) {
+        assert_eq!(rt; end, Err(ScriptFault::Memory));
+        hold_front(&rt, SERVED, &written);
+    } else if written.as_slice() != STARVED.as_bytes() {
+        hold_bytes(&rt, 0, &written, SERVED);
     }
 }
 
