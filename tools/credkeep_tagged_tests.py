@@ -26,7 +26,7 @@ from credkeep.keep import CHEAP, RECORD, Keep, Room, begun, holds, main, same
 from refuse_memory import build as refusing_shim
 
 # The checker alone: its package needs the built library.
-sys.path.insert(0, str(pathlib.Path(__file__).resolve().parent.parent / "python" / "rigzumal" / "accounts"))
+sys.path.insert(0, str(pathlib.Path(__file__).resolve().parent.parent / "c" / "python" / "rigzumal" / "accounts"))
 from history import Account, Operation, check  # noqa: E402
 
 OPERATIONS = int(os.environ.get("RIGZUMAL_OPERATIONS", "4000"))
@@ -590,6 +590,109 @@ def failing_database(room: Room) -> None:
     holds(keep.names() in (["ann", *names[:failed]], ["ann", *names[: failed + 1]]), f"{keep.names()}")
 
 
+# ---- changes that are made together
+
+MEMBERS = [f"n{at}" for at in range(CLIENTS)]
+
+
+def transactions(keep: Keep) -> int:
+    """How many the log of a served file has: the last page of each has the database's size beside it."""
+    log = pathlib.Path(f"{keep.path}-wal").read_bytes()
+    frames = range(32, len(log), 24 + int.from_bytes(log[8:12], "big"))
+    return sum(1 for at in frames if log[at + 4 : at + 8] != bytes(4) and log[at + 8 : at + 16] == log[16:24])
+
+
+def enrolments(turn: int) -> bytes:
+    """A line for each member that takes its record away or gives it one, all to be sent at once."""
+    words = [f"t{at} enrol {name} -" if turn % 2 == 0 else f"t{at} remove {name} -" for at, name in enumerate(MEMBERS)]
+    return "".join(f"{line}\n" for line in words).encode()
+
+
+def enrolled(keep: Keep) -> set[str]:
+    """The members that have a record."""
+    shown = answered(keep, *(f"t show {name}" for name in MEMBERS))
+    return {name for name, answer in zip(MEMBERS, shown) if answer != "t none"}
+
+
+def changes_together(room: Room) -> None:
+    """Changes that wait together are one transaction; each is answered, and stands after a kill."""
+    keep = begun(room)
+    answered(keep, *(f"t account {name}" for name in MEMBERS))
+    with service(keep) as run:
+        assert run.stdin and run.stdout
+        for turn in range(5):
+            run.stdin.write(enrolments(turn))
+            run.stdin.flush()
+            word = "enrolled" if turn % 2 == 0 else "removed"
+            wanted = {f"t{at} {word}\n".encode() for at in range(CLIENTS)}
+            same({run.stdout.readline() for _ in MEMBERS}, wanted)
+        made = transactions(keep)
+        run.kill()
+        same(run.wait(60), -signal.SIGKILL)
+    holds(0 < made < 5 * CLIENTS, f"{made} transactions for {5 * CLIENTS} changes")
+    same(enrolled(keep), set(MEMBERS))
+    keep.is_sound()
+
+
+def disk_full_in_a_group(room: Room) -> None:
+    """Where the file can't grow amid changes that are made together: those that were answered are kept, and the others are named, and kept
+    all or none."""
+    keep = begun(room)
+    answered(keep, *(f"t account {name}" for name in MEMBERS))
+
+    def small() -> None:
+        resource.setrlimit(resource.RLIMIT_FSIZE, (100_000, 100_000))
+
+    standing: set[str] = set()
+    with service(keep, preexec_fn=small, restore_signals=False) as run:
+        assert run.stdin and run.stdout and run.stderr
+        for turn in range(1000):
+            run.stdin.write(enrolments(turn))
+            run.stdin.flush()
+            answers = [run.stdout.readline().decode() for _ in MEMBERS]
+            done = {MEMBERS[int(answer.split()[0][1:])] for answer in answers if answer}
+            holds(all(answer.split()[1] in ("enrolled", "removed") for answer in answers if answer), f"{answers}")
+            standing = standing | done if turn % 2 == 0 else standing - done
+            if len(done) < len(MEMBERS):
+                break
+        same(run.wait(60), 5)
+        faults = run.stderr.read().decode()
+    told = re.fullmatch(r"credkeep: the database failed: .*; the changes? of ([a-z0-9 ]+) may be kept or not(, all or none of them)?\n", faults)
+    holds(told is not None, faults)
+    assert told
+    lost = set(told[1].split())
+    holds(lost.isdisjoint(done) and lost <= set(MEMBERS), f"{lost} of {done}")
+    kept = standing | lost if turn % 2 == 0 else standing - lost
+    holds(enrolled(keep) in (standing, kept), faults)
+    keep.is_sound()
+
+
+def writer_fails_in_a_group(room: Room) -> None:
+    """Where the answers of a group can't be written whole, those that were are of changes that stand."""
+    for room_left in (0, 1, 20, 300):
+        keep = begun(room)
+        answered(keep, *(f"t account {name}" for name in MEMBERS))
+        out = keep.path.with_name("answers")
+        out.write_bytes(b"." * (100_000 - room_left))
+
+        def small() -> None:
+            resource.setrlimit(resource.RLIMIT_FSIZE, (100_000, 100_000))
+
+        with out.open("ab") as answers:
+            command = [str(keep.program), str(keep.path), "serve", "--tagged", "--setting", CHEAP]
+            run = subprocess.run(command, input=enrolments(0), stdout=answers, stderr=subprocess.PIPE, timeout=60, preexec_fn=small, restore_signals=False)
+        same(run.returncode, 2)
+        written = out.read_bytes()[100_000 - room_left :].decode()
+        same(len(written), room_left)
+        lines = written.split("\n")[:-1]
+        holds(all(re.fullmatch(r"t[0-9]+ enrolled", line) for line in lines), written)
+        done = {MEMBERS[int(line.split()[0][1:])] for line in lines}
+        stands = enrolled(keep)
+        holds(done <= stands, f"{done} and {stands}")
+        keep.is_sound()
+        out.unlink()
+
+
 def each_request_refused(room: Room) -> None:
     """Each request for memory is refused in turn: it ends with a status of its own, or all is answered."""
     shim = refusing_shim(str(room.folder))
@@ -738,6 +841,9 @@ TESTS: list[Callable[[Room], None]] = [
     memory_of_a_record,
     memory_runs_out,
     failing_database,
+    changes_together,
+    disk_full_in_a_group,
+    writer_fails_in_a_group,
     each_request_refused,
     threads_that_cannot_start,
     closed_output,
