@@ -22,7 +22,8 @@ RT ?= rt
 PYTHON ?= /usr/bin/python3
 
 PROGRAMS := credbook credkeep
-BUILT := $(foreach name,$(PROGRAMS),crates/$(name)/out/$(name))
+# The programs themselves. What bin has is bin/launcher.in, which runs them with huge pages.
+LIBEXEC := $(PREFIX)/libexec/rigzumal
 CPU ?=
 
 .PHONY: build programs library test deb wheel bench interop install uninstall
@@ -63,7 +64,13 @@ install: build
 	$(MAKE) -C c install PREFIX='$(PREFIX)' DESTDIR='$(DESTDIR)' RT='$(RT)'
 	$(MAKE) -C python install PREFIX='$(PREFIX)' DESTDIR='$(DESTDIR)'
 	install -d $(DESTDIR)$(PREFIX)/bin $(DESTDIR)$(PREFIX)/share/man/man1 $(DESTDIR)$(PREFIX)/share/man/man5
-	install -m 755 $(BUILT) bin/credkeep-ask $(DESTDIR)$(PREFIX)/bin
+	install -d $(DESTDIR)$(LIBEXEC)
+	for name in $(PROGRAMS); do \
+		install -m 755 crates/$$name/out/$$name $(DESTDIR)$(LIBEXEC) && \
+		sed "s|@PROGRAM@|$(LIBEXEC)/$$name|" bin/launcher.in > $(DESTDIR)$(PREFIX)/bin/$$name && \
+		chmod 755 $(DESTDIR)$(PREFIX)/bin/$$name || exit 1; \
+	done
+	install -m 755 bin/credkeep-ask $(DESTDIR)$(PREFIX)/bin
 	install -m 644 $(PROGRAMS:%=man/%.1) $(DESTDIR)$(PREFIX)/share/man/man1
 	install -m 644 man/rigzumal-script.5 $(DESTDIR)$(PREFIX)/share/man/man5
 	install -d $(DESTDIR)$(PREFIX)/sbin $(DESTDIR)$(PREFIX)/share/man/man8
@@ -79,6 +86,8 @@ uninstall:
 	$(MAKE) -C c uninstall PREFIX='$(PREFIX)' DESTDIR='$(DESTDIR)'
 	$(MAKE) -C python uninstall PREFIX='$(PREFIX)' DESTDIR='$(DESTDIR)'
 	rm -f $(PROGRAMS:%=$(DESTDIR)$(PREFIX)/bin/%) $(DESTDIR)$(PREFIX)/bin/credkeep-ask
+	rm -f $(PROGRAMS:%=$(DESTDIR)$(LIBEXEC)/%)
+	rmdir --ignore-fail-on-non-empty $(DESTDIR)$(LIBEXEC) 2>/dev/null || true
 	rm -f $(PROGRAMS:%=$(DESTDIR)$(BASH_DIR)/%) $(PROGRAMS:%=$(DESTDIR)$(ZSH_DIR)/_%)
 	rm -f $(PROGRAMS:%=$(DESTDIR)$(PREFIX)/share/man/man1/%.1) $(DESTDIR)$(PREFIX)/share/man/man5/rigzumal-script.5
 	rm -f $(DESTDIR)$(PREFIX)/sbin/credkeep-server $(DESTDIR)$(PREFIX)/share/man/man8/credkeep-server.8

@@ -24,6 +24,7 @@ TOP = pathlib.Path(__file__).resolve().parent.parent
 SECURITY = "lib/x86_64-linux-gnu/security"
 UNITS = "lib/systemd/system"
 NAME = "credkeep-server"
+LIBEXEC = "usr/libexec/rigzumal"
 
 PAM_PROFILE = """Name: Passwords of a kept book (Rigzumal)
 Default: no
@@ -108,6 +109,12 @@ class Programs:
     binaries: tuple[str, ...] = ()
 
 
+def launcher(name: str) -> str:
+    """What runs a program with huge pages."""
+    text = (TOP / "bin/launcher.in").read_text()
+    return text.replace("@PROGRAM@", f"/{LIBEXEC}/{name}")
+
+
 def packages() -> list[Programs]:
     return [
         Programs(
@@ -119,8 +126,10 @@ def packages() -> list[Programs]:
             " scripts, and credkeep-server lets a machine's servers ask a kept book\n"
             " through Unix sockets.\n",
             {
-                "usr/bin/credbook": TOP / "crates/credbook/out/credbook",
-                "usr/bin/credkeep": TOP / "crates/credkeep/out/credkeep",
+                **{
+                    f"{LIBEXEC}/{it}": TOP / "crates" / it / "out" / it
+                    for it in ("credbook", "credkeep")
+                },
                 "usr/bin/credkeep-ask": TOP / "bin/credkeep-ask",
                 f"usr/sbin/{NAME}": TOP / "bin" / NAME,
                 "usr/share/man/man1/credbook.1.gz": TOP / "man/credbook.1",
@@ -140,12 +149,15 @@ def packages() -> list[Programs]:
                     for it in sorted((TOP / "completions").glob("_*"))
                 },
             },
+            texts={
+                f"usr/bin/{it}": launcher(it) for it in ("credbook", "credkeep")
+            },
             scripts={
                 "postinst": TOOLS_POSTINST,
                 "prerm": TOOLS_PRERM,
                 "postrm": TOOLS_POSTRM,
             },
-            binaries=("usr/bin/credbook", "usr/bin/credkeep"),
+            binaries=(f"{LIBEXEC}/credbook", f"{LIBEXEC}/credkeep"),
         ),
         Programs(
             "libpam-rigzumal",
@@ -185,7 +197,7 @@ def put_files(package: Programs, root: pathlib.Path, version: str) -> None:
         subprocess.run(["strip", "--strip-unneeded", root / binary], check=True)
     for it in root.rglob("*"):
         if not it.is_symlink():
-            runs = it.is_dir() or it.parent.name in ("bin", "sbin")
+            runs = it.is_dir() or it.parent.name in ("bin", "sbin", "rigzumal")
             it.chmod(0o755 if runs else 0o644)
 
 
