@@ -251,7 +251,8 @@ def is_in(path, module, owner, last):
 
 def verdict_of(bug, name, said):
     """refused; by its proof, if a written proof names what the bug took away and no goal is open; not covered, if the
-    borrow checker leaves no goals to judge it by; not reached, if it leaves none of a function that it calls; or none."""
+    borrow checker leaves no goals to judge it by; not reached, if it leaves none of a function that it calls; or none, also if
+    only the written proof of another function, in which another bug stands, is refused."""
     verdict = None
     for path, what in re.findall(r"(?m)^(?:fn|closure) (\S+): (.*)$", said):
         if not is_of(path, name, bug.function):
@@ -261,10 +262,12 @@ def verdict_of(bug, name, said):
         if "the borrow checker's part in its proof is not made yet" in what:
             return "not reached"
         own = re.sub(r"[;,]? ?(in `[^`]*`, of this cycle of calls: )?(it calls|it passes the block) .*", "", what)
-        if own in ("proved", "no holes", "no proof:") or "waits for the proof" in what:
+        folder = "/".join(path.split("::")[1:])
+        stands = re.fullmatch(r"not proved; it stands on (.*), which antt refuses", own)
+        is_of_another = stands and f".proofs.{folder.replace('/', '.')}." not in stands[1]
+        if own in ("proved", "no holes", "no proof:") or "waits for the proof" in what or is_of_another:
             verdict = verdict or "none"
             continue
-        folder = "/".join(path.split("::")[1:])
         errors = re.findall(rf"(?m)^\./proofs/{re.escape(folder)}/\S+: error: (.*(?:\n  .*)?)", said)
         by_proof = "did not prove" not in own and errors and all(GONE.search(" ".join(it.split())) for it in errors)
         verdict = "by its proof" if by_proof and verdict != "refused" else "refused"
