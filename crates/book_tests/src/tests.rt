@@ -16,6 +16,7 @@ mod names;
 mod operations;
 mod refusals;
 mod registers;
+mod scratch;
 mod secrets;
 mod work;
 mod workers;

@@ -1,11 +1,12 @@
 //! Texts and what is answered to them, from other programs or worked out by hand: the faults of
 //! damaged texts (`faults`), values read, made and written (`texts`), tags (`tags`), the threads
-//! that make them (`gates`) and drawn salts (`salts`). Most of the texts are those of
-//! `test_samples`. And that a password isn't shown (`secrets`).
+//! that make them (`gates`), memory that is kept (`scratch`) and drawn salts (`salts`). Most of the
+//! texts are those of `test_samples`. And that a password isn't shown (`secrets`).
 
 mod faults;
 mod gates;
 mod salts;
+mod scratch;
 mod secrets;
 mod tags;
 mod texts;

@@ -9,7 +9,7 @@ use std::thread::Threads;
 use test_samples::{A, OLD, SCRYPT};
 
 /// By the reference program of Argon2, as A is, with two lanes.
-const TWO_LANES: &str =
+pub(super) const TWO_LANES: &str =
     "$argon2id$v=19$m=256,t=2,p=2$c29tZXNhbHQ$bQk8UB/VmZZF4Oo79iDXuL5/0ttZwg2f/5U52iv1cDc";
 
 /// By the same, for `argon2i`.
