@@ -26,7 +26,7 @@ from credkeep.keep import CHEAP, RECORD, Keep, Room, begun, holds, main, same
 from refuse_memory import build as refusing_shim
 
 # The checker alone: its package needs the built library.
-sys.path.insert(0, str(pathlib.Path(__file__).resolve().parent.parent / "c" / "python" / "rigzumal" / "accounts"))
+sys.path.insert(0, str(pathlib.Path(__file__).resolve().parent.parent / "python" / "rigzumal" / "accounts"))
 from history import Account, Operation, check  # noqa: E402
 
 OPERATIONS = int(os.environ.get("RIGZUMAL_OPERATIONS", "4000"))
