@@ -22,7 +22,7 @@ import time
 from collections.abc import Callable
 from typing import Optional
 
-from credkeep.keep import CHEAP, RECORD, Keep, Room, begun, holds, main, same
+from credkeep.keep import CHEAP, RECORD, Ended, Keep, Room, begun, holds, main, same
 from refuse_memory import build as refusing_shim
 
 # The checker alone: its package needs the built library.
@@ -670,7 +670,8 @@ def disk_full_in_a_group(room: Room) -> None:
 def writer_fails_in_a_group(room: Room) -> None:
     """Where the answers of a group can't be written whole, those that were are of changes that stand."""
     for room_left in (0, 1, 20, 300):
-        keep = begun(room)
+        keep = room.keep(f"users{room_left}.db")
+        same(keep("init"), Ended(0, b"", b""))
         answered(keep, *(f"t account {name}" for name in MEMBERS))
         out = keep.path.with_name("answers")
         out.write_bytes(b"." * (100_000 - room_left))
