@@ -1,15 +1,19 @@
 #!/usr/bin/python3
 """Times `credkeep serve --tagged` beside `serve`, and beside what one hash alone takes.
 
-    bench/keep/tagged.py [--seconds S] [--threads N [N ..]] [--costs M,T,P ..] [PROGRAM]
+    bench/keep/tagged.py [--seconds S] [--threads N [N ..]] [--costs M,T,P ..] [--sync MS] [PROGRAM]
 
 For each costs: verifies a second of `serve`, then of `serve --tagged` with each number of threads, and the same divided by threads times the
 rate of one thread alone. Then the time of a change (p50 and p99) beside verifies, and the peak of memory. It asks through pipes, with four
-lines open for each thread. Run it on a machine that does nothing else.
+lines open for each thread.
+
+Then changes a second, with the cheapest costs, of 1, 4, 16 and 64 clients who wait for each answer, on a disk whose syncs take MS longer than
+they do (4 if it isn't said): a library before the C library's adds that, so it needs cc. Run it on a machine that does nothing else.
 """
 
 import argparse
 import base64
+import os
 import pathlib
 import resource
 import statistics
@@ -19,10 +23,31 @@ import time
 
 TOP = pathlib.Path(__file__).resolve().parent.parent.parent
 WORD = base64.b64encode(b"secret").decode()
+CHEAPEST = "$argon2id$v=19$m=8,t=1,p=1"
+CLIENTS = (1, 4, 16, 64)
+
+# A sync, after a pause of so many microseconds.
+SLOW_SYNC = """
+#define _GNU_SOURCE
+#include <dlfcn.h>
+#include <unistd.h>
+
+int fsync(int file) {
+    usleep(PAUSE);
+    return ((int (*)(int))dlsym(RTLD_NEXT, "fsync"))(file);
+}
+
+int fdatasync(int file) {
+    usleep(PAUSE);
+    return ((int (*)(int))dlsym(RTLD_NEXT, "fdatasync"))(file);
+}
+"""
 
 
-def started(program: pathlib.Path, path: pathlib.Path, *words: str) -> "subprocess.Popen[bytes]":
-    return subprocess.Popen([program, path, "serve", *words], stdin=subprocess.PIPE, stdout=subprocess.PIPE)
+def started(program: pathlib.Path, path: pathlib.Path, *words: str, preload: str = "") -> "subprocess.Popen[bytes]":
+    command = [program, path, "serve", *words]
+    environment = {**os.environ, "LD_PRELOAD": preload} if preload else None
+    return subprocess.Popen(command, stdin=subprocess.PIPE, stdout=subprocess.PIPE, env=environment)
 
 
 def ask(run: "subprocess.Popen[bytes]", line: str) -> str:
@@ -97,11 +122,49 @@ def changes(program: pathlib.Path, path: pathlib.Path, threads: int, seconds: fl
     return times
 
 
+def changes_a_second(program: pathlib.Path, path: pathlib.Path, clients: int, seconds: float, shim: str) -> float:
+    """Of so many clients, each with an account of its own, who send a line once the one before it is answered."""
+    with started(program, path, "--tagged", "--setting", CHEAPEST, preload=shim) as run:
+        assert run.stdin and run.stdout
+        for at in range(clients):
+            ask(run, f"a account c{clients}x{at}")
+        run.stdin.write("".join(f"{at} enrol c{clients}x{at} {WORD}\n" for at in range(clients)).encode())
+        run.stdin.flush()
+        start, count = time.perf_counter(), 0
+        while time.perf_counter() - start < seconds:
+            tag, answer = run.stdout.readline().decode().split()
+            assert answer in ("enrolled", "removed")
+            word = "remove" if answer == "enrolled" else "enrol"
+            run.stdin.write(f"{tag} {word} c{clients}x{tag} {WORD}\n".encode())
+            run.stdin.flush()
+            count += 1
+        rate = count / (time.perf_counter() - start)
+        run.communicate()
+        return rate
+
+
+def changes_together(program: pathlib.Path, seconds: float, pause: float) -> None:
+    """Prints the changes a second of each number of clients."""
+    with tempfile.TemporaryDirectory() as folder:
+        source, shim = pathlib.Path(folder) / "slow_sync.c", pathlib.Path(folder) / "slow_sync.so"
+        source.write_text(SLOW_SYNC.replace("PAUSE", str(round(pause * 1000))))
+        subprocess.run(["cc", "-shared", "-fPIC", "-o", shim, source, "-ldl"], check=True)
+        path = pathlib.Path(folder) / "users.db"
+        subprocess.run([program, path, "init"], check=True)
+        print(f"changes a second, {CHEAPEST}, a sync takes {pause:g} ms more:")
+        alone = 0.0
+        for clients in CLIENTS:
+            rate = changes_a_second(program, path, clients, seconds, str(shim))
+            alone = alone or rate
+            print(f"  {clients} clients: {rate:.0f}, {rate / alone:.1f} times those of one", flush=True)
+
+
 def main() -> None:
     parser = argparse.ArgumentParser(description="Times credkeep serve --tagged.")
     parser.add_argument("--seconds", type=float, default=10)
     parser.add_argument("--threads", type=int, nargs="+", default=[1, 2, 4])
-    parser.add_argument("--costs", nargs="+", default=["65536,1,1", "4096,1,1"])
+    parser.add_argument("--costs", nargs="*", default=["65536,1,1", "4096,1,1"])
+    parser.add_argument("--sync", type=float, default=4, metavar="MS")
     parser.add_argument(
         "program",
         nargs="?",
@@ -132,7 +195,10 @@ def main() -> None:
                 )
             times = changes(words.program, path, max(words.threads), words.seconds)
             cuts = statistics.quantiles(times, n=100) if len(times) > 1 else [0.0] * 99
-            print(f"  changes beside verifies: p50 {cuts[49] * 1000:.1f} ms, p99 {cuts[98] * 1000:.1f} ms of {len(times)}")
+            print(
+                f"  changes beside verifies: p50 {cuts[49] * 1000:.1f} ms, p99 {cuts[98] * 1000:.1f} ms of {len(times)}"
+            )
+    changes_together(words.program, words.seconds, words.sync)
     peak = resource.getrusage(resource.RUSAGE_CHILDREN).ru_maxrss
     print(f"peak of memory of one process: {peak / 1024:.0f} MiB")
 
