@@ -124,6 +124,29 @@ def of_threads(program):
             yield f"threads of {workers} workers", most if most not in wanted else None, None
 
 
+def of_launcher(program):
+    """What is installed runs the program with huge pages, unless GLIBC_TUNABLES says something of them: same words, input and end."""
+    huge, arenas = "glibc.malloc.hugetlb=1", "glibc.malloc.arena_max=2"
+    with tempfile.TemporaryDirectory(prefix="credbook-") as folder:
+        launcher = pathlib.Path(folder) / "launcher"
+        text = (TOP / "bin" / "launcher.in").read_text()
+        for inner, words in ((program, ["check", RECORD, OTHER]), (program, ["run"]), (program, ["hash", "a b", ""])):
+            launcher.write_text(text.replace("@PROGRAM@", inner))
+            launcher.chmod(0o755)
+            yield f"launched {words}", run(launcher, words, SCRIPT), run(inner, words, SCRIPT)
+        launcher.write_text(text.replace("@PROGRAM@", "printenv"))
+        for given, wanted in (
+            (None, huge),
+            ("", huge),
+            (arenas, f"{arenas}:{huge}"),
+            ("glibc.malloc.hugetlb=0", "glibc.malloc.hugetlb=0"),
+            (f"{arenas}:glibc.malloc.hugetlb=2", f"{arenas}:glibc.malloc.hugetlb=2"),
+        ):
+            own = {"PATH": os.environ["PATH"]} | ({} if given is None else {"GLIBC_TUNABLES": given})
+            ended = run(launcher, ["GLIBC_TUNABLES"], env=own)
+            yield f"launched with {given}", ended, Ended(0, f"{wanted}\n".encode(), b"")
+
+
 def record_with(byte):
     """The record, with this byte of its tag turned into another."""
     tag = bytearray(base64.b64decode(TAG + "="))
@@ -154,7 +177,7 @@ def main():
     if not os.path.exists(program):
         sys.exit(f"{program} isn't there: run rt run in crates/credbook, or rt ci")
     passed, failed = 0, 0
-    for tests in (of_words, of_clap, of_streams, of_memory, of_threads, of_instructions):
+    for tests in (of_words, of_clap, of_streams, of_memory, of_threads, of_launcher, of_instructions):
         for name, ended, wanted in tests(program):
             passed, failed = passed + (ended == wanted), failed + (ended != wanted)
             if ended != wanted:
