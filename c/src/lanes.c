@@ -20,6 +20,9 @@
 
 enum { SLICES = 4, MOST_HELPERS = 254, PAGE = 4096, LEAST_STACK = 512 * 1024 };
 
+/* What a child doesn't get of a helper's stack: the whole pages of what is cleared. */
+enum { WIPED_STACK = CLEARED_STACK / PAGE * PAGE };
+
 /* In KiB: where four lanes begin to gain by threads on an idle machine. */
 #ifndef LEAST_SHARED_MEMORY
 #define LEAST_SHARED_MEMORY 4096
@@ -114,11 +117,11 @@ static void clear_segments(struct run *run) {
 static void *help(void *run) {
     unsigned char gap[PAGE];
     unsigned char *end = gap + PAGE - (uintptr_t)(gap + PAGE) % PAGE;
-    madvise(end - CLEARED_STACK, CLEARED_STACK, MADV_WIPEONFORK);
+    madvise(end - WIPED_STACK, WIPED_STACK, MADV_WIPEONFORK);
     work_segments(run);
     clear_segments(run);
     clear_traces();
-    madvise(end - CLEARED_STACK, CLEARED_STACK, MADV_KEEPONFORK);
+    madvise(end - WIPED_STACK, WIPED_STACK, MADV_KEEPONFORK);
     return NULL;
 }
 
