@@ -263,9 +263,7 @@ static COMMANDS: [HelpText; 19] = [
 
 /// Whether one of the words is a command's.
 pub(crate) fn names_command(words: &[String]) -> bool {
-    words
-        .iter()
-        .any(|word| COMMANDS.iter().any(|text| text.word == word.as_str()))
+    words.iter().any(|word| COMMANDS.iter().any(|text| text.word == word.as_str()))
 }
 
 /// Writes the words of all commands, in a line.

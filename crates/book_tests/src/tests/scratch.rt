@@ -19,11 +19,21 @@ fn rows<R: Abort>(rt: &R) -> [Row; 8] {
         (a, verify(rt, "password"), Reply::Yes, 256),
         (a, verify(rt, ""), Reply::No, 256),
         (None, enrol(rt, "", A_SETTING), Reply::Enrolled, 256),
-        (a, change(rt, "password", "", B_SETTING), Reply::Replaced, 384),
+        (
+            a,
+            change(rt, "password", "", B_SETTING),
+            Reply::Replaced,
+            384,
+        ),
         (b, remove(rt, "password"), Reply::Removed, 384),
         (scrypt, verify(rt, "password"), Reply::Yes, 1024),
         (None, verify(rt, "password"), Reply::Absent, 1024),
-        (scrypt, change(rt, "password", "", A_SETTING), Reply::Replaced, 256),
+        (
+            scrypt,
+            change(rt, "password", "", A_SETTING),
+            Reply::Replaced,
+            256,
+        ),
     ]
 }
 
