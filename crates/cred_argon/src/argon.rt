@@ -77,8 +77,8 @@ pub fn argon2_alone<G: Gate>(
 /// read. A thread that makes many hashes so spares the system from taking its memory back each time
 /// and giving it out anew.
 ///
-/// Beside the memory that is kept, at most that of the parameters is taken, and some KiB. The errors
-/// are the same, and leave the scratch good for the next hash.
+/// Beside the memory that is kept, at most that of the parameters is taken, and some KiB. The
+/// errors are the same, and leave the scratch good for the next hash.
 pub fn argon2_in<G: Gate>(
     scratch: &mut ArgonScratch,
     alloc: Global,

@@ -3,8 +3,8 @@
 //!
 //! [`argon2`] makes a tag from a password, a salt and [`Params`], its lanes worked by threads;
 //! [`argon2_alone`] makes it on the caller's thread, and [`argon2_in`] in memory that is kept from
-//! hash to hash. [`begin_lanes`], [`work_lane`] and [`tag_of_lanes`] are its parts, for a caller who
-//! has threads and memory of its own. [`compress`] and [`reference`] are the two parts that its
+//! hash to hash. [`begin_lanes`], [`work_lane`] and [`tag_of_lanes`] are its parts, for a caller
+//! who has threads and memory of its own. [`compress`] and [`reference`] are the two parts that its
 //! memory is filled with; look at them alone if you like.
 #![tactic(auto)]
 

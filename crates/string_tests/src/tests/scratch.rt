@@ -42,12 +42,12 @@ fn tags_in_one_scratch(rt: HostRuntime) {
 #[test]
 fn refused_memory_leaves_the_scratch(rt: HostRuntime) {
     let mut scratch = Scratch::new(rt.alloc(), 1024);
-    let mut refused = 0;
+    let mut refused: u32 = 0;
     for (text, _) in IN_TURN {
         let stored = stored(&rt, text);
         match made_again(&mut scratch, rt.alloc(), &stored) {
             Ok(made) => assert_eq!(rt; made, stored, "{text}"),
-            Err(TagError::Memory) => refused += 1,
+            Err(TagError::Memory) => refused = refused.saturating_add(1),
         }
     }
     assert!(rt; refused <= 1, "{refused}");
