@@ -1,6 +1,6 @@
 -- What an administrator's lines do.
 use Rattle.std.specs.Prelude.{◌≡◌, ℕ, List, [], ◌∷◌, ◌++◌, Bool, true, false, ◌&&◌, not}
-use Rattle.std.specs.Prelude.{nat_lt, codes, take, Option, Result, Ok, Err}
+use Rattle.std.specs.Prelude.{nat_lt, codes, take, Result, Ok, Err}
 use Rattle.std.specs.List.{filter}
 use Rattle.std.specs.Option.{option_or}
 use Rattle.std.specs.Ordering.{is_lt}

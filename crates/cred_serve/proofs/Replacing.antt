@@ -1,5 +1,5 @@
 -- What a keeper answers that replaces records together.
-use Rattle.std.proofs.Common.{◌≡◌, ℕ, List, [], ◌∷◌, ◌++◌, Bool, true, false, cond, Option, Some, None, Result, Ok, Err, is_some, refl, sym, ap, ◌∙◌}
+use Rattle.std.proofs.Common.{◌≡◌, ℕ, List, [], ◌∷◌, ◌++◌, Bool, true, false, cond, Option, Some, Result, Ok, Err, is_some, refl, sym, ap, ◌∙◌}
 use Rattle.std.specs.Option.{option_or}
 use Rattle.std.specs.FinMap as fin
 use Rattle.std.specs.FinMap.{get-empty, get-entries, get-from_entries}
