@@ -1,10 +1,11 @@
 #!/usr/bin/python3
 """Times `credkeep serve --tagged` beside `serve`, and beside what one hash alone takes.
 
-    bench/keep/tagged.py [--seconds S] [--threads N [N ..]] [--costs M,T,P ..] [--sync MS] [PROGRAM]
+    bench/keep/tagged.py [--seconds S] [--threads N [N ..]] [--costs M,T,P ..] [--sync MS] [--hash PROGRAM] [PROGRAM]
 
-For each costs: verifies a second of `serve`, then of `serve --tagged` with each number of threads, and the same divided by threads times the
-rate of one thread alone. Then the time of a change (p50 and p99) beside verifies, and the peak of memory. It asks through pipes, with four
+For each costs: hashes a second of `credbook hash`, a process after another and as many side by side as there are threads; verifies a second
+of `serve`, then of `serve --tagged` with each number of threads, and the same divided by threads times `credbook hash` alone, and by threads
+times the rate of one thread. Then the time of a change (p50 and p99) beside verifies, and the peak of memory. It asks through pipes, with four
 lines open for each thread.
 
 Then changes a second, with the cheapest costs, of 1, 4, 16 and 64 clients who wait for each answer, on a disk whose syncs take MS longer than
@@ -13,6 +14,7 @@ they do (4 if it isn't said): a library before the C library's adds that, so it 
 
 import argparse
 import base64
+import concurrent.futures
 import os
 import pathlib
 import resource
@@ -23,6 +25,7 @@ import time
 
 TOP = pathlib.Path(__file__).resolve().parent.parent.parent
 WORD = base64.b64encode(b"secret").decode()
+SALT = base64.b64encode(b"a salt of the bench").decode().rstrip("=")
 CHEAPEST = "$argon2id$v=19$m=8,t=1,p=1"
 CLIENTS = (1, 4, 16, 64)
 
@@ -56,6 +59,23 @@ def ask(run: "subprocess.Popen[bytes]", line: str) -> str:
     run.stdin.write(line.encode() + b"\n")
     run.stdin.flush()
     return run.stdout.readline().decode()
+
+
+def hashes(program: pathlib.Path, setting: str, seconds: float, at_once: int) -> float:
+    """Hashes a second of a process each, of which so many run side by side."""
+    end = time.perf_counter() + seconds
+
+    def one_lane(_lane: int) -> int:
+        count = 0
+        while time.perf_counter() < end:
+            subprocess.run([program, "hash", f"{setting}${SALT}", WORD], check=True, stdout=subprocess.DEVNULL)
+            count += 1
+        return count
+
+    start = time.perf_counter()
+    with concurrent.futures.ThreadPoolExecutor(at_once) as lanes:
+        count = sum(lanes.map(one_lane, range(at_once)))
+    return count / (time.perf_counter() - start)
 
 
 def one_at_a_time(program: pathlib.Path, path: pathlib.Path, seconds: float) -> float:
@@ -171,6 +191,7 @@ def main() -> None:
         type=pathlib.Path,
         default=TOP / "crates/credkeep/out/credkeep",
     )
+    parser.add_argument("--hash", type=pathlib.Path, default=TOP / "crates/credbook/out/credbook", metavar="PROGRAM")
     words = parser.parse_args()
     for costs in words.costs:
         m, t, p = costs.split(",")
@@ -181,6 +202,9 @@ def main() -> None:
             for name in ["ann", "bob"]:
                 command = [words.program, path, "add", name, "--setting", setting]
                 subprocess.run(command, input=b"secret\n", check=True, stdout=subprocess.DEVNULL)
+            alone = hashes(words.hash, setting, words.seconds, 1)
+            beside = hashes(words.hash, setting, words.seconds, max(words.threads))
+            print(f"{setting}: credbook hash {alone:.1f} a second, {beside:.1f} with {max(words.threads)} side by side")
             print(
                 f"{setting}: serve {one_at_a_time(words.program, path, words.seconds):.1f} verifies a second",
                 flush=True,
@@ -190,7 +214,8 @@ def main() -> None:
                 rate = many(words.program, path, threads, words.seconds)
                 single = single or rate / threads
                 print(
-                    f"  --at-once {threads}: {rate:.1f} a second, {rate / (threads * single):.2f} of the limit",
+                    f"  --at-once {threads}: {rate:.1f} a second, {rate / (threads * alone):.2f} of credbook's and"
+                    f" {rate / (threads * single):.2f} of one thread's as many times",
                     flush=True,
                 )
             times = changes(words.program, path, max(words.threads), words.seconds)
