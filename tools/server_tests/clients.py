@@ -10,7 +10,6 @@ from __future__ import annotations
 
 import asyncio
 import importlib
-import os
 import pathlib
 import re
 import socket
@@ -23,7 +22,7 @@ from collections.abc import Callable, Iterator
 from contextlib import contextmanager
 from typing import Any
 
-from common import TOP, Skipped, field_of, holds, need, run_tests, same, serving, until
+from common import TOP, Skipped, holds, need, run_tests, same, serving
 
 
 def ours() -> Any:

@@ -3,6 +3,7 @@
 from __future__ import annotations
 
 import base64
+import importlib.util
 import os
 import pathlib
 import shutil
@@ -15,7 +16,8 @@ import time
 from collections.abc import Callable, Iterator
 from contextlib import contextmanager
 from dataclasses import dataclass, field
-from typing import Optional
+from importlib.machinery import SourceFileLoader
+from typing import Any, Optional
 
 HERE = pathlib.Path(__file__).resolve().parent
 TOP = HERE.parent.parent
@@ -89,6 +91,30 @@ def is_listening(path: pathlib.Path) -> bool:
 def field_of(password: bytes) -> str:
     """A password as a line has it."""
     return base64.b64encode(password).decode().rstrip("=") or "-"
+
+
+SECRET = field_of(b"secret")
+WRONG = field_of(b"guess")
+
+
+def as_user(uid: int, gid: int, path: pathlib.Path, *lines: str) -> str:
+    """What a user's process is answered at a socket, or the system's refusal."""
+    script = "import socket, sys\ns = socket.socket(socket.AF_UNIX)\ns.settimeout(20)\n"
+    script += "try:\n    s.connect(sys.argv[1])\nexcept PermissionError:\n    print('not permitted')\n    sys.exit()\n"
+    script += "for line in sys.argv[2:]:\n    s.sendall(b'1 ' + line.encode() + b'\\n')\n    print(s.recv(100).decode()[2:].strip())\n"
+    done = subprocess.run([sys.executable, "-c", script, path, *lines], user=uid, group=gid, extra_groups=[], capture_output=True, text=True)
+    return " ".join(done.stdout.split("\n")).strip() or done.stderr
+
+
+def program() -> Any:
+    """The server's program as a module."""
+    loader = SourceFileLoader("credkeep_server", os.environ.get("CREDKEEP_SERVER", str(TOP / "bin/credkeep-server")))
+    spec = importlib.util.spec_from_loader("credkeep_server", loader)
+    assert spec
+    module = importlib.util.module_from_spec(spec)
+    sys.modules["credkeep_server"] = module
+    loader.exec_module(module)
+    return module
 
 
 class Client:

@@ -16,7 +16,6 @@ import os
 import pathlib
 import re
 import shutil
-import stat
 import subprocess
 import sys
 import tempfile
@@ -28,10 +27,8 @@ from common import (
     PYTHON,
     TOP,
     Client,
-    Given,
     Skipped,
     chosen_book,
-    command,
     field_of,
     holds,
     is_listening,
