@@ -12,6 +12,7 @@
 - Each bug that is planted in C, Python and Rust fits the code (tools/planting.py --fits).
 - docs/PROMISES.md names calls, clauses, wrong bodies, tests and files (tools/promises.py).
 - Each link between pages leads to a file, and each picture has a text for those who can't see it.
+- docs/DEFINITIONS.md names each file of specs/ in its crate's section.
 - Each library and program of crates.txt has a page, crates/NAME/README.md, and stands in docs/pictures/crates.svg.
 - Code after a line `<!-- from FILE -->` stands in that file, word for word but for what is left out at a line of two dots.
 - A proof by hand, which may give a ghost field any value, stands in a folder that is named here.
@@ -147,6 +148,17 @@ def rooms():
             yield None if f">{name}</text>" in picture else f"docs/pictures/crates.svg lacks {name}: run tools/pictures.py"
 
 
+def definitions():
+    """Each file of definitions, in its crate's section of docs/DEFINITIONS.md."""
+    page = promises.source(TOP / "docs/DEFINITIONS.md")
+    sections = dict(re.findall(r"^## (\w+)\n(.*?)(?=^## |\Z)", page, re.S | re.M))
+    for file in sorted(CRATES.glob("*/specs/**/*.antt")):
+        crate, name = file.relative_to(CRATES).parts[0], file.stem
+        if name != "Lib":
+            is_named = re.search(rf"\b{name}\b", sections.get(crate, ""))
+            yield None if is_named else f"docs/DEFINITIONS.md: {crate} has no {name}"
+
+
 def walks():
     """The proofs by hand."""
     for proof in CRATES.glob("*/proofs/**/Proof.antt"):
@@ -156,7 +168,17 @@ def walks():
 
 
 def main():
-    found = [*figures(), *logic(), *planted(), *bugs(), *let_through(), *([*planting.misfits()] or [None]), *rooms(), *walks()]
+    found = [
+        *figures(),
+        *logic(),
+        *planted(),
+        *bugs(),
+        *let_through(),
+        *([*planting.misfits()] or [None]),
+        *rooms(),
+        *definitions(),
+        *walks(),
+    ]
     for page in PAGES:
         found += [*links(page), *callers(page)]
     passed, failures = promises.check()
