@@ -5,7 +5,7 @@ use Rattle.std.specs.Cmp.Lexicographic.{nat_list_cmp_total}
 use Rattle.cred_book.specs.Accounts.{Accounts}
 use Rattle.cred_book.specs.declared.error.BookError.TheVariants as error
 use Rattle.cred_admin.specs.declared.entry.LineFault.{LineFault}
-use Rattle.cred_admin.specs.declared.entry.LineFault.TheVariants.{Book, Locked as IsLocked}
+use Rattle.cred_admin.specs.declared.entry.LineFault.TheVariants.{Book, Costly, Locked as IsLocked}
 use Rattle.cred_admin.specs.declared.entry.Said.{Said}
 use Rattle.cred_admin.specs.declared.entry.Said.TheVariants.{Nothing, Account, Locked}
 use Rattle.cred_admin.specs.declared.gathering.Existing.{Existing}
@@ -15,7 +15,7 @@ use Rattle.cred_admin.specs.declared.gathering.LockedRecords.TheVariants as lock
 use Rattle.cred_admin.specs.declared.gathering.Rules.{Rules}
 use Rattle.cred_admin.specs.declared.gathering.ImportFault.{ImportFault}
 use Rattle.cred_admin.specs.declared.gathering.ImportFault.TheVariants as fault
-use Rattle.cred_admin.specs.Import.{Tally, said_of, tally_from, with_account, with_bad, with_entry, with_existing, with_line, with_locked}
+use Rattle.cred_admin.specs.Import.{Tally, is_costly, said_of, tally_from, with_account, with_bad, with_entry, with_existing, with_line, with_locked}
 use Rattle.cred_admin.specs.Listing.{Entry}
 
 pub tally_more : (rules : Rules) (book : Accounts) (t next : Tally) (n : ℕ) (lines rest : List (List ℕ)) (line : List ℕ) (all : Tally) → tally_from rules book t n lines ≡ all → lines ≡ line ∷ rest
@@ -63,7 +63,8 @@ grows_locked rules book t n name locked.Disabled = grows_entry rules.existing bo
 
 pub grows : (rules : Rules) (book : Accounts) (t : Tally) (n : ℕ) (r : Result Said LineFault) → Grows t (with_line rules book t n r)
 grows rules book t n (Ok Nothing) = record { more = omega arith; kept = omega arith }
-grows rules book t n (Ok (Account name stored)) = grows_entry rules.existing book t n (name, stored)
+grows rules book t n (Ok (Account name stored)) =
+    if_grows t _ _ (is_costly rules.most stored) (grows_bad t n Costly) (grows_entry rules.existing book t n (name, stored))
 grows rules book t n (Ok (Locked name)) = grows_locked rules book t n name rules.locked
 grows rules book t n (Err why) = grows_bad t n why
 

@@ -1,5 +1,5 @@
 -- What an import makes of its text.
-use Rattle.std.specs.Prelude.{◌≡◌, ℕ, ◌+◌, ◌-◌, ◌<◌, Bool, true, ◌||◌, ◌==◌, if◌then◌else◌, nat_eq}
+use Rattle.std.specs.Prelude.{◌≡◌, ℕ, ◌+◌, ◌-◌, ◌<◌, Bool, true, false, ◌||◌, ◌==◌, if◌then◌else◌, nat_eq}
 use Rattle.std.specs.Prelude.{List, [], ◌∷◌, ◌++◌, length, take, drop, codes, Option, None, Some}
 use Rattle.std.specs.Prelude.{IfSome, Result, Ok, Err, ⊤}
 use Rattle.std.specs.List.{ends_with, starts_with}
@@ -14,8 +14,9 @@ use Rattle.cred_book.specs.Names.{made_name}
 use Rattle.cred_book.specs.Errors.{error_number as refusal_number, error_word as refusal_word}
 use Rattle.cred_book.specs.declared.error.BookError.{BookError}
 use Rattle.cred_book.specs.declared.error.BookError.TheVariants as error
+use Rattle.cred_cli.specs.Costs.{exceeds}
 use Rattle.cred_admin.specs.declared.entry.LineFault.{LineFault}
-use Rattle.cred_admin.specs.declared.entry.LineFault.TheVariants.{Line, Text, Book}
+use Rattle.cred_admin.specs.declared.entry.LineFault.TheVariants.{Line, Text, Book, Costly}
 use Rattle.cred_admin.specs.declared.entry.LineFault.TheVariants.{Locked as IsLocked}
 use Rattle.cred_admin.specs.declared.entry.Said.{Said}
 use Rattle.cred_admin.specs.declared.entry.Said.TheVariants.{Nothing, Account, Locked}
@@ -35,12 +36,14 @@ line_number Line = 11
 line_number (Text e) = fault_number e
 line_number (Book e) = refusal_number e
 line_number IsLocked = 17
+line_number Costly = 18
 
 abbrev pub line_word : LineFault → List ℕ
 line_word Line = codes "line"
 line_word (Text e) = fault_word e
 line_word (Book e) = refusal_word e
 line_word IsLocked = codes "locked"
+line_word Costly = codes "costly"
 
 -- ---- one line
 
@@ -165,10 +168,16 @@ abbrev pub with_locked : Rules → Accounts → Tally → ℕ → List ℕ → L
 with_locked rules book t n name locked.Refused = with_bad t n IsLocked
 with_locked rules book t n name locked.Disabled = with_entry rules.existing book t n (name, None)
 
+-- a record asks for more memory than the bound, if there is one
+abbrev pub is_costly : Option ℕ → Option RecordValue → Bool
+is_costly (Some most) (Some stored) = exceeds most stored.setting.scheme
+is_costly _ _ = false
+
 abbrev pub with_said : Rules → Accounts → Tally → ℕ → Said → Tally
 with_said rules book t n Nothing = t
 with_said rules book t n (Account name stored) =
-    with_entry rules.existing book t n (name, stored)
+    if is_costly rules.most stored then with_bad t n Costly
+    else with_entry rules.existing book t n (name, stored)
 with_said rules book t n (Locked name) = with_locked rules book t n name rules.locked
 
 abbrev pub with_line : Rules → Accounts → Tally → ℕ → Result Said LineFault → Tally

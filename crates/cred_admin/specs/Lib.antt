@@ -8,6 +8,7 @@ pub mod Listing
 pub mod Seen
 pub mod Settings
 pub mod Statuses
+pub use Rattle.cred_cli.specs.Costs
 pub use Rattle.cred_cli.specs.Outcome
 pub use Rattle.cred_cli.specs.Texts
 pub use Rattle.cred_cli.specs.Watched

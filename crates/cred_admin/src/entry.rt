@@ -25,10 +25,12 @@ pub enum LineFault {
     Book(BookError),
     /// Its record is locked.
     Locked,
+    /// Its record asks for more memory than the bound.
+    Costly,
 }
 
 impl LineFault {
-    /// The number of the fault, as in the answers to a script: from 1 to 9, 11 or 17.
+    /// The number of the fault, as in the answers to a script: from 1 to 9, 11, 17 or 18.
     pub fn number(self) -> u8
         ensures { result ≡ line_number self }
     {
@@ -37,6 +39,7 @@ impl LineFault {
             LineFault::Text(fault) => fault.number(),
             LineFault::Book(refusal) => refusal.number(),
             LineFault::Locked => 17,
+            LineFault::Costly => 18,
         }
     }
 
@@ -49,6 +52,7 @@ impl LineFault {
             LineFault::Text(fault) => fault.word(),
             LineFault::Book(refusal) => refusal.word(),
             LineFault::Locked => "locked",
+            LineFault::Costly => "costly",
         }
     }
 }

@@ -5,13 +5,13 @@ ghost use Rattle.std.specs.Prelude.{None, OnOk, true, ℕ};
 ghost use Rattle.std.specs.FinMap as map;
 ghost use Rattle.cred_book.specs.Accounts.{register_capacity};
 ghost use Rattle.cred_cli.specs.Watched.{failed_of, inner_of};
-ghost use Rattle.cred_admin.specs.Import.{GatherFails, nothing_yet, said_of, tally, tally_of};
-ghost use Rattle.cred_admin.specs.Import.{with_bad, with_entry, with_existing, with_line};
-ghost use Rattle.cred_admin.specs.Import.{with_locked, with_said};
+ghost use Rattle.cred_admin.specs.Import.{GatherFails, is_costly, nothing_yet, said_of, tally};
+ghost use Rattle.cred_admin.specs.Import.{tally_of, with_bad, with_entry, with_existing};
+ghost use Rattle.cred_admin.specs.Import.{with_line, with_locked, with_said};
 
 use crate::entry::{LineFault, Said, said_of};
 use cred_book::{BookError, Name, Register};
-use cred_cli::Watched;
+use cred_cli::{Watched, exceeds};
 use cred_phc::{Pieces, Record};
 use std::alloc::Global;
 use std::io::{ErrorKind, Read};
@@ -41,6 +41,20 @@ pub enum LockedRecords {
 pub struct Rules {
     pub existing: Existing,
     pub locked: LockedRecords,
+    /// How many KiB a record may ask for, if there is a bound; a line whose record asks for more is
+    /// at fault.
+    pub most: Option<u64>,
+}
+
+impl Rules {
+    fn is_costly(&self, stored: &Option<Record>) -> bool
+        ensures { result ≡ is_costly self.now.most stored.now }
+    {
+        match (self.most, stored) {
+            (Some(most), Some(stored)) => exceeds(most, &stored.setting()),
+            _ => false,
+        }
+    }
 }
 
 /// A line that isn't good.
@@ -186,6 +200,9 @@ impl Gathered {
     {
         match said {
             Said::Nothing => Ok(()),
+            Said::Account { stored, .. } if rules.is_costly(stored) => {
+                self.refuse(number, LineFault::Costly)
+            }
             Said::Account { name, stored } => {
                 self.take_entry(book, rules.existing, number, *name, *stored)
             }

@@ -1,11 +1,13 @@
 -- What a byte more, or the end, makes of a script.
-use Rattle.std.proofs.Common.{◌≡◌, ℕ, suc, ◌+◌, ◌<◌, List, [], ◌∷◌, ◌++◌, length, take, map, Some, refl, sym, ap, ◌∙◌, arith, slice_get, get_or, drop, append_assoc, take-append-drop, inl, inr}
+use Rattle.std.proofs.Common.{◌≡◌, ℕ, suc, ◌+◌, ◌<◌, List, [], ◌∷◌, ◌++◌, length, take, map, Option, Some, refl, sym, ap, ◌∙◌, arith, slice_get, get_or, drop, append_assoc, take-append-drop, inl, inr}
 use Rattle.std.proofs.lemmas.Bool.{cases_lt}
 use Rattle.std.proofs.lemmas.List.{length-append, length-map, length-take, take-append-le, take_all, take_more}
 use Rattle.std.proofs.Math.Seq.{drop-cons}
 use Rattle.cred_cli.specs.Events.{event_of, most_kept}
 use Rattle.cred_cli.specs.Feeding.{unfinished_from}
-use Rattle.cred_cli.specs.Script.{lines_of, events_of, line_ends}
+use Rattle.cred_cli.specs.Costs.{events_within, within}
+use Rattle.cred_cli.specs.Script.{lines_of, line_ends}
+use Rattle.cred_cli.proofs.Bounds.{length-within, within_at}
 use Rattle.cred_cli.proofs.Lines.{whole_from, lines_of-line_end, lines_of-ended, lines_of-unfinished, length-whole_from, event_of-kept}
 
 get_seam : (front : List (List ℕ)) (line : List ℕ) (more : List (List ℕ)) → slice_get (map event_of (front ++ line ∷ more)) (length front) ≡ Some (event_of line)
@@ -13,17 +15,18 @@ get_seam [] line more = refl
 get_seam (l ∷ ls) line more = get_seam ls line more
 
 -- the line at place i, of which not all need be kept
-event_at : (all whole : List ℕ) (line : List ℕ) (more : List (List ℕ)) → lines_of all ≡ whole_from [] whole ++ line ∷ more →
-    slice_get (events_of all) (line_ends whole) ≡ Some (event_of (take most_kept line))
-event_at all whole line more cut =
+event_at : (most : Option ℕ) (all whole : List ℕ) (line : List ℕ) (more : List (List ℕ)) → lines_of all ≡ whole_from [] whole ++ line ∷ more →
+    slice_get (events_within most all) (line_ends whole) ≡ Some (within most (event_of (take most_kept line)))
+event_at most all whole line more cut = within_at most all (line_ends whole) (event_of (take most_kept line)) (
     ap (λ lines. slice_get (map event_of lines) (line_ends whole)) cut
     ∙ ap (slice_get (map event_of (whole_from [] whole ++ line ∷ more))) (sym (length-whole_from [] whole))
     ∙ get_seam (whole_from [] whole) line more
     ∙ ap Some (sym (event_of-kept line))
+    )
 
 -- the line that ends behind the front
-pub ended_event : (all front rest : List ℕ) → all ≡ front ++ 10 ∷ rest → slice_get (events_of all) (line_ends front) ≡ Some (event_of (take most_kept (unfinished_from [] front)))
-ended_event all front rest cut = event_at all front (unfinished_from [] front) (lines_of rest) (ap lines_of cut ∙ lines_of-line_end front rest)
+pub ended_event : (most : Option ℕ) (all front rest : List ℕ) → all ≡ front ++ 10 ∷ rest → slice_get (events_within most all) (line_ends front) ≡ Some (within most (event_of (take most_kept (unfinished_from [] front))))
+ended_event most all front rest cut = event_at most all front (unfinished_from [] front) (lines_of rest) (ap lines_of cut ∙ lines_of-line_end front rest)
 
 -- bytes, of which not all need be kept
 pub none_kept : (start line : List ℕ) → start ≡ take most_kept line → length start ≡ 0 → line ≡ []
@@ -34,22 +37,23 @@ pub some_kept : (start line : List ℕ) → start ≡ take most_kept line → 0 
 some_kept start line kept some = omega (arith, some, ap length kept, length-take most_kept line)
 
 -- the line that the script leaves unfinished is its last
-pub record HasLast (all : List ℕ) : Type 0 where
-  pub event : slice_get (events_of all) (line_ends all) ≡ Some (event_of (take most_kept (unfinished_from [] all)))
-  pub count : length (events_of all) ≡ suc (line_ends all)
+pub record HasLast (most : Option ℕ) (all : List ℕ) : Type 0 where
+  pub event : slice_get (events_within most all) (line_ends all) ≡ Some (within most (event_of (take most_kept (unfinished_from [] all))))
+  pub count : length (events_within most all) ≡ suc (line_ends all)
 
-pub has_last : (all : List ℕ) → 0 < length (unfinished_from [] all) → HasLast all
-has_last all some = record {
-  event = event_at all all (unfinished_from [] all) [] (lines_of-unfinished all some);
-  count = length-map (lines_of all) event_of
+pub has_last : (most : Option ℕ) (all : List ℕ) → 0 < length (unfinished_from [] all) → HasLast most all
+has_last most all some = record {
+  event = event_at most all all (unfinished_from [] all) [] (lines_of-unfinished all some);
+  count = length-within most all
+      ∙ length-map (lines_of all) event_of
       ∙ ap length (lines_of-unfinished all some)
       ∙ length-append (whole_from [] all) (unfinished_from [] all ∷ [])
       ∙ omega (arith, length-whole_from [] all);
 }
 
 -- or every line has its end
-pub count-ended : (all : List ℕ) → unfinished_from [] all ≡ [] → length (events_of all) ≡ line_ends all
-count-ended all none = length-map (lines_of all) event_of ∙ ap length (lines_of-ended all none) ∙ length-whole_from [] all
+pub count-ended : (most : Option ℕ) (all : List ℕ) → unfinished_from [] all ≡ [] → length (events_within most all) ≡ line_ends all
+count-ended most all none = length-within most all ∙ length-map (lines_of all) event_of ∙ ap length (lines_of-ended all none) ∙ length-whole_from [] all
 
 -- a byte more than is kept
 pub take-kept : (n : ℕ) (line : List ℕ) (b : ℕ) → take n (take n line ++ b ∷ []) ≡ take n (line ++ b ∷ [])

@@ -7,12 +7,13 @@ use Rattle.cred_cli.specs.declared.fault.ScriptFault.{ScriptFault}
 use Rattle.cred_cli.specs.declared.fault.ScriptFault.TheVariants.{Memory}
 use Rattle.cred_cli.specs.Statuses.{status_number, status_of}
 use Rattle.cred_cli.specs.Commands.{Runs}
-use Rattle.cred_cli.specs.Outcome.{FailsWithin, HasCause, ScriptFails, StandsAfter}
+use Rattle.cred_cli.specs.Outcome.{HasCause, ScriptFails, StandsAfter}
 use Rattle.cred_cli.specs.Prompt.{IsPrompt}
+use Rattle.cred_cli.specs.Costs.{events_within}
 use Rattle.cred_cli.specs.Script.{events_of, script_start, start_as}
 use Rattle.cred_cli.specs.Starving.{EndsAs, IsHistory}
 use Rattle.cred_cli.specs.declared.event.Event.{Event}
-use Rattle.cred_cli.specs.declared.starving.Starving.{Starving}
+use Rattle.cred_cli.specs.declared.policy.Policy.{Policy}
 use Rattle.cred_cli.proofs.Starvings.{history_asked}
 use Rattle.cred_cli.specs.Watched.{Reading, Writing}
 use Rattle.cred_cli.proofs.Names.{book_at-zero}
@@ -20,25 +21,22 @@ use Rattle.cred_cli.proofs.Prompts.{no_calls}
 use Rattle.cred_cli.proofs.Readings.{if_known}
 use Rattle.cred_cli.proofs.Answered.{answers_before-zero}
 
-pub nothing_done : (capacity : ℕ) (book : Accounts) (bytes : List ℕ) (before : Option (List ℕ)) → StandsAfter capacity book (events_of bytes) 0 before before book
-nothing_done capacity book bytes before = record {
-  written = rw (answers_before-zero capacity book (events_of bytes)) (Appends-nil before);
-  accounts_are = sym (book_at-zero capacity book (events_of bytes));
+pub nothing_done : (capacity : ℕ) (book : Accounts) (events : List Event) (before : Option (List ℕ)) → StandsAfter capacity book events 0 before before book
+nothing_done capacity book events before = record {
+  written = rw (answers_before-zero capacity book events) (Appends-nil before);
+  accounts_are = sym (book_at-zero capacity book events);
 }
 
 -- there was no memory to begin a script with
-pub script_unbegun : (longest capacity : ℕ) (left before : Option (List ℕ)) (book : Accounts) (bytes : List ℕ) → FailsWithin longest capacity book bytes left before before book Memory
-script_unbegun longest capacity left before book bytes = (0, inr refl, nothing_done capacity book bytes before)
-
-pub unbegun : (starving : Starving) (longest capacity : ℕ) (book : Accounts) (before : Option (List ℕ)) (failed : Bool) (name : ℕ) (r : Reading) → r.log ≡ [] → IfSome r.input (λ bytes. (events : List Event)
-    × IsHistory starving capacity book (events_of bytes) events
+pub unbegun : (policy : Policy) (longest capacity : ℕ) (book : Accounts) (before : Option (List ℕ)) (failed : Bool) (name : ℕ) (r : Reading) → r.log ≡ [] → IfSome r.input (λ bytes. (events : List Event)
+    × IsHistory policy.starving capacity book (events_within policy.most bytes) events
     × EndsAs longest capacity (start_as book bytes before events) r (record { before = before; now = before; failed = failed; name = name }) book (Err Memory))
-unbegun starving longest capacity book before failed name r unread = if_known r.input _ (λ all known. (
-  events_of all,
-  history_asked starving capacity book (events_of all),
+unbegun policy longest capacity book before failed name r unread = if_known r.input _ (λ all known. (
+  events_within policy.most all,
+  history_asked policy.starving capacity book (events_within policy.most all),
   record {
     done = tt;
-    fault = script_unbegun longest capacity r.left before book all;
+    fault = (0, inr refl, nothing_done capacity book (events_within policy.most all) before);
     short = tt;
     prompt = rw unread tt;
   },
@@ -50,7 +48,7 @@ no_memory r before failed name status unread is = inr (
   Memory,
   is,
   record {
-    stands = if_known r.input _ (λ bs known. (map.empty, (0, inr refl, nothing_done most_accounts map.empty bs before)));
+    stands = if_known r.input _ (λ bs known. (map.empty, (0, inr refl, nothing_done most_accounts map.empty (events_of bs) before)));
     cause = tt;
     prompt = no_calls most_accounts map.empty name before r.input r.log unread;
   },

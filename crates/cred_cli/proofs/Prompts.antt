@@ -10,7 +10,7 @@ use Rattle.cred_cli.specs.Prompt.{HasFewer, IsPrompt, IsPromptAt, left_length}
 use Rattle.cred_cli.specs.Script.{ScriptStart, answers_before, events_of, line_ends, script_start, with_events}
 use Rattle.cred_cli.specs.Starving.{GoesOn, IsSameBefore}
 use Rattle.cred_cli.specs.declared.event.Event.{Event}
-use Rattle.cred_cli.specs.declared.starving.Starving.{Starving}
+use Rattle.cred_cli.specs.declared.policy.Policy.{Policy}
 use Rattle.cred_cli.proofs.Fronts.{stands_front}
 use Rattle.cred_cli.proofs.Lines.{line_ends_longer}
 use Rattle.cred_cli.proofs.Starvings.{at_again}
@@ -19,26 +19,26 @@ use Rattle.cred_cli.proofs.Readings.{HasCome, cut_behind, if_known}
 -- ---- while a script is read
 
 -- a script is read so far, and each call on its reader was prompt
-pub record IsReadTo (starving : Starving) (capacity : ℕ) (script : ScriptStart) (name : ℕ) (left : Option (List ℕ)) (s : Standing) (calls : List Call) : Type 0 where
+pub record IsReadTo (policy : Policy) (capacity : ℕ) (script : ScriptStart) (name : ℕ) (left : Option (List ℕ)) (s : Standing) (calls : List Call) : Type 0 where
   pub front : List ℕ
   pub rest : List ℕ
   pub cut : script.bytes ≡ front ++ rest
   pub left_is : left ≡ Some rest
   pub events : List Event
-  pub at : IsAt starving capacity (with_events script events) front s
+  pub at : IsAt policy capacity (with_events script events) front s
   -- whatever the lines behind it come to
   pub prompt : (later : List Event) → IsSameBefore (line_ends front) events later → IsPrompt capacity (with_events script later) name calls
   pub fewer : HasFewer (Some rest) calls
 
 -- the reader was not called yet
-pub read_to_start : (starving : Starving) (capacity : ℕ) (script : ScriptStart) (name : ℕ) (left : Option (List ℕ)) (s : Standing) (calls : List Call) → left ≡ Some script.bytes → IsAt starving capacity script [] s → calls ≡ [] → IsReadTo starving capacity script name left s calls
-read_to_start starving capacity script name left s calls known at none = record {
+pub read_to_start : (policy : Policy) (capacity : ℕ) (script : ScriptStart) (name : ℕ) (left : Option (List ℕ)) (s : Standing) (calls : List Call) → left ≡ Some script.bytes → IsAt policy capacity script [] s → calls ≡ [] → IsReadTo policy capacity script name left s calls
+read_to_start policy capacity script name left s calls known at none = record {
   front = [];
   rest = script.bytes;
   cut = refl;
   left_is = known;
   events = script.events;
-  at = at_again starving capacity script [] s at;
+  at = at_again policy capacity script [] s at;
   prompt = λ later same. rw none tt;
   fewer = rw none tt;
 }
@@ -48,16 +48,16 @@ abbrev pub call_at : Option (List ℕ) → ℕ → Standing → Call
 call_at left beside s = record { left = left; beside = beside; written = s.written; accounts = s.accounts }
 
 -- one call more is prompt, whatever comes of it
-pub prompt_call : {starving : Starving} {capacity : ℕ} {script : ScriptStart} {name : ℕ} {left : Option (List ℕ)} {s : Standing} {earlier calls : List Call} (beside : ℕ) (read : IsReadTo starving capacity script name left s earlier)
+pub prompt_call : {policy : Policy} {capacity : ℕ} {script : ScriptStart} {name : ℕ} {left : Option (List ℕ)} {s : Standing} {earlier calls : List Call} (beside : ℕ) (read : IsReadTo policy capacity script name left s earlier)
     → beside ≡ name → calls ≡ call_at left beside s ∷ earlier → (later : List Event) → IsSameBefore (line_ends read.front) read.events later → IsPrompt capacity (with_events script later) name calls
 prompt_call {capacity = capacity} {script = script} {s = s} beside read named are later same =
     let stands = stands_front capacity script.book read.events later (line_ends read.front) same script.before s.written s.accounts (rw (← read.at.lines_are) read.at.stands) in
     rw are (record { front = read.front; came = rw read.left_is read.cut; beside = named; stands = stands }, rw read.left_is read.fewer, read.prompt later same)
 
 -- and where it gave bytes that are taken, the script is read behind them
-pub read_on : {starving : Starving} {capacity : ℕ} {script : ScriptStart} {name : ℕ} {left now : Option (List ℕ)} {old new : Standing} {earlier calls : List Call} (beside : ℕ) (bytes : List ℕ) (read : IsReadTo starving capacity script name left old earlier)
-    → HasCome read.rest bytes now → 0 < length bytes → beside ≡ name → calls ≡ call_at left beside old ∷ earlier → (events : List Event) → GoesOn starving capacity (with_events script read.events) (line_ends read.front) events
-    → IsAt starving capacity (with_events script events) (read.front ++ bytes) new → IsReadTo starving capacity script name now new calls
+pub read_on : {policy : Policy} {capacity : ℕ} {script : ScriptStart} {name : ℕ} {left now : Option (List ℕ)} {old new : Standing} {earlier calls : List Call} (beside : ℕ) (bytes : List ℕ) (read : IsReadTo policy capacity script name left old earlier)
+    → HasCome read.rest bytes now → 0 < length bytes → beside ≡ name → calls ≡ call_at left beside old ∷ earlier → (events : List Event) → GoesOn policy capacity (with_events script read.events) (line_ends read.front) events
+    → IsAt policy capacity (with_events script events) (read.front ++ bytes) new → IsReadTo policy capacity script name now new calls
 read_on {script = script} beside bytes read more some named are events goes_on fed = record {
   front = read.front ++ bytes;
   rest = more.left;

@@ -22,12 +22,15 @@ use Rattle.cred_cli.specs.History.{Opened, after, answer_at, answer_of, book_at,
 use Rattle.cred_cli.specs.Texts.{line_of}
 use Rattle.cred_cli.proofs.Names.{book_at-suc}
 use Rattle.cred_cli.proofs.Openings.{open_at-suc}
-use Rattle.cred_cli.specs.Outcome.{FailsAs, FailsWithin, IsAnswered, StandsAfter}
+use Rattle.cred_cli.specs.Outcome.{FailsAs, IsAnswered, StandsAfter}
 use Rattle.cred_cli.specs.Prompt.{IsPrompt}
 use Rattle.cred_cli.specs.Watched.{Reading, Writing}
 use Rattle.cred_cli.specs.declared.script.End.{End}
 use Rattle.cred_cli.specs.Feeding.{IsAt, Standing, TakesLineAs, between}
-use Rattle.cred_cli.specs.Script.{ScriptStart, events_of, script_start, start_as, with_events}
+use Rattle.cred_cli.specs.Costs.{events_within}
+use Rattle.cred_cli.specs.declared.policy.Policy.{Policy}
+use Rattle.cred_cli.specs.Script.{ScriptStart, script_start, start_as, with_events}
+use Rattle.cred_cli.proofs.Bounds.{unbounded}
 use Rattle.cred_cli.specs.Starving.{Becomes, EndsAs, GoesOn, IsHistory, IsSameBefore, IsServed, IsStarved, NeedsHash, starved}
 use Rattle.cred_cli.specs.Steps.{WriteFails, slot}
 use Rattle.cred_cli.specs.Tickets.{HoldTickets, IsTicketOf}
@@ -73,17 +76,17 @@ module _ (capacity : ℕ) (book : Accounts) (events : List Event) (i : ℕ) (eve
       let bounds = rw may.commits at sound in
       ticket_needs capacity book events i slots held may.key bounds.0 bounds.1 (here ∙ ap Some may.commits) accounts stands.accounts_are starving event may refl
 
-  pub line_taken : (starving : Starving) (later : Accounts) (left : List (Option Task)) (line : AnswerLine) (failed : Bool) (r : Result (Unit {0}) ScriptFault) → IsDoneOrStarved starving capacity accounts slots event later left line →
+  pub line_taken : (policy : Policy) (later : Accounts) (left : List (Option Task)) (line : AnswerLine) (failed : Bool) (r : Result (Unit {0}) ScriptFault) → IsDoneOrStarved policy.starving capacity accounts slots event later left line →
       OnOk r (Appends mid now (line_bytes line)) → IfErr r (WriteFails mid now (line_bytes line) failed) →
-      (then_ : List Event) × TakesLineAs starving capacity book events i before (between now later left) r then_
-  line_taken starving later left line failed r (inl done) written fails =
+      (then_ : List Event) × TakesLineAs policy capacity book events i before (between now later left) r then_
+  line_taken policy later left line failed r (inl done) written fails =
       (events, record { becomes = inl refl; ended = line_ended capacity book events i event sound here before mid now accounts stands slots held later left line failed r done written fails })
-  line_taken starving later left line failed r (inr (may, done)) written fails =
+  line_taken policy later left line failed r (inr (may, done)) written fails =
       let then_ = set events i starved in
       let same = set_before events i starved in (
         then_,
         record {
-          becomes = inr (may.answered, may.key, here ∙ ap Some may.commits, wants starving may, refl);
+          becomes = inr (may.answered, may.key, here ∙ ap Some may.commits, wants policy.starving may, refl);
           ended = line_ended capacity book then_ i starved tt (set_here events i starved (slice_get_within events i event here)) before mid now accounts
               (stands_front capacity book events then_ i same before mid accounts stands) slots (tickets_front capacity book events then_ i same slots held) later left line failed r done written fails;
         },
@@ -163,12 +166,12 @@ grows Answered capacity book asked events now i history behind (inr (answered, k
 
 -- ---- the script goes on
 
-pub goes_nowhere : (starving : Starving) (capacity : ℕ) (script : ScriptStart) (i : ℕ) → IsHistory starving capacity script.book (events_of script.bytes) script.events → GoesOn starving capacity script i script.events
-goes_nowhere starving capacity script i history = record { same = λ j before. refl; history = history }
+pub goes_nowhere : (policy : Policy) (capacity : ℕ) (script : ScriptStart) (i : ℕ) → IsHistory policy.starving capacity script.book (events_within policy.most script.bytes) script.events → GoesOn policy capacity script i script.events
+goes_nowhere policy capacity script i history = record { same = λ j before. refl; history = history }
 
-pub goes_then : (starving : Starving) (capacity : ℕ) (script : ScriptStart) (events later : List Event) (i k : ℕ) → i ≤ k → GoesOn starving capacity script i events → GoesOn starving capacity (with_events script events) k later →
-    GoesOn starving capacity script i later
-goes_then starving capacity script events later i k le first then_ =
+pub goes_then : (policy : Policy) (capacity : ℕ) (script : ScriptStart) (events later : List Event) (i k : ℕ) → i ≤ k → GoesOn policy capacity script i events → GoesOn policy capacity (with_events script events) k later →
+    GoesOn policy capacity script i later
+goes_then policy capacity script events later i k le first then_ =
     record { same = λ j before. then_.same j (omega (arith, before, le)) ∙ first.same j before; history = then_.history }
 
 -- the limit stays the same
@@ -176,8 +179,8 @@ pub fails_within : (longest within capacity : ℕ) (script : ScriptStart) (now :
     (left : Option (List ℕ)) → FailsAs longest capacity script left now accounts e
 fails_within longest within capacity script now accounts e same fails left = rw (← same) (fails left)
 
-pub at_again : (starving : Starving) (capacity : ℕ) (script : ScriptStart) (front : List ℕ) (s : Standing) → IsAt starving capacity script front s → IsAt starving capacity (with_events script script.events) front s
-at_again starving capacity script front s at = record {
+pub at_again : (policy : Policy) (capacity : ℕ) (script : ScriptStart) (front : List ℕ) (s : Standing) → IsAt policy capacity script front s → IsAt policy capacity (with_events script script.events) front s
+at_again policy capacity script front s at = record {
   history = at.history;
   behind = at.behind;
   stands = at.stands;
@@ -194,20 +197,24 @@ module _ (longest capacity : ℕ) (r : Reading) (w : Writing) (old new : Account
   abbrev Asked : List ℕ → Result End ScriptFault → Type 0
   Asked bytes result = EndsAs longest capacity (script_start old bytes w.before) r w new result
 
-  asked_alone : (bytes : List ℕ) (result : Result End ScriptFault) → (events : List Event) × IsHistory Ends capacity old (events_of bytes) events × EndsAs longest capacity (start_as old bytes w.before events) r w new result → Asked bytes result
-  asked_alone bytes result (events, is, ended) = rw is at ended
+  -- where nothing is too costly
+  abbrev Alone : List ℕ → Result End ScriptFault → Type 0
+  Alone bytes result = (events : List Event) × IsHistory Ends capacity old (events_within None bytes) events × EndsAs longest capacity (start_as old bytes w.before events) r w new result
 
-  pub as_asked : (result : Result End ScriptFault) → IfSome r.input (λ bytes. (events : List Event) × IsHistory Ends capacity old (events_of bytes) events × EndsAs longest capacity (start_as old bytes w.before events) r w new result) →
+  asked_alone : (bytes : List ℕ) (result : Result End ScriptFault) → Alone bytes result → Asked bytes result
+  asked_alone bytes result (events, is, ended) = rw (is ∙ unbounded bytes) at ended
+
+  pub as_asked : (result : Result End ScriptFault) → IfSome r.input (λ bytes. Alone bytes result) →
       IfOk result (λ end. IfSome r.input (λ bytes. IsAnswered capacity old bytes w.before w.now new end.lines))
       × OnOk result (IfSome r.input (λ bytes. length bytes ≤ longest))
-      × IfErr result (λ fault. IfSome r.input (λ bytes. FailsWithin longest capacity old bytes r.left w.before w.now new fault))
+      × IfErr result (λ fault. IfSome r.input (λ bytes. FailsAs longest capacity (script_start old bytes w.before) r.left w.now new fault))
       × IfSome r.input (λ bytes. IsPrompt capacity (script_start old bytes w.before) w.name r.log)
   as_asked result ended = by_input r.input result ended
     where
-      by_input : (input : Option (List ℕ)) (result : Result End ScriptFault) → IfSome input (λ bytes. (events : List Event) × IsHistory Ends capacity old (events_of bytes) events × EndsAs longest capacity (start_as old bytes w.before events) r w new result) →
+      by_input : (input : Option (List ℕ)) (result : Result End ScriptFault) → IfSome input (λ bytes. Alone bytes result) →
           IfOk result (λ end. IfSome input (λ bytes. IsAnswered capacity old bytes w.before w.now new end.lines))
           × OnOk result (IfSome input (λ bytes. length bytes ≤ longest))
-          × IfErr result (λ fault. IfSome input (λ bytes. FailsWithin longest capacity old bytes r.left w.before w.now new fault))
+          × IfErr result (λ fault. IfSome input (λ bytes. FailsAs longest capacity (script_start old bytes w.before) r.left w.now new fault))
           × IfSome input (λ bytes. IsPrompt capacity (script_start old bytes w.before) w.name r.log)
       by_input None (Ok end) ended = (tt, tt, tt, tt)
       by_input None (Err e) ended = (tt, tt, tt, tt)

@@ -6,12 +6,13 @@ use Rattle.cred_book.specs.Works.{Task}
 use Rattle.cred_cli.specs.Events.{event_of, most_kept}
 use Rattle.cred_cli.specs.declared.event.Event.{Event}
 use Rattle.cred_cli.specs.declared.fault.ScriptFault.{ScriptFault}
+use Rattle.cred_cli.specs.declared.policy.Policy.{Policy}
 use Rattle.cred_cli.specs.declared.progress.Progress.{Progress}
 use Rattle.cred_cli.specs.declared.run.Run.{Run}
 use Rattle.cred_cli.specs.declared.script.End.{End}
-use Rattle.cred_cli.specs.declared.starving.Starving.{Starving}
 use Rattle.cred_cli.specs.Outcome.{FailsAs, IsAnsweredAs, StandsAfter}
-use Rattle.cred_cli.specs.Script.{ScriptStart, events_of, line_ends, with_events}
+use Rattle.cred_cli.specs.Costs.{events_within, within}
+use Rattle.cred_cli.specs.Script.{ScriptStart, line_ends, with_events}
 use Rattle.cred_cli.specs.Starving.{Becomes, EndsAs, GoesOn, IsHistory}
 use Rattle.cred_cli.specs.Steps.{LineFails}
 use Rattle.cred_cli.specs.Tickets.{HoldTickets}
@@ -49,31 +50,32 @@ between written accounts slots =
     record { written = written; accounts = accounts; slots = slots }
 
 -- the next of some lines comes to an event, and is answered too, or a fault ends the run
-pub record TakesLineAs (starving : Starving) (capacity : ℕ) (book : Accounts)
+pub record TakesLineAs (policy : Policy) (capacity : ℕ) (book : Accounts)
     (events : List Event) (i : ℕ) (before : Option (List ℕ)) (new : Between)
     (r : Result (Unit {0}) ScriptFault) (now : List Event) : Type 0 where
-  pub becomes : Becomes starving capacity book events i now
+  pub becomes : Becomes policy.starving capacity book events i now
   pub ended : MatchResult r (λ _. StandsAfter capacity book now (suc i) before new.written
       new.accounts × HoldTickets capacity book now (suc i) new.slots)
       (LineFails capacity book now i before new.written new.accounts)
 
 -- from wherever the next of some lines is this one
-abbrev pub TakesLine : Starving → ℕ → List ℕ → Between → Between
+abbrev pub TakesLine : Policy → ℕ → List ℕ → Between → Between
     → Result (Unit {0}) ScriptFault → Type 0
-TakesLine starving capacity line old new r = (book : Accounts) (events : List Event) (i : ℕ)
+TakesLine policy capacity line old new r = (book : Accounts) (events : List Event) (i : ℕ)
     (before : Option (List ℕ))
     → StandsAfter capacity book events i before old.written old.accounts
     → HoldTickets capacity book events i old.slots
-    → slice_get events i ≡ Some (event_of line)
-    → (now : List Event) × TakesLineAs starving capacity book events i before new r now
+    → slice_get events i ≡ Some (within policy.most (event_of line))
+    → (now : List Event) × TakesLineAs policy capacity book events i before new r now
 
 -- the whole lines of the front are answered, and the start of the next is kept; the events of the
 -- lines behind them are what these ask for
-pub record IsAt (starving : Starving) (capacity : ℕ) (script : ScriptStart) (front : List ℕ)
+pub record IsAt (policy : Policy) (capacity : ℕ) (script : ScriptStart) (front : List ℕ)
     (s : Standing) : Type 0 where
-  pub history : IsHistory starving capacity script.book (events_of script.bytes) script.events
+  pub history : IsHistory policy.starving capacity script.book
+      (events_within policy.most script.bytes) script.events
   pub behind : (i : ℕ) → s.progress.lines ≤ i
-      → slice_get script.events i ≡ slice_get (events_of script.bytes) i
+      → slice_get script.events i ≡ slice_get (events_within policy.most script.bytes) i
   pub stands : StandsAfter capacity script.book script.events s.progress.lines
       script.before s.written s.accounts
   pub tickets : HoldTickets capacity script.book script.events s.progress.lines s.slots
@@ -87,20 +89,20 @@ Breaks capacity script old new e = (left : Option (List ℕ))
     → FailsAs old.progress.limit capacity script left new.written new.accounts e
 
 -- the script goes on as this one, and the bytes are taken, or a fault ends the run
-pub record TakesAs (starving : Starving) (capacity : ℕ) (script : ScriptStart)
+pub record TakesAs (policy : Policy) (capacity : ℕ) (script : ScriptStart)
     (front bytes : List ℕ) (old new : Standing) (r : Result (Unit {0}) ScriptFault)
     (events : List Event) : Type 0 where
-  pub goes_on : GoesOn starving capacity script (line_ends front) events
+  pub goes_on : GoesOn policy capacity script (line_ends front) events
   pub ended : MatchResult r
-      (λ _. IsAt starving capacity (with_events script events) (front ++ bytes) new)
+      (λ _. IsAt policy capacity (with_events script events) (front ++ bytes) new)
       (Breaks capacity (with_events script events) old new)
 
 -- from wherever a script's next bytes are these
-abbrev pub Takes : Starving → ℕ → List ℕ → Standing → Standing → Result (Unit {0}) ScriptFault
+abbrev pub Takes : Policy → ℕ → List ℕ → Standing → Standing → Result (Unit {0}) ScriptFault
     → Type 0
-Takes starving capacity bytes old new r = (script : ScriptStart) (front rest : List ℕ)
-    → script.bytes ≡ front ++ bytes ++ rest → IsAt starving capacity script front old
-    → (events : List Event) × TakesAs starving capacity script front bytes old new r events
+Takes policy capacity bytes old new r = (script : ScriptStart) (front rest : List ℕ)
+    → script.bytes ≡ front ++ bytes ++ rest → IsAt policy capacity script front old
+    → (events : List Event) × TakesAs policy capacity script front bytes old new r events
 
 -- every line is answered
 abbrev pub IsWhole : ℕ → ScriptStart → Standing → ℕ → Type 0
@@ -108,23 +110,24 @@ IsWhole capacity script new lines =
     IsAnsweredAs capacity script new.written new.accounts lines
 
 -- the last line of a script is answered too, or a fault ends the run
-pub record FinishesAs (starving : Starving) (capacity : ℕ) (script : ScriptStart)
+pub record FinishesAs (policy : Policy) (capacity : ℕ) (script : ScriptStart)
     (old new : Standing) (r : Result ℕ ScriptFault) (events : List Event) : Type 0 where
-  pub goes_on : GoesOn starving capacity script (line_ends script.bytes) events
+  pub goes_on : GoesOn policy capacity script (line_ends script.bytes) events
   pub ended : MatchResult r (IsWhole capacity (with_events script events) new)
       (Breaks capacity (with_events script events) old new)
 
 -- from the end of a script
-abbrev pub Finishes : Starving → ℕ → Standing → Standing → Result ℕ ScriptFault → Type 0
-Finishes starving capacity old new r = (script : ScriptStart)
-    → IsAt starving capacity script script.bytes old
-    → (events : List Event) × FinishesAs starving capacity script old new r events
+abbrev pub Finishes : Policy → ℕ → Standing → Standing → Result ℕ ScriptFault → Type 0
+Finishes policy capacity old new r = (script : ScriptStart)
+    → IsAt policy capacity script script.bytes old
+    → (events : List Event) × FinishesAs policy capacity script old new r events
 
 -- from the start of the script that a reader has: each line is answered, or a fault ends the run
-abbrev pub Plays : Starving → ℕ → Reading → Writing → Standing → Standing → Result End ScriptFault
+abbrev pub Plays : Policy → ℕ → Reading → Writing → Standing → Standing → Result End ScriptFault
     → Type 0
-Plays starving capacity r w old new result = (script : ScriptStart)
-    → r.input ≡ Some script.bytes → IsAt starving capacity script [] old
+Plays policy capacity r w old new result = (script : ScriptStart)
+    → r.input ≡ Some script.bytes → IsAt policy capacity script [] old
     → (events : List Event)
-    × IsHistory starving capacity script.book (events_of script.bytes) events
+    × IsHistory policy.starving capacity script.book
+    (events_within policy.most script.bytes) events
     × EndsAs old.progress.limit capacity (with_events script events) r w new.accounts result

@@ -4,6 +4,7 @@ pub mod Arguments
 pub mod Calls
 pub mod Statuses
 pub mod Commands
+pub mod Costs
 pub mod Events
 pub mod EventLines
 pub mod Faults

@@ -75,16 +75,11 @@ FailsAs longest capacity script left now accounts TooLong =
     × StandsAfter capacity script.book script.events (line_ends (take longest script.bytes))
     script.before now accounts
 
--- where each line comes to what it asks for
-abbrev pub FailsWithin : ℕ → ℕ → Accounts → List ℕ → Option (List ℕ) → Option (List ℕ)
-    → Option (List ℕ) → Accounts → ScriptFault → Type 0
-FailsWithin longest capacity book bytes left before now accounts e =
-    FailsAs longest capacity (script_start book bytes before) left now accounts e
-
--- what stands after a fault of a script
+-- what stands after a fault of a script, of which each line comes to what it asks for
 abbrev pub ScriptFails : ℕ → Accounts → List ℕ → Option (List ℕ) → Option (List ℕ) → Option (List ℕ)
     → Accounts → ScriptFault → Type 0
-ScriptFails = FailsWithin longest_script
+ScriptFails capacity book bytes left before now accounts e =
+    FailsAs longest_script capacity (script_start book bytes before) left now accounts e
 
 -- a fault of the reader or of the writer comes only if a call on it failed
 abbrev pub HasCause : Bool → Bool → ScriptFault → Type 0

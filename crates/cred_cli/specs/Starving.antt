@@ -11,14 +11,16 @@ use Rattle.cred_book.specs.declared.error.BookError.TheVariants.{Memory}
 use Rattle.cred_book.specs.declared.request.Request.{Request}
 use Rattle.cred_book.specs.declared.request.Request.TheVariants.{Enrol, Verify, Change, Upgrade}
 use Rattle.cred_book.specs.declared.request.Request.TheVariants.{Remove}
+use Rattle.cred_cli.specs.Costs.{events_within}
 use Rattle.cred_cli.specs.History.{Opened, book_at, deeds_before, is_stale, open_at}
 use Rattle.cred_cli.specs.Outcome.{FailsAs, IsAnsweredAs, longest_service}
 use Rattle.cred_cli.specs.Prompt.{IsPrompt}
-use Rattle.cred_cli.specs.Script.{ScriptStart, events_of, start_as}
+use Rattle.cred_cli.specs.Script.{ScriptStart, start_as}
 use Rattle.cred_cli.specs.Watched.{Reading, Writing}
 use Rattle.cred_cli.specs.declared.event.Event.{Event}
 use Rattle.cred_cli.specs.declared.event.Event.TheVariants.{Commit, Bad}
 use Rattle.cred_cli.specs.declared.fault.ScriptFault.{ScriptFault}
+use Rattle.cred_cli.specs.declared.policy.Policy.{Policy}
 use Rattle.cred_cli.specs.declared.refusal.Refusal.TheVariants.{Book}
 use Rattle.cred_cli.specs.declared.script.End.{End}
 use Rattle.cred_cli.specs.declared.starving.Starving.{Starving}
@@ -75,10 +77,12 @@ pub record EndsAs (longest capacity : ℕ) (script : ScriptStart) (r : Reading) 
   pub short : OnOk result (length script.bytes ≤ longest)
   pub prompt : IsPrompt capacity script w.name r.log
 
--- the same for lines that a service was sent, which come to some events of theirs
-abbrev pub Serves : ℕ → Reading → Writing → Accounts → Accounts → Result End ScriptFault → Type 0
-Serves capacity r w old new result = IfSome r.input (λ bytes. (events : List Event)
-    × IsServed capacity old (events_of bytes) events
+-- the same for lines that a service was sent, which come to some events of theirs; those that bring
+-- a setting or a record that asks for more than the bound are refused
+abbrev pub Serves : ℕ → Option ℕ → Reading → Writing → Accounts → Accounts → Result End ScriptFault
+    → Type 0
+Serves capacity most r w old new result = IfSome r.input (λ bytes. (events : List Event)
+    × IsServed capacity old (events_within most bytes) events
     × EndsAs longest_service capacity (start_as old bytes w.before events) r w new result)
 
 -- ---- while lines are taken
@@ -93,10 +97,11 @@ abbrev pub IsSameBefore : ℕ → List Event → List Event → Type 0
 IsSameBefore i old new = (j : ℕ) → j < i → slice_get new j ≡ slice_get old j
 
 -- how a script's events may change while the lines from place i on are answered
-pub record GoesOn (starving : Starving) (capacity : ℕ) (script : ScriptStart) (i : ℕ)
+pub record GoesOn (policy : Policy) (capacity : ℕ) (script : ScriptStart) (i : ℕ)
     (events : List Event) : Type 0 where
   pub same : IsSameBefore i script.events events
-  pub history : IsHistory starving capacity script.book (events_of script.bytes) events
+  pub history : IsHistory policy.starving capacity script.book
+      (events_within policy.most script.bytes) events
 
 -- how they may change while the line at place i is
 abbrev pub Becomes : Starving → ℕ → Accounts → List Event → ℕ → List Event → Type 0

@@ -16,8 +16,9 @@ ghost use Rattle.cred_cli.specs.Watched.{failed_of, inner_of, name_of};
 use crate::event::Event;
 use crate::fault::ScriptFault;
 use crate::key::Key;
+use crate::policy::Engine;
 use crate::refusal::Refusal;
-use crate::starving::{Engine, Starving};
+use crate::starving::Starving;
 use crate::tickets::Tickets;
 use crate::watched::Watched;
 use crate::writing::write_whole;
@@ -63,7 +64,7 @@ pub(crate) fn do_event<T: Threads + Wait + Sync, K: Keeper>(
     event: Event,
 ) -> Result<AnswerLine, AllocError>
     requires { IsSound event }
-    ensures done { IfOk result (IsDoneOrStarved engine.now.starving K.capacity
+    ensures done { IfOk result (IsDoneOrStarved engine.now.policy.starving K.capacity
         (K.book keeper.old) tickets.old event (K.book keeper.new) tickets.new) }
     ensures refused { OnErr result (K.book keeper.new ≡ K.book keeper.old) }
 {
@@ -110,17 +111,17 @@ fn commit<T: Threads + Wait + Sync, K: Keeper>(
     tickets: &mut Tickets,
     key: Key,
 ) -> Result<AnswerLine, AllocError>
-    ensures done { IfOk result (IsDoneOrStarved engine.now.starving K.capacity
+    ensures done { IfOk result (IsDoneOrStarved engine.now.policy.starving K.capacity
         (K.book keeper.old) tickets.old (Commit key) (K.book keeper.new) tickets.new) }
     ensures refused { OnErr result (K.book keeper.new ≡ K.book keeper.old) }
 {
     let Some(ticket) = tickets.close(key) else {
         return Ok(bad(Refusal::Idle));
     };
-    let tools = &engine.tools;
+    let tools = engine.tools;
     let worked = match ticket.work(tools.rt, tools.alloc, tools.workers, &NoGate) {
         Ok(worked) => worked,
-        Err(ticket) => return starve(engine.starving, keeper, tickets, key, ticket),
+        Err(ticket) => return starve(engine.policy.starving, keeper, tickets, key, ticket),
     };
     let Ok(reply) = keeper.commit(tools.rt, worked) else {
         return Err(AllocError);

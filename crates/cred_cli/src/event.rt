@@ -4,11 +4,13 @@ ghost use Rattle.std.specs.Prelude.{◌≡◌, IfOk, length, map, nat_lt, take, 
 ghost use Rattle.cred_phc.specs.Pieces.{pieces};
 ghost use Rattle.cred_phc.specs.Ranges.{is_current};
 ghost use Rattle.cred_book.specs.Works.{is_for_current};
+ghost use Rattle.cred_cli.specs.Costs.{is_costly, within};
 ghost use Rattle.cred_cli.specs.Events.{IsSound, account_event, begin_event, change_request};
 ghost use Rattle.cred_cli.specs.Events.{commit_event, event_of, event_of_pieces, load_event};
 ghost use Rattle.cred_cli.specs.Events.{longest_line, most_pieces, operation_of, own_setting};
 ghost use Rattle.cred_cli.specs.Events.{request_of, show_event};
 
+use crate::costs::{exceeds, request_exceeds};
 use crate::fields;
 use crate::key::Key;
 use crate::refusal::Refusal;
@@ -56,6 +58,29 @@ impl Event {
         match event_of_pieces(&first_pieces(line)) {
             Ok(event) => event,
             Err(why) => Event::Bad(why),
+        }
+    }
+
+    /// The event, or a refusal if it brings a setting or a record that asks for more than so many
+    /// KiB.
+    pub(crate) fn within(self, most: Option<u64>) -> Event
+        requires { IsSound self }
+        ensures event { result ≡ within most self }
+        ensures sound { IsSound result }
+    {
+        match most {
+            Some(most) if self.is_costly(most) => Event::Bad(Refusal::Costly),
+            _ => self,
+        }
+    }
+
+    fn is_costly(&self, most: u64) -> bool
+        ensures { result ≡ is_costly most self.now }
+    {
+        match self {
+            Event::Load(_, stored) => exceeds(most, &stored.setting()),
+            Event::Begin(_, request) => request_exceeds(most, request),
+            Event::Account(_) | Event::Show(_) | Event::Commit(_) | Event::Bad(_) => false,
         }
     }
 }

@@ -1,12 +1,15 @@
 //! Laws of the definitions of a history and of a line, which show that they say what they should.
 
 ghost use Rattle.std.specs.Prelude.{◌≡◌, ◌+◌, ◌≤◌, ◌++◌, ◌∷◌, [], ℕ, List, codes};
-ghost use Rattle.std.specs.Prelude.{Some, length, suc, take};
+ghost use Rattle.std.specs.Prelude.{Some, false, length, slice_get, suc, take, true};
 ghost use Rattle.std.specs.List.{join_with_byte};
 ghost use Rattle.std.specs.FinMap as map;
 ghost use Rattle.cred_book.specs.Accounts.{Accounts};
 ghost use Rattle.cred_cli.specs.declared.event.Event.{Event};
+ghost use Rattle.cred_cli.specs.declared.event.Event.TheVariants.{Bad};
+ghost use Rattle.cred_cli.specs.declared.refusal.Refusal.TheVariants.{Costly};
 ghost use Rattle.cred_cli.specs.Calls.{Call};
+ghost use Rattle.cred_cli.specs.Costs.{is_costly, within};
 ghost use Rattle.cred_cli.specs.EventLines.{IsLineOf};
 ghost use Rattle.cred_cli.specs.Events.{event_of};
 ghost use Rattle.cred_cli.specs.History.{answer_at, book_at, deeds_before, is_among, names_at};
@@ -46,6 +49,25 @@ pub fn starved_commits_change_nothing()
     ensures answer { (capacity : ℕ) (book : Accounts) (asked events : List Event) (i : ℕ)
         → IsStarved capacity book asked events i
         → line_of (answer_at capacity book events i) ≡ codes "bad 4 memory" ++ 10 ∷ [] }
+{}
+
+/// The law that what is within a bound brings no setting or record that asks for more, and that a
+/// line that does is refused: the book stays, and so does each open number; and its answer is
+/// `bad 18 costly`.
+pub fn costly_lines_change_nothing()
+    ensures within { (most : ℕ) (event : Event)
+        → is_costly most (within (Some most) event) ≡ false }
+    ensures refused { (most : ℕ) (event : Event) → is_costly most event ≡ true
+        → within (Some most) event ≡ Bad Costly }
+    ensures book { (capacity : ℕ) (book : Accounts) (events : List Event) (i : ℕ)
+        → slice_get events i ≡ Some (Bad Costly)
+        → book_at capacity book events (suc i) ≡ book_at capacity book events i }
+    ensures open { (capacity : ℕ) (book : Accounts) (events : List Event) (i key : ℕ)
+        → slice_get events i ≡ Some (Bad Costly)
+        → open_at capacity book events (suc i) key ≡ open_at capacity book events i key }
+    ensures answer { (capacity : ℕ) (book : Accounts) (events : List Event) (i : ℕ)
+        → slice_get events i ≡ Some (Bad Costly)
+        → line_of (answer_at capacity book events i) ≡ codes "bad 18 costly" ++ 10 ∷ [] }
 {}
 
 /// The law that a line that asks for something is its event's word and fields with one space

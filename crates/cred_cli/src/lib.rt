@@ -9,6 +9,7 @@
 mod answer;
 mod arguments;
 mod call_log;
+mod costs;
 mod event;
 mod exit_status;
 mod fault;
@@ -17,6 +18,7 @@ mod key;
 mod laws;
 mod limit;
 mod line;
+mod policy;
 mod printing;
 mod process;
 mod program;
@@ -34,11 +36,12 @@ mod writing;
 
 pub use answer::reply_line;
 pub use call_log::CallLog;
+pub use costs::{exceeds, memory_alone, memory_of, request_exceeds};
 pub use event::{first_pieces, is_too_long};
 pub use fault::ScriptFault;
 pub use laws::{
-    history_is_a_front, line_is_its_events, names_are_the_books, prompt_calls_are_answered,
-    starved_commits_change_nothing,
+    costly_lines_change_nothing, history_is_a_front, line_is_its_events, names_are_the_books,
+    prompt_calls_are_answered, starved_commits_change_nothing,
 };
 pub use process::run_program;
 pub use program::command;

@@ -8,7 +8,7 @@ ghost use Rattle.cred_cli.specs.Watched.{failed_of, inner_of, name_of};
 use crate::answer::do_event;
 use crate::event::Event;
 use crate::fault::ScriptFault;
-use crate::starving::Engine;
+use crate::policy::Engine;
 use crate::tickets::Tickets;
 use crate::watched::Watched;
 use cred_book::Keeper;
@@ -24,12 +24,13 @@ pub(crate) fn answer_line<T: Threads + Wait + Sync, K: Keeper, W: Write>(
     writer: &mut Watched<W>,
     line: &[u8],
 ) -> Result<(), ScriptFault>
-    ensures answered { TakesLine engine.now.starving K.capacity line.now
+    ensures answered { TakesLine engine.now.policy K.capacity line.now
         (between (W.contents (inner_of writer.old)) (K.book keeper.old) tickets.old)
         (between (W.contents (inner_of writer.new)) (K.book keeper.new) tickets.new) result }
     ensures named { name_of writer.new ≡ name_of writer.old }
     ensures cause { IfErr result (HasCause false (failed_of writer.new)) }
 {
-    let answer = do_event(engine, keeper, tickets, Event::of_line(line))?;
+    let event = Event::of_line(line).within(engine.policy.most);
+    let answer = do_event(engine, keeper, tickets, event)?;
     answer.write_to(writer)
 }

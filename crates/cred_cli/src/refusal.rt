@@ -24,6 +24,8 @@ pub enum Refusal {
     Busy,
     /// The number isn't open.
     Idle,
+    /// Its setting or record asks for more memory than the bound.
+    Costly,
     /// The text of a setting or a record has this fault.
     Text(PhcError),
     /// The book refuses.
@@ -41,6 +43,7 @@ impl Refusal {
             Refusal::Password => 13,
             Refusal::Busy => 14,
             Refusal::Idle => 15,
+            Refusal::Costly => 18,
             Refusal::Text(fault) => fault.number(),
             Refusal::Book(refusal) => refusal.number(),
         }
@@ -56,6 +59,7 @@ impl Refusal {
             Refusal::Password => "password",
             Refusal::Busy => "busy",
             Refusal::Idle => "idle",
+            Refusal::Costly => "costly",
             Refusal::Text(fault) => fault.word(),
             Refusal::Book(refusal) => refusal.word(),
         }
@@ -72,6 +76,7 @@ impl Refusal {
             Refusal::Password => b"bad 13 password\n",
             Refusal::Busy => b"bad 14 busy\n",
             Refusal::Idle => b"bad 15 idle\n",
+            Refusal::Costly => b"bad 18 costly\n",
             Refusal::Text(fault) => text_line(fault),
             Refusal::Book(refusal) => book_line(refusal),
         }

@@ -3,9 +3,10 @@
 
 ghost use Rattle.std.specs.Prelude.{◌≡◌, ◌+◌, ◌≤◌, false, List, [], ◌∷◌, length, Some};
 ghost use Rattle.std.specs.Prelude.{IfErr, IfSome, OnOk};
+ghost use Rattle.cred_cli.specs.Costs.{events_within};
 ghost use Rattle.cred_cli.specs.Feeding.{Finishes, IsAt, Plays, Takes, standing};
 ghost use Rattle.cred_cli.specs.Outcome.{HasCause};
-ghost use Rattle.cred_cli.specs.Script.{ScriptStart, events_of, start_as};
+ghost use Rattle.cred_cli.specs.Script.{ScriptStart, start_as};
 ghost use Rattle.cred_cli.specs.Starving.{EndsAs, IsHistory};
 ghost use Rattle.cred_cli.specs.Watched.{IsNew, calls_of, failed_of, inner_of, name_of};
 ghost use Rattle.cred_cli.specs.Watched.{reading, writing};
@@ -14,9 +15,9 @@ ghost use Rattle.cred_cli.specs.declared.event.Event.{Event};
 use crate::fault::ScriptFault;
 use crate::limit::Limit;
 use crate::line::answer_line;
+use crate::policy::Engine;
 use crate::progress::Progress;
 use crate::script::End;
-use crate::starving::Engine;
 use crate::tickets::Tickets;
 use crate::watched::Watched;
 use cred_book::Keeper;
@@ -38,7 +39,8 @@ pub(crate) fn answer_all<T: Threads + Wait + Sync, K: Keeper, R: Read, W: Write>
     requires new_reader { IsNew reader.old }
     requires new_writer { IsNew writer.old }
     ensures ended { IfSome (R.remaining (inner_of reader.old)) (λ bytes. (events : List Event)
-        × IsHistory engine.now.starving K.capacity (K.book keeper.old) (events_of bytes) events
+        × IsHistory engine.now.policy.starving K.capacity (K.book keeper.old)
+        (events_within engine.now.policy.most bytes) events
         × EndsAs limit K.capacity
         (start_as (K.book keeper.old) bytes (W.contents (inner_of writer.old)) events)
         (reading R.remaining reader.old reader.new) (writing W.contents writer.old writer.new)
@@ -70,7 +72,7 @@ impl Run {
         writer: &mut Watched<W>,
         byte: u8,
     ) -> Result<(), ScriptFault>
-        ensures fed { Takes engine.now.starving K.capacity (byte ∷ [])
+        ensures fed { Takes engine.now.policy K.capacity (byte ∷ [])
             (standing (W.contents (inner_of writer.old)) (K.book keeper.old) self.old)
             (standing (W.contents (inner_of writer.new)) (K.book keeper.new) self.new) result }
         ensures taken { OnOk result (self.new.progress.taken ≡ self.old.progress.taken + 1) }
@@ -107,7 +109,7 @@ impl Run {
         writer: &mut Watched<W>,
         bytes: &[u8],
     ) -> Result<(), ScriptFault>
-        ensures fed { Takes engine.now.starving K.capacity bytes.now
+        ensures fed { Takes engine.now.policy K.capacity bytes.now
             (standing (W.contents (inner_of writer.old)) (K.book keeper.old) self.old)
             (standing (W.contents (inner_of writer.new)) (K.book keeper.new) self.new) result }
         ensures taken { OnOk result (self.new.progress.taken
@@ -129,7 +131,7 @@ impl Run {
         keeper: &mut K,
         writer: &mut Watched<W>,
     ) -> Result<u64, ScriptFault>
-        ensures answered { Finishes engine.now.starving K.capacity
+        ensures answered { Finishes engine.now.policy K.capacity
             (standing (W.contents (inner_of writer.old)) (K.book keeper.old) self.old)
             (standing (W.contents (inner_of writer.new)) (K.book keeper.new) self.new) result }
         ensures cause { IfErr result (HasCause false (failed_of writer.new)) }
@@ -157,7 +159,7 @@ impl Run {
     ) -> Result<End, ScriptFault>
         requires new_reader { IsNew reader.old }
         requires new_progress { self.old.progress.taken ≡ 0 }
-        ensures ended { Plays engine.now.starving K.capacity
+        ensures ended { Plays engine.now.policy K.capacity
             (reading R.remaining reader.old reader.new) (writing W.contents writer.old writer.new)
             (standing (W.contents (inner_of writer.old)) (K.book keeper.old) self.old)
             (standing (W.contents (inner_of writer.new)) (K.book keeper.new) self.new) result }
@@ -165,7 +167,7 @@ impl Run {
         ensures calls { calls_of reader.new ≤ self.old.progress.limit + 1 }
         ensures few { (script : ScriptStart)
             → R.remaining (inner_of reader.old) ≡ Some script.bytes
-            → IsAt engine.now.starving K.capacity script []
+            → IsAt engine.now.policy K.capacity script []
             (standing (W.contents (inner_of writer.old)) (K.book keeper.old) self.old)
             → calls_of reader.new ≤ length script.bytes + 1 }
     {

@@ -10,8 +10,9 @@ ghost use Rattle.cred_cli.specs.Watched.{log_of};
 
 use crate::fault::ScriptFault;
 use crate::limit::Limit;
+use crate::policy::{Engine, Policy};
 use crate::run::answer_all;
-use crate::starving::{Engine, Starving};
+use crate::starving::Starving;
 use crate::tools::Tools;
 use crate::watched::Watched;
 use cred_book::Keeper;
@@ -59,9 +60,13 @@ pub fn run_script<T: Threads + Wait + Sync, K: Keeper, R: Read, W: Write>(
         (name_of writer.old) (log_of reader.new)) }
     ensures calls { calls_of reader.new ≤ most_calls }
 {
+    let tools = Tools { rt, alloc, workers };
     let engine = Engine {
-        tools: Tools { rt, alloc, workers },
-        starving: Starving::Ends,
+        tools: &tools,
+        policy: Policy {
+            starving: Starving::Ends,
+            most: None,
+        },
     };
     answer_all(&engine, Limit::script(), keeper, reader, writer)
 }

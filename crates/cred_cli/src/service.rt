@@ -8,13 +8,13 @@ ghost use Rattle.cred_cli.specs.Watched.{reading, writing};
 
 use crate::fault::ScriptFault;
 use crate::limit::Limit;
+use crate::policy::{Engine, Policy};
 use crate::run::answer_all;
 use crate::script::End;
-use crate::starving::{Engine, Starving};
+use crate::starving::Starving;
 use crate::tools::Tools;
 use crate::watched::Watched;
 use cred_book::Keeper;
-use std::alloc::Global;
 use std::io::{Read, Write};
 use std::sync::Wait;
 use std::thread::Threads;
@@ -24,35 +24,40 @@ use std::thread::Threads;
 /// A commit that needs a hash for which there is no memory is refused as `bad 4 memory`: it does
 /// nothing, its number stays open, and the next line is answered. Memory may run out elsewhere.
 ///
+/// With `most`, a line whose setting or record asks for more than so many KiB is refused as
+/// `bad 18 costly`. A record that the book had before is hashed all the same.
+///
 /// Whenever the reader is called, each whole line that came is done and its answer is written, and
 /// nothing else is: what is written is the answers of one history of those lines, and the keeper's
 /// book is the one after them. So a call that fails or doesn't return leaves just that, and a
 /// client that waits for its answer before it sends more has it. Each call but the last gives a
-/// byte, so the reader isn't called again after the end of the input. At most `workers` threads
-/// hash. No call was made on the reader or the writer before. The writer is one that holds nothing
-/// back, as it is never flushed.
+/// byte, so the reader isn't called again after the end of the input. At most `tools.workers`
+/// threads hash. No call was made on the reader or the writer before. The writer is one that holds
+/// nothing back, as it is never flushed.
 ///
 /// Errors: `Read` or `Write` if a call on the reader or the writer failed; `Memory` if it runs out;
 /// `TooLong` after 2^64 - 2 bytes, which take centuries to come.
 pub fn serve<T: Threads + Wait + Sync, K: Keeper, R: Read, W: Write>(
-    rt: &T,
-    alloc: Global,
-    workers: u8,
+    tools: &Tools<'_, T>,
+    most: Option<u64>,
     keeper: &mut K,
     reader: &mut Watched<R>,
     writer: &mut Watched<W>,
 ) -> Result<End, ScriptFault>
     requires new_reader { IsNew reader.old }
     requires new_writer { IsNew writer.old }
-    ensures served { Serves K.capacity (reading R.remaining reader.old reader.new)
+    ensures served { Serves K.capacity most (reading R.remaining reader.old reader.new)
         (writing W.contents writer.old writer.new) (K.book keeper.old) (K.book keeper.new) result }
     ensures cause { IfErr result (HasCause (failed_of reader.new) (failed_of writer.new)) }
     ensures calls { IfSome (R.remaining (inner_of reader.old))
         (λ bytes. calls_of reader.new ≤ length bytes + 1) }
 {
     let engine = Engine {
-        tools: Tools { rt, alloc, workers },
-        starving: Starving::Answered,
+        tools,
+        policy: Policy {
+            starving: Starving::Answered,
+            most,
+        },
     };
     answer_all(&engine, Limit::service(), keeper, reader, writer)
 }

@@ -2,8 +2,6 @@
 
 ghost use Rattle.std.specs.Prelude.{◌≡◌, MatchBool};
 
-use crate::tools::Tools;
-
 /// What such a commit does.
 #[derive(Clone, Copy)]
 pub(crate) enum Starving {
@@ -19,11 +17,4 @@ impl Starving {
     {
         matches!(self, Starving::Answered)
     }
-}
-
-/// With what lines are answered.
-#[derive(Drop)]
-pub(crate) struct Engine<'a, T> {
-    pub(crate) tools: Tools<'a, T>,
-    pub(crate) starving: Starving,
 }

@@ -17,7 +17,7 @@ use Rattle.cred_admin.specs.declared.gathering.ImportFault.{ImportFault}
 use Rattle.cred_admin.specs.declared.gathering.ImportFault.TheVariants as import
 use Rattle.cred_admin.specs.declared.status.Status.{Status}
 use Rattle.cred_admin.specs.declared.status.Status.TheVariants.{Done, Io, Memory, Database, Data}
-use Rattle.cred_cli.specs.Outcome.{FailsWithin, HasCause, IsAnswered, longest_script}
+use Rattle.cred_cli.specs.Outcome.{FailsAs, HasCause, IsAnswered, longest_script}
 use Rattle.cred_cli.specs.Prompt.{IsPrompt}
 use Rattle.cred_cli.specs.Script.{script_start}
 use Rattle.cred_cli.specs.Starving.{Serves}
@@ -120,13 +120,14 @@ RunsWithin longest s (Ok end) = IfSome s.reading.input (λ bytes. (length bytes 
     × IsAnswered register_capacity s.old bytes s.writing.before s.writing.now s.new end.lines)
     × RunsPrompt s
 RunsWithin longest s (Err e) = HasCause s.reading.failed s.writing.failed e
-    × IfSome s.reading.input (λ bytes. FailsWithin longest register_capacity s.old bytes
-    s.reading.left s.writing.before s.writing.now s.new e) × RunsPrompt s
+    × IfSome s.reading.input (λ bytes. FailsAs longest register_capacity
+    (script_start s.old bytes s.writing.before) s.reading.left s.writing.now s.new e) × RunsPrompt s
 
--- lines were answered for as long as they came, but for commits that need a hash and were refused
--- memory for it, or they met a fault
-pub record ServesLines (s : Seen) (r : Result End ScriptFault) : Type 0 where
-  pub served : Serves register_capacity s.reading s.writing s.old s.new r
+-- lines were answered for as long as they came, but for those that bring a setting or a record that
+-- asks for more than a bound, and for commits that need a hash and were refused memory for it; or
+-- they met a fault
+pub record ServesLines (most : Option ℕ) (s : Seen) (r : Result End ScriptFault) : Type 0 where
+  pub served : Serves register_capacity most s.reading s.writing s.old s.new r
   pub cause : IfErr r (HasCause s.reading.failed s.writing.failed)
 
 -- a command, of which this holds at its end, ends so
@@ -146,8 +147,8 @@ Edited step s ended =
 abbrev pub Performs : Order → Seen → Result Ending Failure → Type 0
 Performs Run s ended =
     (r : Result End ScriptFault) × RunsWithin longest_script s r × (ended ≡ run_end r)
-Performs Serve s ended =
-    (r : Result End ScriptFault) × ServesLines s r × (ended ≡ run_end r)
+Performs (Serve most) s ended =
+    (r : Result End ScriptFault) × ServesLines most s r × (ended ≡ run_end r)
 Performs (Add name new) s ended = Commands (Adds register_capacity name new s) ended
 Performs (Check name) s ended = Commands (Asks (λ pw. request.Verify name pw) s) ended
 Performs (Change name new) s ended =
@@ -190,7 +191,7 @@ is_unread (Disable name) = true
 is_unread (Delete name) = true
 is_unread (Rename name other) = true
 is_unread Run = false
-is_unread Serve = false
+is_unread (Serve most) = false
 is_unread (Add name new) = false
 is_unread (Check name) = false
 is_unread (Change name new) = false

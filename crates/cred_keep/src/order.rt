@@ -9,8 +9,9 @@ use cred_book::Name;
 pub enum Order {
     /// Runs a script.
     Run,
-    /// Answers the lines of a script for as long as they come.
-    Serve,
+    /// Answers the lines of a script for as long as they come. Those that bring a setting or a
+    /// record are refused if it asks for more than so many KiB, if there is a bound.
+    Serve { most: Option<u64> },
     /// Makes the first record of an account, and the account if it isn't there.
     Add { name: Name, new: NewPassword },
     /// Asks whether a password is the account's.

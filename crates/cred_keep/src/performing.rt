@@ -99,9 +99,7 @@ fn obey<T: Threads + Wait + Sync, S: Alter, R: Read, W: Write>(
         Order::Run => {
             run_end(run_on_file(tools.rt, tools.alloc, tools.workers, book, reader, writer))
         }
-        Order::Serve => {
-            run_end(serve_on_file(tools.rt, tools.alloc, tools.workers, book, reader, writer))
-        }
+        Order::Serve { most } => run_end(serve_on_file(tools, *most, book, reader, writer)),
         Order::Add { name, new } => command_end(add(tools, book, name, new, reader, writer)),
         Order::Check { name } => command_end(check(tools, book, name, reader, writer)),
         Order::Change { name, new } => {

@@ -156,6 +156,7 @@ fn tell_line<F: Write>(faults: &mut F, line: &BadLine) -> io::Result<()> {
         LineFault::Text(fault) => write!(faults, "{fault}")?,
         LineFault::Book(refusal) => write!(faults, "{refusal}")?,
         LineFault::Locked => write!(faults, "its record is locked: --disable-locked drops it")?,
+        LineFault::Costly => write!(faults, "its record asks for more than --most-memory")?,
     }
     writeln!(faults, " ({number} {word})")
 }

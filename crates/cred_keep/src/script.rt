@@ -7,7 +7,7 @@ ghost use Rattle.cred_cli.specs.Watched.{IsNew, calls_of, inner_of, reading, wri
 ghost use Rattle.cred_file.specs.Keeps.{Keeps};
 ghost use Rattle.cred_keep.specs.Orders.{RunsWithin, ServesLines};
 
-use cred_cli::{End, ScriptFault, Watched, run_script, serve};
+use cred_cli::{End, ScriptFault, Tools, Watched, run_script, serve};
 use cred_file::FileBook;
 use sqlite::Alter;
 use std::alloc::Global;
@@ -42,26 +42,26 @@ pub fn run_on_file<T: Threads + Wait + Sync, S: Alter, R: Read, W: Write>(
 /// Answers lines on a kept book for as long as they come, as `serve` does.
 ///
 /// Each change is in the database before it is answered. A commit for whose hash there is no memory
-/// is refused, and the service goes on; the keeper's own want of memory ends it. A crash leaves the
-/// book after the lines that were done, perhaps with the change that was under way as the database
+/// is refused, and the service goes on; the keeper's own want of memory ends it. With `most`, a line
+/// is refused if its setting or record asks for more than so many KiB. A crash leaves the book
+/// after the lines that were done, perhaps with the change that was under way as the database
 /// failed.
 pub fn serve_on_file<T: Threads + Wait + Sync, S: Alter, R: Read, W: Write>(
-    rt: &T,
-    alloc: Global,
-    workers: u8,
+    tools: &Tools<'_, T>,
+    most: Option<u64>,
     book: &mut FileBook<S>,
     reader: &mut Watched<R>,
     writer: &mut Watched<W>,
 ) -> Result<End, ScriptFault>
     requires new_reader { IsNew reader.old }
     requires new_writer { IsNew writer.old }
-    ensures runs { ServesLines (seen (reading R.remaining reader.old reader.new)
+    ensures runs { ServesLines most (seen (reading R.remaining reader.old reader.new)
         (writing W.contents writer.old writer.new) book.old.book book.new.book) result }
     ensures calls { IfSome (R.remaining (inner_of reader.old))
         (λ bytes. calls_of reader.new ≤ length bytes + 1) }
     ensures keeps { Keeps S.Store book.new.conn book.new.book book.new.lost }
 {
-    let result = serve(rt, alloc, workers, book, reader, writer);
+    let result = serve(tools, most, book, reader, writer);
     book.keeps();
     result
 }

@@ -1,10 +1,10 @@
 -- A commit that doesn't find the record changed is the whole operation.
 use Rattle.std.proofs.Common.{◌≡◌, ℕ, List, [], ◌∷◌, ◌++◌, Option, Some, None, Ok, Err, Bool, true, false, not, if◌then◌else◌, refl, sym, ap, ◌∙◌}
 use Rattle.std.specs.FinMap as map
-use Rattle.cred_phc.specs.Values.{RecordValue, record_of}
+use Rattle.cred_phc.specs.Values.{RecordValue, SettingValue, record_of}
 use Rattle.cred_book.specs.Accounts.{Accounts}
 use Rattle.cred_book.specs.Commits.{Commits, commit_outcome, commit_outcome_if}
-use Rattle.cred_book.specs.Works.{Task, is_for_current, name_of, new_record, right, same, same_scheme, seq, seq_at, whole}
+use Rattle.cred_book.specs.Works.{Task, is_for_current, makes_change, name_of, new_record, right, same, same_scheme, seq, seq_at, whole}
 use Rattle.cred_book.specs.declared.error.BookError.{BookError}
 use Rattle.cred_book.specs.declared.error.BookError.TheVariants as error
 use Rattle.cred_book.specs.declared.reply.Reply.{Reply}
@@ -16,7 +16,7 @@ use Rattle.cred_cli.specs.Texts.{reply_line}
 use Rattle.cred_many.specs.declared.ask.Ask.{Ask}
 use Rattle.cred_many.specs.declared.ask.Ask.TheVariants.{Account, Load, Show, Edit, List as Names, Whole, Login, Reset, Bad}
 use Rattle.cred_many.specs.Asks.{Entry, IsJobOf, IsResetOf, IsSound}
-use Rattle.cred_many.specs.Served.{Script, done, login_reply, name_asked, reset_at, told_line, told_reply}
+use Rattle.cred_many.specs.Served.{IsChange, Script, done, login_reply, name_asked, reset_at, told_line, told_reply}
 use Rattle.cred_many.specs.Steps.{is_changed}
 use Rattle.cred_many.proofs.Serving.{IsDone, done_at}
 
@@ -105,13 +105,29 @@ job_name (Names from most) r job = absurd (job None)
 job_name (Edit edit) r job = absurd (job None)
 job_name (Bad why) r job = absurd (job None)
 
+-- no setting is a record
+no_reset : (name pw : List ℕ) (setting : SettingValue) (r : Request) → ((copy : Option RecordValue) → IsJobOf (Reset name pw setting) (r, copy)) → ⊥
+no_reset name pw setting r job =
+    let some : Option RecordValue = Some (record_of setting []) in
+    let one : some ≡ None = ap (λ t. t.1) (job some) in absurd cc
+
+-- a change that is hashed for it is one that it makes
+pub job_change : (ask : Ask) (r : Request) → ((copy : Option RecordValue) → IsJobOf ask (r, copy)) → (book : Accounts) → makes_change (seq book r).0 ≡ true → IsChange book ask
+job_change (Whole q) r job book is = ap (λ t. makes_change (seq book t).0) (sym (job None)) ∙ is
+job_change (Login name pw setting) r job book is = ap (λ t. makes_change (seq book t).0) (sym (job None)) ∙ is
+job_change (Reset name pw setting) r job book is = absurd (no_reset name pw setting r job)
+job_change (Account name) r job book is = absurd (job None)
+job_change (Load name stored) r job book is = absurd (job None)
+job_change (Show name) r job book is = absurd (job None)
+job_change (Names from most) r job book is = absurd (job None)
+job_change (Edit edit) r job book is = absurd (job None)
+job_change (Bad why) r job book is = absurd (job None)
+
 job_whole : (ask : Ask) (r : Request) → ((copy : Option RecordValue) → IsJobOf ask (r, copy)) → (capacity : ℕ) (book later : Accounts) (found : Reply)
     → (found, later) ≡ seq book r → (Script (Replied (told_reply ask found)), later) ≡ done capacity book ask
 job_whole (Whole q) r job capacity book later found is = ap (λ o. (Script (Replied o.0), o.1)) (is ∙ ap (seq book) (job None))
 job_whole (Login name pw setting) r job capacity book later found is = ap (λ o. (Script (Replied (login_reply o.0)), o.1)) (is ∙ ap (seq book) (job None))
-job_whole (Reset name pw setting) r job capacity book later found is =
-    let some : Option RecordValue = Some (record_of setting []) in
-    let one : some ≡ None = ap (λ t. t.1) (job some) in absurd cc
+job_whole (Reset name pw setting) r job capacity book later found is = absurd (no_reset name pw setting r job)
 job_whole (Account name) r job capacity book later found is = absurd (job None)
 job_whole (Load name stored) r job capacity book later found is = absurd (job None)
 job_whole (Show name) r job capacity book later found is = absurd (job None)

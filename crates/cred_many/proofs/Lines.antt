@@ -175,3 +175,55 @@ module _ (input : Option (List ℕ)) (old now : Place) (bytes : List ℕ) (i : �
 
 pub bytes_all : (input : Option (List ℕ)) (old new : Place) (bytes : List ℕ) (i : ℕ) → length bytes ≤ i → GoesOn input old (take i bytes) new → GoesOn input old bytes new
 bytes_all input old new bytes i whole on = λ all rest known at. on all rest known (subst (λ xs. IsAt all old (xs ++ rest)) (sym (take_all i bytes whole)) at)
+
+-- ---- line ends in turn
+
+line_ends-append : (xs ys : List ℕ) → line_ends (xs ++ ys) ≡ line_ends xs + line_ends ys
+line_ends-append [] ys = omega arith
+line_ends-append (c ∷ cs) ys = elim (eqb_tells c 10) [
+  | inl w ↦ rw w.0 (let r = line_ends-append cs ys in omega (arith, r))
+  | inr w ↦ rw w.0 (line_ends-append cs ys)
+]
+
+ends_next : (bytes : List ℕ) (i : ℕ) → i < length bytes → line_ends (take (i + 1) bytes) ≡ line_ends (take i bytes) + line_ends (get_or bytes i 0 ∷ [])
+ends_next bytes i within = ap line_ends (take_more bytes i 0 within) ∙ line_ends-append (take i bytes) (get_or bytes i 0 ∷ [])
+
+pub ends_on : (bytes : List ℕ) (i : ℕ) → i < length bytes → (old now new : ℕ) → now ≡ old + line_ends (take i bytes)
+    → new ≡ now + line_ends (get_or bytes i 0 ∷ []) → new ≡ old + line_ends (take (i + 1) bytes)
+ends_on bytes i within old now new is next = let more = ends_next bytes i within in omega (arith, is, next, more)
+
+pub ends_all : (bytes : List ℕ) (i : ℕ) → length bytes ≤ i → (old now : ℕ) → now ≡ old + line_ends (take i bytes) → now ≡ old + line_ends bytes
+ends_all bytes i whole old now is = let all : line_ends (take i bytes) ≡ line_ends bytes = ap line_ends (take_all i bytes whole) in omega (arith, is, all)
+
+pub line_ends-short : (bytes : List ℕ) → line_ends bytes ≤ length bytes
+line_ends-short [] = omega arith
+line_ends-short (c ∷ cs) = elim (eqb_tells c 10) [
+  | inl w ↦ rw w.0 (let r = line_ends-short cs in omega (arith, r))
+  | inr w ↦ rw w.0 (let r = line_ends-short cs in omega (arith, r))
+]
+
+pub ends_whole : (bytes : List ℕ) (i : ℕ) → length bytes ≤ i → (n : ℕ) → n ≡ line_ends (take i bytes) → n ≡ line_ends bytes
+ends_whole bytes i whole n is = is ∙ ap line_ends (take_all i bytes whole)
+
+pub ends_few : (bytes : List ℕ) (i : ℕ) → i < length bytes → (n : ℕ) → n ≡ line_ends (take i bytes) → n ≤ i
+ends_few bytes i within n is = let short = line_ends-short (take i bytes) in let long = length-take i bytes in omega (arith, is, short, long, within)
+
+-- what is given and what is handed on grow alike
+pub counted : (given more handed now next : ℕ) → handed ≡ given → now ≡ handed + more → next ≡ given + more → now ≡ next
+counted given more handed now next same on is = on ∙ ap (λ n. n + more) same ∙ sym is
+
+one_end : (b : ℕ) → b ≡ 10 → line_ends (b ∷ []) ≡ 1
+one_end b is = rw is refl
+
+no_end : (b : ℕ) → b ≢ 10 → line_ends (b ∷ []) ≡ 0
+no_end b other = elim (eqb_tells b 10) [
+  | inl w ↦ absurd (other w.1)
+  | inr w ↦ rw w.0 refl
+]
+
+module _ (bytes : List ℕ) (i : ℕ) (within : i < length bytes) (n m : ℕ) (is : n ≡ line_ends (take i bytes)) where
+  pub end_more : get_or bytes i 0 ≡ 10 → m ≡ n + 1 → m ≡ line_ends (take (i + 1) bytes)
+  end_more end next = let one = one_end (get_or bytes i 0) end in let more = ends_next bytes i within in omega (arith, is, next, one, more)
+
+  pub byte_more : get_or bytes i 0 ≢ 10 → m ≡ n → m ≡ line_ends (take (i + 1) bytes)
+  byte_more other same = let none = no_end (get_or bytes i 0) other in let more = ends_next bytes i within in omega (arith, is, same, none, more)

@@ -18,7 +18,7 @@ use Rattle.cred_many.specs.declared.fault.ServiceFault.TheVariants as fault
 use Rattle.cred_many.specs.declared.open.Open.{Open}
 use Rattle.cred_many.specs.Asks.{Entry, entry}
 use Rattle.cred_many.specs.Reading.{IsCome}
-use Rattle.cred_many.specs.Served.{AllOwed, AreClosed, IsLooked, IsOwed, IsServed, IsWatched, IsWorn, answers, book_after, changes, done, entry_numbers, is_torn, line_at, most_together, name_asked, numbers, once_below, record_at, times, told_line, tries, unseen}
+use Rattle.cred_many.specs.Served.{AllOwed, AreClosed, IsLooked, IsOneGroup, IsOwed, IsServed, IsWatched, IsWorn, answers, book_after, changes, done, entry_numbers, is_torn, line_at, name_asked, numbers, once_below, record_at, times, told_line, tries, unseen}
 use Rattle.cred_many.specs.Service.{Service}
 use Rattle.cred_many.specs.Steps.{IsConcluded}
 use Rattle.cred_many.proofs.Seen.{book_after-append, looked_numbers, numbers-snoc, watched_looked, watched_on, watched_rest, worn}
@@ -51,7 +51,7 @@ owed_busy capacity s None before e h often = tt
 owed_busy capacity s (Some bytes) before e h often = (e, h, record { number = refl; tag = refl; ask = inr (inr (refl, often)) })
 
 -- a list that ends so is cut at its end, or before
-snoc_cut : (list before rest : List Entry) (z e : Entry) → list ++ z ∷ [] ≡ before ++ e ∷ rest
+pub snoc_cut : (list before rest : List Entry) (z e : Entry) → list ++ z ∷ [] ≡ before ++ e ∷ rest
     → ((before ≡ list) × (e ≡ z)) ⊎ ((left : List Entry) × (list ≡ before ++ e ∷ left))
 snoc_cut [] [] rest z e is = let same : z ≡ e = cc in inl (refl, sym same)
 snoc_cut [] (f ∷ fs) rest z e is =
@@ -155,7 +155,7 @@ served_first capacity s now book left none is same = rw none (record {
 
 module _ (capacity : ℕ) (s : Service) (old now : Option (List ℕ)) (book later : Accounts) (es : List Entry) (left rest : List Open) (came : ℕ)
     (served : IsServed capacity s old book None left came) (owed : IfSome s.input (λ bytes. AllOwed capacity s bytes (served.list ++ es)))
-    (few : length es ≤ most_together) (closed : AreClosed es left rest) (later_is : later ≡ book_after capacity book es) where
+    (group : IsOneGroup book es) (closed : AreClosed es left rest) (later_is : later ≡ book_after capacity book es) where
   after_is : later ≡ book_after capacity s.opening (served.list ++ es)
   after_is = later_is ∙ ap (λ b. book_after capacity b es) served.book_is ∙ sym (book_after-append capacity s.opening served.list es)
 
@@ -186,7 +186,7 @@ module _ (capacity : ℕ) (s : Service) (old now : Option (List ℕ)) (book late
       front = served.list;
       last = es;
       split = refl;
-      few = few;
+      group = subst (λ b. IsOneGroup b es) served.book_is group;
       cut = n;
       short = rw served.book_is at short;
       text = Appends-trans s.before old now _ _ served.text (rw served.book_is at written);
@@ -205,6 +205,13 @@ module _ (capacity : ℕ) (s : Service) (old now : Option (List ℕ)) (book late
   served_on (Some fault.Lost) h = absurd h
 
 -- ---- a step
+
+-- a line alone
+one_alone : (book : Accounts) (e : Entry) → IsOneGroup book (e ∷ [])
+one_alone book e = record {
+  few = omega arith;
+  together = λ more. absurd (omega (arith, more));
+}
 
 -- what a line asks for was done, and its answer's text stands ready
 pub record IsDone (capacity : ℕ) (book later : Accounts) (e : Entry) (text : List ℕ) : Type 0 where
@@ -228,7 +235,7 @@ module _ (capacity : ℕ) (s : Service) (old now : Option (List ℕ)) (book late
     where
       on : IsServed capacity s old book None left came → IsServed capacity s now later f rest came
       on h =
-          served_on capacity s old now book later (e ∷ []) left rest came h (owed_all capacity s s.input h.list e h.owed (owed h)) (omega arith) (place, there, rest_is) d.book_is f
+          served_on capacity s old now book later (e ∷ []) left rest came h (owed_all capacity s s.input h.list e h.owed (owed h)) (one_alone book e) (place, there, rest_is) d.book_is f
           (subst (λ t. IsConcluded t old now f) (d.text_is ∙ sym (append-nil (line_at capacity book e))) told)
 
   -- the line is answered

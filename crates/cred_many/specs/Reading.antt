@@ -1,5 +1,5 @@
 -- Where the reader is.
-use Rattle.std.specs.Prelude.{◌≡◌, ℕ, List, [], ◌++◌, Option, Some, take, slice_get}
+use Rattle.std.specs.Prelude.{◌≡◌, ℕ, List, [], ◌++◌, Option, Some, None, take, slice_get}
 use Rattle.cred_cli.specs.Events.{most_kept}
 use Rattle.cred_cli.specs.Feeding.{unfinished_from}
 use Rattle.cred_cli.specs.Script.{line_ends, lines_of}
@@ -44,3 +44,8 @@ IsCome s bytes e = (line : List ℕ) × (slice_get (lines_of bytes) e.number ≡
 abbrev pub HasCome : List ℕ → Place → Type 0
 HasCome bytes at = (line : List ℕ) × (slice_get (lines_of bytes) at.number ≡ Some line)
     × (at.start ≡ take most_kept line)
+
+-- one or none
+abbrev pub how_many : {A : Type 0} → Option A → ℕ
+how_many None = 0
+how_many (Some x) = 1

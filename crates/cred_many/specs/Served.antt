@@ -1,13 +1,13 @@
 -- The history of one thread, which does lines one after another, each whole.
 use Rattle.std.specs.Prelude.{◌≡◌, ◌⊎◌, ℕ, ◌<◌, ◌+◌, ◌==◌, List, [], ◌∷◌, ◌++◌, Bool, true, false}
-use Rattle.std.specs.Prelude.{◌≤◌, All, if◌then◌else◌, IfSome, MatchBool, nat_lt, Option, Some, None}
-use Rattle.std.specs.Prelude.{drop, length, map, set, slice_get, take, unwrap_or}
+use Rattle.std.specs.Prelude.{◌≤◌, ◌≢◌, All, if◌then◌else◌, IfSome, MatchBool, nat_lt, Option, Some}
+use Rattle.std.specs.Prelude.{None, drop, length, map, set, slice_get, take, unwrap_or}
 use Rattle.std.specs.Str.{bytes_eq}
 use Rattle.std.specs.FinMap as fin
 use Rattle.std.specs.Io.KnownBytes.{Appends}
 use Rattle.cred_phc.specs.Values.{RecordValue}
 use Rattle.cred_book.specs.Accounts.{Accounts}
-use Rattle.cred_book.specs.Works.{name_of, new_record, same, seq}
+use Rattle.cred_book.specs.Works.{makes_change, name_of, new_record, same, seq}
 use Rattle.cred_book.specs.declared.error.BookError.TheVariants as error
 use Rattle.cred_book.specs.declared.reply.Reply.{Reply}
 use Rattle.cred_book.specs.declared.reply.Reply.TheVariants as reply
@@ -233,14 +233,36 @@ AreClosed (e ∷ es) old new = (place : ℕ) × (slice_get (numbers old) place �
 abbrev pub most_together : ℕ
 most_together = 64
 
--- The answers of the last lines, which were done together, are cut. A line that changes nothing is
--- done alone.
-pub record IsCut (capacity : ℕ) (opening : Accounts) (before now : Option (List ℕ)) (list : List Entry)
-    : Type 0 where
+-- what is asked makes a change of its account's record at this book
+abbrev pub IsChange : Accounts → Ask → Type 0
+IsChange book (Whole r) = makes_change (seq book r).0 ≡ true
+IsChange book (Login name pw setting) =
+    makes_change (seq book (request.Upgrade name pw setting)).0 ≡ true
+IsChange book _ = ⊥
+
+-- no line has the account of one before it
+abbrev pub AreApart : List Entry → Type 0
+AreApart list = (before rest : List Entry) (e : Entry) → list ≡ before ++ e ∷ rest
+    → All (λ b. name_asked b.ask ≢ name_asked e.ask) before
+
+-- changes of different accounts, each of which is one at this book
+pub record AreTogether (book : Accounts) (list : List Entry) : Type 0 where
+  pub changes : All (λ e. IsChange book e.ask) list
+  pub apart : AreApart list
+
+-- what is done at once: one line, or a few changes together
+pub record IsOneGroup (book : Accounts) (list : List Entry) : Type 0 where
+  pub few : length list ≤ most_together
+  pub together : 1 < length list → AreTogether book list
+
+-- The answers of the last group are cut, and those before it are whole. A line that changes nothing
+-- is done alone.
+pub record IsCut (capacity : ℕ) (opening : Accounts) (before now : Option (List ℕ))
+    (list : List Entry) : Type 0 where
   pub front : List Entry
   pub last : List Entry
   pub split : list ≡ front ++ last
-  pub few : length last ≤ most_together
+  pub group : IsOneGroup (book_after capacity opening front) last
   pub cut : ℕ
   pub short : cut < length (answers capacity (book_after capacity opening front) last)
   pub text : Appends before now (answers capacity opening front

@@ -49,12 +49,11 @@ impl Hashing {
 
     /// Hashes a job, once the memory for it is free.
     fn hashed<J: Naming, T: Wait>(&self, rt: &T, scratch: &mut Scratch, job: Job<J>) -> Message<J> {
-        let kib = self.memory_of(&job.ticket);
-        if !self.budget.take(rt, kib) {
+        let Some(taken) = self.budget.take(rt, self.memory_of(&job.ticket)) else {
             return job.without_memory();
-        }
+        };
         let message = self.hash(scratch, job);
-        self.budget.give_back(rt, kib);
+        self.budget.give_back(rt, taken);
         message
     }
 

@@ -1,8 +1,8 @@
 //! Lines as they come in.
 
-ghost use Rattle.std.specs.Prelude.{◌≡◌, [], ◌∷◌, ◌+◌, IfSome, OnOk, OnErr, length};
-ghost use Rattle.cred_cli.specs.Script.{lines_of};
-ghost use Rattle.cred_many.specs.Reading.{GoesOn, HasCome, IsAtEnd, IsBefore, place};
+ghost use Rattle.std.specs.Prelude.{◌≡◌, [], ◌∷◌, ◌+◌, IfOk, IfSome, OnOk, OnErr, length};
+ghost use Rattle.cred_cli.specs.Script.{line_ends, lines_of};
+ghost use Rattle.cred_many.specs.Reading.{GoesOn, HasCome, IsAtEnd, IsBefore, how_many, place};
 ghost use Rattle.cred_many.specs.Service.{salts_after};
 
 use crate::costs::Costs;
@@ -50,8 +50,12 @@ impl<J: Naming, G: Rng> Intake<J, G> {
     /// Errors: `TooLong` after 2^64 - 1 lines, which take centuries to come.
     pub(crate) fn take(&mut self, byte: u8) -> Result<Option<Line<J>>, ServiceFault>
         requires { IsBefore J.service.input (place self.old.start self.old.number) (byte ∷ []) }
-        ensures { OnOk result (GoesOn J.service.input (place self.old.start self.old.number)
+        ensures on { OnOk result (GoesOn J.service.input (place self.old.start self.old.number)
             (byte ∷ []) (place self.new.start self.new.number)) }
+        ensures next { IfOk result (λ came. IfSome came (λ line. line.number ≡ self.old.number)) }
+        ensures ended { IfOk result (λ came. how_many came ≡ line_ends (byte ∷ [])) }
+        ensures number { OnOk result
+            (self.new.number ≡ self.old.number + line_ends (byte ∷ [])) }
     {
         if byte != b'\n' {
             self.start.push(byte);
@@ -66,8 +70,11 @@ impl<J: Naming, G: Rng> Intake<J, G> {
     /// Errors: `TooLong` after 2^64 - 1 lines.
     pub(crate) fn finish(&mut self) -> Result<Option<Line<J>>, ServiceFault>
         requires { IsAtEnd J.service.input (place self.old.start self.old.number) }
-        ensures { OnOk result
+        ensures whole { OnOk result
             (IfSome J.service.input (λ all. self.new.number ≡ length (lines_of all))) }
+        ensures next { IfOk result (λ came. IfSome came (λ line. line.number ≡ self.old.number)) }
+        ensures number { IfOk result
+            (λ came. self.new.number ≡ self.old.number + how_many came) }
     {
         if self.start.bytes().is_empty() {
             return Ok(None);
@@ -80,6 +87,7 @@ impl<J: Naming, G: Rng> Intake<J, G> {
     fn end_line(&mut self) -> Result<Line<J>, ServiceFault>
         requires { IfSome J.service.input
             (λ all. HasCome all (place self.old.start self.old.number)) }
+        ensures next { IfOk result (λ line. line.number ≡ self.old.number) }
         ensures start { OnOk result (self.new.start ≡ []) }
         ensures number { OnOk result (self.new.number ≡ self.old.number + 1) }
     {

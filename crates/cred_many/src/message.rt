@@ -25,7 +25,7 @@ pub(crate) enum Message<J: Naming> {
 /// How the reading ended.
 #[derive(Drop)]
 pub(crate) struct Ending<J: Naming> {
-    /// How many lines came.
+    /// How many lines were handed out.
     pub(crate) lines: u64,
     pub(crate) fault: Option<ServiceFault>,
     pub(crate) of: PhantomData<J>,
@@ -45,7 +45,7 @@ impl<J: Naming> Model for Ending<J> {
 }
 
 impl<J: Naming> Ending<J> {
-    /// The whole input came, with so many lines.
+    /// The whole input came, and all of its lines were handed out, so many.
     pub(crate) fn whole(lines: u64) -> Ending<J>
         requires { IfSome J.service.input (λ all. lines ≡ length (lines_of all)) }
     {
@@ -56,7 +56,7 @@ impl<J: Naming> Ending<J> {
         }
     }
 
-    /// So many lines came before this fault.
+    /// So many lines were handed out before this fault.
     pub(crate) fn cut(lines: u64, fault: ServiceFault) -> Ending<J> {
         Ending {
             lines,

@@ -1,32 +1,81 @@
 //! How the thread that reads hands out lines.
 
+ghost use Rattle.std.specs.Prelude.{◌≡◌, ◌+◌, OnOk};
+
 use crate::fault::ServiceFault;
 use crate::line::Line;
 use crate::message::{Ending, Message};
 use crate::naming::Naming;
 use crossbeam_channel::{Receiver, Sender};
+use std::marker::Model;
 use std::sync::Wait;
+
+/// How many lines were handed out.
+#[derive(Drop)]
+pub struct Handed {
+    lines: u64,
+}
+
+impl Model for Handed {
+    ghost use Rattle.std.specs.Prelude.{ℕ};
+
+    ghost Value = { ℕ };
+
+    ghost view = { λ h. h.lines };
+}
+
+impl Handed {
+    /// Their number.
+    pub(crate) fn lines(&self) -> u64
+        ensures { result ≡ self.now }
+    {
+        self.lines
+    }
+}
 
 /// Hands lines to the thread that has the book, no more than may be open.
 #[derive(Drop)]
 pub(crate) struct Outlet<J: Naming> {
     /// One for each line that may be opened now.
-    pub(crate) room: Receiver<()>,
-    pub(crate) book: Sender<Message<J>>,
+    room: Receiver<()>,
+    book: Sender<Message<J>>,
+    handed: Handed,
 }
 
 impl<J: Naming> Outlet<J> {
-    /// Hands a line out once there is room for it.
+    /// Before the first line.
+    pub(crate) fn new(room: Receiver<()>, book: Sender<Message<J>>) -> Outlet<J>
+        ensures { result.handed ≡ 0 }
+    {
+        let handed = Handed { lines: 0 };
+        Outlet { room, book, handed }
+    }
+
+    /// How many lines it handed out.
+    pub(crate) fn handed(&self) -> &Handed
+        ensures { result.now ≡ self.now.handed }
+    {
+        &self.handed
+    }
+
+    /// Hands out the next line, once there is room for it. It counts those that were sent.
     ///
-    /// Errors: `Lost` if nobody takes it.
-    pub(crate) fn hand_out<T: Wait>(&self, rt: &T, line: Line<J>) -> Result<(), ServiceFault> {
+    /// Errors: `Lost` if nobody takes it; `TooLong` after 2^64 - 1 lines.
+    pub(crate) fn hand_out<T: Wait>(&mut self, rt: &T, line: Line<J>) -> Result<(), ServiceFault>
+        requires { line.number ≡ self.old.handed }
+        ensures { OnOk result (self.new.handed ≡ self.old.handed + 1) }
+    {
+        let Some(next) = self.handed.lines.checked_add(1) else {
+            return Err(ServiceFault::TooLong);
+        };
         if self.room.recv(rt).is_err() {
             return Err(ServiceFault::Lost);
         }
-        match self.book.send(rt, Message::Came(line)) {
-            Ok(()) => Ok(()),
-            Err(_) => Err(ServiceFault::Lost),
+        if self.book.send(rt, Message::Came(line)).is_err() {
+            return Err(ServiceFault::Lost);
         }
+        self.handed.lines = next;
+        Ok(())
     }
 
     /// Tells that no line comes any more.

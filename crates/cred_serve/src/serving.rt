@@ -11,7 +11,7 @@ ghost use Rattle.cred_many.specs.Service.{service};
 use crate::hosted::Hosted;
 use cred_cli::{Tools, Watched};
 use cred_file::FileBook;
-use cred_many::{Means, Served, ServiceFault, serve_tagged};
+use cred_many::{LineReader, Means, Served, ServiceFault, serve_tagged};
 use rand_core::Rng;
 use sqlite::Alter;
 use std::io::{Read, Write};
@@ -58,7 +58,8 @@ where
 {
     let alloc = tools.alloc;
     let hosted = Hosted { alloc, book };
-    let served = serve_tagged(tools, means, hosted, salts, reader, writer);
+    let source = LineReader::new(reader);
+    let served = serve_tagged(tools, means, hosted, salts, source, writer);
     let Served {
         keeper: Hosted { book, .. },
         writer,

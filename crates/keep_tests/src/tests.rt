@@ -114,6 +114,7 @@ fn texts_of_lines(rt: HostRuntime) {
         (20, LineFault::Text(PhcError::Shape)),
         (300, LineFault::Book(BookError::Exists)),
         (4000, LineFault::Locked),
+        (50000, LineFault::Costly),
     ] {
         bad.push(BadLine { number, why }).expect(&rt, "memory");
     }
@@ -121,7 +122,8 @@ fn texts_of_lines(rt: HostRuntime) {
     let text = "line 1: it is neither NAME:RECORD nor NAME: (11 line)\n\
         credkeep: line 20: a field is missing, or there is one too many (1 shape)\n\
         credkeep: line 300: the name is there already (1 exists)\n\
-        credkeep: line 4000: its record is locked: --disable-locked drops it (17 locked)";
+        credkeep: line 4000: its record is locked: --disable-locked drops it (17 locked)\n\
+        credkeep: line 50000: its record asks for more than --most-memory (18 costly)";
     hold_failure(&rt, rt.alloc(), &failure, 6, text);
 }
 

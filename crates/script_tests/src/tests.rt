@@ -4,6 +4,7 @@
 //! matter.
 
 mod committers;
+mod costs;
 mod dialogue;
 mod faults;
 mod keepers;

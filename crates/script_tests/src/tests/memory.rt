@@ -4,7 +4,7 @@ use super::committers::run_on_committer;
 use super::keepers::Shelf;
 use super::{Shown, hold, hold_bytes, hold_shown};
 use cred_book::{Book, BookError, Keeper};
-use cred_cli::{End, ScriptFault, Watched, command, run_script, serve};
+use cred_cli::{End, ScriptFault, Tools, Watched, command, run_script, serve};
 use std::alloc::Global;
 use std::process::Abort;
 use std::sync::Wait;
@@ -136,7 +136,12 @@ fn refused_service(rt: HostRuntime) {
     };
     let mut reader = Watched::new(SERVICE.as_bytes());
     let mut writer = Watched::new(room);
-    let end = serve(&rt, rt.alloc(), 1, &mut book, &mut reader, &mut writer);
+    let tools = Tools {
+        rt: &rt,
+        alloc: rt.alloc(),
+        workers: 1,
+    };
+    let end = serve(&tools, None, &mut book, &mut reader, &mut writer);
     let written = writer.into_inner();
     if end != Ok(End { lines: 5 }) {
         assert_eq!(rt; end, Err(ScriptFault::Memory));

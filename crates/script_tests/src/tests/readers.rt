@@ -1,7 +1,7 @@
 //! Readers that fail, that give too much or little at once, and one that waits for its answers.
 use super::{empty_book, hold, hold_bytes, hold_end, hold_shown, run_on_book};
 use cred_book::BookError;
-use cred_cli::{End, ScriptFault, Watched, run_script, serve};
+use cred_cli::{End, ScriptFault, Tools, Watched, run_script, serve};
 use std::alloc::Global;
 use std::cell::Cell;
 use std::io;
@@ -205,7 +205,12 @@ fn served_before_the_next_call(rt: HostRuntime) {
         let mut writer = Watched::new(Counting {
             answered: &answered,
         });
-        let end = serve(&rt, rt.alloc(), 1, &mut book, &mut reader, &mut writer);
+        let tools = Tools {
+            rt: &rt,
+            alloc: rt.alloc(),
+            workers: 1,
+        };
+        let end = serve(&tools, None, &mut book, &mut reader, &mut writer);
         hold_end(&rt, most, end, Ok(End { lines: 6 }));
         hold(
             &rt,

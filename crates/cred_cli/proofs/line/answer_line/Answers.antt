@@ -1,5 +1,6 @@
 use Rattle.std.proofs.Common.{sym, ◌∙◌, ap, Some, inl, refl}
 use Rattle.std.proofs.lemmas.Result.{err_from_is_err_and}
+use Rattle.cred_cli.specs.Costs.{within}
 use Rattle.cred_cli.proofs.Starvings.{line_taken}
 use Rattle.cred_cli.proofs.line.answer_line.Goals as goal
 
@@ -11,4 +12,4 @@ returns-in_err-answer-clause-answered g c = λ book events i before stands held 
 
 pub returns-clause-answered : goal.returns-clause-answered
 returns-clause-answered g c = λ book events i before stands held here.
-    line_taken _ book events i c.of_line.result c.of_line.ensures.sound (here ∙ ap Some (sym c.of_line.ensures.event)) before _ _ _ stands _ held _ _ _ c.in_ok-answer.answer _ c.write_to.result c.in_ok-answer.ensures.done c.write_to.ensures.done c.write_to.ensures.fails
+    line_taken _ book events i c.within-event.result c.within-event.ensures.sound (here ∙ ap Some (sym (c.within-event.ensures.event ∙ ap (within c.args.engine.now.policy.most) c.of_line.ensures.event))) before _ _ _ stands _ held _ _ _ c.in_ok-answer.answer _ c.write_to.result c.in_ok-answer.ensures.done c.write_to.ensures.done c.write_to.ensures.fails

@@ -26,3 +26,7 @@ returns-in-Busy c = search rules
 pub returns-in-Idle : goal.returns-in-Idle
 unfolding digits
 returns-in-Idle c = search rules
+
+pub returns-in-Costly : goal.returns-in-Costly
+unfolding digits
+returns-in-Costly c = search rules

@@ -9,9 +9,9 @@ use Rattle.cred_cli.proofs.run.Run.take_bytes.Given as goal
 abbrev pub invariant-loop-byte : goal.invariant-loop-byte
 invariant-loop-byte g l = record {
   fed : (script : ScriptStart) (front rest : List ℕ) → script.bytes ≡ (front ++ l.bytes) ++ rest →
-      IsAt l.engine.starving g.K.Keeper.capacity script front (standing (g.W.Write.contents l.fn.writer.inner) (g.K.Keeper.book l.fn.keeper) l.fn.self) →
-      (events : List Event) × GoesOn l.engine.starving g.K.Keeper.capacity script (line_ends front) events
-      × IsAt l.engine.starving g.K.Keeper.capacity (with_events script events) (front ++ take l.byte-index l.bytes) (standing (g.W.Write.contents l.writer.inner) (g.K.Keeper.book l.keeper) l.self);
+      IsAt l.engine.policy g.K.Keeper.capacity script front (standing (g.W.Write.contents l.fn.writer.inner) (g.K.Keeper.book l.fn.keeper) l.fn.self) →
+      (events : List Event) × GoesOn l.engine.policy g.K.Keeper.capacity script (line_ends front) events
+      × IsAt l.engine.policy g.K.Keeper.capacity (with_events script events) (front ++ take l.byte-index l.bytes) (standing (g.W.Write.contents l.writer.inner) (g.K.Keeper.book l.keeper) l.self);
   named : l.writer.log.name ≡ l.fn.writer.log.name;
   limit : l.self.progress.limit ≡ l.fn.self.progress.limit;
   taken : l.self.progress.taken ≡ l.fn.self.progress.taken + l.byte-index;

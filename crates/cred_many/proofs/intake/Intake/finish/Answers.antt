@@ -4,8 +4,8 @@ use Rattle.cred_many.specs.Reading.{place}
 use Rattle.cred_many.proofs.Lines.{count_ended, count_with_last, last_came}
 use Rattle.cred_many.proofs.intake.Intake.finish.Goals as goal
 
-pub returns-then-is_empty : goal.returns-then-is_empty
-returns-then-is_empty g c =
+pub returns-then-is_empty-clause-whole : goal.returns-then-is_empty-clause-whole
+returns-then-is_empty-clause-whole g c =
     let none : length c.bytes.result.now ≡ 0 = grind (arith, nat_tests) in
     count_ended g.J.Naming.service.input (place c.args.self.now.start c.args.self.now.number) c.requires (rw c.bytes.ensures at none)
 
@@ -14,7 +14,7 @@ end_line-requires g c =
     let some : 0 < length c.bytes.result.now = grind (arith, nat_tests) in
     last_came g.J.Naming.service.input (place c.args.self.now.start c.args.self.now.number) c.requires (rw c.bytes.ensures at some)
 
-pub returns : goal.returns
-returns g c =
+pub returns-clause-whole : goal.returns-clause-whole
+returns-clause-whole g c =
     let some : 0 < length c.bytes.result.now = grind (arith, nat_tests) in
     count_with_last g.J.Naming.service.input (place c.args.self.now.start c.args.self.now.number) c.requires (rw c.bytes.ensures at some) _ c.in_ok-line.ensures.number

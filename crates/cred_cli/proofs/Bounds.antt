@@ -1,0 +1,57 @@
+-- Events within a bound.
+use Rattle.std.proofs.Common.{◌≡◌, ℕ, suc, List, [], ◌∷◌, ◌++◌, length, map, Option, Some, None, Bool, true, false, if◌then◌else◌, option_map, refl, ap, ◌∙◌, slice_get, codes}
+use Rattle.std.specs.Fmt.{digits}
+use Rattle.std.proofs.lemmas.List.{length-map}
+use Rattle.std.proofs.lemmas.Option.{slice_get-map}
+use Rattle.cred_book.specs.Accounts.{Accounts}
+use Rattle.cred_cli.specs.declared.event.Event.{Event}
+use Rattle.cred_cli.specs.declared.event.Event.TheVariants.{Bad}
+use Rattle.cred_cli.specs.declared.refusal.Refusal.TheVariants.{Costly}
+use Rattle.cred_cli.specs.Costs.{events_within, is_costly, within}
+use Rattle.cred_cli.specs.History.{after, answer_at, answer_of, book_at, deed_of, deeds_before, names_at, open_after, open_at}
+use Rattle.cred_cli.specs.Script.{events_of}
+use Rattle.cred_cli.specs.Texts.{line_of}
+use Rattle.cred_cli.proofs.Names.{book_at-suc}
+use Rattle.cred_cli.proofs.Openings.{open_at-suc}
+
+map_unbounded : (events : List Event) → map (within None) events ≡ events
+map_unbounded [] = refl
+map_unbounded (e ∷ es) = ap (λ rest. e ∷ rest) (map_unbounded es)
+
+-- without a bound each line comes to what it asks for
+pub unbounded : (bytes : List ℕ) → events_within None bytes ≡ events_of bytes
+unbounded bytes = map_unbounded (events_of bytes)
+
+-- there are as many
+pub length-within : (most : Option ℕ) (bytes : List ℕ) → length (events_within most bytes) ≡ length (events_of bytes)
+length-within most bytes = length-map (events_of bytes) (within most)
+
+-- and the one at a place is within the bound
+pub within_at : (most : Option ℕ) (bytes : List ℕ) (i : ℕ) (event : Event) → slice_get (events_of bytes) i ≡ Some event → slice_get (events_within most bytes) i ≡ Some (within most event)
+within_at most bytes i event here = slice_get-map (within most) (events_of bytes) i ∙ ap (option_map (within most)) here
+
+-- ---- what is within a bound
+
+-- brings nothing that asks for more
+pub brings_no_more : (most : ℕ) (event : Event) → is_costly most (within (Some most) event) ≡ false
+brings_no_more most event = by_test (is_costly most event) refl
+  where
+    by_test : (test : Bool) → is_costly most event ≡ test → is_costly most (if test then Bad Costly else event) ≡ false
+    by_test true costly = refl
+    by_test false cheap = cheap
+
+pub costly_refused : (most : ℕ) (event : Event) → is_costly most event ≡ true → within (Some most) event ≡ Bad Costly
+costly_refused most event costly = ap (λ test. if test then Bad Costly else event) costly
+
+-- a line that is refused as too costly changes nothing
+pub costly-book : (capacity : ℕ) (book : Accounts) (events : List Event) (i : ℕ) → slice_get events i ≡ Some (Bad Costly) → book_at capacity book events (suc i) ≡ book_at capacity book events i
+costly-book capacity book events i refused =
+    book_at-suc capacity book events i ∙ ap (λ e. after (book_at capacity book events i) (deed_of capacity book events i (deeds_before capacity book events i) e)) refused
+
+pub costly-open : (capacity : ℕ) (book : Accounts) (events : List Event) (i key : ℕ) → slice_get events i ≡ Some (Bad Costly) → open_at capacity book events (suc i) key ≡ open_at capacity book events i key
+costly-open capacity book events i key refused =
+    open_at-suc capacity book events i key ∙ ap (open_after (names_at capacity book events i) i key (open_at capacity book events i key)) refused
+
+pub costly-answer : (capacity : ℕ) (book : Accounts) (events : List Event) (i : ℕ) → slice_get events i ≡ Some (Bad Costly) → line_of (answer_at capacity book events i) ≡ codes "bad 18 costly" ++ 10 ∷ []
+unfolding digits
+costly-answer capacity book events i refused = ap (λ e. line_of (answer_of capacity book events i e)) refused ∙ refl

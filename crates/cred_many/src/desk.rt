@@ -1,0 +1,154 @@
+//! What the thread with the book does with what the others hand over.
+
+use crate::fault::ServiceFault;
+use crate::group::MOST_TOGETHER;
+use crate::host::Host;
+use crate::job::{Hashed, Job};
+use crate::message::{Ending, Message};
+use crate::naming::Naming;
+use crate::open::MOST_OPEN;
+use crate::session::Session;
+use crossbeam_channel::{Receiver, Sender};
+use std::alloc::Global;
+use std::io::Write;
+use std::mem;
+use std::sync::Wait;
+
+/// The ends of the channels that the thread with the book keeps.
+#[derive(Drop)]
+pub(crate) struct Desk<J: Naming> {
+    pub(crate) inbox: Receiver<Message<J>>,
+    pub(crate) jobs: Sender<Job<J>>,
+    pub(crate) room: Sender<()>,
+}
+
+/// What was handed over and isn't done yet.
+#[derive(Drop)]
+struct Waiting<J: Naming> {
+    /// Changes, which are made together.
+    changes: Vec<Hashed<J>>,
+    ending: Option<Ending<J>>,
+}
+
+/// Does what the other threads hand over, until all that came is answered or a fault ends it.
+pub(crate) fn attend<J: Naming, T: Wait, K: Host, W: Write + Drop>(
+    rt: &T,
+    alloc: Global,
+    session: &mut Session<J, K, W>,
+    desk: &Desk<J>,
+) -> Ending<J> {
+    let mut waiting = Waiting {
+        changes: Vec::new(alloc),
+        ending: None,
+    };
+    for _ in rt.forever() {
+        let Ok(message) = desk.inbox.recv(rt) else {
+            break;
+        };
+        take_in(rt, alloc, session, desk, message, &mut waiting);
+        gather(rt, alloc, session, desk, &mut waiting);
+        let changes = mem::replace(&mut waiting.changes, Vec::new(alloc));
+        commit(rt, alloc, session, desk, changes);
+        if session.output.fault.is_some()
+            || (waiting.ending.is_some() && session.pending.is_empty())
+        {
+            break;
+        }
+    }
+    let Waiting {
+        changes: _changes,
+        ending,
+    } = waiting;
+    match ending {
+        Some(ending) => ending,
+        None => Ending::cut(session.came, ServiceFault::Lost),
+    }
+}
+
+/// While changes wait, does what else has been handed over by now, so that they are made with all
+/// that came as others were made. It ends after so many messages as there may be at once.
+fn gather<J: Naming, T: Wait, K: Host, W: Write + Drop>(
+    rt: &T,
+    alloc: Global,
+    session: &mut Session<J, K, W>,
+    desk: &Desk<J>,
+    waiting: &mut Waiting<J>,
+) {
+    for _ in 0..MOST_OPEN {
+        if waiting.changes.is_empty() || waiting.changes.len() >= MOST_TOGETHER {
+            return;
+        }
+        let Ok(message) = desk.inbox.try_recv(rt) else {
+            return;
+        };
+        take_in(rt, alloc, session, desk, message, waiting);
+    }
+}
+
+/// Does what a message asks for. A change that is hashed waits.
+fn take_in<J: Naming, T: Wait, K: Host, W: Write + Drop>(
+    rt: &T,
+    alloc: Global,
+    session: &mut Session<J, K, W>,
+    desk: &Desk<J>,
+    message: Message<J>,
+    waiting: &mut Waiting<J>,
+) {
+    match message {
+        Message::Ended(ending) => waiting.ending = Some(ending),
+        Message::Came(line) => {
+            let job = session.take(rt, alloc, line);
+            desk.pass_on(rt, job);
+        }
+        Message::Hashed(hashed) => {
+            if hashed.worked.reply().makes_change() {
+                if let Err(refused) = waiting.changes.push(hashed) {
+                    desk.pass_on(rt, session.commit(rt, refused.value));
+                }
+            } else {
+                desk.pass_on(rt, session.commit(rt, hashed));
+            }
+        }
+        Message::NoMemory(line) => {
+            session.no_memory(line);
+            desk.pass_on(rt, None);
+        }
+    }
+}
+
+/// Makes changes together, if there are several, and then those of them that are left one by one.
+fn commit<J: Naming, T: Wait, K: Host, W: Write + Drop>(
+    rt: &T,
+    alloc: Global,
+    session: &mut Session<J, K, W>,
+    desk: &Desk<J>,
+    changes: Vec<Hashed<J>>,
+) {
+    let lines = changes.len();
+    let others = if lines < 2 {
+        changes
+    } else {
+        session.commit_together(alloc, changes)
+    };
+    for _ in others.len()..lines {
+        desk.pass_on(rt, None);
+    }
+    for hashed in others {
+        desk.pass_on(rt, session.commit(rt, hashed));
+    }
+}
+
+impl<J: Naming> Desk<J> {
+    /// Hands on what is to be hashed. If that is nothing, a line was answered, and there is room
+    /// for another.
+    fn pass_on<T: Wait>(&self, rt: &T, job: Option<Job<J>>) {
+        match job {
+            Some(job) => {
+                let _ = self.jobs.send(rt, job);
+            }
+            None => {
+                let _ = self.room.send(rt, ());
+            }
+        }
+    }
+}

@@ -1,0 +1,73 @@
+//! Lines that bring settings and records: within a bound, and above it.
+use super::dialogue::Dialogue;
+use super::{Line, empty_book, hold_bytes, hold_end};
+use cred_cli::{End, Tools, Watched, serve};
+use std::alloc::Global;
+use std::process::Abort;
+use std::sync::Wait;
+use std::thread::Threads;
+
+/// What a service answers whose bound is 64 KiB.
+static BOUNDED: [Line; 21] = [
+    ("load a $argon2id$v=19$m=64,t=1,p=1$c29tZXNhbHQ$AAAAAA", "ok"),
+    ("load a $argon2id$v=19$m=65,t=1,p=1$c29tZXNhbHQ$AAAAAA", "bad 18 costly"),
+    ("load a $scrypt$ln=9,r=1,p=1$c29tZXNhbHQ$AAAAAA", "ok"),
+    ("load a $scrypt$ln=9,r=1,p=2$c29tZXNhbHQ$AAAAAA", "bad 18 costly"),
+    ("load zed $argon2i$v=16$m=65,t=1,p=1$c29tZXNhbHQ$AAAAAA", "bad 18 costly"),
+    ("load a $scrypt$ln=1,r=255,p=2$c29tZXNhbHQ$AAAAAA", "bad 18 costly"),
+    ("show a", "$scrypt$ln=9,r=1,p=1$c29tZXNhbHQ$AAAAAA"),
+    ("begin 1 enrol a - $argon2id$v=19$m=64,t=1,p=1$c29tZXNhbHQ", "begun"),
+    ("begin 2 enrol a - $argon2id$v=19$m=65,t=1,p=1$c29tZXNhbHQ", "bad 18 costly"),
+    ("begin 1 enrol a - $argon2id$v=19$m=65,t=1,p=1$c29tZXNhbHQ", "bad 18 costly"),
+    ("begin 65 enrol a - $argon2id$v=19$m=65,t=1,p=1$c29tZXNhbHQ", "bad 12 key"),
+    ("begin 2 change a - - $scrypt$ln=6,r=8,p=1$c29tZXNhbHQ", "begun"),
+    ("begin 3 change a - - $scrypt$ln=7,r=8,p=1$c29tZXNhbHQ", "bad 18 costly"),
+    ("begin 3 upgrade a - $scrypt$ln=5,r=8,p=2$c29tZXNhbHQ", "begun"),
+    ("begin 4 upgrade a - $scrypt$ln=5,r=8,p=3$c29tZXNhbHQ", "bad 18 costly"),
+    ("begin 4 verify a -", "begun"),
+    ("begin 5 remove a -", "begun"),
+    ("commit 1", "exists"),
+    ("commit 2", "wrong"),
+    ("commit 3", "wrong"),
+    ("commit 4", "no"),
+];
+
+/// The same lines, where one asks for more than another.
+static UNBOUNDED: [Line; 4] = [
+    ("load a $argon2id$v=19$m=65,t=1,p=1$c29tZXNhbHQ$AAAAAA", "ok"),
+    ("load a $scrypt$ln=9,r=1,p=2$c29tZXNhbHQ$AAAAAA", "ok"),
+    ("begin 1 enrol a - $argon2id$v=19$m=65,t=1,p=1$c29tZXNhbHQ", "begun"),
+    ("begin 2 upgrade a - $scrypt$ln=24,r=1,p=255$c29tZXNhbHQ", "bad 5 range"),
+];
+
+/// Holds the lines against a service with this bound in KiB.
+fn judge_served<R: Threads + Wait + Sync + Abort>(
+    rt: &R,
+    alloc: Global,
+    most: Option<u64>,
+    lines: &'static [Line<'static>],
+) {
+    let dialogue = Dialogue::behind_account(rt, alloc, "costs", lines);
+    for workers in [1, 4] {
+        let tools = Tools { rt, alloc, workers };
+        let mut book = empty_book(rt, alloc);
+        let mut reader = Watched::new(dialogue.script.as_bytes());
+        let mut writer = Watched::new(Vec::new(alloc));
+        let end = serve(&tools, most, &mut book, &mut reader, &mut writer);
+        let lines = dialogue.answers.lines().count() as u64;
+        hold_end(rt, 0, end, Ok(End { lines }));
+        let written: Vec<u8> = writer.into_inner();
+        hold_bytes(rt, 0, &written, &dialogue.answers);
+    }
+}
+
+#[test]
+fn costs_within_a_bound(rt: HostRuntime) {
+    judge_served(&rt, rt.alloc(), Some(64), &BOUNDED);
+}
+
+#[test]
+fn costs_without_a_bound(rt: HostRuntime) {
+    judge_served(&rt, rt.alloc(), None, &UNBOUNDED);
+    Dialogue::behind_account(&rt, rt.alloc(), "costs", &UNBOUNDED).judge(&rt, rt.alloc());
+}
