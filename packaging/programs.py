@@ -149,9 +149,7 @@ def packages() -> list[Programs]:
                     for it in sorted((TOP / "completions").glob("_*"))
                 },
             },
-            texts={
-                f"usr/bin/{it}": launcher(it) for it in ("credbook", "credkeep")
-            },
+            texts={f"usr/bin/{it}": launcher(it) for it in ("credbook", "credkeep")},
             scripts={
                 "postinst": TOOLS_POSTINST,
                 "prerm": TOOLS_PRERM,

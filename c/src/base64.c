@@ -40,14 +40,3 @@ void write_base64(uint8_t *text, const uint8_t *from, size_t size) {
     if (bits > 0)
         *text = letter_of(waiting << (6 - bits) & 63);
 }
-
-void read_base64(uint8_t *to, size_t size, const char *letters) {
-    uint32_t waiting = 0;
-    int bits = 0;
-    for (size_t i = 0; i < size; i++) {
-        for (; bits < 8; bits += 6)
-            waiting = waiting << 6 | (uint32_t)base64_value((uint8_t)*letters++);
-        bits -= 8;
-        to[i] = (uint8_t)(waiting >> bits);
-    }
-}

@@ -15,8 +15,4 @@ void write_base64(uint8_t *text, const uint8_t *from, size_t size);
 /* The six bits that a letter stands for, or -1. */
 int base64_value(uint8_t letter);
 
-/* Writes the bytes that letters stand for; bits that stand for none are left out. The letters are
- * base64, and size is that of the bytes. */
-void read_base64(uint8_t *to, size_t size, const char *letters);
-
 #endif

@@ -2,7 +2,8 @@
  * it in each of its builds. The contracts stand in the crate, where each part is proved. What
  * nobody proves is that the parts are called as they have to be:
  *
- * - All calls for a tag have the same numbers, and all calls for a record the same text and size.
+ * - All calls for a tag have the same numbers. All calls for a record have what the text's reading
+ *   wrote, unchanged, and its numbers.
  * - The memory is four slices, apart from one another and from all else, whose bytes were written
  *   before. Each has a segment for each lane, one behind another. Nobody else writes there.
  * - begin is called once, with the first slice, before all others.
@@ -36,6 +37,19 @@ struct segment_index {
     uint32_t pass, slice, lane;
 };
 
+/* What a text of Argon2 says, as the crate's reading.rt lays it out: a setting with the length of
+ * its tag, and a record. */
+struct setting_reading {
+    struct tag_numbers numbers;
+    uint32_t salt_size;
+    uint8_t salt[RIGZUMAL_SALT_SIZE_MAX];
+};
+
+struct record_reading {
+    struct setting_reading setting;
+    uint8_t tag[RIGZUMAL_TAG_SIZE_MAX];
+};
+
 #define PARTS(build)                                                                               \
     uint8_t build##_cred_argon2_begin(                                                             \
         const struct tag_numbers *numbers, bytes password, size_t password_size, bytes salt,       \
@@ -49,15 +63,12 @@ struct segment_index {
     uint8_t build##_cred_argon2_end(const struct tag_numbers *numbers,                             \
                                     const struct argon2_block *last, size_t last_count,            \
                                     uint8_t *tag, size_t tag_size);                                \
-    uint8_t build##_cred_check_begin(bytes record, size_t record_size, bytes password,             \
-                                     size_t password_size, struct argon2_block *first,             \
-                                     size_t first_count);                                          \
-    uint8_t build##_cred_check_end(bytes record, size_t record_size,                               \
+    uint8_t build##_cred_read_begin(const struct setting_reading *reading, bytes password,         \
+                                    size_t password_size, struct argon2_block *first,              \
+                                    size_t first_count);                                           \
+    uint8_t build##_cred_check_end(const struct record_reading *reading,                           \
                                    const struct argon2_block *last, size_t last_count);            \
-    uint8_t build##_cred_hash_begin(bytes setting, size_t setting_size, uint32_t tag_size,         \
-                                    bytes password, size_t password_size,                          \
-                                    struct argon2_block *first, size_t first_count);               \
-    uint8_t build##_cred_hash_end(bytes setting, size_t setting_size, uint32_t tag_size,           \
+    uint8_t build##_cred_hash_end(const struct setting_reading *reading,                           \
                                   const struct argon2_block *last, size_t last_count,              \
                                   uint8_t *text, size_t text_size, size_t *written)
 
@@ -65,10 +76,10 @@ PARTS(v1);
 PARTS(v2);
 PARTS(v3);
 
-/* How many blocks a segment has, and the numbers of a record's tag or of a new one's. */
+/* How many blocks a segment has, and what a record or a setting says. */
 uint8_t v1_cred_argon2_segment_len(const struct tag_numbers *numbers, uint32_t *segment);
-uint8_t v1_cred_check_numbers(bytes record, size_t record_size, struct tag_numbers *numbers);
-uint8_t v1_cred_hash_numbers(bytes setting, size_t setting_size, uint32_t tag_size,
-                             struct tag_numbers *numbers);
+uint8_t v1_cred_check_read(bytes record, size_t record_size, struct record_reading *reading);
+uint8_t v1_cred_hash_read(bytes setting, size_t setting_size, uint32_t tag_size,
+                          struct setting_reading *reading);
 
 #endif

@@ -50,36 +50,40 @@ int make_tag_in(struct argon2_block *memory, const struct tag_inputs *inputs, ui
 }
 
 struct check_inputs {
-    const char *record;
+    struct record_reading record;
     const void *password;
     size_t password_size;
 };
 
 static uint8_t begin_check(const void *inputs, struct argon2_block *first, size_t count) {
     const struct check_inputs *it = inputs;
-    return CALL(cred_check_begin, TEXT(it->record), BYTES(it->password, it->password_size), first,
+    return CALL(cred_read_begin, &it->record.setting, BYTES(it->password, it->password_size), first,
                 count);
 }
 
 static uint8_t end_check(const void *inputs, const struct argon2_block *last, size_t count) {
     const struct check_inputs *it = inputs;
-    return CALL(cred_check_end, TEXT(it->record), last, count);
+    return CALL(cred_check_end, &it->record, last, count);
 }
 
 int rigzumal_check_threads(const char *record, const void *password, size_t password_size,
                            uint32_t threads) {
-    struct check_inputs inputs = {record, password, password_size};
-    struct task task = {.begin = begin_check, .end = end_check, .inputs = &inputs};
-    uint8_t fault = v1_cred_check_numbers(TEXT(record), &task.numbers);
-    threads = useful_threads(&task.numbers, threads);
-    if (fault != RIGZUMAL_OK || threads == 1)
-        return rigzumal_check(record, password, password_size);
-    return cleared_work(&task, threads);
+    struct check_inputs inputs = {.password = password, .password_size = password_size};
+    uint8_t fault = v1_cred_check_read(TEXT(record), &inputs.record);
+    threads = useful_threads(&inputs.record.setting.numbers, threads);
+    int answer;
+    if (fault != RIGZUMAL_OK || threads == 1) {
+        answer = rigzumal_check(record, password, password_size);
+    } else {
+        struct task task = {inputs.record.setting.numbers, begin_check, end_check, &inputs, NULL};
+        answer = cleared_work(&task, threads);
+    }
+    explicit_bzero(inputs.record.tag, sizeof inputs.record.tag);
+    return answer;
 }
 
 struct record_inputs {
-    const struct setting *setting;
-    uint32_t tag_size;
+    struct setting_reading setting;
     const void *password;
     size_t password_size;
     char *text;
@@ -88,14 +92,14 @@ struct record_inputs {
 
 static uint8_t begin_record(const void *inputs, struct argon2_block *first, size_t count) {
     const struct record_inputs *it = inputs;
-    return CALL(cred_hash_begin, it->setting->text, it->setting->size, it->tag_size,
-                BYTES(it->password, it->password_size), first, count);
+    return CALL(cred_read_begin, &it->setting, BYTES(it->password, it->password_size), first,
+                count);
 }
 
 static uint8_t end_record(const void *inputs, const struct argon2_block *last, size_t count) {
     const struct record_inputs *it = inputs;
-    return CALL(cred_hash_end, it->setting->text, it->setting->size, it->tag_size, last, count,
-                ROOM(it->text, it->text_size), it->written);
+    return CALL(cred_hash_end, &it->setting, last, count, ROOM(it->text, it->text_size),
+                it->written);
 }
 
 int rigzumal_record_threads(char *text, size_t text_size, size_t tag_size, const char *costs,
@@ -106,16 +110,18 @@ int rigzumal_record_threads(char *text, size_t text_size, size_t tag_size, const
     if (fault != RIGZUMAL_OK)
         return fault;
     size_t written = 0;
-    struct record_inputs inputs = {&setting, tag_size > UINT32_MAX ? 0 : (uint32_t)tag_size,
-                                   password, password_size,
-                                   text,     text_size,
-                                   &written};
-    struct task task = {.begin = begin_record, .end = end_record, .inputs = &inputs};
-    fault = v1_cred_hash_numbers(setting.text, setting.size, inputs.tag_size, &task.numbers);
-    threads = useful_threads(&task.numbers, threads);
+    struct record_inputs inputs = {.password = password,
+                                   .password_size = password_size,
+                                   .text = text,
+                                   .text_size = text_size,
+                                   .written = &written};
+    fault = v1_cred_hash_read(setting.text, setting.size,
+                              tag_size > UINT32_MAX ? 0 : (uint32_t)tag_size, &inputs.setting);
+    threads = useful_threads(&inputs.setting.numbers, threads);
     if (fault != RIGZUMAL_OK || threads == 1)
         return rigzumal_record(text, text_size, tag_size, (const char *)setting.text, NULL, 0,
                                password, password_size);
+    struct task task = {inputs.setting.numbers, begin_record, end_record, &inputs, NULL};
     fault = cleared_work(&task, threads);
     if (fault == RIGZUMAL_OK)
         text[written] = '\0';

@@ -323,6 +323,19 @@ static void try_zeros(void) {
     }
 }
 
+/* More blocks at one time than the table begins with, and than it has after it has grown once. */
+static void try_many_blocks(void) {
+    enum { MANY = 200 };
+    struct block many[MANY];
+    for (int i = 0; i < MANY; i++)
+        fill_block(&many[i], rattle_alloc(100, 8), 100);
+    for (int i = 0; i < MANY; i++) {
+        struct block *block = &many[i * 7 % MANY];
+        check_block(block);
+        rattle_dealloc(block->start);
+    }
+}
+
 /* A block that can't have another size stays as it is. */
 static void try_refused_growth(void) {
     unsigned char *block = rattle_alloc(100, 8).start;
@@ -367,6 +380,7 @@ int main(void) {
     try_giving_some_back();
     try_kept_areas();
     try_used_again();
+    try_many_blocks();
     try_refused_growth();
     CHECK(mapped == KEPT && count == 0);
     pthread_t thread;

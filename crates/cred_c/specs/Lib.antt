@@ -3,4 +3,5 @@ pub mod Answers
 pub mod Inputs
 pub mod Lanes
 pub mod Parts
+pub mod Readings
 pub mod Steps

@@ -12,6 +12,7 @@ mod operation;
 mod part_fault;
 mod parts;
 mod raw;
+mod reading;
 mod record_lanes;
 mod records;
 mod step;

@@ -4,9 +4,12 @@ ghost use Rattle.cred_argon.specs.Numbers.{kind_number, version_number};
 ghost use Rattle.cred_argon.specs.declared.kind.Kind.{Kind};
 ghost use Rattle.cred_argon.specs.declared.kind.Version.{Version};
 ghost use Rattle.cred_c.specs.Answers.{argon_number, scrypt_number};
-ghost use Rattle.cred_c.specs.Inputs.{IsKind, IsVersion};
+ghost use Rattle.cred_c.specs.Inputs.{IsVersion};
+ghost use Rattle.cred_c.specs.Parts.{variant_number};
+ghost use Rattle.cred_phc.specs.declared.scheme.Variant.{Variant};
 
 use cred_argon::{ArgonError, Kind, Version};
+use cred_phc::Variant;
 use cred_scrypt::ScryptError;
 
 /// It was done.
@@ -67,6 +70,20 @@ pub(crate) fn kind_of(number: u32) -> Option<Kind>
         0 => Some(Kind::D),
         1 => Some(Kind::I),
         2 => Some(Kind::Id),
+        _ => None,
+    }
+}
+
+/// The variant that a number stands for.
+pub(crate) fn variant_of(number: u32) -> Option<Variant>
+    ensures found { (x : Variant) → number ≡ variant_number x → result ≡ Some x }
+    ensures only { IfSome result (λ x. number ≡ variant_number x) }
+    ensures none { (result ≡ None) ↔ (2 < number) }
+{
+    match number {
+        0 => Some(Variant::D),
+        1 => Some(Variant::I),
+        2 => Some(Variant::Id),
         _ => None,
     }
 }

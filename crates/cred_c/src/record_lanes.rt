@@ -7,6 +7,7 @@ ghost use Rattle.cred_c.specs.Answers.{output};
 ghost use Rattle.cred_c.specs.Lanes.{AreNumbers, IsBegunUnder, IsEndUnder, IsFilled, IsSlice};
 ghost use Rattle.cred_c.specs.Lanes.{IsRecordEndUnder, part_fault_number, record_inputs};
 ghost use Rattle.cred_c.specs.Lanes.{record_parameters};
+ghost use Rattle.cred_c.specs.Readings.{IsReadRecord, IsReadSetting};
 ghost use Rattle.cred_phc.specs.Errors.{error_number};
 ghost use Rattle.cred_phc.specs.Faults.{record_fault, setting_fault};
 ghost use Rattle.cred_phc.specs.Tags.{argon_parameters, tag};
@@ -15,69 +16,125 @@ ghost use Rattle.cred_phc.specs.Values.{IsRecord, IsSetting, RecordValue, Settin
 ghost use Rattle.cred_phc.specs.declared.error.PhcError.{PhcError};
 
 use crate::lanes::{begin, is_slice};
-use crate::numbers::{DONE, WRONG};
+use crate::numbers::{DONE, NO_PLACE, WRONG};
 use crate::part_fault::PartFault;
-use crate::tag_numbers::{TagNumbers, numbers_of};
+use crate::reading::{RecordReading, SettingReading};
 use crate::texts::put_record;
 use cred_argon::{ArgonError, Block, tag_of_lanes};
 use cred_phc::{PhcError, Record, Setting, Tag, argon2_params, parse_record, parse_setting};
 use std::alloc::Global;
 
-/// Writes the numbers of a record's tag into `numbers`.
+/// Reads a record's text, for the calls that check a password against it.
 ///
 /// Answers 0; or the number of the text's fault, 1 to 9; or 2 if it is a record of scrypt.
 #[unsafe(no_mangle)]
-pub extern "C" fn cred_check_numbers(text: &[u8], numbers: &mut TagNumbers) -> u8
+pub extern "C" fn cred_check_read(text: &[u8], reading: &mut RecordReading) -> u8
     ensures fault { (e : PhcError) → record_fault text.now ≡ Some e → result ≡ error_number e }
     ensures read { record_fault text.now ≡ None → (v : RecordValue) × IsRecord v
-        × IsRecordText text.now v × AreNumbers (record_parameters v) result numbers.new }
-    ensures kept { (result ≡ 0 → ⊥) → numbers.new ≡ numbers.old }
+        × IsRecordText text.now v
+        × AreNumbers (record_parameters v) result reading.new.setting.numbers
+        × (result ≡ 0 → IsReadRecord reading.new v) }
+    ensures kept { (result ≡ 0 → ⊥) → reading.new ≡ reading.old }
 {
     match parse_record(text) {
-        Ok(stored) => put_numbers(&stored.setting(), tag_len_of(&stored), numbers),
+        Ok(stored) => reading.keep(&stored),
         Err(fault) => fault.number(),
     }
 }
 
-/// Writes the first two blocks of each lane into the first slice, for a check of a password against
-/// a record.
+/// Reads the text of a setting, for the calls that make a record under it with a tag of `tag_len`
+/// bytes, 4 to 64.
 ///
-/// Answers 0; or the number of the text's fault, 1 to 9; or 2 if it is a record of scrypt;
-/// otherwise 27 if `first` isn't a slice, otherwise 18 if the password has 2^32 bytes or more.
+/// Answers 0; or the number of the text's fault, 1 to 9; otherwise 7 if `tag_len` is outside its
+/// range, otherwise 2 if it is a setting of scrypt.
 #[unsafe(no_mangle)]
-pub extern "C" fn cred_check_begin(text: &[u8], pw: &[u8], first: &mut [Block]) -> u8
-    ensures fault { (e : PhcError) → record_fault text.now ≡ Some e → result ≡ error_number e }
-    ensures begun { record_fault text.now ≡ None → (v : RecordValue) × IsRecord v
-        × IsRecordText text.now v
-        × IsBegunUnder (record_parameters v) (record_inputs pw.now v.setting.salt) result
-        first.old first.new }
+pub extern "C" fn cred_hash_read(text: &[u8], tag_len: u32, reading: &mut SettingReading) -> u8
+    ensures fault { (e : PhcError) → setting_fault text.now ≡ Some e → result ≡ error_number e }
+    ensures tag { setting_fault text.now ≡ None → (tag_len < 4) ⊎ (64 < tag_len) → result ≡ 7 }
+    ensures read { setting_fault text.now ≡ None → 4 ≤ tag_len → tag_len ≤ 64
+        → (s : SettingValue) × IsSetting s × IsSettingText text.now s
+        × AreNumbers (argon_parameters s.scheme tag_len) result reading.new.numbers
+        × (result ≡ 0 → IsReadSetting reading.new s) }
+    ensures kept { (result ≡ 0 → ⊥) → reading.new ≡ reading.old }
+{
+    match parse_setting(text) {
+        Ok(_) if tag_len < 4 || tag_len > 64 => PhcError::Tag.number(),
+        Ok(setting) => reading.keep(&setting, tag_len as u8),
+        Err(fault) => fault.number(),
+    }
+}
+
+/// Writes the first two blocks of each lane into the first slice, for the password's tag under the
+/// setting that was read.
+///
+/// Answers 0; or 27 if nothing was read or `first` isn't a slice, otherwise 18 if the password has
+/// 2^32 bytes or more.
+#[unsafe(no_mangle)]
+pub extern "C" fn cred_read_begin(reading: &SettingReading, pw: &[u8], first: &mut [Block]) -> u8
+    ensures begun { (s : SettingValue) → IsSetting s → IsReadSetting reading.now s
+        → IsBegunUnder (argon_parameters s.scheme reading.now.numbers.tag_len)
+        (record_inputs pw.now s.salt) result first.old first.new }
+    ensures unread { ((s : SettingValue) → IsSetting s → IsReadSetting reading.now s → ⊥)
+        → result ≡ 27 }
     ensures kept { (result ≡ 0 → ⊥) → first.new ≡ first.old }
 {
-    match parse_record(text) {
-        Ok(stored) => begin_under(&stored.setting(), tag_len_of(&stored), pw, first),
-        Err(fault) => fault.number(),
+    match reading.setting() {
+        Some(setting) => begin_under(&setting, reading.numbers.tag_len as u8, pw, first),
+        None => NO_PLACE,
     }
 }
 
 /// Tells from the last slice, worked on the last pass, whether the password that the memory was
-/// begun with is that of the record.
+/// begun with is that of the record that was read.
 ///
-/// Answers 0 if it is and 10 if it isn't; or the number of the text's fault, 1 to 9; or 2 if it is
-/// a record of scrypt; otherwise 27 if `last` isn't a slice, otherwise 8 if there is too little
-/// memory.
+/// Answers 0 if it is and 10 if it isn't; or 27 if nothing was read or `last` isn't a slice,
+/// otherwise 8 if there is too little memory.
 #[unsafe(no_mangle)]
-pub extern "C" fn cred_check_end(alloc: Global, text: &[u8], last: &[Block]) -> u8
-    ensures fault { (e : PhcError) → record_fault text.now ≡ Some e → result ≡ error_number e }
-    ensures verdict { record_fault text.now ≡ None → (v : RecordValue) × IsRecord v
-        × IsRecordText text.now v × IsEndUnder v (record_parameters v) last.now result }
+pub extern "C" fn cred_check_end(alloc: Global, reading: &RecordReading, last: &[Block]) -> u8
+    ensures verdict { (v : RecordValue) → IsRecord v → IsReadRecord reading.now v
+        → IsEndUnder v (record_parameters v) last.now result }
+    ensures unread { ((v : RecordValue) → IsRecord v → IsReadRecord reading.now v → ⊥)
+        → result ≡ 27 }
 {
-    match parse_record(text) {
-        Ok(stored) => check_end(alloc, &stored, last),
-        Err(fault) => fault.number(),
+    match reading.record() {
+        Some(stored) => check_end(alloc, &stored, last),
+        None => NO_PLACE,
     }
 }
 
-/// The same of a record.
+/// Writes the text of the record over the front of `out` and its length into `len`, if `last` is
+/// the last slice and has been worked on the last pass.
+///
+/// Answers 0; or 27 if nothing was read or `last` isn't a slice, otherwise 8 if there is too little
+/// memory or 11 if `out` has too little room.
+#[unsafe(no_mangle)]
+pub extern "C" fn cred_hash_end(
+    alloc: Global,
+    reading: &SettingReading,
+    last: &[Block],
+    out: &mut [u8],
+    len: &mut usize,
+) -> u8
+    ensures made { (s : SettingValue) → IsSetting s → IsReadSetting reading.now s
+        → IsRecordEndUnder s reading.now.numbers.tag_len
+        (argon_parameters s.scheme reading.now.numbers.tag_len) last.now
+        (output result out.old out.new len.new) }
+    ensures unread { ((s : SettingValue) → IsSetting s → IsReadSetting reading.now s → ⊥)
+        → result ≡ 27 }
+    ensures kept { (result ≡ 0 → ⊥) → (len.new ≡ 0) × (out.new ≡ out.old) }
+    ensures rest { drop len.new out.new ≡ drop len.new out.old }
+{
+    *len = 0;
+    match reading.setting() {
+        Some(setting) => {
+            let tag_len = reading.numbers.tag_len as u8;
+            hash_end(alloc, &setting, tag_len, last, out, len)
+        }
+        None => NO_PLACE,
+    }
+}
+
+/// Judges the last slice by a record.
 fn check_end(alloc: Global, stored: &Record, last: &[Block]) -> u8
     ensures verdict { IsEndUnder stored.now (record_parameters stored.now) last.now result }
     ensures ranges { IsRecord stored.now }
@@ -95,106 +152,7 @@ fn verdict(made: Tag, kept: Tag) -> u8
     if made == kept { DONE } else { WRONG }
 }
 
-/// Writes the numbers of the tag that a setting's text asks for into `numbers`, with a tag of
-/// `tag_len` bytes, 4 to 64.
-///
-/// Answers 0; or the number of the text's fault, 1 to 9; otherwise 7 if `tag_len` is outside its
-/// range, otherwise 2 if it is a setting of scrypt.
-#[unsafe(no_mangle)]
-pub extern "C" fn cred_hash_numbers(text: &[u8], tag_len: u32, numbers: &mut TagNumbers) -> u8
-    ensures fault { (e : PhcError) → setting_fault text.now ≡ Some e → result ≡ error_number e }
-    ensures tag { setting_fault text.now ≡ None → (tag_len < 4) ⊎ (64 < tag_len) → result ≡ 7 }
-    ensures read { setting_fault text.now ≡ None → 4 ≤ tag_len → tag_len ≤ 64
-        → (s : SettingValue) × IsSetting s × IsSettingText text.now s
-        × AreNumbers (argon_parameters s.scheme tag_len) result numbers.new }
-    ensures kept { (result ≡ 0 → ⊥) → numbers.new ≡ numbers.old }
-{
-    match asked_of(text, tag_len) {
-        Ok(asked) => put_numbers(&asked.setting, asked.tag_len, numbers),
-        Err(fault) => fault.number(),
-    }
-}
-
-/// Writes the first two blocks of each lane into the first slice, for a record of the password.
-///
-/// Answers 0; or the number of the text's fault, 1 to 9; otherwise 7 if `tag_len` is outside its
-/// range, otherwise 2 if it is a setting of scrypt, otherwise 27 if `first` isn't a slice,
-/// otherwise 18 if the password has 2^32 bytes or more.
-#[unsafe(no_mangle)]
-pub extern "C" fn cred_hash_begin(text: &[u8], tag_len: u32, pw: &[u8], first: &mut [Block]) -> u8
-    ensures fault { (e : PhcError) → setting_fault text.now ≡ Some e → result ≡ error_number e }
-    ensures tag { setting_fault text.now ≡ None → (tag_len < 4) ⊎ (64 < tag_len) → result ≡ 7 }
-    ensures begun { setting_fault text.now ≡ None → 4 ≤ tag_len → tag_len ≤ 64
-        → (s : SettingValue) × IsSetting s × IsSettingText text.now s
-        × IsBegunUnder (argon_parameters s.scheme tag_len) (record_inputs pw.now s.salt) result
-        first.old first.new }
-    ensures kept { (result ≡ 0 → ⊥) → first.new ≡ first.old }
-{
-    match asked_of(text, tag_len) {
-        Ok(asked) => begin_under(&asked.setting, asked.tag_len, pw, first),
-        Err(fault) => fault.number(),
-    }
-}
-
-/// Writes the text of the record over the front of `out` and its length into `len`, if `last` is
-/// the last slice and has been worked on the last pass.
-///
-/// Answers 0; or the number of the text's fault, 1 to 9; otherwise 7 if `tag_len` is outside its
-/// range, otherwise 2 if it is a setting of scrypt, otherwise 27 if `last` isn't a slice, otherwise
-/// 8 if there is too little memory or 11 if `out` has too little room.
-#[unsafe(no_mangle)]
-pub extern "C" fn cred_hash_end(
-    alloc: Global,
-    text: &[u8],
-    tag_len: u32,
-    last: &[Block],
-    out: &mut [u8],
-    len: &mut usize,
-) -> u8
-    ensures fault { (e : PhcError) → setting_fault text.now ≡ Some e → result ≡ error_number e }
-    ensures tag { setting_fault text.now ≡ None → (tag_len < 4) ⊎ (64 < tag_len) → result ≡ 7 }
-    ensures made { setting_fault text.now ≡ None → 4 ≤ tag_len → tag_len ≤ 64
-        → (s : SettingValue) × IsSetting s × IsSettingText text.now s
-        × IsRecordEndUnder s tag_len (argon_parameters s.scheme tag_len) last.now
-        (output result out.old out.new len.new) }
-    ensures kept { (result ≡ 0 → ⊥) → (len.new ≡ 0) × (out.new ≡ out.old) }
-    ensures rest { drop len.new out.new ≡ drop len.new out.old }
-{
-    *len = 0;
-    match asked_of(text, tag_len) {
-        Ok(asked) => hash_end(alloc, &asked.setting, asked.tag_len, last, out, len),
-        Err(fault) => fault.number(),
-    }
-}
-
-/// The setting of a new record, and how many bytes its tag is to have: 4 to 64.
-#[derive(Drop)]
-struct Asked {
-    setting: Setting,
-    tag_len: u8,
-}
-
-/// What a setting's text and the length of a tag ask for.
-///
-/// Errors: the text's fault; otherwise `Tag` if the length is outside its range.
-fn asked_of(text: &[u8], tag_len: u32) -> Result<Asked, PhcError>
-    ensures { MatchResult result (λ asked. (setting_fault text.now ≡ None) × (4 ≤ tag_len)
-        × (tag_len ≤ 64) × IsSetting asked.setting × IsSettingText text.now asked.setting
-        × (asked.tag_len ≡ tag_len))
-        (λ e. (setting_fault text.now ≡ Some e) ⊎ ((setting_fault text.now ≡ None)
-        × ((tag_len < 4) ⊎ (64 < tag_len)) × (e ≡ PhcError.Tag))) }
-{
-    let setting = parse_setting(text)?;
-    if tag_len < 4 || tag_len > 64 {
-        return Err(PhcError::Tag);
-    }
-    Ok(Asked {
-        setting,
-        tag_len: tag_len as u8,
-    })
-}
-
-/// The same under a setting.
+/// Writes the record under a setting.
 fn hash_end(
     alloc: Global,
     setting: &Setting,
@@ -225,22 +183,6 @@ fn tag_len_of(stored: &Record) -> u8
     ensures high { result ≤ 64 }
 {
     stored.tag().bytes().len() as u8
-}
-
-/// Writes the numbers of a setting of Argon2.
-fn put_numbers(setting: &Setting, tag_len: u8, numbers: &mut TagNumbers) -> u8
-    requires low { 4 ≤ tag_len }
-    requires high { tag_len ≤ 64 }
-    ensures read { AreNumbers (argon_parameters setting.now.scheme tag_len) result numbers.new }
-    ensures kept { (result ≡ 0 → ⊥) → numbers.new ≡ numbers.old }
-{
-    match argon2_params(setting, tag_len) {
-        Some(params) => {
-            *numbers = numbers_of(&params);
-            DONE
-        }
-        None => PartFault::Scrypt.number(),
-    }
 }
 
 /// Writes the first two blocks of each lane for a setting of Argon2.

@@ -24,6 +24,10 @@ const RECORD: &[u8] =
 const RECORD_IN_BUFFER: &[u8] =
     b"$argon2id$v=19$m=256,t=2,p=1$c29tZXNhbHQ$nf65EOgLrQMR/uIPnA4rEsF5h7TKyQwu9U1bMCHGi/4..";
 
+/// A record of scrypt from passlib's pages.
+const SCRYPT_RECORD: &[u8] = b"$scrypt$ln=16,r=8,p=1$aM15713r3Xsvxbi31lqr1Q$\
+    nFNh2CVHVjNldFVKDHDlm4CbdRSCdEBsjjJxD+iCs5E";
+
 /// The record's tag.
 const TAG: [u8; 32] = [
     0x9d, 0xfe, 0xb9, 0x10, 0xe8, 0x0b, 0xad, 0x03, 0x11, 0xfe, 0xe2, 0x0f, 0x9c, 0x0e, 0x2b, 0x12,

@@ -1,6 +1,5 @@
 //! The texts of records, written into buffers of the caller's.
-ghost use Rattle.std.specs.Prelude.{◌≡◌, ◌<◌, ◌↔◌, None, Some, drop};
-ghost use Rattle.cred_argon.specs.Numbers.{kind_number};
+ghost use Rattle.std.specs.Prelude.{◌≡◌, ◌<◌, ◌↔◌, drop};
 ghost use Rattle.cred_argon.specs.declared.kind.Version.{Version};
 ghost use Rattle.cred_c.specs.Answers.{IsWritten, output};
 ghost use Rattle.cred_c.specs.Inputs.{AreOf, IsKind, IsVersion, record_of_parts, record_scheme};
@@ -11,9 +10,9 @@ ghost use Rattle.cred_phc.specs.Values.{RecordValue};
 ghost use Rattle.cred_phc.specs.declared.error.PhcError.{PhcError};
 ghost use Rattle.cred_phc.specs.declared.scheme.Variant.{Variant};
 
-use crate::numbers::{DONE, NO_KIND, NO_ROOM, NO_VERSION, byte_of, version_of};
+use crate::numbers::{DONE, NO_KIND, NO_ROOM, NO_VERSION, byte_of, variant_of, version_of};
 use crate::tag_numbers::Argon2Numbers;
-use cred_phc::{PhcError, Record, Scheme, Setting, Variant, write_record};
+use cred_phc::{PhcError, Record, Scheme, Setting, write_record};
 use std::alloc::Global;
 
 /// Writes the text of an Argon2 record of these parts over the front of `out`, and its length into
@@ -62,19 +61,6 @@ pub extern "C" fn cred_write(
     match record_of_parts(scheme, salt, tag) {
         Ok(made) => put_record(alloc, &made, out, len),
         Err(fault) => fault.number(),
-    }
-}
-
-/// The variant that a number stands for.
-fn variant_of(number: u32) -> Option<Variant>
-    ensures found { (x : Variant) → number ≡ kind_number (argon_kind x) → result ≡ Some x }
-    ensures none { (result ≡ None) ↔ (2 < number) }
-{
-    match number {
-        0 => Some(Variant::D),
-        1 => Some(Variant::I),
-        2 => Some(Variant::Id),
-        _ => None,
     }
 }
 

@@ -74,17 +74,22 @@ class PerThread:
 
     def close(self) -> None:
         """Closes this thread's connection, if it has one."""
-        held: Optional[_Held] = getattr(self._local, "held", None)
+        held = self._mine()
         self._local.held = None
-        if held is not None and held.is_mine:
+        if held is not None:
             held.close()
 
-    def _take(self) -> _Held:
+    def _mine(self) -> Optional[_Held]:
+        """This thread's connection, if this process made it."""
         held: Optional[_Held] = getattr(self._local, "held", None)
         if held is not None and not held.is_mine:
-            # To close it here would say good-bye to the parent's server.
+            # To close it here, or to let go of it, would say good-bye to the parent's server.
             self._parents.append(held)
-            held = None
+            return None
+        return held
+
+    def _take(self) -> _Held:
+        held = self._mine()
         if held is None:
             held = self._local.held = _Held(self._connect())
         return held

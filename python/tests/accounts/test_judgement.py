@@ -76,8 +76,9 @@ class Upgrades(Base):
         self.assertIn("$argon2i$v=19$m=256,t=2,p=1$", self.stands())
 
     def test_what_a_judge_refuses(self):
-        with self.assertRaises(ValueError):
-            self.accounts(PasswordHasher(1, 64, 1, hash_len=16))
+        for size in (16, 31, 33, 64):
+            with self.assertRaises(ValueError):
+                self.accounts(PasswordHasher(1, 64, 1, hash_len=size))
         with self.assertRaises(ValueError):
             self.accounts(LOW, upgrade_from=["$argon2id$v=19$m=64,t=1,p=1"])
         peppered = mock.Mock(wraps=LOW, hash_len=32, secret=b"pepper")

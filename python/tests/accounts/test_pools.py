@@ -383,6 +383,33 @@ class OnePerThread(Base):
         self.assertIs(accounts.verify("ann", "two"), Reply.YES)
         self.assertEqual(made, [os.getpid()])
 
+    def test_a_forked_child_leaves_its_parents(self):
+        """It closes none that its parent made, and lets go of none."""
+        ended = []
+
+        class Connection:
+            def close(self):
+                ended.append(os.getpid())
+
+            def __del__(self):
+                ended.append(os.getpid())
+
+        used, shut = PerThread(Connection), PerThread(Connection)
+        for pool in (used, shut):
+            with pool():
+                pass
+        pid = os.fork()
+        if pid == 0:
+            try:
+                shut.close()
+                with used(), shut():
+                    pass
+                os._exit(len(ended))
+            finally:
+                os._exit(99)
+        self.assertEqual(os.waitpid(pid, 0)[1], 0)
+        self.assertEqual(ended, [])
+
     def test_a_connection_is_given_up_after_an_exception(self):
         """After those, too, by which a thread is interrupted and a task cancelled."""
         for kind in (KeyError, KeyboardInterrupt, asyncio.CancelledError, Alarm):

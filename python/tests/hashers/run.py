@@ -15,7 +15,7 @@ import sys
 HERE = pathlib.Path(__file__).resolve().parent
 sys.path.insert(0, str(HERE.parent))
 
-from harness import PYTHON, python, testing
+from harness import LIBRARIES, PYTHON, python, testing
 from testing import ROOM, Failed, Skipped, compiler, need_module, run
 
 
@@ -57,6 +57,18 @@ def test_missing_library():
     said = run(sys.executable, "python/build_backend.py", room, at=room, status=1)
     if "make -C c" not in said:
         raise Failed(said)
+
+
+def test_librarys_place():
+    """The package's own library is taken before that of a make beside it, which is no library here."""
+    room = ROOM / "place"
+    for package, library in (("own", "python/rigzumal"), ("made", "c/out")):
+        shutil.copytree(PYTHON / "rigzumal", room / package / "python/rigzumal")
+        (room / package / "c/out").mkdir(parents=True)
+        (room / package / "c/out/librigzumal.so.1").write_text("none")
+        shutil.copy(LIBRARIES / "librigzumal.so.1", room / package / library)
+        env = {"PYTHONPATH": str(room / package / "python"), "RIGZUMAL_LIBRARY": ""}
+        run(sys.executable, "-c", "import rigzumal", env=env, at=room)
 
 
 def passlibs(module, env):

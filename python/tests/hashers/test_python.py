@@ -169,8 +169,9 @@ class Hashers(unittest.TestCase):
             hasher.verify(record, "Password")
         self.assertTrue(PasswordHasher(secret=b"").verify(ARGON2, "password"))
         self.assertFalse(PasswordHasher(2, 256, 1, salt_len=8).check_needs_rehash(record))
-        with self.assertRaises(rigzumal.InvalidRecordError):
-            hasher.verify(ScryptHasher(log2_n=4).hash("x"), "x")
+        for one in (hasher, PasswordHasher(secret=b"")):
+            with self.assertRaises(rigzumal.InvalidRecordError):
+                one.verify(ScryptHasher(log2_n=4).hash("x"), "x")
         self.assertNotIn("pepper", repr(hasher))
 
     def test_rehash(self):

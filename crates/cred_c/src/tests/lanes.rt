@@ -1,12 +1,12 @@
 //! Tags and records made part by part, each slice's lanes from the last to the first.
 
-use super::{RECORD, RECORD_IN_BUFFER, SETTING, STANDARD};
+use super::{RECORD, RECORD_IN_BUFFER, SCRYPT_RECORD, SETTING, STANDARD};
 use crate::lanes::{
     cred_argon2_begin, cred_argon2_end, cred_argon2_segment, cred_argon2_segment_len,
 };
+use crate::reading::{RecordReading, SettingReading};
 use crate::record_lanes::{
-    cred_check_begin, cred_check_end, cred_check_numbers, cred_hash_begin, cred_hash_end,
-    cred_hash_numbers,
+    cred_check_end, cred_check_read, cred_hash_end, cred_hash_read, cred_read_begin,
 };
 use crate::tag_numbers::TagNumbers;
 use cred_argon::{Block, SegmentIndex};
@@ -124,28 +124,54 @@ fn tags_in_parts(rt: HostRuntime) {
     }
 }
 
+/// A tag of no kind, and no salt.
+const UNREAD: SettingReading = SettingReading {
+    numbers: NO_NUMBERS,
+    salt_len: 0,
+    salt: [0; 48],
+};
+
+/// A record's reading before anything is read.
+const UNREAD_RECORD: RecordReading = RecordReading {
+    setting: UNREAD,
+    tag: [0; 64],
+};
+
 #[test]
 fn records_in_parts(rt: HostRuntime) {
-    let mut numbers = NO_NUMBERS;
-    assert_eq!(rt; cred_check_numbers(RECORD, &mut numbers), 0);
-    let mut memory = unworked_slices(rt.alloc(), &numbers).expect(&rt, "memory");
+    let mut read = UNREAD_RECORD;
+    assert_eq!(rt; cred_check_read(RECORD, &mut read), 0);
+    let numbers = &read.setting.numbers;
+    let mut memory = unworked_slices(rt.alloc(), numbers).expect(&rt, "memory");
     assert_eq!(rt;
-        cred_check_begin(RECORD, b"password", &mut memory.current),
+        cred_read_begin(&read.setting, b"password", &mut memory.current),
         0
     );
-    assert_eq!(rt; work(&numbers, &mut memory), 0);
-    assert_eq!(rt; cred_check_end(rt.alloc(), RECORD, &memory.newest), 0);
+    assert_eq!(rt; work(numbers, &mut memory), 0);
+    assert_eq!(rt; cred_check_end(rt.alloc(), &read, &memory.newest), 0);
+    let mut asked = UNREAD;
+    assert_eq!(rt; cred_hash_read(SETTING, 32, &mut asked), 0);
+    assert_eq!(rt; asked.numbers, read.setting.numbers);
     let (mut out, mut len) = ([b'.'; 86], 7);
     let last = &memory.newest;
-    let made = cred_hash_end(rt.alloc(), SETTING, 32, last, &mut out, &mut len);
+    let made = cred_hash_end(rt.alloc(), &asked, last, &mut out, &mut len);
     assert_eq!(rt; (made, len, &out[..] == RECORD_IN_BUFFER), (0, 84, true));
-    let mut of_setting = NO_NUMBERS;
-    assert_eq!(rt; cred_hash_numbers(SETTING, 32, &mut of_setting), 0);
-    assert_eq!(rt; of_setting, numbers);
     assert_eq!(rt;
-        cred_hash_begin(SETTING, 32, b"Password", &mut memory.current),
+        cred_read_begin(&asked, b"Password", &mut memory.current),
         0
     );
-    assert_eq!(rt; work(&numbers, &mut memory), 0);
-    assert_eq!(rt; cred_check_end(rt.alloc(), RECORD, &memory.newest), 10);
+    assert_eq!(rt; work(numbers, &mut memory), 0);
+    assert_eq!(rt; cred_check_end(rt.alloc(), &read, &memory.newest), 10);
+}
+
+#[test]
+fn nothing_read(rt: HostRuntime) {
+    let mut read = UNREAD_RECORD;
+    assert_eq!(rt; cred_check_read(SCRYPT_RECORD, &mut read), 2);
+    assert_eq!(rt; cred_read_begin(&read.setting, b"password", &mut []), 27);
+    assert_eq!(rt; cred_check_end(rt.alloc(), &read, &[]), 27);
+    let (mut out, mut len) = ([b'.'; 86], 7);
+    let made = cred_hash_end(rt.alloc(), &read.setting, &[], &mut out, &mut len);
+    assert_eq!(rt; (made, len, out == [b'.'; 86]), (27, 0, true));
+    assert_eq!(rt; cred_hash_read(SETTING, 65, &mut read.setting), 7);
 }

@@ -1,0 +1,137 @@
+//! What C keeps of a text of Argon2 between the calls for its lanes, so that each text is read
+//! once.
+ghost use Rattle.std.specs.Prelude.{◌≡◌, ◌≤◌, IfSome, IsTrue, Some, length, take};
+ghost use Rattle.cred_c.specs.Lanes.{AreNumbers, record_parameters};
+ghost use Rattle.cred_c.specs.Readings.{IsReadRecord, IsReadSetting, tag_numbers};
+ghost use Rattle.cred_phc.specs.Ranges.{scheme_fits};
+ghost use Rattle.cred_phc.specs.Tags.{argon_parameters};
+ghost use Rattle.cred_phc.specs.Values.{IsRecord, IsSetting, RecordValue, SettingValue};
+ghost use Rattle.cred_phc.specs.declared.scheme.Scheme.{Scheme};
+
+use crate::numbers::{DONE, variant_of, version_of};
+use crate::part_fault::PartFault;
+use crate::tag_numbers::{TagNumbers, numbers_of};
+use cred_phc::{Record, Scheme, Setting, Tag, argon2_params};
+
+/// How many bytes a salt has at most.
+const MOST_SALT: usize = 48;
+
+/// How many bytes a tag has at most.
+const MOST_TAG: usize = 64;
+
+/// A setting of Argon2, and how long its tag is to be. Zeros stand after the salt.
+#[repr(C)]
+#[derive(Clone, Copy)]
+pub struct SettingReading {
+    pub numbers: TagNumbers,
+    /// In bytes.
+    pub salt_len: u32,
+    pub salt: [u8; MOST_SALT],
+}
+
+/// A record of Argon2. Zeros stand after the tag.
+#[repr(C)]
+#[derive(Clone, Copy)]
+pub struct RecordReading {
+    pub setting: SettingReading,
+    pub tag: [u8; MOST_TAG],
+}
+
+impl SettingReading {
+    /// Keeps a setting of Argon2: 0, or 2 if it is one of scrypt.
+    pub(crate) fn keep(&mut self, setting: &Setting, tag_len: u8) -> u8
+        requires low { 4 ≤ tag_len }
+        requires high { tag_len ≤ 64 }
+        ensures numbers { AreNumbers (argon_parameters setting.now.scheme tag_len) result
+            self.new.numbers }
+        ensures read { result ≡ 0 → IsReadSetting self.new setting.now }
+        ensures len { result ≡ 0 → self.new.numbers.tag_len ≡ tag_len }
+        ensures kept { (result ≡ 0 → ⊥) → self.new ≡ self.old }
+    {
+        match argon2_params(setting, tag_len) {
+            Some(params) => {
+                let salt = setting.salt();
+                *self = SettingReading {
+                    numbers: numbers_of(&params),
+                    salt_len: salt.len() as u32,
+                    salt: padded(salt),
+                };
+                DONE
+            }
+            None => PartFault::Scrypt.number(),
+        }
+    }
+
+    /// The setting that was read, if one was.
+    pub(crate) fn setting(&self) -> Option<Setting>
+        ensures found { (s : SettingValue) → IsSetting s → IsReadSetting self.now s
+            → result ≡ Some s }
+        ensures only { IfSome result (λ s. IsSetting s × IsReadSetting self.now s) }
+    {
+        let tag_len = self.numbers.tag_len;
+        let salt_len = self.salt_len as usize;
+        if tag_len < 4 || tag_len > 64 || salt_len > MOST_SALT {
+            return None;
+        }
+        let scheme = scheme_of(&self.numbers)?;
+        Setting::new(scheme, &self.salt[..salt_len]).ok()
+    }
+}
+
+impl RecordReading {
+    /// Keeps a record of Argon2: 0, or 2 if it is one of scrypt.
+    pub(crate) fn keep(&mut self, stored: &Record) -> u8
+        ensures numbers { AreNumbers (record_parameters stored.now) result
+            self.new.setting.numbers }
+        ensures read { result ≡ 0 → IsReadRecord self.new stored.now }
+        ensures kept { (result ≡ 0 → ⊥) → self.new ≡ self.old }
+    {
+        let tag = stored.tag();
+        let bytes = tag.bytes();
+        let answer = self.setting.keep(&stored.setting(), bytes.len() as u8);
+        if answer == DONE {
+            self.tag = padded(bytes);
+        }
+        answer
+    }
+
+    /// The record that was read, if one was.
+    pub(crate) fn record(&self) -> Option<Record>
+        ensures found { (v : RecordValue) → IsRecord v → IsReadRecord self.now v
+            → result ≡ Some v }
+        ensures only { IfSome result (λ v. IsRecord v × IsReadRecord self.now v) }
+    {
+        let setting = self.setting.setting()?;
+        let tag = Tag::new(&self.tag[..self.setting.numbers.tag_len as usize])?;
+        Some(Record::with_tag(setting, tag))
+    }
+}
+
+/// These bytes with zeros after them.
+fn padded<const LEN: usize>(bytes: &[u8]) -> [u8; LEN]
+    requires { length bytes.now ≤ LEN }
+    ensures { take (length bytes.now) result ≡ bytes.now }
+{
+    let mut cells = [0; LEN];
+    cells[..bytes.len()].copy_from_slice(bytes);
+    cells
+}
+
+/// The scheme of Argon2 that the numbers are of.
+fn scheme_of(numbers: &TagNumbers) -> Option<Scheme>
+    ensures found { (scheme : Scheme) → IsTrue (scheme_fits scheme)
+        → tag_numbers scheme numbers.now.tag_len ≡ Some numbers.now → result ≡ Some scheme }
+    ensures only { IfSome result (λ scheme. tag_numbers scheme numbers.now.tag_len
+        ≡ Some numbers.now) }
+{
+    let variant = variant_of(numbers.kind)?;
+    let version = version_of(numbers.version)?;
+    let lanes = u8::try_from(numbers.lanes).ok()?;
+    Some(Scheme::Argon2 {
+        version,
+        variant,
+        m: numbers.memory,
+        t: numbers.passes,
+        p: lanes,
+    })
+}
