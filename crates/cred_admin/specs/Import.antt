@@ -1,7 +1,7 @@
 -- What an import makes of its text.
-use Rattle.std.specs.Prelude.{◌≡◌, ℕ, ◌+◌, ◌-◌, ◌<◌, Bool, true, false, ◌||◌, ◌==◌, if◌then◌else◌, nat_eq}
+use Rattle.std.specs.Prelude.{◌≡◌, ℕ, ◌+◌, ◌-◌, ◌<◌, Bool, true, false, ◌||◌, ◌==◌, if◌then◌else◌}
 use Rattle.std.specs.Prelude.{List, [], ◌∷◌, ◌++◌, length, take, drop, codes, Option, None, Some}
-use Rattle.std.specs.Prelude.{IfSome, Result, Ok, Err, ⊤}
+use Rattle.std.specs.Prelude.{IfSome, Result, Ok, Err, nat_eq, ⊤}
 use Rattle.std.specs.List.{ends_with, starts_with}
 use Rattle.std.specs.FinMap as map
 use Rattle.cred_phc.specs.Errors.{error_number as fault_number, error_word as fault_word}

@@ -42,8 +42,8 @@ pub fn run_on_file<T: Threads + Wait + Sync, S: Alter, R: Read, W: Write>(
 /// Answers lines on a kept book for as long as they come, as `serve` does.
 ///
 /// Each change is in the database before it is answered. A commit for whose hash there is no memory
-/// is refused, and the service goes on; the keeper's own want of memory ends it. With `most`, a line
-/// is refused if its setting or record asks for more than so many KiB. A crash leaves the book
+/// is refused, and the service goes on; the keeper's own want of memory ends it. With `most`, a
+/// line is refused if its setting or record asks for more than so many KiB. A crash leaves the book
 /// after the lines that were done, perhaps with the change that was under way as the database
 /// failed.
 pub fn serve_on_file<T: Threads + Wait + Sync, S: Alter, R: Read, W: Write>(

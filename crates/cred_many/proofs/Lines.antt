@@ -14,7 +14,7 @@ use Rattle.cred_cli.proofs.Feeds.{none_kept, some_kept, take-kept}
 use Rattle.cred_cli.proofs.Lines.{length-whole_from, lines_of-ended, lines_of-line_end, lines_of-unfinished, unfinished_from-end, unfinished_from-more, whole_from}
 use Rattle.cred_cli.proofs.Readings.{if_known}
 use Rattle.cred_many.specs.declared.ask.Ask.TheVariants.{Bad}
-use Rattle.cred_many.specs.Asks.{Tagged, entry_of, tag_of, tagged, tagged_by, tagged_of, untagged}
+use Rattle.cred_many.specs.Asks.{Tagged, entry_of, tag_of, tagged, tagged_by, tagged_of, untagged, within}
 use Rattle.cred_many.specs.Reading.{GoesOn, HasCome, IsAt, IsAtEnd, IsBefore, IsCome, Place}
 use Rattle.cred_many.specs.Service.{Service, drawn_setting}
 
@@ -33,14 +33,14 @@ tagged_of-kept drawn line = elim (cases_lt longest_line (length line)) [
 ]
 
 -- so what is kept of the line is read as the line
-pub kept_came : (s : Service) (input : Option (List ℕ)) (at : Place) (drawn : SettingValue) → drawn ≡ drawn_setting s at.number
-    → IfSome input (λ all. HasCome all at) → IfSome input (λ all. IsCome s all (entry_of at.number drawn at.start))
-kept_came s None at drawn is came = tt
-kept_came s (Some all) at drawn is (line, there, kept) =
-    (line, there, ap (entry_of at.number drawn) kept ∙ entry_kept ∙ ap (λ d. entry_of at.number d line) is)
+pub kept_came : (s : Service) (input : Option (List ℕ)) (at : Place) (most : Option ℕ) (drawn : SettingValue) → most ≡ s.most → drawn ≡ drawn_setting s at.number
+    → IfSome input (λ all. HasCome all at) → IfSome input (λ all. IsCome s all (entry_of at.number most drawn at.start))
+kept_came s None at most drawn same is came = tt
+kept_came s (Some all) at most drawn same is (line, there, kept) =
+    (line, there, ap (entry_of at.number most drawn) kept ∙ entry_kept ∙ ap (λ d. entry_of at.number most d line) is ∙ ap (λ m. entry_of at.number m (drawn_setting s at.number) line) same)
   where
-    entry_kept : entry_of at.number drawn (take most_kept line) ≡ entry_of at.number drawn line
-    entry_kept = ap (λ t. record { number = at.number; tag = t.0; ask = t.1 }) (tagged_of-kept drawn line)
+    entry_kept : entry_of at.number most drawn (take most_kept line) ≡ entry_of at.number most drawn line
+    entry_kept = ap (λ t. record { number = at.number; tag = t.0; ask = within most t.1 }) (tagged_of-kept drawn line)
 
 get_seam : (front : List (List ℕ)) (line : List ℕ) (more : List (List ℕ)) → slice_get (front ++ line ∷ more) (length front) ≡ Some line
 get_seam [] line more = refl

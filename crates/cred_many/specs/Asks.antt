@@ -1,6 +1,6 @@
 -- What a tagged line asks for.
 use Rattle.std.specs.Prelude.{◌≡◌, ℕ, List, [], ◌∷◌, Bool, ◌&&◌, ◌||◌, if◌then◌else◌, length, nat_le}
-use Rattle.std.specs.Prelude.{nat_lt, codes, Option, Some, None, Result, Ok, Err, true}
+use Rattle.std.specs.Prelude.{nat_lt, codes, Option, Some, None, Result, Ok, Err, true, false}
 use Rattle.std.specs.List.{list_all}
 use Rattle.std.specs.Str.{bytes_eq}
 use Rattle.std.specs.Option.{ok_or}
@@ -12,6 +12,7 @@ use Rattle.cred_phc.specs.Values.{SettingValue}
 use Rattle.cred_phc.specs.declared.error.PhcError.TheVariants.{Range}
 use Rattle.cred_book.specs.Works.{Task, is_for_current}
 use Rattle.cred_book.specs.declared.request.Request.TheVariants as request
+use Rattle.cred_cli.specs.Costs.{exceeds, request_exceeds}
 use Rattle.cred_cli.specs.Events.{longest_line, name_field, password_field, record_field}
 use Rattle.cred_cli.specs.Events.{setting_field}
 use Rattle.cred_cli.specs.declared.refusal.Refusal.{Refusal}
@@ -154,6 +155,22 @@ IsSound (Login name pw setting) = is_current setting.scheme ≡ true
 IsSound (Reset name pw setting) = is_current setting.scheme ≡ true
 IsSound _ = Unit {0}
 
+-- ---- within a bound in KiB
+
+-- the setting or the record that a line brings asks for more; a login brings none
+abbrev pub is_costly : ℕ → Ask → Bool
+is_costly most (Load name stored) = exceeds most stored.setting.scheme
+is_costly most (Whole r) = request_exceeds most r
+is_costly most (Reset name pw setting) = exceeds most setting.scheme
+is_costly most _ = false
+
+-- such a line is refused, if there is a bound
+abbrev pub within : Option ℕ → Ask → Ask
+within None ask = ask
+within (Some most) ask = if is_costly most ask then Bad refusal.Costly else ask
+
+-- ---- what is hashed
+
 -- it is done without hashing
 abbrev pub NeedsNoHash : Ask → Type 0
 NeedsNoHash (Whole r) = ⊥
@@ -221,7 +238,7 @@ tagged_of drawn line =
     if nat_lt longest_line (length line) then untagged refusal.Long
     else tagged drawn (pieces 32 line)
 
--- the line of this number
-abbrev pub entry_of : ℕ → SettingValue → List ℕ → Entry
-entry_of number drawn line =
-    entry number (tagged_of drawn line).0 (tagged_of drawn line).1
+-- the line of this number, by a service with this bound
+abbrev pub entry_of : ℕ → Option ℕ → SettingValue → List ℕ → Entry
+entry_of number most drawn line =
+    entry number (tagged_of drawn line).0 (within most (tagged_of drawn line).1)

@@ -38,7 +38,7 @@ GoesOn input old bytes new = (all rest : List ℕ) → input ≡ Some all
 -- it is the line of its number
 abbrev pub IsCome : Service → List ℕ → Entry → Type 0
 IsCome s bytes e = (line : List ℕ) × (slice_get (lines_of bytes) e.number ≡ Some line)
-    × (e ≡ entry_of e.number (drawn_setting s e.number) line)
+    × (e ≡ entry_of e.number s.most (drawn_setting s e.number) line)
 
 -- the line of this number has come, of which not all need be kept
 abbrev pub HasCome : List ℕ → Place → Type 0

@@ -6,23 +6,26 @@ use Rattle.cred_phc.specs.declared.scheme.Scheme.{Scheme}
 use Rattle.cred_phc.specs.declared.scheme.Scheme.TheVariants.{Scrypt}
 use Rattle.cred_phc.specs.Values.{SettingValue, setting_of}
 use Rattle.cred_book.specs.Accounts.{Accounts}
+use Rattle.cred_many.specs.declared.service.Means.{Means}
 
--- the book at first, what the reader has to give, what was written before, and with which costs and
--- from which source of salts settings are drawn
+-- the book at first, what the reader has to give, what was written before, with which costs and
+-- from which source of salts settings are drawn, and how many KiB the costs of a line may ask for
 pub record Service : Type 0 where
   pub opening : Accounts
   pub input : Option (List ℕ)
   pub before : Option (List ℕ)
   pub costs : Scheme
   pub salts : Stream
+  pub most : Option ℕ
 
-abbrev pub service : Accounts → Option (List ℕ) → Option (List ℕ) → Scheme → Stream → Service
-service opening input before costs salts = record {
+abbrev pub service : Accounts → Option (List ℕ) → Option (List ℕ) → Means → Stream → Service
+service opening input before means salts = record {
   opening = opening;
   input = input;
   before = before;
-  costs = costs;
+  costs = means.costs;
   salts = salts;
+  most = means.most;
 }
 
 -- what is left of a source after so many salts of 16 bytes
@@ -46,4 +49,5 @@ no_service = record {
     u64_after = λ _. 0;
     bytes_after = λ _ _. [];
   };
+  most = None;
 }

@@ -1,8 +1,11 @@
 //! What a tagged line asks for.
 
+ghost use Rattle.std.specs.Prelude.{◌≡◌};
+ghost use Rattle.cred_many.specs.Asks.{IsSound, is_costly, within};
+
 use crate::edit::Edit;
 use cred_book::{Name, Request};
-use cred_cli::Refusal;
+use cred_cli::{Refusal, exceeds, request_exceeds};
 use cred_phc::{Password, Record, Setting};
 
 /// A whole operation with its fields, or why the line asks for none.
@@ -26,4 +29,34 @@ pub(crate) enum Ask {
     Reset(Name, Password, Setting),
     /// The line asks for nothing.
     Bad(Refusal),
+}
+
+impl Ask {
+    /// The same, or a refusal if its setting or record asks for more than so many KiB.
+    pub(crate) fn within(self, most: Option<u64>) -> Ask
+        requires { IsSound self }
+        ensures ask { result ≡ within most self }
+        ensures sound { IsSound result }
+    {
+        match most {
+            Some(most) if self.is_costly(most) => Ask::Bad(Refusal::Costly),
+            _ => self,
+        }
+    }
+
+    fn is_costly(&self, most: u64) -> bool
+        ensures { result ≡ is_costly most self.now }
+    {
+        match self {
+            Ask::Load(_, stored) => exceeds(most, &stored.setting()),
+            Ask::Whole(request) => request_exceeds(most, request),
+            Ask::Reset(_, _, setting) => exceeds(most, setting),
+            Ask::Account(_)
+            | Ask::Show(_)
+            | Ask::List(_, _)
+            | Ask::Edit(_)
+            | Ask::Login(_, _, _)
+            | Ask::Bad(_) => false,
+        }
+    }
 }

@@ -3,9 +3,14 @@
 ghost use Rattle.std.specs.Prelude.{◌≡◌, false, IfNone, IfSome, true};
 ghost use Rattle.cred_phc.specs.Ranges.{is_current};
 ghost use Rattle.cred_phc.specs.Values.{setting_of};
+ghost use Rattle.cred_cli.specs.Costs.{memory_alone};
 
+use cred_cli::memory_alone;
 use cred_phc::{Scheme, Setting};
 use std::marker::Model;
+
+/// Any salt does where nothing is kept.
+pub(crate) const NO_SALT: [u8; 16] = [0; 16];
 
 /// The scheme with its numbers by which records are made where a line gives no setting.
 #[derive(Clone, Copy)]
@@ -48,8 +53,10 @@ impl Costs {
     }
 
     /// How many KiB a hash with them takes.
-    pub fn memory(&self) -> u64 {
-        memory_of(&self.scheme)
+    pub fn memory(&self) -> u64
+        ensures { result ≡ memory_alone self.now }
+    {
+        memory_alone(&self.setting(&NO_SALT))
     }
 
     /// A setting with this salt.
@@ -60,19 +67,6 @@ impl Costs {
         match Setting::new(self.scheme, salt) {
             Ok(setting) => setting,
             Err(_) => unreachable!(),
-        }
-    }
-}
-
-/// How many KiB a hash takes: Argon2 `m` (RFC 9106, section 3.1), scrypt 128 `r` times its cost in
-/// bytes (RFC 7914, section 2).
-pub(crate) fn memory_of(scheme: &Scheme) -> u64 {
-    match *scheme {
-        Scheme::Argon2 { m, .. } => u64::from(m),
-        Scheme::Scrypt { ln, r, .. } => {
-            2u64.saturating_pow(u32::from(ln))
-                .saturating_mul(u64::from(r))
-                / 8
         }
     }
 }

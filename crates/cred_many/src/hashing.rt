@@ -1,11 +1,12 @@
 //! The threads that hash.
 
 use crate::budget::Budget;
-use crate::costs::{Costs, memory_of};
+use crate::costs::{Costs, NO_SALT};
 use crate::job::{Hashed, Job};
 use crate::message::Message;
 use crate::naming::Naming;
 use cred_book::{Request, Ticket};
+use cred_cli::memory_alone;
 use cred_phc::{Password, Scratch, Setting, TagError, tag_in};
 use cred_pool::NoGate;
 use crossbeam_channel::{Receiver, Sender};
@@ -14,9 +15,6 @@ use std::sync::Wait;
 
 /// The length of the tag of a new record in bytes.
 const NEW_TAG: u8 = 32;
-
-/// Any salt does where nothing is kept.
-const NO_SALT: [u8; 16] = [0; 16];
 
 /// With what the threads hash.
 #[derive(Drop)]
@@ -79,11 +77,11 @@ impl Hashing {
     /// How many KiB the hashes of a ticket take, one after another.
     fn memory_of(&self, ticket: &Ticket) -> u64 {
         let standing = match ticket.copy() {
-            Some(stored) => memory_of(&stored.setting().scheme()),
+            Some(stored) => memory_alone(&stored.setting()),
             None => self.costs.memory(),
         };
         match new_setting(&ticket.request()) {
-            Some(setting) => standing.max(memory_of(&setting.scheme())),
+            Some(setting) => standing.max(memory_alone(&setting)),
             None => standing,
         }
     }

@@ -9,6 +9,7 @@ use crate::costs::Costs;
 use crate::fault::ServiceFault;
 use crate::line::Line;
 use crate::naming::Naming;
+use crate::service::Means;
 use cred_cli::LineStart;
 use cred_phc::draw_salt;
 use rand_core::Rng;
@@ -21,17 +22,21 @@ pub(crate) struct Intake<J: Naming, G: Rng> {
     /// How many lines came before.
     pub(crate) number: u64,
     costs: Costs,
+    /// How many KiB the costs of a line may ask for, if there is a bound.
+    most: Option<u64>,
     salts: G,
     of: PhantomData<J>,
 
     ghost costs_are: { costs ≡ J.service.costs },
+    ghost most_is: { most ≡ J.service.most },
     ghost drawn: { G.stream salts ≡ salts_after J.service.salts number },
 }
 
 impl<J: Naming, G: Rng> Intake<J, G> {
     /// Before the first line.
-    pub(crate) fn new(costs: Costs, salts: G) -> Intake<J, G>
-        requires costs { costs ≡ J.service.costs }
+    pub(crate) fn new(means: &Means, salts: G) -> Intake<J, G>
+        requires costs { means.now.costs ≡ J.service.costs }
+        requires most { means.now.most ≡ J.service.most }
         requires salts { G.stream salts ≡ J.service.salts }
         ensures start { result.start ≡ [] }
         ensures number { result.number ≡ 0 }
@@ -39,7 +44,8 @@ impl<J: Naming, G: Rng> Intake<J, G> {
         Intake {
             start: LineStart::new(),
             number: 0,
-            costs,
+            costs: means.costs,
+            most: means.most,
             salts,
             of: PhantomData,
         }
@@ -96,7 +102,7 @@ impl<J: Naming, G: Rng> Intake<J, G> {
         };
         let salt = draw_salt(&mut self.salts);
         let drawn = self.costs.setting(&salt);
-        let line = Line::read(self.number, drawn, self.start.bytes());
+        let line = Line::read(self.number, self.most, drawn, self.start.bytes());
         self.number = next;
         self.start.clear();
         Ok(line)

@@ -44,18 +44,19 @@ impl<J: Naming> Model for Line<J> {
 }
 
 impl<J: Naming> Line<J> {
-    /// Reads the line of this number, for which this setting is drawn.
-    pub(crate) fn read(number: u64, drawn: Setting, line: &[u8]) -> Line<J>
+    /// Reads the line of this number, for which this setting is drawn, and whose costs may ask for
+    /// so many KiB.
+    pub(crate) fn read(number: u64, most: Option<u64>, drawn: Setting, line: &[u8]) -> Line<J>
         requires current { is_current drawn.scheme ≡ true }
         requires came { IfSome J.service.input
-            (λ bytes. IsCome J.service bytes (entry_of number drawn line.now)) }
-        ensures { result ≡ entry_of number drawn line.now }
+            (λ bytes. IsCome J.service bytes (entry_of number most drawn line.now)) }
+        ensures { result ≡ entry_of number most drawn line.now }
     {
         let (tag, ask) = parts(drawn, line);
         Line {
             number,
             tag,
-            ask,
+            ask: ask.within(most),
             of: PhantomData,
         }
     }

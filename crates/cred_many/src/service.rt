@@ -38,6 +38,9 @@ pub struct Means {
     pub costs: Costs,
     /// How many KiB all hashes together may take.
     pub memory: u64,
+    /// How many KiB the setting or the record of a line may ask for, if there is a bound. `costs`
+    /// are to be within it: a line that makes a record with them is judged too.
+    pub most: Option<u64>,
 }
 
 /// What is left of a service.
@@ -56,9 +59,10 @@ pub struct Served<K: Host, W: Write> {
 /// Answers the lines that come, to their end, and hashes in `tools.workers` threads.
 ///
 /// Each line is done whole, and its answer is written whole, at one moment between its coming and
-/// its answer. Salts are drawn in the order of the lines, one for each. The source is called again
-/// only once each whole line that it gave was handed on. The writer is one that holds nothing back,
-/// as it is never flushed. At a fault it ends without waiting for the source.
+/// its answer. Salts are drawn in the order of the lines, one for each. A line whose setting or
+/// record asks for more than `means.most` is refused. The source is called again only once each
+/// whole line that it gave was handed on. The writer is one that holds nothing back, as it is never
+/// flushed. At a fault it ends without waiting for the source.
 pub fn serve_tagged<T, S, G, K, W>(
     tools: &Tools<'_, T>,
     means: &Means,
@@ -76,7 +80,7 @@ where
     requires given { S.given source ≡ 0 }
     requires going { S.ended source ≡ false }
     ensures served { ∥ HasServed K.capacity (service (K.book keeper) (S.remaining source)
-        (W.contents (inner_of writer)) means.now.costs (G.stream salts))
+        (W.contents (inner_of writer)) means.now (G.stream salts))
         (W.contents (inner_of result.writer)) (K.book result.keeper) result.fault result.lines ∥₁ }
     ensures all { result.fault ≡ None → result.reading ≡ None
         → IfSome (S.remaining source) (λ all. result.lines ≡ length (lines_of all)) }
@@ -100,7 +104,7 @@ where
     K: Host,
     W: Write + Drop,
     requires named { J.service ≡ service (K.book keeper) (S.remaining source)
-        (W.contents (inner_of writer)) means.now.costs (G.stream salts) }
+        (W.contents (inner_of writer)) means.now (G.stream salts) }
     requires given { S.given source ≡ 0 }
     requires going { S.ended source ≡ false }
     ensures served { ∥ HasServed K.capacity J.service
@@ -109,7 +113,7 @@ where
         → IfSome J.service.input (λ all. result.lines ≡ length (lines_of all)) }
 {
     let mut session: Session<J, K, W> = Session::new(OpenLines::new(tools.alloc), keeper, writer);
-    let intake: Intake<J, G> = Intake::new(means.costs, salts);
+    let intake: Intake<J, G> = Intake::new(means, salts);
     let ending = match make_channels(tools.rt, tools.alloc) {
         Ok((channels, outlet)) => {
             let reading = Reading::new(source, intake, outlet);

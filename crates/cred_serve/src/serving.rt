@@ -50,7 +50,7 @@ where
     W: Write + Drop,
     G: Rng + Send + Drop + 'static,
     ensures served { ∥ HasServed register_capacity (service book.book (R.remaining reader)
-        (W.contents (inner_of writer)) means.now.costs (G.stream salts))
+        (W.contents (inner_of writer)) means.now (G.stream salts))
         (W.contents (inner_of result.writer)) result.book.book result.fault result.lines ∥₁ }
     ensures all { result.fault ≡ None → result.reading ≡ None
         → IfSome (R.remaining reader) (λ all. result.lines ≡ length (lines_of all)) }
