@@ -2,10 +2,12 @@
  *
  *     driver FOLDER SERVICE USER TASK.. < ANSWERS
  *
- * A task is authenticate, setcred, account, change or expired (a change of expired passwords). Each
- * prompt takes a line of ANSWERS, in hexadecimal digits; at the end of them the conversation fails.
- * It prints `prompt TEXT` and `log TEXT` as they come, `TASK NUMBER` for each task, and `open N`:
- * how many more files are open at the end than before, or were handed on to a child's program.
+ * A task is authenticate, strict (it disallows empty passwords), setcred, account, change or
+ * expired (a change of expired passwords). The user - has no name yet. Each prompt takes a line of
+ * ANSWERS, in hexadecimal digits; at the end of them the conversation fails, or isn't over if
+ * AGAIN=1 is in the environment. It prints `prompt TEXT` and `log TEXT` as they come, `TASK NUMBER`
+ * for each task, and `open N`: how many more files are open at the end than before, or were handed
+ * on to a child's program.
  *
  * In the environment: PIECES=1 has send and recv move one byte at a time, and every other call of
  * each kind interrupted. LOOK=HEX looks at the end for bytes, each given with its lowest bit
@@ -117,7 +119,7 @@ static int converse(int count, const struct pam_message **messages, struct pam_r
         if ((*responses)[i].resp == NULL) {
             free(*responses);
             *responses = NULL;
-            return PAM_CONV_ERR;
+            return getenv("AGAIN") == NULL ? PAM_CONV_ERR : PAM_CONV_AGAIN;
         }
     }
     return PAM_SUCCESS;
@@ -126,6 +128,8 @@ static int converse(int count, const struct pam_message **messages, struct pam_r
 static int done(pam_handle_t *pamh, const char *task) {
     if (strcmp(task, "authenticate") == 0)
         return pam_authenticate(pamh, 0);
+    if (strcmp(task, "strict") == 0)
+        return pam_authenticate(pamh, PAM_DISALLOW_NULL_AUTHTOK);
     if (strcmp(task, "setcred") == 0)
         return pam_setcred(pamh, PAM_ESTABLISH_CRED);
     if (strcmp(task, "account") == 0)
@@ -212,7 +216,7 @@ int main(int argc, char **argv) {
     setvbuf(stdout, NULL, _IOLBF, 0);
     int before = open_files();
     if (getenv("THREADS") == NULL) {
-        do_tasks(argv[3], NULL);
+        do_tasks(strcmp(argv[3], "-") == 0 ? NULL : argv[3], NULL);
     } else {
         int count = atoi(getenv("THREADS")), numbers[64];
         pthread_t threads[64];

@@ -33,6 +33,7 @@ WARNINGS = os.environ.get("TEST_WARNINGS", "-Wall -Wextra -Wpedantic -Werror").s
 SANITIZED = "-O1 -fsanitize=address,undefined -fno-sanitize-recover=all".split()
 
 # Results of pam(3), by Linux-PAM's numbers.
+INCOMPLETE = 31
 SUCCESS, SERVICE_ERR, AUTH_ERR, AUTHINFO_UNAVAIL, USER_UNKNOWN, MAXTRIES = 0, 3, 7, 9, 10, 11
 ACCT_EXPIRED, CONV_ERR, AUTHTOK_ERR, AUTHTOK_RECOVERY_ERR, TRY_AGAIN, IGNORE = 13, 19, 20, 21, 24, 25
 
@@ -214,6 +215,8 @@ def answers() -> None:
         for answer, ought in table.items():
             said, lines = said_at(b"1 " + answer + b"\n", Question(tasks=task))
             same((said.codes, lines), ([ought], [line_of(word, "ada", *passwords)]), f"{task} {answer!r}")
+    said, lines = said_at(b"1 yes\n", Question(tasks="setcred"))
+    same((said.codes, lines, said.prompts), ([SUCCESS], [], []), "there are no credentials to set")
 
 
 NO_ANSWERS = [b"", b"\n", b"yes\n", b"1\n", b"1 \n", b"1 yesx\n", b"1 ye\n", b"1 y\n", b"1 no yes\n", b"2 yes\n"]
@@ -247,6 +250,8 @@ def passwords() -> None:
         same((said.codes, lines), ([AUTH_ERR], []), f"{len(password)} bytes")
     said, lines = said_at(b"1 yes\n", Question(answers=[b""], options="nullok"))
     same((said.codes, lines), ([SUCCESS], [b"1 verify ada -\n"]))
+    said, lines = said_at(b"1 yes\n", Question(answers=[b""], options="nullok", tasks="strict"))
+    same((said.codes, lines), ([AUTH_ERR], []), "the program disallows it")
 
 
 def names() -> None:
@@ -392,11 +397,15 @@ def first_passwords() -> None:
 
 
 def conversations() -> None:
-    """A conversation that fails sends nothing."""
+    """A conversation that fails, or isn't over, sends nothing."""
     for task in ("authenticate", "change"):
         said, lines = said_at(b"1 yes\n", Question(tasks=task, answers=()))
         assert said.codes[0] not in (SUCCESS, AUTHINFO_UNAVAIL, TRY_AGAIN), said.codes
         same(lines, [], task)
+    # pam_get_authtok(3) makes a fault of a conversation that isn't over; pam_get_user(3) doesn't.
+    for user, code, prompts in (("-", INCOMPLETE, ["login:"]), ("ada", AUTHTOK_ERR, ["Password: "])):
+        said, lines = said_at(b"1 yes\n", Question(user=user, answers=(), environment={"AGAIN": "1"}))
+        same((said.codes, lines, said.prompts), ([code], [], prompts), f"user {user}")
 
 
 # ---- changes
