@@ -17,11 +17,12 @@ function, as `module::NAME`. A bug is pairs of lines `old:`, a text that stands 
 text in its place; a pair is read after those above it have changed the text. Or a bug is one line `body:`, the whole body in its
 place. A line `passes:` in it says why the contract rightly lets it through, and which test refuses it.
 
-One bug stands in each of many functions at a time: `rt check --allow-holes` tries the goals of every function, by the contracts of
-those that it calls. What no goal of its own function refuses is planted once more, in a check of the whole crate; a bug in a
-constant, which stands in no one function, is planted by itself. The work goes on in a copy under /tmp, over what earlier checks left in
-out/. After each round the lines of the bugs so far are told on standard error by verdict, so that a run that is ended early has said
-something."""
+One bug stands in each of many functions at a time. What is said to pass is tried first, by a check of the whole crate. The others are
+planted round by round: `rt check --allow-holes` tries the goals of every function, by the contracts of those that it calls, and what no
+goal of its own function refuses is planted once more, in a check of the whole crate. Functions that call each other in a cycle have one
+proof, so their bugs are planted in turn; so is a bug in a constant, which stands in no one function. The work goes on in a copy under
+/tmp, over what earlier checks left in out/. After each round the lines of the bugs so far are told on standard error by verdict, so that
+a run that is ended early has said something."""
 
 import argparse
 import os
@@ -287,14 +288,37 @@ def verdict_of_all(said):
 
 
 def judge(copy, name, bugs):
-    waiting, alone = [it for it in bugs if not it.is_constant], []
+    """What is said to pass is tried together, and so costs no search that finds nothing. The others are planted round by round."""
     for bug in bugs:
         if bug.is_constant:
             bug.verdict = verdict_of_all(copy.planted([bug]))
-    while waiting:
+    passing = [it for it in bugs if it.passes and not it.verdict]
+    for chosen in one_of_each(passing):
+        judge_together(copy, name, chosen)
+        tell(bugs, "planted")
+    judge_by_rounds(copy, name, bugs)
+    left = [it for it in bugs if it.verdict == "none"]
+    for chosen in one_of_each(left):
+        judge_together(copy, name, chosen)
+        tell(bugs, "judged")
+
+
+def one_of_each(bugs):
+    """Lists of the bugs, each with at most one of a function."""
+    while bugs:
+        chosen = {}
+        for bug in bugs:
+            chosen.setdefault(bug.function, bug)
+        yield list(chosen.values())
+        bugs = [it for it in bugs if it not in chosen.values()]
+
+
+def judge_by_rounds(copy, name, bugs):
+    cycles = {}
+    while waiting := [it for it in bugs if it.verdict is None]:
         chosen = {}
         for bug in waiting:
-            chosen.setdefault(bug.function, bug)
+            chosen.setdefault(cycles.get(bug.function, bug.function), bug)
         said = copy.planted(chosen.values(), "--allow-holes")
         (copy.at / "said.log").write_text(said)
         if not re.search(r"(?m)^fn \S+: (proved|no holes)", said):
@@ -302,42 +326,58 @@ def judge(copy, name, bugs):
         else:
             for bug in chosen.values():
                 bug.verdict = verdict_of(bug, name, said) or "no verdict"
-                if bug.verdict == "none":
-                    alone.append(bug)
             # what stands below them has its verdict by now, and isn't in the next round
             for bug in chosen.values():
                 if bug.verdict == "not reached" and len(chosen) > 1:
                     bug.verdict = None
-        waiting = [it for it in waiting if it.verdict is None]
-        tell(bugs, "planted", len(waiting))
-    judge_left(copy, name, alone)
+            part_cycles(name, said, chosen.values(), cycles)
+        tell(bugs, "planted")
 
 
-def tell(bugs, what, left):
+def part_cycles(name, said, chosen, cycles):
+    """The functions of a cycle of calls have one proof, in a folder whose name begins with `+`. So what refuses one is told of each,
+    and their bugs are planted in turn."""
+    of_cycle = {}
+    for bug in chosen:
+        for path, folder in re.findall(r"(?m)^fn (\S+): .*\./proofs/((?:\S+/)?\+[^/\s]+)/", said):
+            if is_of(path, name, bug.function):
+                of_cycle.setdefault(folder, set()).add(bug)
+    for folder, those in of_cycle.items():
+        cycles.update((it.function, folder) for it in those)
+        if len(those) > 1:
+            for bug in those:
+                bug.verdict = None
+
+
+def tell(bugs, what):
     """Says of each bug so far what became of it, so that a run that is ended early has said something."""
+    left = sum(it.verdict is None for it in bugs)
     found = sorted((it.verdict, it.line) for it in bugs if it.verdict)
     lines = {verdict: [line for said, line in found if said == verdict] for verdict, _ in found}
     said = "; ".join(f"{verdict}: lines {', '.join(map(str, at))}" for verdict, at in lines.items())
     print(f"# {len(bugs) - left} of {len(bugs)} {what}: {said}", file=sys.stderr, flush=True)
 
 
-def judge_left(copy, name, waiting):
-    """The bugs that no goal of their own function refuses: what calls them may. If the crate is proved with one in each of many
-    functions, all of these are let through; if it isn't, each is planted by itself."""
-    while waiting:
-        chosen = {}
-        for bug in waiting:
-            chosen.setdefault(bug.function, bug)
-        if "logic=proved" in copy.planted(chosen.values()):
-            for bug in chosen.values():
-                bug.verdict = "let through"
-        else:
-            for bug in chosen.values():
-                said = copy.planted([bug])
-                bug.verdict = "let through" if "logic=proved" in said else verdict_of(bug, name, said)
-                bug.verdict = "refused by its callers" if bug.verdict in (None, "none") else bug.verdict
-        waiting = [it for it in waiting if it.verdict == "none"]
-        print(f"# {len(waiting)} of those that no goal of their own refuses are left", file=sys.stderr, flush=True)
+def judge_together(copy, name, bugs):
+    """If the crate is proved with all of these in it, they are let through. If it isn't, what a goal of its own function refuses is
+    refused, and the others are tried again; if no goal of their own refuses any, what calls them does, and each half is tried by itself."""
+    said = copy.planted(bugs)
+    if "logic=proved" in said:
+        for bug in bugs:
+            bug.verdict = "let through"
+        return
+    for bug in bugs:
+        verdict = verdict_of(bug, name, said)
+        bug.verdict = "none" if verdict is None or verdict == "not reached" and len(bugs) > 1 else verdict
+    left = [it for it in bugs if it.verdict == "none"]
+    if len(bugs) == 1 and left:
+        left[0].verdict = "doesn't compile" if errors_of(said) else "refused by its callers"
+    elif left and len(left) < len(bugs):
+        judge_together(copy, name, left)
+    elif left:
+        middle = len(bugs) // 2
+        judge_together(copy, name, bugs[:middle])
+        judge_together(copy, name, bugs[middle:])
 
 
 def compiled(copy, bugs):
