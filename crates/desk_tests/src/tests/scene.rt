@@ -97,8 +97,16 @@ pub(super) fn begin<J: Naming>(
             *open = Some(ticket);
             Answer::Done
         }
-        Err((back, error)) if back == request => Answer::Refused(error),
-        Err(_) => Answer::Failed,
+        Err((back, error)) => refused(back, request, error),
+    }
+}
+
+/// A request that is refused comes back.
+fn refused(back: Request, request: Request, error: DeskError) -> Answer {
+    if back == request {
+        Answer::Refused(error)
+    } else {
+        Answer::Failed
     }
 }
 
