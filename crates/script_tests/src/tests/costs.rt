@@ -9,21 +9,60 @@ use std::thread::Threads;
 
 /// What a service answers whose bound is 64 KiB.
 static BOUNDED: [Line; 21] = [
-    ("load a $argon2id$v=19$m=64,t=1,p=1$c29tZXNhbHQ$AAAAAA", "ok"),
-    ("load a $argon2id$v=19$m=65,t=1,p=1$c29tZXNhbHQ$AAAAAA", "bad 18 costly"),
+    (
+        "load a $argon2id$v=19$m=64,t=1,p=1$c29tZXNhbHQ$AAAAAA",
+        "ok",
+    ),
+    (
+        "load a $argon2id$v=19$m=65,t=1,p=1$c29tZXNhbHQ$AAAAAA",
+        "bad 18 costly",
+    ),
     ("load a $scrypt$ln=9,r=1,p=1$c29tZXNhbHQ$AAAAAA", "ok"),
-    ("load a $scrypt$ln=9,r=1,p=2$c29tZXNhbHQ$AAAAAA", "bad 18 costly"),
-    ("load zed $argon2i$v=16$m=65,t=1,p=1$c29tZXNhbHQ$AAAAAA", "bad 18 costly"),
-    ("load a $scrypt$ln=1,r=255,p=2$c29tZXNhbHQ$AAAAAA", "bad 18 costly"),
+    (
+        "load a $scrypt$ln=9,r=1,p=2$c29tZXNhbHQ$AAAAAA",
+        "bad 18 costly",
+    ),
+    (
+        "load zed $argon2i$v=16$m=65,t=1,p=1$c29tZXNhbHQ$AAAAAA",
+        "bad 18 costly",
+    ),
+    (
+        "load a $scrypt$ln=1,r=255,p=2$c29tZXNhbHQ$AAAAAA",
+        "bad 18 costly",
+    ),
     ("show a", "$scrypt$ln=9,r=1,p=1$c29tZXNhbHQ$AAAAAA"),
-    ("begin 1 enrol a - $argon2id$v=19$m=64,t=1,p=1$c29tZXNhbHQ", "begun"),
-    ("begin 2 enrol a - $argon2id$v=19$m=65,t=1,p=1$c29tZXNhbHQ", "bad 18 costly"),
-    ("begin 1 enrol a - $argon2id$v=19$m=65,t=1,p=1$c29tZXNhbHQ", "bad 18 costly"),
-    ("begin 65 enrol a - $argon2id$v=19$m=65,t=1,p=1$c29tZXNhbHQ", "bad 12 key"),
-    ("begin 2 change a - - $scrypt$ln=6,r=8,p=1$c29tZXNhbHQ", "begun"),
-    ("begin 3 change a - - $scrypt$ln=7,r=8,p=1$c29tZXNhbHQ", "bad 18 costly"),
-    ("begin 3 upgrade a - $scrypt$ln=5,r=8,p=2$c29tZXNhbHQ", "begun"),
-    ("begin 4 upgrade a - $scrypt$ln=5,r=8,p=3$c29tZXNhbHQ", "bad 18 costly"),
+    (
+        "begin 1 enrol a - $argon2id$v=19$m=64,t=1,p=1$c29tZXNhbHQ",
+        "begun",
+    ),
+    (
+        "begin 2 enrol a - $argon2id$v=19$m=65,t=1,p=1$c29tZXNhbHQ",
+        "bad 18 costly",
+    ),
+    (
+        "begin 1 enrol a - $argon2id$v=19$m=65,t=1,p=1$c29tZXNhbHQ",
+        "bad 18 costly",
+    ),
+    (
+        "begin 65 enrol a - $argon2id$v=19$m=65,t=1,p=1$c29tZXNhbHQ",
+        "bad 12 key",
+    ),
+    (
+        "begin 2 change a - - $scrypt$ln=6,r=8,p=1$c29tZXNhbHQ",
+        "begun",
+    ),
+    (
+        "begin 3 change a - - $scrypt$ln=7,r=8,p=1$c29tZXNhbHQ",
+        "bad 18 costly",
+    ),
+    (
+        "begin 3 upgrade a - $scrypt$ln=5,r=8,p=2$c29tZXNhbHQ",
+        "begun",
+    ),
+    (
+        "begin 4 upgrade a - $scrypt$ln=5,r=8,p=3$c29tZXNhbHQ",
+        "bad 18 costly",
+    ),
     ("begin 4 verify a -", "begun"),
     ("begin 5 remove a -", "begun"),
     ("commit 1", "exists"),
@@ -34,10 +73,19 @@ static BOUNDED: [Line; 21] = [
 
 /// The same lines, where one asks for more than another.
 static UNBOUNDED: [Line; 4] = [
-    ("load a $argon2id$v=19$m=65,t=1,p=1$c29tZXNhbHQ$AAAAAA", "ok"),
+    (
+        "load a $argon2id$v=19$m=65,t=1,p=1$c29tZXNhbHQ$AAAAAA",
+        "ok",
+    ),
     ("load a $scrypt$ln=9,r=1,p=2$c29tZXNhbHQ$AAAAAA", "ok"),
-    ("begin 1 enrol a - $argon2id$v=19$m=65,t=1,p=1$c29tZXNhbHQ", "begun"),
-    ("begin 2 upgrade a - $scrypt$ln=24,r=1,p=255$c29tZXNhbHQ", "bad 5 range"),
+    (
+        "begin 1 enrol a - $argon2id$v=19$m=65,t=1,p=1$c29tZXNhbHQ",
+        "begun",
+    ),
+    (
+        "begin 2 upgrade a - $scrypt$ln=24,r=1,p=255$c29tZXNhbHQ",
+        "bad 5 range",
+    ),
 ];
 
 /// Holds the lines against a service with this bound in KiB.
