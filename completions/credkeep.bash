@@ -68,13 +68,13 @@ _credkeep() {
     fi
     case $command in
     run) options='--workers' ;;
-    serve) options='--workers --tagged --at-once --memory --setting' ;;
+    serve) options='--workers --tagged --at-once --memory --most-memory --setting' ;;
     add | change | reset) options='--setting --empty-password --echo' ;;
     upgrade) options='--setting --echo' ;;
     check | remove) options='--echo' ;;
     show) options='--record' ;;
     list) options='--costs' ;;
-    import) options='--skip-existing --update --skip-bad --disable-locked --dry-run' ;;
+    import) options='--skip-existing --update --skip-bad --disable-locked --most-memory --dry-run' ;;
     esac
     if [[ $word == -* ]]; then
         mapfile -t COMPREPLY < <(compgen -W "$options --help" -- "$word")

@@ -187,6 +187,49 @@ def memory_comes_back(room: Room) -> None:
     same(run.returncode, 0)
 
 
+def bounded(room: Room) -> None:
+    """What asks for more than --most-memory is refused, whatever brings it; what the book has already is checked, whatever it asks for."""
+    keep = begun(room)
+    within, above = (b"$argon2id$v=19$m=%d,t=1,p=1$c29tZXNhbHQ" % kib for kib in (64, 65))
+    # 128 * 2^ln * r * p bytes: 64 KiB, and two times as much.
+    flat, twice = b"$scrypt$ln=6,r=8,p=1$c29tZXNhbHQ", b"$scrypt$ln=6,r=8,p=2$c29tZXNhbHQ"
+    no = b"bad 18 costly"
+    dialogue = [
+        (b"account ann", b"ok", b"ok"),
+        (b"account bob", b"ok", b"ok"),
+        (b"load ann " + within + b"$" + TAG, b"ok", b"ok"),
+        (b"load ann " + above + b"$" + TAG, no, b"ok"),
+        (b"load zed " + above + b"$" + TAG, no, b"bad 5 noaccount"),
+        (b"load bob " + twice + b"$" + TAG, no, b"ok"),
+        (b"load bob " + flat + b"$" + TAG, b"ok", b"ok"),
+        (b"begin 1 enrol ann - " + above, no, b"begun"),
+        (b"begin 2 change ann - - " + above, no, b"begun"),
+        (b"begin 3 upgrade ann - " + twice, no, b"begun"),
+        (b"begin 65 enrol ann - " + above, b"bad 12 key", b"bad 12 key"),
+        (b"begin 4 enrol ann - " + within, b"begun", b"begun"),
+        (b"begin 4 enrol ann - " + above, no, b"bad 14 busy"),
+        (b"begin 5 change bob - - " + flat, b"begun", b"begun"),
+        (b"commit 1", b"bad 15 idle", b"exists"),
+        (b"commit 4", b"exists", b"exists"),
+        (b"commit 5", b"wrong", b"wrong"),
+    ]
+    given = b"".join(line + b"\n" for line, _, _ in dialogue)
+    for words, at in ((("--most-memory", "64"), 1), (("--most-memory", "64K", "--workers", "4"), 1), (("--most-memory", "1M"), 2), ((), 2)):
+        for file in room.folder.glob("users.db*"):
+            file.unlink()
+        keep = begun(room)
+        same(keep("serve", *words, given=given), Ended(0, b"".join(row[at] + b"\n" for row in dialogue), b""))
+    # The last of them left a record of 65 KiB.
+    asked_for = b"show ann\nbegin 1 verify ann -\ncommit 1\n"
+    same(keep("serve", "--most-memory", "0", given=asked_for), Ended(0, above + b"$" + TAG + b"\nbegun\nno\n", b""))
+    same(keep("run", given=b"load ann " + above + b"$" + TAG + b"\n"), Ended(0, b"ok\n", b""))
+    same(keep("run", "--most-memory", "64", given=b"").status, 1)
+    for size in ("", "x", "64k", "-1", "1T", "1.5M"):
+        ended = keep("serve", f"--most-memory={size}", given=given)
+        same((size, ended.status, ended.written), (size, 1, b""))
+    keep.is_sound()
+
+
 def kills(room: Room) -> None:
     """Every change that was answered is there after a kill, and at most one that wasn't."""
     keep, chance, at = begun(room), random.Random(), 0
@@ -349,6 +392,7 @@ ALONE: list[Callable[[Room], None]] = [
     answers_at_each_line,
     without_memory,
     memory_comes_back,
+    bounded,
     kills,
     closed_pipe,
     full_pipe,

@@ -555,6 +555,43 @@ def memory_of_a_record(room: Room) -> None:
         same((len(written), set(written[1::2])), (60, {b"yes"}))
 
 
+def bounded(room: Room) -> None:
+    """What a line brings is refused if it asks for more than --most-memory; what the book has, and what the service draws, is not."""
+    keep, one = begun(room), in_base64("one")
+    within, above = (f"$argon2id$v=19$m={kib},t=1,p=1$AAAAAAAAAAA" for kib in (64, 65))
+    twice = "$scrypt$ln=6,r=8,p=2$AAAAAAAAAAA"
+    tag = "$" + "A" * 43
+    answered(keep, "t account ann", f"t enrol ann {one} {above}", "t account bob")
+    rows = [
+        (f"t verify ann {one}", "yes"),
+        (f"t load bob {within}{tag}", "ok"),
+        (f"t load bob {above}{tag}", "bad 18 costly"),
+        (f"t load zed {twice}{tag}", "bad 18 costly"),
+        (f"t enrol bob {one} {above}", "bad 18 costly"),
+        (f"t enrol bob {one} {within}", "exists"),
+        (f"t change ann {one} {one} {above}", "bad 18 costly"),
+        (f"t upgrade ann {one} {twice}", "bad 18 costly"),
+        (f"t reset bob {one} {above}", "bad 18 costly"),
+        (f"t enrol bob ! {above}", "bad 13 password"),
+        (f"t reset bob {one} {within}", "replaced"),
+        (f"t reset bob {one}", "replaced"),
+        (f"t login ann {one}", "yes"),
+        (f"t change ann {one} {one}", "replaced"),
+        (f"t remove ann {one}", "removed"),
+    ]
+    same(answered(keep, *(line for line, _ in rows), words=("--most-memory", "64K")), [f"t {answer}" for _, answer in rows])
+    # Without a bound each of those lines is done.
+    same(answered(keep, f"t load bob {above}{tag}", f"t reset bob {one} {above}"), ["t ok", "t replaced"])
+    # The service's own costs are within its bound, or it doesn't start.
+    own = "$argon2id$v=19$m=64,t=1,p=1"
+    same(keep("serve", "--tagged", "--setting", own, "--most-memory", "64", given=b"t show bob\n").status, 0)
+    for words in (("--setting", own, "--most-memory", "63"), ("--most-memory", "65535")):
+        ended = keep("serve", "--tagged", *words, given=b"t account cat\n")
+        text = b"credkeep: --setting: it asks for more than --most-memory (18 costly)\n"
+        same(ended, Ended(1, b"", text))
+    same(keep.names(), ["ann", "bob"])
+
+
 def memory_runs_out(room: Room) -> None:
     """Where the system refuses memory a line is answered so, and the next one is served."""
     keep = begun(room)
@@ -797,6 +834,8 @@ def refused_words(room: Room) -> None:
         ("--memory", "x"),
         ("--memory", "1T"),
         ("--memory", "-1"),
+        ("--most-memory", "x"),
+        ("--most-memory", "64k"),
     ]:
         ended = keep("serve", "--tagged", *words)
         same((words, ended.status, ended.written), (words, 1, b""))
@@ -840,6 +879,7 @@ TESTS: list[Callable[[Room], None]] = [
     kills,
     hashes_side_by_side,
     memory_of_a_record,
+    bounded,
     memory_runs_out,
     failing_database,
     changes_together,

@@ -42,6 +42,7 @@ from credkeep.files import (
 )
 from credkeep.imports import (
     bad_imports,
+    costly_lines,
     few_syncs,
     import_without_memory,
     import_without_room,
@@ -99,6 +100,7 @@ ALONE: list[Callable[[Room], None]] = [
     scripts,
     bad_imports,
     imports_of_others,
+    costly_lines,
     skipped_lines,
     killed_imports,
     few_syncs,

@@ -108,6 +108,36 @@ def skipped_lines(room: Room) -> None:
     same(own_records(keep), {"ann": "", "bob": "", "cat": RECORD})
 
 
+def costly_lines(room: Room) -> None:
+    """With --most-memory a line is bad whose record asks for more, and is named and counted as others are."""
+    keep, tag = begun(room), "$c29tZXNhbHQ$" + "A" * 43
+    within, above, twice = (
+        start + tag for start in ("$argon2id$v=19$m=256,t=1,p=1", "$argon2id$v=19$m=257,t=1,p=1", "$scrypt$ln=8,r=8,p=2")
+    )
+    lines = f"ann:{within}\nbob:{above}\ncat:\n# {above}\ndan:{twice}:x\neve:!{above}\n".encode()
+    fault = b"credkeep: line %d: its record asks for more than --most-memory (18 costly)\n"
+    bound = ("import", "--disable-locked", "--most-memory", "256K")
+    same(keep(*bound, given=lines), Ended(6, b"", fault % 2 + fault % 5))
+    same(keep.names(), [])
+    told = fault % 2 + fault % 5 + b"credkeep: left out 2 lines, which are bad\n"
+    same(keep(*bound, "--skip-bad", given=lines), Ended(0, b"", told))
+    same(own_records(keep), {"ann": within, "cat": "", "eve": ""})
+    # An account that is there keeps its record, and its line is bad too.
+    update = f"ann:{above}\ncat:{within}\n".encode()
+    same(keep(*bound, "--update", given=update)[:2], (6, b""))
+    for how in ("--update", "--skip-existing"):
+        same(keep(*bound, how, given=f"ann:{above}\n".encode()), Ended(6, b"", fault % 1))
+    same(own_records(keep), {"ann": within, "cat": "", "eve": ""})
+    # Without a bound they are taken in; and so they are with one that is as high.
+    same(keep("import", "--update", given=update)[:2], (0, b""))
+    same(keep("import", "--most-memory", "1M", given=f"dan:{twice}\n".encode()), Ended(0, b"", b""))
+    same(own_records(keep), {"ann": above, "cat": within, "dan": twice, "eve": ""})
+    ended = keep("import", "--most-memory", "1T", given=b"fay:\n")
+    text = b"credkeep: --most-memory: a size is a number of KiB, or one with K, M or G behind it\n"
+    same(ended, Ended(1, b"", text))
+    keep.is_sound()
+
+
 # How many lines an import has that is killed.
 LINES = 4000
 

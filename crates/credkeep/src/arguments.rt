@@ -57,6 +57,9 @@ there are processors, and as --memory allows]";
 const MEMORY_HELP: &str = "With --tagged: how much memory all hashes may take at once, in KiB or \
 as 512M or 2G [default: 2G]";
 
+const MOST_MEMORY_HELP: &str = "Refuses each line whose setting or record asks for more memory \
+than this, in KiB or as 256M or 2G";
+
 const EMPTY_HELP: &str = "Takes an empty line as the new password, which is refused otherwise";
 
 const ECHO_HELP: &str = "Asks at a terminal, which shows what is typed; otherwise one is refused";
@@ -95,6 +98,7 @@ enum Word {
     Tagged,
     AtOnce,
     Memory,
+    MostMemory,
     EmptyPassword,
     Echo,
     Record,
@@ -137,6 +141,7 @@ static COMMANDS: [HelpText; 19] = [
             Word::Tagged,
             Word::AtOnce,
             Word::Memory,
+            Word::MostMemory,
             Word::Setting,
         ],
     },
@@ -235,6 +240,7 @@ static COMMANDS: [HelpText; 19] = [
             Word::Update,
             Word::SkipBad,
             Word::DisableLocked,
+            Word::MostMemory,
             Word::DryRun,
         ],
     },
@@ -340,6 +346,10 @@ fn arg_of<'a>(alloc: Global, word: Word) -> Arg<'a> {
             .long("memory")
             .value_name("SIZE")
             .help(MEMORY_HELP),
+        Word::MostMemory => Arg::new(alloc, "most-memory")
+            .long("most-memory")
+            .value_name("SIZE")
+            .help(MOST_MEMORY_HELP),
         Word::EmptyPassword => flag(alloc, "empty-password", EMPTY_HELP),
         Word::Echo => flag(alloc, "echo", ECHO_HELP),
         Word::Record => flag(alloc, "record", RECORD_HELP),

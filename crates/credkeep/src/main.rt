@@ -12,6 +12,7 @@ mod part;
 mod program;
 mod progress;
 mod refusal;
+mod size;
 mod snapshot;
 mod tagged;
 mod terminal;

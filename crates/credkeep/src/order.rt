@@ -1,7 +1,8 @@
 //! What the words of the command line ask for.
 
 use crate::arguments::{credkeep, names_command};
-use crate::tagged::{Tagged, kib_of};
+use crate::size::kib_of;
+use crate::tagged::Tagged;
 use crate::terminal::Echo;
 use clap::error::ErrorKind;
 use clap::{ArgMatches, Error};
@@ -9,6 +10,7 @@ use cred_admin::{
     EmptyPassword, Existing, LockedRecords, NewPassword, NewSetting, Part, Rules, setting_of,
 };
 use cred_book::{BookError, Name};
+use cred_cli::exceeds;
 use cred_keep::{BadLines, Effect, Importing, Order};
 use cred_many::Costs;
 use cred_phc::{PhcError, draw_salt};
@@ -70,8 +72,10 @@ pub(crate) enum Refusal<'a> {
     Name { text: &'a str, why: BookError },
     /// The text of the setting has this fault.
     Setting(PhcError),
-    /// The text of `--memory` is no size.
-    Size,
+    /// The text of this option is no size.
+    Size(&'static str),
+    /// The setting asks for more memory than the bound on the lines.
+    Costly,
     /// Accounts that are there can't both stay as they are and be updated.
     Existing,
     /// The system has no random bytes for a salt.
@@ -148,16 +152,33 @@ fn tagged_in<'a, R: RandomSource + AllocGlobal>(
 ) -> Result<Tagged, Refusal<'a>> {
     let text = values.get_str("memory").unwrap_or(DEFAULT_MEMORY);
     let Some(memory) = kib_of(text) else {
-        return Err(Refusal::Size);
+        return Err(Refusal::Size("--memory"));
     };
-    let Some(costs) = Costs::of(&new_setting(rt, values)?.setting()) else {
+    let most = most_in(values)?;
+    let setting = new_setting(rt, values)?.setting();
+    if most.is_some_and(|most| exceeds(most, &setting)) {
+        return Err(Refusal::Costly);
+    }
+    let Some(costs) = Costs::of(&setting) else {
         return Err(Refusal::Setting(PhcError::Version));
     };
     Ok(Tagged {
         at_once: values.get_one("at-once"),
         memory,
         costs,
+        most,
     })
+}
+
+/// How many KiB settings and records may ask for, if a bound is given.
+fn most_in<'a>(values: &ArgMatches<'a>) -> Result<Option<u64>, Refusal<'a>> {
+    let Some(text) = values.get_str("most-memory") else {
+        return Ok(None);
+    };
+    match kib_of(text) {
+        Some(kib) => Ok(Some(kib)),
+        None => Err(Refusal::Size("--most-memory")),
+    }
 }
 
 fn echo_in(values: &ArgMatches<'_>) -> Echo {
@@ -175,7 +196,9 @@ fn order_of<'a, R: RandomSource + AllocGlobal>(
 ) -> Result<Order, Refusal<'a>> {
     match word {
         "run" => Ok(Order::Run),
-        "serve" => Ok(Order::Serve),
+        "serve" => Ok(Order::Serve {
+            most: most_in(values)?,
+        }),
         "list" if values.get_flag("costs") => Ok(Order::ListCosts),
         "list" => Ok(Order::List),
         "export" => Ok(Order::Export),
@@ -252,8 +275,11 @@ fn importing_in<'a>(values: &ArgMatches<'a>) -> Result<Importing, Refusal<'a>> {
     } else {
         Effect::Made
     };
-    let existing = existing_in(values)?;
-    let rules = Rules { existing, locked };
+    let rules = Rules {
+        existing: existing_in(values)?,
+        locked,
+        most: most_in(values)?,
+    };
     Ok(Importing { rules, bad, effect })
 }
 

@@ -34,9 +34,16 @@ pub(crate) fn answer_refusal(host: &HostRuntime, refusal: &Refusal<'_>) -> Statu
             );
             Status::Usage
         }
-        Refusal::Size => say(
+        Refusal::Size(option) => {
+            let _ = writeln!(
+                host.stderr(),
+                "credkeep: {option}: a size is a number of KiB, or one with K, M or G behind it"
+            );
+            Status::Usage
+        }
+        Refusal::Costly => say(
             host,
-            "--memory: a size is a number of KiB, or one with K, M or G behind it",
+            "--setting: it asks for more than --most-memory (18 costly)",
             Status::Usage,
         ),
         Refusal::Existing => say(

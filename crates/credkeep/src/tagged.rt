@@ -28,6 +28,8 @@ pub(crate) struct Tagged {
     pub(crate) memory: u64,
     /// The costs of new records.
     pub(crate) costs: Costs,
+    /// How many KiB a setting or a record of a line may ask for, if there is a bound.
+    pub(crate) most: Option<u64>,
 }
 
 /// Opens the file, answers tagged lines from standard input, and closes it.
@@ -79,6 +81,7 @@ fn serve_in<T: Threads + Wait + Sync + Copy + Send + 'static, S: Alter>(
     let means = Means {
         costs: tagged.costs,
         memory: tagged.memory,
+        most: tagged.most,
     };
     let writer = Watched::new(host.stdout());
     let Outcome {
@@ -123,18 +126,4 @@ fn threads_of<T: Threads>(rt: &T, tagged: &Tagged) -> u8 {
     let each = tagged.costs.memory().max(1);
     let fitting = (tagged.memory / each).max(1);
     u8::try_from(processors.min(fitting)).unwrap_or(u8::MAX)
-}
-
-/// The KiB of a size: a number of them, or of so many K, M or G bytes of 1024 each.
-pub(crate) fn kib_of(text: &str) -> Option<u64> {
-    let (digits, unit) = match text.as_bytes().last() {
-        Some(b'K') => (text.strip_suffix('K')?, 1),
-        Some(b'M') => (text.strip_suffix('M')?, 1024),
-        Some(b'G') => (text.strip_suffix('G')?, 1024 * 1024),
-        _ => (text, 1),
-    };
-    digits
-        .parse::<u32>()
-        .ok()
-        .map(|count| u64::from(count) * unit)
 }

@@ -89,7 +89,7 @@ fn passwords_of(order: &Order) -> Passwords {
         Order::Add { .. } | Order::Reset { .. } => Passwords::New,
         Order::Change { .. } => Passwords::PresentAndNew,
         Order::Run
-        | Order::Serve
+        | Order::Serve { .. }
         | Order::Disable { .. }
         | Order::Delete { .. }
         | Order::Rename { .. }
