@@ -175,7 +175,7 @@ static const struct judgement {
 } judgements[] = {
     {"check", check, 1},
     {"check_with_secret", check_with_secret, 1},
-    {"check_in_threads", check_in_threads, 2},
+    {"check_in_threads", check_in_threads, 1},
     {"libargon2_check", libargon2_check, 4},
     {"libargon2_long_check", libargon2_long_check, 1},
     {"verify", verify, 1},
