@@ -166,17 +166,22 @@ static const struct call {
     {"hidden_record_fault", hidden_record_fault},
 };
 
-/* Calls that judge the record's tag. */
-static const struct call judgements[] = {
-    {"check", check},
-    {"check_with_secret", check_with_secret},
-    {"check_in_threads", check_in_threads},
-    {"libargon2_check", libargon2_check},
-    {"libargon2_long_check", libargon2_long_check},
-    {"verify", verify},
-    {"change", change},
-    {"upgrade", upgrade},
-    {"removal", removal},
+/* Calls that judge the record's tag, and how often they look at the verdict: where the proved code
+ * ends in threads C does so too. */
+static const struct judgement {
+    const char *name;
+    int (*call)(void);
+    unsigned looks;
+} judgements[] = {
+    {"check", check, 1},
+    {"check_with_secret", check_with_secret, 1},
+    {"check_in_threads", check_in_threads, 1},
+    {"libargon2_check", libargon2_check, 4},
+    {"libargon2_long_check", libargon2_long_check, 1},
+    {"verify", verify, 1},
+    {"change", change, 1},
+    {"upgrade", upgrade, 1},
+    {"removal", removal, 1},
 };
 
 enum { CALLS = sizeof calls / sizeof calls[0] };
@@ -227,11 +232,12 @@ static unsigned leaks_of(int (*call)(void), int wanted) {
     return leaks;
 }
 
-static void try_judgement(const struct call *it) {
+static void try_judgement(const struct judgement *it) {
     for (enum damage damage = NO_BYTE; damage < DAMAGES; damage++) {
         make_record(it->name);
         do_damage(damage);
-        CHECK(leaks_of(it->call, damage == NO_BYTE ? RIGZUMAL_OK : RIGZUMAL_MISMATCH) <= 1);
+        unsigned leaks = leaks_of(it->call, damage == NO_BYTE ? RIGZUMAL_OK : RIGZUMAL_MISMATCH);
+        CHECK(leaks <= it->looks);
     }
 }
 

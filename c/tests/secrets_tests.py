@@ -52,6 +52,13 @@ JUDGEMENTS = {
     "libargon2_long_check": "argon2_verify_ctx|verify",
 }
 
+# Who looks at the number of the verdict in C, where the proved code has made it without a jump: it
+# is all that C sees of the tags.
+LOOKS = {
+    "check_in_threads": {"note_fault"},
+    "libargon2_check": {"note_fault", "number_of", "verify", "argon2_verify"},
+}
+
 
 def test_cleared_memory():
     """No secret stands anywhere after a call, of each build, with the C library bound lazily."""
@@ -119,7 +126,7 @@ def check_leaks(program):
         counts[name] = len(errors)
     for name, place in JUDGEMENTS.items():
         errors = errors_in(program, name)
-        jumps = set(errors)
+        jumps = {it for it in errors if it[2] not in LOOKS.get(name, ())}
         if len(jumps) > 1 or not all(re.fullmatch(place, it[2]) for it in jumps):
             raise Failed(f"{name}: {errors}")
         counts[name] = len(jumps)

@@ -12,8 +12,8 @@ use Rattle.cred_phc.specs.Values.{RecordValue}
 
 -- 1 to 9 are the faults of texts, and 8 is out of memory everywhere; 10 is another password, 11 too
 -- little room, 12 no kind and 13 no version; 23 is no operation, 24 a copy that isn't a record, 25
--- a password of over 256 bytes, and 27 blocks that aren't those of the numbers or a reading of no
--- text; 26 is answered in C alone
+-- a password of over 256 bytes, and 27 blocks that aren't those of the numbers; 26 is answered in C
+-- alone
 abbrev pub argon_number : ArgonError → ℕ
 argon_number Lanes = 14
 argon_number Cost = 15

@@ -27,7 +27,7 @@ pub(crate) const NO_KIND: u8 = 12;
 /// The number names no version of Argon2.
 pub(crate) const NO_VERSION: u8 = 13;
 
-/// The blocks, the segment or the tag aren't those of the numbers, or no text was read.
+/// The blocks, the segment or the tag aren't those of the numbers.
 pub(crate) const NO_PLACE: u8 = 27;
 
 /// The number names no operation.
