@@ -664,6 +664,32 @@ def refused_calls_of_restore(room: Room) -> None:
         print(f"      {error}: {counts}")
 
 
+def refused_init(room: Room, call: str, nth: int, error: str) -> int | None:
+    """The status of `init` whose nth such call is refused, or none if it has no such call. It begins an empty book, or the next does."""
+    keep, trace = room.keep(f"{call}-{nth}-{error}.db"), room.folder / "trace"
+    strace = ["strace", "-f", "-o", str(trace), "-e", f"trace={call}", "-e", f"inject={call}:error={error}:when={nth}"]
+    done = subprocess.run([*strace, str(keep.program), str(keep.path), "init"], capture_output=True, timeout=60)
+    if "INJECTED" not in trace.read_text():
+        return None
+    if done.returncode:
+        again = keep("init")
+        holds(again.status == 0 or b"holds a book already" in again.faults, f"{call} {nth}: {again}")
+    same(book_of(keep), {})
+    return done.returncode
+
+
+def refused_calls_of_init(room: Room) -> None:
+    """Each write, sync and rename of `init` that is refused leaves an empty book, or no file; status 0 says that the book is there."""
+    for error in ("EIO", "ENOSPC"):
+        counts = {0: 0, 5: 0}
+        for call in CHANGES:
+            nth = 1
+            while (status := refused_init(room, call, nth, error)) is not None:
+                counts[status] = counts.get(status, 0) + 1
+                nth += 1
+        print(f"      {error}: {counts}")
+
+
 def texts_of_refused_syncs(room: Room) -> None:
     """A sync that fails as a file is opened isn't called a missing permission; nor is a second name."""
     keep = filled(room.keep(), {"ann": RECORD})
@@ -706,6 +732,7 @@ TESTS: list[Callable[[Room], None]] = [
     kills_of_restore,
     refused_calls_of_backup,
     refused_calls_of_restore,
+    refused_calls_of_init,
     texts_of_refused_syncs,
 ]
 

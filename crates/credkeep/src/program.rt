@@ -87,14 +87,20 @@ fn init(host: &HostRuntime, asked: &Asked<'_>) -> Status {
             Ok(status) => status,
             Err(why) => refuse_file(host, asked.file, &why),
         },
-        Ok(Beginning::Database) => begin_at(host, asked.file, asked.file, asked.wait),
+        Ok(Beginning::Database) => match begun_at(host, asked.file, asked.file, asked.wait) {
+            Ok((conn, status)) => close(host, conn, status),
+            Err(status) => status,
+        },
         Err(why) => refuse_file(host, asked.file, &why),
     }
 }
 
 fn begin_beside(host: &HostRuntime, path: &str) -> Result<Status, FileFault> {
     let new = Part::make(host, path, NEW)?;
-    let status = begin_at(host, path, new.path(), 0);
+    let status = match begun_at(host, path, new.path(), 0) {
+        Ok((conn, status)) => close_whole(host, conn, status),
+        Err(status) => status,
+    };
     if status != Status::Done {
         new.remove(host);
         return Ok(status);
@@ -109,13 +115,26 @@ fn begin_beside(host: &HostRuntime, path: &str) -> Result<Status, FileFault> {
 }
 
 /// Begins a book in the database at `path`, which is to be, or is, that of `file`.
-fn begin_at(host: &HostRuntime, file: &str, path: &str, wait: u16) -> Status {
+fn begun_at(
+    host: &HostRuntime,
+    file: &str,
+    path: &str,
+    wait: u16,
+) -> Result<(Database, Status), Status> {
     match open_file(host, path, wait, DamagedLog::Refused) {
-        Ok(conn) => {
-            let (conn, status) = begin_in(host.alloc(), conn, host.stderr());
-            close(host, conn, status)
+        Ok(conn) => Ok(begin_in(host.alloc(), conn, host.stderr())),
+        Err(why) => Err(refuse_unopened(host, file, &why)),
+    }
+}
+
+/// Closes a new file that is to be put in its place without its log. If the log can't be copied
+/// into it nothing was begun.
+fn close_whole(host: &HostRuntime, conn: Database, status: Status) -> Status {
+    match conn.close() {
+        Err(error) if status == Status::Done => {
+            refuse(&mut host.stderr(), &OpenFault::Database(error))
         }
-        Err(why) => refuse_unopened(host, file, &why),
+        _ => status,
     }
 }
 
