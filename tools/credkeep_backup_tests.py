@@ -694,7 +694,7 @@ def texts_of_refused_syncs(room: Room) -> None:
     """A sync that fails as a file is opened isn't called a missing permission; nor is a second name."""
     keep = filled(room.keep(), {"ann": RECORD})
     trace = room.folder / "trace"
-    strace = ["strace", "-f", "-o", str(trace), "-e", "inject=fsync:error=EIO:when=1"]
+    strace = ["strace", "-f", "-o", str(trace), "-e", "inject=fsync:error=EIO:when=1+"]
     done = subprocess.run([*strace, str(keep.program), str(keep.path), "list"], capture_output=True, timeout=60)
     same(done.returncode, 5)
     holds(b"the system didn't sync it" in done.stderr, f"{done.stderr!r}")
