@@ -1,6 +1,6 @@
 //! A whole script: read to its end, each line done and answered in turn.
 
-ghost use Rattle.std.specs.Prelude.{◌≤◌, length, IfErr, IfOk, IfSome, OnOk};
+ghost use Rattle.std.specs.Prelude.{◌+◌, ◌≤◌, length, IfErr, IfOk, IfSome, OnOk};
 ghost use Rattle.cred_cli.specs.Outcome.{HasCause, IsAnswered, ScriptFails, longest_script};
 ghost use Rattle.cred_cli.specs.Outcome.{most_calls};
 ghost use Rattle.cred_cli.specs.Prompt.{IsPrompt};
@@ -29,9 +29,10 @@ pub struct End {
 }
 
 /// Reads a script of at most 1048576 bytes to its end, does what each line asks of the keeper's
-/// book, and writes an answer line for each, whole, before the reader is called again. The reader
-/// isn't called after its end. At most `workers` threads hash. No call was made on the reader or
-/// the writer before. The writer is one that holds nothing back, as it is never flushed.
+/// book, and writes an answer line for each, whole, before the reader is called again. Each call of
+/// the reader but the last gives a byte, so it isn't called after its end. At most `workers`
+/// threads hash. No call was made on the reader or the writer before. The writer is one that holds
+/// nothing back, as it is never flushed.
 ///
 /// Errors: `Read` or `Write` if a call on the reader or the writer failed; `Memory` if it runs out;
 /// `TooLong` if the script has more bytes.
@@ -59,6 +60,8 @@ pub fn run_script<T: Threads + Wait + Sync, K: Keeper, R: Read, W: Write>(
         (script_start (K.book keeper.old) bytes (W.contents (inner_of writer.old)))
         (name_of writer.old) (log_of reader.new)) }
     ensures calls { calls_of reader.new ≤ most_calls }
+    ensures few { IfSome (R.remaining (inner_of reader.old))
+        (λ bytes. calls_of reader.new ≤ length bytes + 1) }
 {
     let tools = Tools { rt, alloc, workers };
     let engine = Engine {

@@ -1,3 +1,4 @@
 mod Copied
 mod Edited
 mod NotTaken
+mod Ran

@@ -7,7 +7,7 @@ use crate::ending::Ending;
 use crate::failure::Failure;
 use crate::importing::{Effect, Imported};
 use cred_admin::{BadLine, Fault, Hint, ImportFault, LineFault, Status};
-use cred_book::{BookError, Register};
+use cred_book::{BookError, Name, Register};
 use cred_file::{Edit, Lost, OpenFault};
 use cred_phc::PhcError;
 use sqlite::{Error, ErrorCode};
@@ -55,18 +55,25 @@ fn tell_left_out<F: Write>(faults: &mut F, made: &Imported) -> io::Result<()> {
     for line in &made.bad {
         tell_line(faults, line)?;
     }
-    if !made.bad.is_empty() {
-        let lines = made.bad.len();
-        writeln!(faults, "credkeep: left out {lines} lines, which are bad")?;
+    tell_bad(faults, made.bad.len())?;
+    tell_kept(faults, made.kept)
+}
+
+fn tell_bad<F: Write>(faults: &mut F, lines: usize) -> io::Result<()> {
+    if lines == 0 {
+        return Ok(());
     }
-    if made.kept > 0 {
-        let lines = made.kept;
-        writeln!(
-            faults,
-            "credkeep: left out {lines} lines, whose accounts are there already"
-        )?;
+    writeln!(faults, "credkeep: left out {lines} lines, which are bad")
+}
+
+fn tell_kept<F: Write>(faults: &mut F, lines: u64) -> io::Result<()> {
+    if lines == 0 {
+        return Ok(());
     }
-    Ok(())
+    writeln!(
+        faults,
+        "credkeep: left out {lines} lines, whose accounts are there already"
+    )
 }
 
 /// Says why an order failed; the book's lost change is named if the database failed. Whether
@@ -104,13 +111,23 @@ fn tell_lost<F: Write>(faults: &mut F, lost: &Lost) -> io::Result<()> {
 fn tell_lost_changes<F: Write>(faults: &mut F, changed: &Register) -> io::Result<()> {
     write!(faults, "the changes of")?;
     for (name, _) in changed.iter().take(MOST_NAMED) {
-        write!(faults, " ")?;
-        faults.write_all(name.bytes())?;
+        tell_name(faults, name)?;
     }
-    if changed.len() > MOST_NAMED {
-        write!(faults, " and {} others", changed.len() - MOST_NAMED)?;
-    }
+    tell_others(faults, changed.len())?;
     writeln!(faults, " may be kept or not, all or none of them")
+}
+
+fn tell_name<F: Write>(faults: &mut F, name: &Name) -> io::Result<()> {
+    write!(faults, " ")?;
+    faults.write_all(name.bytes())
+}
+
+/// Says how many there are beside those that are named.
+fn tell_others<F: Write>(faults: &mut F, count: usize) -> io::Result<()> {
+    if count > MOST_NAMED {
+        return write!(faults, " and {} others", count - MOST_NAMED);
+    }
+    Ok(())
 }
 
 fn tell_lost_import<F: Write>(faults: &mut F, added: usize, changed: usize) -> io::Result<()> {
@@ -151,14 +168,18 @@ fn tell_import<F: Write>(faults: &mut F, fault: &ImportFault) -> io::Result<()> 
 fn tell_line<F: Write>(faults: &mut F, line: &BadLine) -> io::Result<()> {
     let (number, word) = (line.why.number(), line.why.word());
     write!(faults, "credkeep: line {}: ", line.number)?;
-    match line.why {
-        LineFault::Line => write!(faults, "it is neither NAME:RECORD nor NAME:")?,
-        LineFault::Text(fault) => write!(faults, "{fault}")?,
-        LineFault::Book(refusal) => write!(faults, "{refusal}")?,
-        LineFault::Locked => write!(faults, "its record is locked: --disable-locked drops it")?,
-        LineFault::Costly => write!(faults, "its record asks for more than --most-memory")?,
-    }
+    tell_why(faults, line.why)?;
     writeln!(faults, " ({number} {word})")
+}
+
+fn tell_why<F: Write>(faults: &mut F, why: LineFault) -> io::Result<()> {
+    match why {
+        LineFault::Line => write!(faults, "it is neither NAME:RECORD nor NAME:"),
+        LineFault::Text(fault) => write!(faults, "{fault}"),
+        LineFault::Book(refusal) => write!(faults, "{refusal}"),
+        LineFault::Locked => write!(faults, "its record is locked: --disable-locked drops it"),
+        LineFault::Costly => write!(faults, "its record asks for more than --most-memory"),
+    }
 }
 
 /// Says why no book was begun or opened, and gives the exit status that tells of it.

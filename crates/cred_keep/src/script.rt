@@ -32,6 +32,8 @@ pub fn run_on_file<T: Threads + Wait + Sync, S: Alter, R: Read, W: Write>(
     ensures runs { RunsWithin longest_script (seen (reading R.remaining reader.old reader.new)
         (writing W.contents writer.old writer.new) book.old.book book.new.book) result }
     ensures calls { calls_of reader.new ≤ most_calls }
+    ensures few { IfSome (R.remaining (inner_of reader.old))
+        (λ bytes. calls_of reader.new ≤ length bytes + 1) }
     ensures keeps { Keeps S.Store book.new.conn book.new.book book.new.lost }
 {
     let result = run_script(rt, alloc, workers, book, reader, writer);
