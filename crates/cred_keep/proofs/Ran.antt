@@ -1,5 +1,5 @@
 -- What a script's clauses say together.
-use Rattle.std.proofs.Common.{ℕ, ◌≤◌, List, length, Option, Some, None, IfSome, Result, Ok, Err, IfOk, IfErr, OnOk}
+use Rattle.std.proofs.Common.{◌≤◌, length, Option, Some, None, IfSome, Result, Ok, Err, IfOk, IfErr, OnOk}
 use Rattle.cred_book.specs.Accounts.{register_capacity}
 use Rattle.cred_admin.specs.Seen.{Seen}
 use Rattle.cred_cli.specs.Outcome.{HasCause, IsAnswered, ScriptFails, longest_script}
