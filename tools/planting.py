@@ -1,20 +1,23 @@
 """Plants the bugs of lists one by one in copies of the tree, and runs the tests that ought to refuse each.
 
-    /usr/bin/python3 tools/planting.py [--only WORD] [--jobs N] [--page] [LIST ..]
+    /usr/bin/python3 tools/planting.py [--only WORD] [--jobs N] [--page] [--said FOLDER] [LIST ..]
     /usr/bin/python3 tools/planting.py --fits [LIST ..]
 
-A list is a file planted/LIST.txt beside the tests of a folder; all are judged if none is named. docs/PLANTED.md says how one is
-written. First the tests that the bugs name are run in a copy with no bug: each has to pass there, or nothing is planted. A bug
-that every test named with it lets through is told as let through, and the status is 1. The proved code is not built anew: its
-objects are taken as they lie in c/out. --page puts the verdicts of each list that is judged whole into docs/PLANTED_BUGS.md.
+A list is a file planted/LIST.txt beside the tests of a folder; all are judged if none is named, and else in the order given.
+docs/PLANTED.md says how one is written. First the tests that the bugs name are run in a copy with no bug: each has to pass there,
+or nothing is planted. A bug that every test named with it lets through is told as let through, and the status is 1. The proved
+code is not built anew: its objects are taken as they lie in c/out. --page puts the verdicts into docs/PLANTED_BUGS.md, list by
+list; with --only those of the bugs that were judged. --said keeps in a folder what the tests said that refused each bug.
 
 With --fits it runs no test, and names each bug that can't be planted, since the code has changed.
 """
 
 import argparse
 import concurrent.futures
+import itertools
 import os
 import pathlib
+import queue
 import re
 import shutil
 import signal
@@ -24,8 +27,9 @@ import tempfile
 import time
 from dataclasses import dataclass, field
 
+import planted_page
+
 TOP = pathlib.Path(__file__).resolve().parent.parent
-PAGE = TOP / "docs/PLANTED_BUGS.md"
 COPIED = ("bin", "c", "docs", "examples", "packaging", "python", "rust", "tools")
 LEFT_OUT = shutil.ignore_patterns("__pycache__", "*.whl", "*.deb", ".mypy_cache", "target", "data")
 FRAMEWORKS = "python/tests/frameworks"
@@ -190,6 +194,13 @@ def misfits(names=()):
                 yield f"{path.relative_to(TOP)}: {bug.name}: {reason}"
 
 
+def strays():
+    """Each list whose bugs aren't those of its part of the page."""
+    for name, path in lists().items():
+        if not planted_page.has(name, [bug.name for bug in bugs_of(path)]):
+            yield f"docs/PLANTED_BUGS.md: {name} has other bugs than {path.relative_to(TOP)}"
+
+
 def copied(room):
     """The tree with all that its tests need, below the room."""
     for name in COPIED:
@@ -255,24 +266,49 @@ def outcome(copy, test, limit=1800.0):
     return Outcome(word, time.monotonic() - begun, said.strip())
 
 
-def unplanted_outcomes(tests):
-    """How each test goes with no bug; one that fails has a second try, since a machine that is busy may have been too slow."""
-    with tempfile.TemporaryDirectory(prefix="unplanted-") as room:
-        copy, found = copied(pathlib.Path(room)), {}
-        build(copy, ["c/Makefile"])
-        for test in tests:
-            found[test] = outcome(copy, test)
-            if found[test].word == "failed":
-                found[test] = outcome(copy, test)
-            print(f"{test}: {found[test].word}, {found[test].seconds:.0f} s", file=sys.stderr, flush=True)
+def unplanted_outcomes(tests, jobs):
+    """How each test goes with no bug, so many at once, each in a copy that no other runs in; and those that failed at first.
+    One that fails has a second try, since a machine that is busy may have been too slow."""
+    copies, unsteady = queue.SimpleQueue(), []
+
+    def once(copy, test):
+        try:
+            return outcome(copy, test)
+        except Unplanted as reason:
+            return Outcome("failed", 0, str(reason))
+
+    def tried(test):
+        copy = copies.get()
+        found = once(copy, test)
+        if found.word == "failed":
+            unsteady.append(test)
+            found = once(copy, test)
+        copies.put(copy)
+        print(f"{test}: {found.word}, {found.seconds:.0f} s", file=sys.stderr, flush=True)
         return found
+
+    with tempfile.TemporaryDirectory(prefix="unplanted-") as room, concurrent.futures.ThreadPoolExecutor(jobs) as pool:
+        for number in range(jobs):
+            copy = copied(pathlib.Path(room) / str(number))
+            build(copy, ["c/Makefile"])
+            copies.put(copy)
+        return dict(zip(tests, pool.map(tried, tests))), unsteady
+
+
+@dataclass(frozen=True)
+class Verdict:
+    """What became of a bug, what the page has of it, and what the test said that refused it."""
+
+    word: str
+    row: str
+    said: str = ""
 
 
 def verdict(bug, unplanted):
-    """What to print of a bug, and whether it is refused."""
+    """Judges a bug by its tests, one after another until one refuses it."""
     tests = [test for test in bug.tests if unplanted[test].word == "passed"]
     if not tests:
-        return f"not judged: {' and '.join(bug.tests)} are skipped here", False
+        return Verdict("not judged", f"not judged: {' and '.join(bug.tests)} are skipped here")
     try:
         with tempfile.TemporaryDirectory(prefix="planted-", ignore_cleanup_errors=True) as room:
             copy = copied(pathlib.Path(room))
@@ -281,47 +317,53 @@ def verdict(bug, unplanted):
             for test in tests:
                 found = outcome(copy, test, max(LEAST_PATIENCE, PATIENCE * unplanted[test].seconds))
                 if found.word == "failed":
-                    return test + (", which hangs" if "it hangs: " in found.said else ""), True
+                    return Verdict("refused", test + (", which hangs" if "it hangs: " in found.said else ""), found.said)
                 if found.word != "passed":
                     raise Unplanted(f"{test} is {found.word}: {found.said[-300:]}")
-        return "**let through**", False
+        return Verdict("let through", "**let through**")
     except Unplanted as reason:
-        return f"not planted: {' '.join(str(reason).split())[:300]}", False
+        return Verdict("not planted", f"not planted: {' '.join(str(reason).split())[:300]}")
+    except OSError as reason:
+        return Verdict("not judged", f"not judged: {reason}")
 
 
-def section(name, bugs, verdicts):
-    """The part of the page on a list."""
-    refused = sum(is_refused for _, is_refused in verdicts)
-    rows = [f"| {bug.name} | {said} |" for bug, (said, _) in zip(bugs, verdicts)]
-    head = f"## {name}\n\n{len(bugs)} bugs, {len(bugs) - refused} not refused.\n\n| Bug | Refused by |\n|---|---|"
-    return "\n".join([head, *rows, ""])
+def told(verdicts, seconds, unplanted, unsteady):
+    """What a run ends with."""
+    words = [it.word for it in verdicts]
+    parts = ", ".join(f"{words.count(it)} {it}" for it in ("refused", "let through", "not planted", "not judged"))
+    skipped = [test for test, found in unplanted.items() if found.word == "skipped"]
+    lines = [f"skipped here: {', '.join(skipped)}"] if skipped else []
+    lines += [f"failed at first with no bug: {', '.join(unsteady)}"] if unsteady else []
+    return "\n".join([*lines, f"{len(verdicts)} bugs: {parts}; {len(unplanted)} tests; {seconds / 60:.0f} minutes"])
 
 
-def put_on_page(name, text):
-    """Puts the part on a list in the place of the last one, or at the end."""
-    page = PAGE.read_text()
-    held = re.search(rf"^## {name}\n.*?(?=^## |\Z)", page, re.M | re.S)
-    PAGE.write_text(page.replace(held[0], text + "\n" if page[held.end() :] else text) if held else f"{page}\n{text}")
+def keep_said(folder, bug, found):
+    place = pathlib.Path(folder) / bug.list
+    place.mkdir(parents=True, exist_ok=True)
+    (place / re.sub(r"\W+", "_", bug.name)).write_text(f"{bug.name}: {found.row}\n{found.said}\n")
 
 
-def judge(chosen, jobs, is_for_page):
-    """Judges the bugs, list by list; the answer is how many aren't refused."""
-    unplanted = unplanted_outcomes(sorted({test for bug in chosen for test in bug.tests}))
+def judge(chosen, given):
+    """Judges the bugs; the answer is how many aren't refused."""
+    begun, all_found = time.monotonic(), []
+    unplanted, unsteady = unplanted_outcomes(sorted({test for bug in chosen for test in bug.tests}), given.jobs)
     failed = [found.said for found in unplanted.values() if found.word not in ("passed", "skipped")]
     if failed:
         sys.exit("with no bug planted:\n" + "\n".join(failed))
-    left = 0
-    with concurrent.futures.ThreadPoolExecutor(jobs) as pool:
-        for name in dict.fromkeys(bug.list for bug in chosen):
-            bugs, verdicts = [bug for bug in chosen if bug.list == name], []
-            for bug, found in zip(bugs, pool.map(lambda bug: verdict(bug, unplanted), bugs)):
-                verdicts.append(found)
-                print(f"{name}: {bug.name}: {found[0]}", flush=True)
-            left += sum(not is_refused for _, is_refused in verdicts)
-            if is_for_page:
-                put_on_page(name, section(name, bugs, verdicts))
-    print(f"{len(chosen)} bugs, {left} not refused")
-    return left
+    with concurrent.futures.ThreadPoolExecutor(given.jobs) as pool:
+        verdicts = pool.map(lambda bug: verdict(bug, unplanted), chosen)
+        for name, bugs in itertools.groupby(chosen, key=lambda bug: bug.list):
+            rows = {}
+            for bug, found in zip(bugs, verdicts):
+                rows[bug.name] = found.row
+                all_found.append(found)
+                print(f"{name}: {bug.name}: {found.row}", flush=True)
+                if given.said:
+                    keep_said(given.said, bug, found)
+            if given.page:
+                planted_page.put(name, [bug.name for bug in bugs_of(lists()[name])], rows)
+    print(told(all_found, time.monotonic() - begun, unplanted, unsteady))
+    return sum(found.word != "refused" for found in all_found)
 
 
 def main():
@@ -330,17 +372,18 @@ def main():
     words.add_argument("--only", default="", help="the bugs whose names have this word")
     words.add_argument("--jobs", type=int, default=1, help="how many are judged at once")
     words.add_argument("--page", action="store_true", help="put the verdicts into docs/PLANTED_BUGS.md")
+    words.add_argument("--said", metavar="FOLDER", help="keep there what the tests said that refused each bug")
     words.add_argument("--fits", action="store_true", help="run no test, and say which bugs can't be planted")
     given = words.parse_args()
-    if unknown := set(given.lists) - set(lists()):
-        words.error(f"there is no list {', '.join(sorted(unknown))}; there are {', '.join(lists())}")
+    known = lists()
+    if unknown := set(given.lists) - set(known):
+        words.error(f"there is no list {', '.join(sorted(unknown))}; there are {', '.join(known)}")
     lost = [*misfits(given.lists)]
     if lost or given.fits:
         print("\n".join([*lost, f"{len(lost)} bugs can't be planted"]))
         return 1 if lost else 0
-    known = (bug for name, path in lists().items() if not given.lists or name in given.lists for bug in bugs_of(path))
-    chosen = [bug for bug in known if given.only in bug.name]
-    return 1 if judge(chosen, given.jobs, given.page and not given.only) else 0
+    bugs = (bug for name in given.lists or known for bug in bugs_of(known[name]))
+    return 1 if judge([bug for bug in bugs if given.only in bug.name], given) else 0
 
 
 if __name__ == "__main__":
