@@ -101,6 +101,10 @@ SUITES = {
 }
 
 
+# Suites whose tests need nothing of what is built in c/out.
+WITHOUT_LIBRARY = ("pam", "server")
+
+
 @dataclass(frozen=True)
 class Edit:
     """A file, a text that stands in it once, and the text in its place."""
@@ -290,7 +294,8 @@ def unplanted_outcomes(tests, jobs):
     with tempfile.TemporaryDirectory(prefix="unplanted-") as room, concurrent.futures.ThreadPoolExecutor(jobs) as pool:
         for number in range(jobs):
             copy = copied(pathlib.Path(room) / str(number))
-            build(copy, ["c/Makefile"])
+            if any(test.partition(":")[0] not in WITHOUT_LIBRARY for test in tests):
+                build(copy, ["c/Makefile"])
             copies.put(copy)
         return dict(zip(tests, pool.map(tried, tests))), unsteady
 
