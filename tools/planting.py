@@ -89,6 +89,8 @@ SUITES = {
     "c": Suite("c", "tests/run.py TEST"),
     "pam": Suite("c/pam", "tests/run.py TEST"),
     "server": Suite(".", "tools/server_tests/server.py TEST"),
+    "asks": Suite(".", "tools/server_tests/asks.py TEST"),
+    "clients": Suite(".", "tools/server_tests/clients.py TEST"),
     "rust": Suite("rust", "tests/run.py TEST"),
     "pages": Suite(".", "docs/tests/run.py TEST"),
     "hashers": Suite("python", "tests/hashers/run.py TEST"),
@@ -102,7 +104,7 @@ SUITES = {
 
 
 # Suites whose tests need nothing of what is built in c/out.
-WITHOUT_LIBRARY = ("pam", "server")
+WITHOUT_LIBRARY = ("pam", "server", "asks")
 
 
 @dataclass(frozen=True)

@@ -1,5 +1,5 @@
 #!/usr/bin/python3
-"""Runs all tests of the server, its clients, the PAM module, units and packages.
+"""Runs all tests of the server, its clients, credkeep-ask, the PAM module, units and packages.
 
     /usr/bin/python3 tools/server_tests/run.py [--seconds N]
 
@@ -32,6 +32,7 @@ def main() -> int:
         (HERE / "server.py", []),
         (HERE / "real.py", []),
         (HERE / "clients.py", []),
+        (HERE / "asks.py", []),
         (HERE / "units.py", []),
         (HERE / "booted.py", []),
         (HERE / "programs.py", []),

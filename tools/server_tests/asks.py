@@ -1,0 +1,274 @@
+#!/usr/bin/python3
+"""Tests of bin/credkeep-ask: when it asks at the terminal, what it shows there, and what credkeep gets of it.
+
+    /usr/bin/python3 tools/server_tests/asks.py [TEST..]
+
+They need a POSIX shell and stty. A script stands in for credkeep: it notes the words and the input that it is given.
+"""
+
+from __future__ import annotations
+
+import fcntl
+import os
+import pathlib
+import pty
+import select
+import signal
+import subprocess
+import sys
+import tempfile
+import termios
+import time
+from collections.abc import Iterator, Sequence
+from contextlib import contextmanager
+from dataclasses import dataclass, field
+
+from common import TOP, holds, need, run_tests, same
+
+ASK = TOP / "bin/credkeep-ask"
+PROMPT = b": "
+
+# `show` says what is in the environment; everything else reads its input and ends with 7.
+STAND_IN = """#!/bin/sh
+printf '%s\\n' "$*" >> "$ROOM/words"
+case " $* " in
+*' show '*) [ -z "$SHOWN" ] || printf '%s\\n' "$SHOWN"; exit "$STATUS" ;;
+esac
+while IFS= read -r line; do printf '%s\\n' "$line" >> "$ROOM/given"; done
+printf '%s' "$line" >> "$ROOM/given"
+echo "it was asked"
+exit 7
+"""
+
+
+@dataclass
+class Account:
+    """What `show` says of the account, and its status."""
+
+    shown: str
+    status: int
+
+
+RECORD, NO_RECORD, NO_ACCOUNT = Account("$argon2id$..", 0), Account("absent", 4), Account("none", 4)
+
+
+@dataclass
+class Ended:
+    """How a run ended: its status, what the terminal showed, whether it echoed at each prompt and at the end."""
+
+    status: int
+    shown: bytes
+    echoes: list[bool] = field(default_factory=list)
+    echoes_after: bool = True
+
+
+def does_echo(terminal: int) -> bool:
+    return bool(termios.tcgetattr(terminal)[3] & termios.ECHO)
+
+
+def read(terminal: int, seconds: float) -> bytes:
+    """What a terminal shows within so many seconds."""
+    return os.read(terminal, 10000) if select.select([terminal], [], [], seconds)[0] else b""
+
+
+def type_at(terminal: int, process: subprocess.Popen[bytes], typed: bytes | int) -> None:
+    """Types a line, or sends a signal."""
+    if isinstance(typed, int):
+        process.send_signal(typed)
+    else:
+        os.write(terminal, typed)
+
+
+@dataclass
+class Room:
+    """A folder with the stand-in, and with no program but stty: a password would be in the words of another one."""
+
+    folder: pathlib.Path
+
+    def environment(self, account: Account) -> dict[str, str]:
+        named = {"ROOM": str(self.folder), "CREDKEEP": str(self.folder / "credkeep"), "PATH": str(self.folder / "bin")}
+        return {**named, "SHOWN": account.shown, "STATUS": str(account.status)}
+
+    def at_a_terminal(self, words: Sequence[str], typed: Sequence[bytes | int], account: Account = RECORD) -> Ended:
+        """Types a line at each prompt, or sends a signal."""
+        terminal, inside = pty.openpty()
+        process = subprocess.Popen(
+            [ASK, *words],
+            stdin=inside,
+            stdout=inside,
+            stderr=inside,
+            env=self.environment(account),
+            start_new_session=True,
+            preexec_fn=lambda: fcntl.ioctl(0, termios.TIOCSCTTY, 0),
+        )
+        ended, rest = Ended(-1, b""), list(typed)
+        try:
+            end = time.monotonic() + 60
+            while process.poll() is None:
+                holds(time.monotonic() < end, f"it hangs: {ended.shown!r}")
+                ended.shown += read(terminal, 0.05)
+                if rest and ended.shown.endswith(PROMPT):
+                    ended.echoes.append(does_echo(terminal))
+                    ended.shown += b"|"
+                    type_at(terminal, process, rest.pop(0))
+            ended.status, ended.echoes_after = process.returncode, does_echo(terminal)
+            ended.shown += read(terminal, 0)
+            same(rest, [], f"not asked for; it showed {ended.shown!r}")
+            return ended
+        finally:
+            process.kill()
+            process.wait()
+            os.close(terminal)
+            os.close(inside)
+
+    def noted(self, name: str) -> str:
+        """What came of the words, or of the input, since it was last asked."""
+        path = self.folder / name
+        found = path.read_text() if path.exists() else ""
+        path.unlink(missing_ok=True)
+        return found
+
+
+@contextmanager
+def room() -> Iterator[Room]:
+    need("stty")
+    with tempfile.TemporaryDirectory(prefix="rigzumal-ask-") as name:
+        folder = pathlib.Path(name)
+        (folder / "credkeep").write_text(STAND_IN)
+        (folder / "credkeep").chmod(0o755)
+        (folder / "bin").mkdir()
+        (folder / "bin/stty").symlink_to("/usr/bin/stty")
+        yield Room(folder)
+
+
+ONE, TWO = [b"old\n"], [b"new\n", b"new\n"]
+
+
+def asked() -> None:
+    """Each operation asks for the passwords that it reads, the account's present one first, and hands them on by a pipe."""
+    with room() as it:
+        for operation, account, typed, given in (
+            ("check", RECORD, ONE, "old\n"),
+            ("upgrade", RECORD, ONE, "old\n"),
+            ("remove", RECORD, ONE, "old\n"),
+            ("change", RECORD, ONE + TWO, "old\nnew\n"),
+            ("reset", RECORD, TWO, "new\n"),
+            ("reset", NO_RECORD, TWO, "new\n"),
+            ("add", NO_RECORD, TWO, "new\n"),
+            ("add", NO_ACCOUNT, TWO, "new\n"),
+        ):
+            ended = it.at_a_terminal(["users.db", operation, "ada"], typed, account)
+            same((ended.status, ended.echoes), (7, [False] * len(typed)), operation)
+            holds(ended.shown.endswith(b"it was asked\r\n"), f"{ended.shown!r}")
+            holds(b"old" not in ended.shown and b"new\r" not in ended.shown, f"it shows a password: {ended.shown!r}")
+            same(it.noted("words"), f"--wait 0 users.db show ada\nusers.db {operation} ada\n")
+            same(it.noted("given"), given, operation)
+            same(ended.echoes_after, True, operation)
+
+
+def prompts() -> None:
+    """What it asks for, in these words and this order."""
+    with room() as it:
+        shown = it.at_a_terminal(["users.db", "change", "ada"], ONE + TWO).shown
+        same(shown, b"Password: |\r\nNew password: |\r\nThe same again: |\r\nit was asked\r\n")
+
+
+def not_asked() -> None:
+    """Where no password would help, credkeep's answer is told at once."""
+    with room() as it:
+        for operation, account, status, said in (
+            ("add", RECORD, 4, b"exists"),
+            ("check", NO_ACCOUNT, 4, b"none"),
+            ("change", NO_RECORD, 4, b"absent"),
+            ("remove", NO_ACCOUNT, 4, b"none"),
+            ("upgrade", NO_RECORD, 4, b"absent"),
+            ("reset", NO_ACCOUNT, 4, b"none"),
+            ("check", Account("", 3), 3, b""),
+            ("add", Account("", 5), 5, b""),
+            ("reset", Account("", 1), 1, b""),
+        ):
+            ended = it.at_a_terminal(["users.db", operation, "ada"], [], account)
+            same((ended.status, ended.shown.strip()), (status, said), f"{operation} {account}")
+            same(it.noted("words"), "--wait 0 users.db show ada\n")
+
+
+def words() -> None:
+    """Its words come as they are to credkeep, which is first asked for the account with the same wait."""
+    with room() as it:
+        for given, shown in (
+            (["--wait", "5", "a b.db", "check", "ada"], "--wait 5 a b.db show ada"),
+            (["--wait=6", "a.db", "check", "ada"], "--wait 6 a.db show ada"),
+            (["a.db", "check", "--wait", "7", "ada"], "--wait 7 a.db show ada"),
+            (["a.db", "check", "--setting", "$scrypt$..", "ada"], "--wait 0 a.db show ada"),
+            (["a.db", "check", "--setting=$scrypt$..", "ada"], "--wait 0 a.db show ada"),
+        ):
+            same(it.at_a_terminal(given, ONE).status, 7, f"{given}")
+            same(it.noted("words"), f"{shown}\n{' '.join(given)}\n")
+
+
+def other_words() -> None:
+    """What reads no password is credkeep's alone, and so is a call for help or without a name."""
+    with room() as it:
+        for given in (["a.db", "list"], ["a.db", "check", "--help"], ["a.db", "-h", "add", "ada"], ["a.db", "show", "ada"]):
+            done = subprocess.run([ASK, *given], env=it.environment(RECORD), input=b"as it is", capture_output=True)
+            same(it.noted("words"), f"{' '.join(given)}\n")
+            shows = "show" in given
+            same((done.returncode, done.stderr), (0 if shows else 7, b""), f"{given}")
+            same(it.noted("given"), "" if shows else "as it is", f"{given}")
+        same(it.at_a_terminal(["a.db", "check"], ONE).status, 7)
+        same(it.noted("words"), "a.db check\n")
+
+
+def any_bytes() -> None:
+    """A password is what was typed, whatever the shell makes of such letters elsewhere."""
+    with room() as it:
+        for line in (b" a b ", b"a\\n\\", b"-n", b"-e", b"%s%n", b"*", b"$HOME `id` $(id)", b"", b"'\"", "pass\u00e9".encode()):
+            ended = it.at_a_terminal(["a.db", "change", "ada"], [line + b"\n"] * 3)
+            same(ended.status, 7, f"{line!r}")
+            same(it.noted("given").encode(), line + b"\n" + line + b"\n")
+
+
+def differing() -> None:
+    """Two new passwords that differ go nowhere."""
+    with room() as it:
+        for second in (b"new2\n", b"ne\n", b"New\n", b"\n", b"new \n"):
+            ended = it.at_a_terminal(["a.db", "change", "ada"], [b"old\n", b"new\n", second])
+            same((ended.status, ended.echoes_after), (6, True), f"{second!r}")
+            holds(b"credkeep-ask: the two new passwords differ" in ended.shown, f"{ended.shown!r}")
+            same((it.noted("words"), it.noted("given")), ("--wait 0 a.db show ada\n", ""))
+
+
+def ends() -> None:
+    """An input that ends is no password, and half a line is none."""
+    with room() as it:
+        lines: list[list[bytes]] = [[b"\x04"], [b"ab\x04\x04"], [b"old\n", b"\x04"], [b"old\n", b"new\n", b"\x04"]]
+        for typed in lines:
+            ended = it.at_a_terminal(["a.db", "change", "ada"], typed)
+            same((ended.status, ended.echoes_after), (6, True), f"{typed}")
+            holds(b"credkeep-ask: no password" in ended.shown, f"{ended.shown!r}")
+            same((it.noted("words"), it.noted("given")), ("--wait 0 a.db show ada\n", ""))
+
+
+def signals() -> None:
+    """A signal at the prompt ends it with the signal's status, and the terminal echoes again."""
+    with room() as it:
+        for number in (signal.SIGHUP, signal.SIGINT, signal.SIGQUIT, signal.SIGTERM):
+            both: list[list[bytes | int]] = [[number], [b"old\n", number]]
+            for typed in both:
+                ended = it.at_a_terminal(["a.db", "change", "ada"], typed)
+                same((ended.status, ended.echoes[-1], ended.echoes_after), (128 + number, False, True), f"{number.name}")
+                same((it.noted("words"), it.noted("given")), ("--wait 0 a.db show ada\n", ""))
+
+
+def no_terminal() -> None:
+    """Without a terminal there is nobody to ask: what stands at its input is no password."""
+    with room() as it:
+        done = subprocess.run([ASK, "a.db", "check", "ada"], env=it.environment(RECORD), input=b"old\n", capture_output=True, start_new_session=True)
+        same((done.returncode, done.stdout, done.stderr), (2, b"", b"credkeep-ask: there is no terminal to ask at\n"))
+        same((it.noted("words"), it.noted("given")), ("--wait 0 a.db show ada\n", ""))
+
+
+TESTS = [asked, prompts, not_asked, words, other_words, any_bytes, differing, ends, signals, no_terminal]
+
+if __name__ == "__main__":
+    sys.exit(run_tests(TESTS, sys.argv[1:]))
