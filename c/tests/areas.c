@@ -10,6 +10,7 @@
 #include <stdbool.h>
 #include <stdint.h>
 #include <sys/mman.h>
+#include <unistd.h>
 
 struct tried {
     bool ok;
@@ -27,15 +28,30 @@ void *__real_mmap(void *at, size_t size, int protection, int flags, int file, of
 void *__wrap_mmap(void *at, size_t size, int protection, int flags, int file, off_t offset);
 int __real_munmap(void *start, size_t size);
 int __wrap_munmap(void *start, size_t size);
+int __real_madvise(void *start, size_t size, int advice);
+int __wrap_madvise(void *start, size_t size, int advice);
 
 void *__wrap_mmap(void *at, size_t size, int protection, int flags, int file, off_t offset) {
     mapped += size;
     return __real_mmap(at, size, protection, flags, file, offset);
 }
 
+/* Whether an area stays as it was cleared while this thread rests: nobody else has it. */
+static bool is_nobodys(const unsigned char *area) {
+    bool is_cleared = is_all(area, 0, SIZE);
+    usleep(200);
+    return is_cleared && is_all(area, 0, SIZE);
+}
+
 int __wrap_munmap(void *start, size_t size) {
+    CHECK(size != AREA || is_nobodys(start));
     mapped -= size;
     return __real_munmap(start, size);
+}
+
+int __wrap_madvise(void *start, size_t size, int advice) {
+    CHECK(advice != MADV_FREE || is_nobodys(start));
+    return __real_madvise(start, size, advice);
 }
 
 /* Gives areas back while others take them: each once. */

@@ -38,7 +38,7 @@ VALGRIND = "valgrind -q --error-exitcode=9 --leak-check=full --errors-for-leak-k
 WRAPPED = {
     "heap": "posix_memalign free mmap munmap madvise",
     "refused": "posix_memalign malloc realloc mmap",
-    "areas": "mmap munmap",
+    "areas": "mmap munmap madvise",
     "drawn_salts": "getrandom",
     "calls_in_threads": "pthread_create sched_getaffinity",
     "depth": "clear_traces",

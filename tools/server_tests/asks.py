@@ -12,6 +12,7 @@ import fcntl
 import os
 import pathlib
 import pty
+import re
 import select
 import signal
 import subprocess
@@ -31,6 +32,7 @@ PROMPT = b": "
 # `show` says what is in the environment; everything else reads its input and ends with 7.
 STAND_IN = """#!/bin/sh
 printf '%s\\n' "$*" >> "$ROOM/words"
+export -p >> "$ROOM/environment"
 case " $* " in
 *' show '*) [ -z "$SHOWN" ] || printf '%s\\n' "$SHOWN"; exit "$STATUS" ;;
 esac
@@ -163,6 +165,7 @@ def asked() -> None:
             holds(b"old" not in ended.shown and b"new\r" not in ended.shown, f"it shows a password: {ended.shown!r}")
             same(it.noted("words"), f"--wait 0 users.db show ada\nusers.db {operation} ada\n")
             same(it.noted("given"), given, operation)
+            holds(not re.search("old|new", it.noted("environment")), "a password in the environment")
             same(ended.echoes_after, True, operation)
 
 

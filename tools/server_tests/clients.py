@@ -10,6 +10,7 @@ from __future__ import annotations
 
 import asyncio
 import importlib
+import os
 import pathlib
 import re
 import socket
@@ -22,7 +23,7 @@ from collections.abc import Callable, Iterator
 from contextlib import contextmanager
 from typing import Any
 
-from common import TOP, Skipped, holds, need, run_tests, same, serving
+from common import TOP, Skipped, field_of, holds, need, run_tests, same, serving
 
 
 def ours() -> Any:
@@ -56,14 +57,19 @@ def all_calls() -> None:
         ("known", ("ada",), R.YES),
         ("rename", ("ada", "bob"), R.RENAMED),
         ("names", (), ["bob"]),
+        ("account", ("cid",), R.OK),
+        ("names", ("-", 1), ["bob"]),
+        ("names", ("c",), ["cid"]),
+        ("delete", ("cid",), R.DELETED),
         ("disable", ("bob",), R.DISABLED),
         ("delete", ("bob",), R.DELETED),
         ("names", ("-", 5), []),
     ]
     with serving() as service:
-        client = server.Client(service.path("admin"))
+        client, open_before = server.Client(service.path("admin")), len(os.listdir("/proc/self/fd"))
         for name, fields, ought in calls:
             same(getattr(client, name)(*fields), ought, f"{name}{fields}")
+        same(len(os.listdir("/proc/self/fd")), open_before, "connections that stay open")
     with serving() as service:
 
         async def same_ones() -> None:
@@ -107,26 +113,37 @@ def refusals() -> None:
         pass
     fault = server.Refused(3, "name")
     same((fault.number, fault.word), (3, "name"))
+    asked = importlib.import_module("rigzumal.server._lines").question("verify", "ada", passwords=("secret",))
+    holds(field_of(b"secret") not in repr(asked) and "secret" not in repr(asked), "a password in a repr")
 
 
 @contextmanager
 def peer(answer: bytes, then: str = "close") -> Iterator[pathlib.Path]:
-    """A socket at which each line gets the same bytes."""
+    """A socket at which each line gets the same bytes; then it is closed, or waits, or drips for twelve seconds."""
     with tempfile.TemporaryDirectory() as room, socket.socket(socket.AF_UNIX) as listener:
         path = pathlib.Path(room, "s")
         listener.bind(str(path))
         listener.listen()
         kept = []
 
+        def say(client: socket.socket) -> None:
+            client.recv(4096)
+            client.sendall(answer)
+            for _ in range(60 if then == "drip" else 0):
+                client.sendall(b"x")
+                time.sleep(0.2)
+
         def take() -> None:
             while True:
                 try:
                     client, _ = listener.accept()
-                    client.recv(4096)
-                    client.sendall(answer)
                 except OSError:
                     return
                 kept.append(client)
+                try:
+                    say(client)
+                except OSError:  # it has gone
+                    pass
                 if then == "close":
                     client.close()
 
@@ -171,7 +188,82 @@ def peers_that_say_nothing_right() -> None:
             try:
                 raise AssertionError(f"{call()}")
             except server.Unavailable:
-                holds(0.4 < time.monotonic() - begun < 4, "the timeout")
+                holds(0.4 < time.monotonic() - begun < 15, "the timeout")
+
+
+def peers_that_go_on() -> None:
+    """A timeout is for the whole call, and what has no end isn't read to it."""
+    server, aio = ours()
+    for answer, then, timeout in ((b"1 y", "drip", 1.0), (b"x" * (8 << 20), "wait", 60.0)):
+        with peer(answer, then) as path:
+            calls: list[Callable[[], object]] = [lambda: server.Client(path, timeout).verify("ada", "x")]
+            calls.append(lambda: asyncio.run(aio.Client(path, timeout).verify("ada", "x")))
+            for call in calls:
+                begun = time.monotonic()
+                try:
+                    raise AssertionError(f"{call()}")
+                except server.Unavailable:
+                    holds(time.monotonic() - begun < timeout + 7, "the timeout")
+                    holds(time.monotonic() - begun < 30, "it is read to its end")
+
+
+def calls_without_an_answer() -> None:
+    """Who waits is told of the connection's close, and what came too late is nobody's."""
+    server, aio = ours()
+
+    async def closes(path: pathlib.Path) -> None:
+        client = aio.Client(path, timeout=60)
+        waiting = asyncio.ensure_future(client.verify("ada", "x"))
+        await asyncio.sleep(0.3)
+        await client.close()
+        try:
+            raise AssertionError(f"{await asyncio.wait_for(waiting, 20)}")
+        except server.Unavailable:
+            pass
+
+    with peer(b"", then="wait") as path:
+        asyncio.run(closes(path))
+
+    async def late(reader: asyncio.StreamReader, writer: asyncio.StreamWriter) -> None:
+        """Answers a line as the next one comes: yes and no in turns."""
+        before, said = b"", [b"yes", b"no"]
+        while line := await reader.readline():
+            if before:
+                writer.write(before + b" " + said[0] + b"\n")
+                said.reverse()
+            before = line.split()[0]
+
+    async def asks(path: str) -> None:
+        async with await asyncio.start_unix_server(late, path), aio.Client(path, timeout=0.4) as client:
+            for _ in range(4):
+                try:
+                    raise AssertionError(f"{await client.verify('ada', 'x')}")
+                except server.Unavailable:
+                    pass
+            same(client._waiting, {}, "calls that nobody waits for")
+
+    with tempfile.TemporaryDirectory() as room:
+        asyncio.run(asks(f"{room}/s"))
+
+
+def one_connection() -> None:
+    """Tasks that begin together connect once."""
+    server, aio = ours()
+    taken = []
+
+    async def take(reader: asyncio.StreamReader, writer: asyncio.StreamWriter) -> None:
+        taken.append(writer)
+        while line := await reader.readline():
+            writer.write(line.split()[0] + b" yes\n")
+        writer.close()
+
+    async def asks(path: str) -> None:
+        async with await asyncio.start_unix_server(take, path), aio.Client(path) as client:
+            said = await asyncio.gather(*(client.known("ada") for _ in range(50)))
+            same((set(said), len(taken)), ({server.Reply.YES}, 1))
+
+    with tempfile.TemporaryDirectory() as room:
+        asyncio.run(asks(f"{room}/s"))
 
 
 def many_at_once() -> None:
@@ -240,7 +332,17 @@ def php_client() -> None:
         same(done.stdout.split(), "true false false false false false false NULL".split(), done.stderr)
 
 
-TESTS = [all_calls, refusals, peers_that_say_nothing_right, many_at_once, connections_that_end, php_client]
+TESTS = [
+    all_calls,
+    refusals,
+    peers_that_say_nothing_right,
+    peers_that_go_on,
+    calls_without_an_answer,
+    one_connection,
+    many_at_once,
+    connections_that_end,
+    php_client,
+]
 
 if __name__ == "__main__":
     sys.exit(run_tests(TESTS, sys.argv[1:]))

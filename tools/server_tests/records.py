@@ -127,6 +127,9 @@ def mail_names() -> None:
             ("rename x@Y@example.org dan@example.org", "renamed"),
             ("delete dan@example.org", "deleted"),
             ("known bob@example.org", "absent"),
+            (f"account {'x' * 242}@example.org", "ok"),
+            (f"delete {'x' * 242}@example.org", "deleted"),
+            (f"account {'x' * 243}@example.org", "bad 3 name"),
             ("rename plain.name cid@example.org", "renamed"),
             ("disable cid@example.org", "disabled"),
         ):

@@ -1,5 +1,5 @@
 #!/usr/bin/python3
-"""Tests of bin/credkeep-server: sockets, operations, limits, turns, faults, ends, systemd's words.
+"""Tests of bin/credkeep-server: sockets, operations, limits, turns, faults, how it starts and ends, systemd's words.
 
     /usr/bin/python3 tools/server_tests/server.py [TEST..]
 
@@ -15,10 +15,11 @@ import asking
 import endings
 import limits
 import records
+import starting
 import tries
 from common import run_tests
 
-TESTS = [*asking.TESTS, *limits.TESTS, *tries.TESTS, *endings.TESTS, *records.TESTS]
+TESTS = [*asking.TESTS, *limits.TESTS, *tries.TESTS, *endings.TESTS, *starting.TESTS, *records.TESTS]
 
 if __name__ == "__main__":
     sys.exit(run_tests(TESTS, sys.argv[1:]))

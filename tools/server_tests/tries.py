@@ -6,6 +6,7 @@ import os
 import pathlib
 import tempfile
 import time
+from unittest import mock
 
 from common import as_user, holds, need_root, program, same, SECRET, serving, WRONG
 
@@ -48,6 +49,30 @@ def later_for_each_operation() -> None:
         same(login.ask(f"verify ada {WRONG}"), "yes")
 
 
+def what_counts() -> None:
+    """Each answer that a try failed counts, and after each that one was right, or is made so, none does."""
+    with serving("--tries", "2") as service:
+        service.enrol(ada="secret")
+        admin = service.client("admin")
+        for line, said in (
+            (f"verify ada {SECRET}", "yes"),
+            (f"login ada {SECRET}", "yes"),
+            (f"upgrade ada {SECRET}", "kept"),
+            (f"upgrade ada {SECRET} $fast$c=3", "upgraded"),
+            (f"change ada {SECRET} {SECRET}", "replaced"),
+            (f"reset ada {SECRET}", "replaced"),
+        ):
+            same(admin.ask(f"verify ada {WRONG}"), "no")
+            same(admin.ask(line), said)
+            same(admin.ask(f"verify ada {WRONG}"), "no", f"after {line}")
+            same(admin.ask(f"verify ada {SECRET}"), "yes", f"after {line}")
+        same(admin.ask(f"verify ada {WRONG}"), "no")
+        same(admin.ask(f"remove ada {SECRET}"), "removed")
+        same([admin.ask(f"verify ada {SECRET}") for _ in range(3)], ["absent", "absent", "later"])
+        same(admin.ask(f"enrol ada {SECRET}"), "enrolled")
+        same(admin.ask(f"verify ada {SECRET}"), "yes")
+
+
 def guesses_at_once() -> None:
     """Guesses that are sent together are stopped too, but for those that the book has already."""
     with serving("--tries", "3", "--at-once", "4", faults="slow=0.05") as service:
@@ -77,6 +102,9 @@ def later_by_uid() -> None:
                 time.sleep(wait)
                 same(as_user(4711, 4712, path, *guesses[:1], right), "noaccount later")
             same(as_user(4712, 4712, path, right), "yes")
+            others = [f"verify m{number} {SECRET}" for number in range(5)]
+            for uid, said in ((999, "yes"), (1000, "later"), (60000, "later"), (60001, "yes"), (65534, "yes")):
+                same(as_user(uid, uid, path, *others, right).split()[-1], said, f"uid {uid}")
 
 
 def failures_are_bounded() -> None:
@@ -95,10 +123,27 @@ def failures_are_bounded() -> None:
     holds(server.failed[b"y"][1] - time.monotonic() <= 900, "the wait has no bound")
 
 
+def tries_are_forgotten() -> None:
+    """An hour after a wait was over its tries are forgotten, and not before."""
+    module, clock = program(), [1000.0]
+    server = module.Server.__new__(module.Server)
+    server.failed = {}
+    with mock.patch.object(module.time, "monotonic", lambda: clock[0]):
+        for count, wait in ((1, 0), (2, 0), (3, 1), (4, 2)):
+            server.fail(b"x", 3)
+            same(server.failed[b"x"], (count, clock[0] + wait))
+        for moment, count, wait in ((1002.0 + 3599, 5, 4), (4605.0 + 3600, 1, 0), (8205.0 + 3599, 2, 0)):
+            clock[0] = moment
+            server.fail(b"x", 3)
+            same(server.failed[b"x"], (count, moment + wait), "the tries of an hour ago")
+
+
 TESTS = [
     later,
     later_for_each_operation,
+    what_counts,
     guesses_at_once,
     later_by_uid,
     failures_are_bounded,
+    tries_are_forgotten,
 ]

@@ -14,7 +14,7 @@
  * turned, in all memory that may be written, and prints `found N`. LOOK_INSIDE=HEX looks, while the
  * module's call is still under way, as it asks for the other host after its answer came. THREADS=N
  * does the tasks in N threads at once, each for the user USER0, USER1 .. with its own name as every
- * answer. */
+ * answer. JUMPS=1 sets the clock on the wall an hour forward at each look. */
 #define _GNU_SOURCE
 #include <dirent.h>
 #include <dlfcn.h>
@@ -69,6 +69,14 @@ int connect(int fd, __CONST_SOCKADDR_ARG at, socklen_t size) {
 int poll(struct pollfd *fds, nfds_t count, int timeout) {
     static __thread bool was;
     return is_interrupted(&was) ? -1 : (int)syscall(SYS_poll, fds, count, timeout);
+}
+
+int clock_gettime(clockid_t clock, struct timespec *now) {
+    static __thread int looks;
+    int answer = (int)syscall(SYS_clock_gettime, clock, now);
+    if (answer == 0 && clock == CLOCK_REALTIME && getenv("JUMPS") != NULL)
+        now->tv_sec += 3600 * ++looks;
+    return answer;
 }
 
 static int found(const char *digits);

@@ -310,7 +310,9 @@ def deadlines() -> None:
         with peer(reply) as it:
             said = asked(Question(options="timeout=1", build=PLAIN), it.path)
             same(said.codes, [AUTHINFO_UNAVAIL])
-            assert 0.9 < said.seconds < 4, f"{said.seconds} s"
+            assert 0.9 < said.seconds < 7, f"{said.seconds} s"
+    said, _ = said_at(b"1 yes\n", Question(environment={"JUMPS": "1"}))
+    same(said.codes, [SUCCESS], "the clock on the wall is set")
     busy = Peer(sends(b""), backlog=0)
     waiting = [socket.socket(socket.AF_UNIX) for _ in range(3)]
     for it in waiting:
@@ -321,7 +323,7 @@ def deadlines() -> None:
             pass
     said = asked(Question(options="timeout=1", build=PLAIN), busy.path)
     same(said.codes, [AUTHINFO_UNAVAIL], "nobody accepts")
-    assert 0.9 < said.seconds < 4, f"{said.seconds} s"
+    assert 0.9 < said.seconds < 30, f"{said.seconds} s"
     for it in (*waiting, busy.listener):
         it.close()
 
