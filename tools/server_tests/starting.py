@@ -25,7 +25,7 @@ def words_of_the_book() -> None:
         book.chmod(0o755)
         (folder / "users.db").touch()
         limits = ["--at-once", "3", "--memory", "1G", "--most-memory", "2G"]
-        for options, wait, handed in (
+        cases: list[tuple[list[str], str, list[str]]] = [
             ([], "30", []),
             (["--wait", "7"], "7", []),
             (limits, "30", limits),
@@ -33,7 +33,8 @@ def words_of_the_book() -> None:
             (["--upgrade", "$two"], "30", ["--setting", "$two"]),
             (["--upgrade", "$two", "--setting", "$one"], "30", ["--setting", "$two"]),
             (["--idle", "5", "--tries", "4", "--uid-tries", "3", "--mail-names"], "30", []),
-        ):
+        ]
+        for options, wait, handed in cases:
             with serving(*options, program=book, folder=folder, waits=False, environment={"NOTED": str(noted)}) as service:
                 same(service.process.wait(timeout=40), 3, service.log())
             same(noted.read_text().splitlines(), ["--wait", wait, str(folder / "users.db"), "serve", "--tagged", *handed], f"{options}")
