@@ -24,7 +24,7 @@ void rattle_dealloc(void *start);
 enum { KIB = 1024, MIB = 1024 * KIB, BLOCKS = 24, STEPS = 1200, AREA = 16 * MIB, KEPT = 4 * AREA };
 
 static size_t mapped;
-static bool is_refusing, is_refusing_maps;
+static bool is_refusing, is_refusing_maps, is_refusing_tables;
 
 int __real_posix_memalign(void **start, size_t align, size_t size);
 int __wrap_posix_memalign(void **start, size_t align, size_t size);
@@ -36,6 +36,8 @@ int __real_madvise(void *start, size_t size, int advice);
 int __wrap_madvise(void *start, size_t size, int advice);
 void __real_free(void *start);
 void __wrap_free(void *start);
+void *__real_realloc(void *start, size_t size);
+void *__wrap_realloc(void *start, size_t size);
 
 /* The blocks of the C library that are in use. */
 enum { MOST_PIECES = 256 };
@@ -64,6 +66,10 @@ void __wrap_free(void *start) {
             break;
         }
     __real_free(start);
+}
+
+void *__wrap_realloc(void *start, size_t size) {
+    return is_refusing_tables ? NULL : __real_realloc(start, size);
 }
 
 void *__wrap_mmap(void *at, size_t size, int protection, int flags, int file, off_t offset) {
@@ -290,13 +296,18 @@ static void try_kept_areas(void) {
     CHECK(mapped == KEPT);
 }
 
-/* What was given back last is taken again first, while another block stands below it. */
+/* What was given back last is taken again first, while another block stands below it, whatever its
+ * size was. */
 static void try_used_again(void) {
-    unsigned char *below = rattle_alloc(MIB, 8).start, *above = rattle_alloc(5 * MIB, 8).start;
-    rattle_dealloc(above);
-    CHECK(rattle_alloc(6 * MIB, 8).start == above);
-    rattle_dealloc(above);
-    rattle_dealloc(below);
+    static const size_t sizes[] = {5 * MIB, 5 * MIB + 1, 5 * MIB + 63};
+    for (size_t i = 0; i < sizeof sizes / sizeof sizes[0]; i++) {
+        unsigned char *below = rattle_alloc(MIB, 8).start;
+        unsigned char *above = rattle_alloc(sizes[i], 8).start;
+        rattle_dealloc(above);
+        CHECK(rattle_alloc(6 * MIB, 8).start == above);
+        rattle_dealloc(above);
+        rattle_dealloc(below);
+    }
 }
 
 /* Memory for those who clear it themselves is zero wherever it is from. Of the four of 16 MiB the
@@ -323,12 +334,23 @@ static void try_zeros(void) {
     }
 }
 
-/* More blocks at one time than the table begins with, and than it has after it has grown once. */
+/* More blocks at one time than the table begins with, and than it has after it has grown once.
+ * Where it can't grow a block is refused, and those that are there stay. */
 static void try_many_blocks(void) {
     enum { MANY = 200 };
     struct block many[MANY];
-    for (int i = 0; i < MANY; i++)
-        fill_block(&many[i], rattle_alloc(100, 8), 100);
+    int refusals = 0;
+    for (int i = 0; i < MANY; i++) {
+        is_refusing_tables = true;
+        struct tried tried = rattle_alloc(100, 8);
+        is_refusing_tables = false;
+        if (!tried.ok) {
+            refusals++;
+            tried = rattle_alloc(100, 8);
+        }
+        fill_block(&many[i], tried, 100);
+    }
+    CHECK(refusals >= 3);
     for (int i = 0; i < MANY; i++) {
         struct block *block = &many[i * 7 % MANY];
         check_block(block);

@@ -105,7 +105,7 @@ class Room:
         )
         ended, rest = Ended(-1, b""), list(typed)
         try:
-            end = time.monotonic() + 60
+            end = time.monotonic() + 30
             while process.poll() is None:
                 holds(time.monotonic() < end, f"it hangs: {ended.shown!r}")
                 ended.shown += read(terminal, 0.05)
