@@ -109,7 +109,8 @@ class Room:
             while process.poll() is None:
                 holds(time.monotonic() < end, f"it hangs: {ended.shown!r}")
                 ended.shown += read(terminal, 0.05)
-                if rest and ended.shown.endswith(PROMPT):
+                if ended.shown.endswith(PROMPT):
+                    holds(rest != [], f"it asks for more: {ended.shown!r}")
                     ended.echoes.append(does_echo(terminal))
                     ended.shown += b"|"
                     type_at(terminal, process, rest.pop(0))
