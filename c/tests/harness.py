@@ -42,7 +42,7 @@ WRAPPED = {
     "drawn_salts": "getrandom",
     "calls_in_threads": "pthread_create sched_getaffinity",
     "depth": "clear_traces",
-    "lanes": "pthread_create pthread_join sched_getaffinity sysconf",
+    "lanes": "pthread_create pthread_join pthread_mutex_unlock sched_getaffinity sysconf",
     "with_threads": "pthread_create sched_getaffinity",
 }
 

@@ -238,6 +238,17 @@ int __wrap_pthread_create(pthread_t *thread, const pthread_attr_t *attributes, v
 int __real_pthread_join(pthread_t thread, void **result);
 int __wrap_pthread_join(pthread_t thread, void **result);
 int __wrap_sched_getaffinity(pid_t process, size_t size, cpu_set_t *set);
+int __real_pthread_mutex_unlock(pthread_mutex_t *lock);
+int __wrap_pthread_mutex_unlock(pthread_mutex_t *lock);
+
+/* After a fault others go on while a thread rests that has told them to: what it does later comes
+ * too late. */
+int __wrap_pthread_mutex_unlock(pthread_mutex_t *lock) {
+    int answer = __real_pthread_mutex_unlock(lock);
+    if (seen(&now.has_fault))
+        usleep(500);
+    return answer;
+}
 
 static struct start {
     void *(*run)(void *);
