@@ -21,6 +21,11 @@ def rows_of(part):
     return dict(re.findall(r"^\| (.*?) \| (.*) \|$", part.partition("|---|---|")[2], re.M))
 
 
+def refused(name):
+    """The bugs of a list that the page says are refused."""
+    return [bug for bug, row in rows_of(part_on(name)).items() if not row.startswith(UNREFUSED)]
+
+
 def has(name, bugs):
     """Whether the part on a list is on these bugs in this order; so it is where there is no part."""
     part = part_on(name)

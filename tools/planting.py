@@ -7,8 +7,8 @@ A list is a file planted/LIST.txt beside the tests of a folder; all are judged i
 docs/PLANTED.md says how one is written. First the tests that the bugs name are run in a copy with no bug: each has to pass there,
 or nothing is planted. A bug that every test named with it lets through is told as let through, and the status is 1. The proved
 code is not built anew: its objects are taken as they lie in c/out. --page puts the verdicts into docs/PLANTED_BUGS.md, list by
-list; with --only, or with --new, those of the bugs that were judged. --new judges those that the page has no verdict of. --said
-keeps in a folder what the tests said that refused each bug.
+list; with --only, or with --new, those of the bugs that were judged. --new judges those that the page doesn't say are refused.
+--said keeps in a folder what the tests said that refused each bug.
 
 With --fits it runs no test, and names each bug that can't be planted, since the code has changed.
 """
@@ -378,7 +378,7 @@ def main():
     words = argparse.ArgumentParser()
     words.add_argument("lists", nargs="*", metavar="LIST", help="the lists; all if none is named")
     words.add_argument("--only", default="", help="the bugs whose names have this word")
-    words.add_argument("--new", action="store_true", help="the bugs that the page has no verdict of")
+    words.add_argument("--new", action="store_true", help="the bugs that the page doesn't say are refused")
     words.add_argument("--jobs", type=int, default=1, help="how many are judged at once")
     words.add_argument("--page", action="store_true", help="put the verdicts into docs/PLANTED_BUGS.md")
     words.add_argument("--said", metavar="FOLDER", help="keep there what the tests said that refused each bug")
@@ -392,8 +392,8 @@ def main():
         print("\n".join([*lost, f"{len(lost)} bugs can't be planted"]))
         return 1 if lost else 0
     bugs = [bug for name in given.lists or known for bug in bugs_of(known[name]) if given.only in bug.name]
-    judged = {name: planted_page.rows_of(planted_page.part_on(name)) for name in known} if given.new else {}
-    return 1 if judge([bug for bug in bugs if bug.name not in judged.get(bug.list, {})], given) else 0
+    refused = {name: planted_page.refused(name) for name in known} if given.new else {}
+    return 1 if judge([bug for bug in bugs if bug.name not in refused.get(bug.list, ())], given) else 0
 
 
 if __name__ == "__main__":

@@ -29,12 +29,17 @@ from common import TOP, holds, need, run_tests, same
 ASK = TOP / "bin/credkeep-ask"
 PROMPT = b": "
 
-# `show` says what is in the environment; everything else reads its input and ends with 7.
+# Each word is noted with a bar behind it. `show` says what is in the environment; everything else reads its input and ends with 7.
 STAND_IN = """#!/bin/sh
-printf '%s\\n' "$*" >> "$ROOM/words"
+printf '%s|' "$@" >> "$ROOM/words"
+echo >> "$ROOM/words"
 export -p >> "$ROOM/environment"
 case " $* " in
-*' show '*) [ -z "$SHOWN" ] || printf '%s\\n' "$SHOWN"; exit "$STATUS" ;;
+*' show '*)
+    IFS= read -r line && printf '%s\\n' "$line" >> "$ROOM/given"
+    [ -z "$SHOWN" ] || printf '%s\\n' "$SHOWN"
+    exit "$STATUS"
+    ;;
 esac
 while IFS= read -r line; do printf '%s\\n' "$line" >> "$ROOM/given"; done
 printf '%s' "$line" >> "$ROOM/given"
@@ -144,6 +149,12 @@ def room() -> Iterator[Room]:
         yield Room(folder)
 
 
+def noted(*runs: list[str]) -> str:
+    """What the stand-in notes of runs with these words."""
+    return "".join("".join(f"{word}|" for word in words) + "\n" for words in runs)
+
+
+SHOW = ["--wait", "0", "users.db", "show", "ada"]
 ONE, TWO = [b"old\n"], [b"new\n", b"new\n"]
 
 
@@ -164,7 +175,7 @@ def asked() -> None:
             same((ended.status, ended.echoes), (7, [False] * len(typed)), operation)
             holds(ended.shown.endswith(b"it was asked\r\n"), f"{ended.shown!r}")
             holds(b"old" not in ended.shown and b"new\r" not in ended.shown, f"it shows a password: {ended.shown!r}")
-            same(it.noted("words"), f"--wait 0 users.db show ada\nusers.db {operation} ada\n")
+            same(it.noted("words"), noted(SHOW, ["users.db", operation, "ada"]))
             same(it.noted("given"), given, operation)
             holds(not re.search("old|new", it.noted("environment")), "a password in the environment")
             same(ended.echoes_after, True, operation)
@@ -193,21 +204,21 @@ def not_asked() -> None:
         ):
             ended = it.at_a_terminal(["users.db", operation, "ada"], [], account)
             same((ended.status, ended.shown.strip()), (status, said), f"{operation} {account}")
-            same(it.noted("words"), "--wait 0 users.db show ada\n")
+            same(it.noted("words"), noted(SHOW))
 
 
 def words() -> None:
     """Its words come as they are to credkeep, which is first asked for the account with the same wait."""
     with room() as it:
         for given, shown in (
-            (["--wait", "5", "a b.db", "check", "ada"], "--wait 5 a b.db show ada"),
-            (["--wait=6", "a.db", "check", "ada"], "--wait 6 a.db show ada"),
-            (["a.db", "check", "--wait", "7", "ada"], "--wait 7 a.db show ada"),
-            (["a.db", "check", "--setting", "$scrypt$..", "ada"], "--wait 0 a.db show ada"),
-            (["a.db", "check", "--setting=$scrypt$..", "ada"], "--wait 0 a.db show ada"),
+            (["--wait", "5", "a b.db", "check", "ada"], "5|a b.db|show|ada"),
+            (["--wait=6", "a.db", "check", "ada"], "6|a.db|show|ada"),
+            (["a.db", "check", "--wait", "7", "ada"], "7|a.db|show|ada"),
+            (["a.db", "check", "--setting", "$scrypt$..", "ada"], "0|a.db|show|ada"),
+            (["a.db", "check", "--setting=$scrypt$..", "ada"], "0|a.db|show|ada"),
         ):
             same(it.at_a_terminal(given, ONE).status, 7, f"{given}")
-            same(it.noted("words"), f"{shown}\n{' '.join(given)}\n")
+            same(it.noted("words"), noted(["--wait", *shown.split("|")], given))
 
 
 def other_words() -> None:
@@ -215,12 +226,12 @@ def other_words() -> None:
     with room() as it:
         for given in (["a.db", "list"], ["a.db", "check", "--help"], ["a.db", "-h", "add", "ada"], ["a.db", "show", "ada"]):
             done = subprocess.run([ASK, *given], env=it.environment(RECORD), input=b"as it is", capture_output=True)
-            same(it.noted("words"), f"{' '.join(given)}\n")
+            same(it.noted("words"), noted(given))
             shows = "show" in given
             same((done.returncode, done.stderr), (0 if shows else 7, b""), f"{given}")
             same(it.noted("given"), "" if shows else "as it is", f"{given}")
         same(it.at_a_terminal(["a.db", "check"], ONE).status, 7)
-        same(it.noted("words"), "a.db check\n")
+        same(it.noted("words"), noted(["a.db", "check"]))
 
 
 def any_bytes() -> None:
@@ -239,7 +250,7 @@ def differing() -> None:
             ended = it.at_a_terminal(["a.db", "change", "ada"], [b"old\n", b"new\n", second])
             same((ended.status, ended.echoes_after), (6, True), f"{second!r}")
             holds(b"credkeep-ask: the two new passwords differ" in ended.shown, f"{ended.shown!r}")
-            same((it.noted("words"), it.noted("given")), ("--wait 0 a.db show ada\n", ""))
+            same((it.noted("words"), it.noted("given")), (noted(["--wait", "0", "a.db", "show", "ada"]), ""))
 
 
 def ends() -> None:
@@ -250,7 +261,7 @@ def ends() -> None:
             ended = it.at_a_terminal(["a.db", "change", "ada"], typed)
             same((ended.status, ended.echoes_after), (6, True), f"{typed}")
             holds(b"credkeep-ask: no password" in ended.shown, f"{ended.shown!r}")
-            same((it.noted("words"), it.noted("given")), ("--wait 0 a.db show ada\n", ""))
+            same((it.noted("words"), it.noted("given")), (noted(["--wait", "0", "a.db", "show", "ada"]), ""))
 
 
 def signals() -> None:
@@ -261,7 +272,7 @@ def signals() -> None:
             for typed in both:
                 ended = it.at_a_terminal(["a.db", "change", "ada"], typed)
                 same((ended.status, ended.echoes[-1], ended.echoes_after), (128 + number, False, True), f"{number.name}")
-                same((it.noted("words"), it.noted("given")), ("--wait 0 a.db show ada\n", ""))
+                same((it.noted("words"), it.noted("given")), (noted(["--wait", "0", "a.db", "show", "ada"]), ""))
 
 
 def no_terminal() -> None:
@@ -269,7 +280,7 @@ def no_terminal() -> None:
     with room() as it:
         done = subprocess.run([ASK, "a.db", "check", "ada"], env=it.environment(RECORD), input=b"old\n", capture_output=True, start_new_session=True)
         same((done.returncode, done.stdout, done.stderr), (2, b"", b"credkeep-ask: there is no terminal to ask at\n"))
-        same((it.noted("words"), it.noted("given")), ("--wait 0 a.db show ada\n", ""))
+        same((it.noted("words"), it.noted("given")), (noted(["--wait", "0", "a.db", "show", "ada"]), ""))
 
 
 TESTS = [asked, prompts, not_asked, words, other_words, any_bytes, differing, ends, signals, no_terminal]

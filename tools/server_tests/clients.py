@@ -96,11 +96,16 @@ def refusals() -> None:
 
         same(raised(lambda: login.enrol("ada", "secret")), "Denied")
         same(raised(lambda: admin.account("Ada")), "Refused")
+        try:
+            admin.account("Ada")
+        except server.Refused as fault:
+            same((fault.number, fault.word), (3, "name"))
         same(login.verify("zoe", "secret"), server.Reply.NO_ACCOUNT)
         same(raised(lambda: login.verify("zoe", "secret")), "Later")
         asked = len(service.asked())
         for name in ("", "a b", "a\nb", "a\x7f", "a\tb", " ", "\r"):
             same(raised(lambda: login.verify(name, "secret")), "ValueError", repr(name))
+            same(raised(lambda: admin.rename("ada", name)), "ValueError", repr(name))
         same(raised(lambda: login.verify("ada", "x" * 257)), "ValueError")
         same(raised(lambda: login.verify("ada", 5)), "TypeError")
         same(len(service.asked()), asked)
@@ -111,8 +116,6 @@ def refusals() -> None:
         admin.account("Ada")
     except server.Unavailable:
         pass
-    fault = server.Refused(3, "name")
-    same((fault.number, fault.word), (3, "name"))
     asked = importlib.import_module("rigzumal.server._lines").question("verify", "ada", passwords=("secret",))
     holds(field_of(b"secret") not in repr(asked) and "secret" not in repr(asked), "a password in a repr")
 
