@@ -62,6 +62,10 @@ class Trials(unittest.TestCase):
             last = tried(linear(1000), 1, 65536, lanes)[-1].hasher
             self.assertEqual((last.memory_cost, last.time_cost), (8 * lanes, 1))
 
+    def test_the_end_comes_soon_where_memory_costs_nothing(self):
+        last = tried(with_a_slow_start, 59.9, 65536, 1)[-1].hasher
+        self.assertEqual((last.memory_cost, last.time_cost), (8, 1))
+
     def test_the_last_is_never_too_slow(self):
         for target in (50, 60, 64, 65, 100, 500, 2000):
             found = tried(with_dear_passes(1 / 1024), target, 65536, 2)

@@ -448,6 +448,8 @@ class Shell(unittest.TestCase):
         for given, costs in (
             ("--memory 64 --passes 2 --lanes 3", "$argon2id$v=19$m=64,t=2,p=3$"),
             ("--memory 100 --passes 1 --lanes 5", "$argon2id$v=19$m=100,t=1,p=5$"),
+            ("", "$argon2id$v=19$m=65536,t=3,p=4$"),
+            ("--scrypt", "$scrypt$ln=17,r=8,p=1$"),
             ("--scrypt --log2-n 7", "$scrypt$ln=7,r=8,p=1$"),
             ("--scrypt --log2-n 11", "$scrypt$ln=11,r=8,p=1$"),
         ):
