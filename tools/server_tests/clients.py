@@ -211,7 +211,7 @@ def peers_that_go_on() -> None:
 
 
 def calls_without_an_answer() -> None:
-    """Who waits is told of the connection's close, and what came too late is nobody's."""
+    """Who waits is told of the connection's end, and what came too late is nobody's."""
     server, aio = ours()
 
     async def closes(path: pathlib.Path) -> None:
@@ -226,6 +226,12 @@ def calls_without_an_answer() -> None:
 
     with peer(b"", then="wait") as path:
         asyncio.run(closes(path))
+    with peer(b"") as path:  # it closes the connection
+        begun = time.monotonic()
+        try:
+            raise AssertionError(f"{asyncio.run(aio.Client(path, timeout=60).verify('ada', 'x'))}")
+        except server.Unavailable:
+            holds(time.monotonic() - begun < 30, "who waits isn't told of the end")
 
     async def late(reader: asyncio.StreamReader, writer: asyncio.StreamWriter) -> None:
         """Answers a line as the next one comes: yes and no in turns."""

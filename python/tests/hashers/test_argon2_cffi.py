@@ -146,6 +146,11 @@ class Hashers(unittest.TestCase):
     def test_a_salt_may_be_given(self):
         hashed = ours.PasswordHasher(**COSTS).hash("x", salt=b"sixteen of salt.")
         self.assertIn("$c2l4dGVlbiBvZiBzYWx0Lg$", hashed)
+        for salt, said in ((b"", "Salt is too short"), (bytes(49), "Salt is too long")):
+            with self.assertRaisesRegex(ours.exceptions.HashingError, said):
+                ours.PasswordHasher(**COSTS).hash("x", salt=salt)
+        with self.assertRaisesRegex(ours.exceptions.HashingError, "Output is too long"):
+            ours.PasswordHasher(**COSTS, hash_len=65).hash("x")
 
     def test_signatures_begin_as_theirs(self):
         for name in ("__init__", "verify", "check_needs_rehash"):
@@ -171,6 +176,17 @@ class Parameters(unittest.TestCase):
             for it in (ours, theirs):
                 with self.assertRaises(it.exceptions.InvalidHash):
                     it.extract_parameters(text)
+
+    def test_numbers_of_the_profiles(self):
+        """RFC 9106, section 4, and what argon2-cffi's documentation says of the others."""
+        for name, passes, memory, lanes, salt, tag in (
+            ("RFC_9106_LOW_MEMORY", 3, 64 * 1024, 4, 16, 32),
+            ("RFC_9106_HIGH_MEMORY", 1, 2 * 1024 * 1024, 4, 16, 32),
+            ("PRE_21_2", 2, 102400, 8, 16, 16),
+            ("CHEAPEST", 1, 8, 1, 8, 4),
+        ):
+            wanted = ours.Parameters(ours.Type.ID, 19, salt, tag, passes, memory, lanes)
+            self.assertEqual(getattr(ours.profiles, name), wanted)
 
     def test_profiles(self):
         for name in ("RFC_9106_LOW_MEMORY", "RFC_9106_HIGH_MEMORY", "PRE_21_2", "CHEAPEST"):
