@@ -43,8 +43,8 @@ def put(name, bugs, judged):
     """Puts the rows of those bugs of a list on the page that were judged: among the rows there, if not all were."""
     held, page, day = part_on(name), PAGE.read_text(), time.strftime("%Y-%m-%d")
     known = {**rows_of(held), **judged}
-    if held and set(judged) < set(bugs):
-        day = re.search(r"not refused, on (.*)\.$", held, re.M)[1]
+    if set(judged) < set(bugs) and (found := re.search(r"not refused, on (.*)\.$", held, re.M)):
+        day = found[1]
     part = made_part(name, {bug: known.get(bug, "not judged") for bug in bugs}, day)
     is_last = page.endswith(held)
     PAGE.write_text(page.replace(held, part if is_last else part + "\n") if held else f"{page}\n{part}")
