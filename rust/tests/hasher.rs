@@ -1,6 +1,6 @@
 //! What a hasher's settings do, and what it shows.
 
-use rigzumal::{verify, Algorithm, Costs, Error, Hasher, Record};
+use rigzumal::{verify, Algorithm, Argon2, Costs, Error, Hasher, Record, Version};
 use std::collections::HashSet;
 use std::process::Command;
 use std::sync::atomic::{AtomicBool, Ordering};
@@ -29,6 +29,20 @@ fn sizes_are_those_asked_for() {
             }
         }
     }
+}
+
+/// RFC 9106, section 4, the second recommendation.
+#[test]
+fn numbers_by_default() {
+    let costs = "$argon2id$v=19$m=65536,t=3,p=4";
+    assert_eq!(Costs::default().to_string(), costs);
+    let parts = Hasher::default().hash_password(b"x").unwrap().parts().unwrap();
+    assert_eq!((parts.memory, parts.passes, parts.lanes), (65536, 3, 4));
+    assert_eq!((parts.salt_len, parts.tag_len), (16, 32));
+    let raw = Argon2::default();
+    assert_eq!((raw.algorithm, raw.version), (Algorithm::Argon2id, Version::V0x13));
+    assert_eq!((raw.memory, raw.passes, raw.lanes, raw.threads), (65536, 3, 4, 1));
+    assert!(raw.secret.is_empty() && raw.associated.is_empty());
 }
 
 fn scrypt(log2_n: u32, r: u32, p: u32) -> Costs {

@@ -128,6 +128,9 @@ fn texts_are_refused_by_their_first_fault() {
     for (text, fault) in [
         (String::new(), Error::Shape),
         (format!("{good}\0"), Error::Shape),
+        (format!(" {good}"), Error::Shape),
+        (format!("{good} "), Error::Tag),
+        (format!("{good}\n"), Error::Tag),
         (good.replace("2id", "2x"), Error::Scheme),
         (good.replace("v=19", "v=18"), Error::Version),
         (good.replace("m=", "m=0"), Error::Params),
