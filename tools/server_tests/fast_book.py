@@ -203,7 +203,7 @@ def serve(path: str, options: dict[str, str]) -> None:
                 said = book.answer(words)
                 faults.write(words[0], tag, faults.all.get("answers", said) if words[0] == "verify" else said)
 
-    threads = [threading.Thread(target=work) for _ in range(int(options.get("--at-once", "4")))]
+    threads = [threading.Thread(target=work, daemon=True) for _ in range(int(options.get("--at-once", "4")))]
     for thread in threads:
         thread.start()
     for line in sys.stdin:
