@@ -136,6 +136,12 @@ static int libargon2_long_check(void) {
                                                                    : RIGZUMAL_MISMATCH;
 }
 
+/* Its tag's letters are written in C, by the code that writes passwords' in the PAM module. */
+static int libargon2_long_hash(void) {
+    return argon2i_hash_encoded(2, 48, 2, password, PASSWORD, salt, sizeof salt, 80, record,
+                                sizeof record);
+}
+
 static int record_fault(void) {
     return rigzumal_record_fault(record);
 }
@@ -163,6 +169,7 @@ static const struct call {
     {"argon2i_in_threads", argon2i_in_threads},
     {"new_record_in_threads", new_record_in_threads},
     {"enrol", enrol},
+    {"libargon2_long_hash", libargon2_long_hash},
     {"hidden_record_fault", hidden_record_fault},
 };
 

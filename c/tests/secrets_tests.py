@@ -29,6 +29,7 @@ SECRET_CALLS = {
     "argon2i_in_threads": [],
     "new_record_in_threads": [],
     "enrol": [],
+    "libargon2_long_hash": [],
     # A text is cut at its '$', and is told from one that isn't base64.
     "hidden_record_fault": [
         "strlen",
