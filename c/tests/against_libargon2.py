@@ -10,6 +10,7 @@ written.
 
 import base64
 import ctypes
+import itertools
 import mmap
 import random
 import re
@@ -163,7 +164,7 @@ def context_at(it, arena, callbacks):
         ctypes.memmove(start + found[name], content, len(content))
 
     def address(name):
-        return None if it.null == name else start + found[name]
+        return None if name in it.null else start + found[name]
 
     fields = [address("o"), it.tag_size]
     for name, content in data.items():
@@ -422,6 +423,40 @@ def compare_refused_contexts(ours):
                 sys.exit(f"a context of {lanes}, {memory}, {version}: {answer}, {sizes}, {calls}")
 
 
+# What is wrong with a call of two lanes.
+FAULTS = (
+    *({"null": name} for name in "opsxa"),
+    {"tag_size": 3},
+    {"salt": b"seven.."},
+    {"memory": 7},
+    {"memory": 15},
+    {"passes": 0},
+    {"lanes": 0},
+    {"lanes": 0x1000000},
+    {"threads": 0},
+    {"threads": 0x1000000},
+    {"callbacks": "odd"},
+    {"callbacks": "dod"},
+    {"kind": 3},
+)
+
+
+def compare_pairs_of_faults(comparison):
+    """Of two faults the original's first one is answered."""
+    for pair in itertools.combinations(FAULTS, 2):
+        it = Inputs(random.Random(4))
+        it.salt, it.password, it.secret, it.associated = b"somesalt", b"password", b"x", b"y"
+        it.null, it.flags, it.callbacks, it.overlap, it.version = "", 0, "", 0, 0x13
+        it.lanes, it.memory, it.passes, it.threads, it.tag_size, it.kind = 2, 16, 1, 1, 32, 2
+        for name, value in (item for fault in pair for item in fault.items()):
+            setattr(it, name, it.null + value if name == "null" else value)
+        calls = [("argon2_ctx", (it.kind,)), *((f"{kind}_ctx", ()) for kind in KINDS)]
+        for name, given in calls:
+            what = f"{name} of {pair}"
+            comparison.same(what, lambda lib: by_context(lib, it, name, *given))
+        comparison.same(f"argon2_hash of {pair}", lambda lib: by_hash(lib, it, 3000, True))
+
+
 def compare_memory_askew(ours):
     """Memory that no number can lie in is given back, and is as none."""
     arena = ctypes.create_string_buffer(ARENA)
@@ -516,6 +551,7 @@ def main():
     compare_memory_beyond_ours(ours)
     compare_refused_contexts(ours)
     compare_memory_askew(ours)
+    compare_pairs_of_faults(comparison)
     compare_large_numbers(comparison)
     compare_long_password(ours, theirs)
     compare_long_sizes(comparison)
