@@ -18,11 +18,15 @@ text in its place; a pair is read after those above it have changed the text. Or
 place. A line `passes:` in it says why the contract rightly lets it through, and which test refuses it.
 
 One bug stands in each of many functions at a time. What is said to pass is tried first, by a check of the whole crate. The others are
-planted round by round: `rt check --allow-holes` tries the goals of every function, by the contracts of those that it calls, and what no
-goal of its own function refuses is planted once more, in a check of the whole crate. Functions that call each other in a cycle have one
-proof, so their bugs are planted in turn; so is a bug in a constant, which stands in no one function. The work goes on in a copy under
-/tmp, over what earlier checks left in out/. After each round the lines of the bugs so far are told on standard error by verdict, so that
-a run that is ended early has said something."""
+planted round by round: `rt check --allow-holes --only ..` tries the goals of the functions in which bugs stand, by the contracts of those
+that they call. What no goal of its own function refuses is planted once more, in a check of the whole crate. Functions that call each
+other in a cycle have one proof, so their bugs are planted in turn; so is a bug in a constant, which stands in no one function. The work
+goes on in a copy under /tmp, over what earlier checks left in out/, and saidN.log there has what the Nth check said. After each round
+the lines of the bugs so far are told on standard error by verdict, so that a run that is ended early has said something.
+
+What a verdict rests on: `refused`, a goal of the bug's own function that isn't proved, or of any function if the bug is in a constant;
+`by its proof`, a written proof that names what the bug took away, and no open goal; `let through`, a check of the whole crate that is
+proved with the bug in it."""
 
 import argparse
 import os
@@ -195,7 +199,7 @@ class Copy:
     """A copy of the crate and of those below it, to which each round comes back."""
 
     def __init__(self, name, jobs):
-        self.at, self.jobs = pathlib.Path(f"/tmp/plant-{name}"), str(jobs)
+        self.at, self.jobs, self.checks = pathlib.Path(f"/tmp/plant-{name}"), str(jobs), 0
         shutil.rmtree(self.at, ignore_errors=True)
         lines = [it.split("#")[0].partition(":") for it in (TOP / "crates.txt").read_text().splitlines()]
         below = {it[0].split()[0]: it[2].split() for it in lines if it[1]}
@@ -210,7 +214,7 @@ class Copy:
             # A check only reads what stands below its crate.
             how = shutil.copy2 if it == name else linked
             shutil.copytree(TOP / "crates" / it, self.at / "crates" / it, symlinks=True, copy_function=how)
-        self.crate, self.kept = self.at / "crates" / name, self.at / "kept"
+        self.crate, self.kept, self.paths = self.at / "crates" / name, self.at / "kept", []
         shutil.rmtree(self.crate / "must-fail", ignore_errors=True)
         shutil.copytree(self.crate / "src", self.kept / "src")
 
@@ -218,8 +222,16 @@ class Copy:
         return subprocess.run(["rt", "check", "--jobs", self.jobs, *words], cwd=self.crate, text=True,
                               stdout=subprocess.PIPE, stderr=subprocess.STDOUT).stdout
 
-    def keep(self):
+    def keep(self, said):
+        """Keeps what the check of the crate as it stands left, and the paths of the functions that it spoke of."""
         shutil.copytree(self.crate / "out", self.kept / "out", symlinks=True)
+        self.paths = re.findall(r"(?m)^fn (\S+): ", said)
+
+    def only(self, name, bugs):
+        """The words that have a check try no other functions than those in which the bugs stand, and what they call: the callers of
+        a function whose proof is refused would be tried again, and say nothing of the bug."""
+        chosen = [it for it in self.paths if any(is_of(it, name, bug.function) for bug in bugs)]
+        return [word for it in chosen for word in ("--only", it.partition("::")[2])]
 
     def planted(self, bugs, *words):
         """What a check says where these bugs stand in the crate as it was kept."""
@@ -227,7 +239,10 @@ class Copy:
             bring_back(self.kept / part, self.crate / part)
         for bug in bugs:
             plant(self.crate, bug)
-        return self.check(*words)
+        said, self.checks = self.check(*words), self.checks + 1
+        heading = "".join(f"# {bug}\n" for bug in bugs)
+        (self.at / f"said{self.checks}.log").write_text(f"{heading}{said}")
+        return said
 
 
 def is_of(path, name, function):
@@ -266,7 +281,8 @@ def verdict_of(bug, name, said):
         folder = "/".join(path.split("::")[1:])
         stands = re.fullmatch(r"not proved; it stands on (.*), which antt refuses", own)
         is_of_another = stands and f".proofs.{folder.replace('/', '.')}." not in stands[1]
-        if own in ("proved", "no holes", "no proof:") or "waits for the proof" in what or is_of_another:
+        is_well = own == "no proof:" or re.fullmatch(r"(proved|no holes)( where its callers give what it asks)?", own)
+        if is_well or "waits for the proof" in what or is_of_another:
             verdict = verdict or "none"
             continue
         errors = re.findall(rf"(?m)^\./proofs/{re.escape(folder)}/\S+: error: (.*(?:\n  .*)?)", said)
@@ -319,9 +335,8 @@ def judge_by_rounds(copy, name, bugs):
         chosen = {}
         for bug in waiting:
             chosen.setdefault(cycles.get(bug.function, bug.function), bug)
-        said = copy.planted(chosen.values(), "--allow-holes")
-        (copy.at / "said.log").write_text(said)
-        if not re.search(r"(?m)^fn \S+: (proved|no holes)", said):
+        said = copy.planted(chosen.values(), "--allow-holes", *copy.only(name, chosen.values()))
+        if not re.search(r"(?m)^only=\d+ holes=", said):
             blame(copy, said, list(chosen.values()))
         else:
             for bug in chosen.values():
@@ -355,7 +370,14 @@ def tell(bugs, what):
     found = sorted((it.verdict, it.line) for it in bugs if it.verdict)
     lines = {verdict: [line for said, line in found if said == verdict] for verdict, _ in found}
     said = "; ".join(f"{verdict}: lines {', '.join(map(str, at))}" for verdict, at in lines.items())
-    print(f"# {len(bugs) - left} of {len(bugs)} {what}: {said}", file=sys.stderr, flush=True)
+    heading = f"# {len(bugs) - left} of {len(bugs)} {what} in {processor_minutes():.1f} processor minutes"
+    print(f"{heading}: {said}", file=sys.stderr, flush=True)
+
+
+def processor_minutes():
+    """What the checks took so far."""
+    spent = os.times()
+    return (spent.children_user + spent.children_system) / 60
 
 
 def judge_together(copy, name, bugs):
@@ -438,7 +460,7 @@ def main():
     said = copy.check()
     if "logic=proved" not in said:
         sys.exit(f"{asked.name} isn't proved as it stands:\n{said[-2000:]}")
-    copy.keep()
+    copy.keep(said)
     judge(copy, asked.name, bugs)
     for bug in bugs:
         if bug.verdict not in ("refused", "by its proof") and not (bug.verdict == "let through" and bug.passes):
