@@ -17,16 +17,15 @@ function, as `module::NAME`. A bug is pairs of lines `old:`, a text that stands 
 text in its place; a pair is read after those above it have changed the text. Or a bug is one line `body:`, the whole body in its
 place. A line `passes:` in it says why the contract rightly lets it through, and which test refuses it.
 
-One bug stands in each of many functions at a time. What is said to pass is tried first, by a check of the whole crate. The others are
-planted round by round: `rt check --allow-holes --only ..` tries the goals of the functions in which bugs stand, by the contracts of those
-that they call. What no goal of its own function refuses is planted once more, in a check of the whole crate. Functions that call each
-other in a cycle have one proof, so their bugs are planted in turn; so is a bug in a constant, which stands in no one function. The work
-goes on in a copy under /tmp, over what earlier checks left in out/, and saidN.log there has what the Nth check said. After each round
-the lines of the bugs so far are told on standard error by verdict, so that a run that is ended early has said something.
+One bug stands in each of many functions at a time. Round by round `rt check --allow-holes --only ..` tries the goals of the functions in
+which bugs stand, by the contracts of those that they call. Functions that call each other in a cycle have one proof, so their bugs are
+planted in turn; so is a bug in a constant, which stands in no one function. The work goes on in a copy under /tmp, over what earlier
+checks left in out/, and saidN.log there has what the Nth check said. After each round the lines of the bugs so far are told on standard
+error by verdict, so that a run that is ended early has said something.
 
-What a verdict rests on: `refused`, a goal of the bug's own function that isn't proved, or of any function if the bug is in a constant;
-`by its proof`, a written proof that names what the bug took away, and no open goal; `let through`, a check of the whole crate that is
-proved with the bug in it."""
+What a verdict rests on: `refused`, a goal of the bug's own function that isn't proved, or of any function if the bug is in a constant.
+`by its proof`, a written proof that names what the bug took away, and no open goal. `let through`, a proof of every goal of its function
+with the bug in it: what calls the function rests on its contract alone."""
 
 import argparse
 import os
@@ -49,7 +48,7 @@ class Misfit(Exception):
 class Bug:
     def __init__(self, call, function, line, is_constant):
         self.call, self.function, self.line, self.is_constant = call, function, line, is_constant
-        self.changes, self.body, self.passes, self.verdict = [], None, None, None
+        self.changes, self.body, self.passes, self.verdict, self.tries = [], None, None, None, 0
 
     def __str__(self):
         what = self.body if self.body is not None else "; ".join(f"{old} => {new}" for old, new in self.changes)
@@ -219,19 +218,23 @@ class Copy:
         shutil.copytree(self.crate / "src", self.kept / "src")
 
     def check(self, *words):
-        return subprocess.run(["rt", "check", "--jobs", self.jobs, *words], cwd=self.crate, text=True,
+        """What a check of the copy says; saidN.log keeps it too."""
+        said = subprocess.run(["rt", "check", "--jobs", self.jobs, *words], cwd=self.crate, text=True,
                               stdout=subprocess.PIPE, stderr=subprocess.STDOUT).stdout
+        (self.at / f"said{self.checks}.log").write_text(said)
+        self.checks += 1
+        return said
 
     def keep(self, said):
         """Keeps what the check of the crate as it stands left, and the paths of the functions that it spoke of."""
         shutil.copytree(self.crate / "out", self.kept / "out", symlinks=True)
         self.paths = re.findall(r"(?m)^fn (\S+): ", said)
 
-    def only(self, name, bugs):
-        """The words that have a check try no other functions than those in which the bugs stand, and what they call: the callers of
-        a function whose proof is refused would be tried again, and say nothing of the bug."""
-        chosen = [it for it in self.paths if any(is_of(it, name, bug.function) for bug in bugs)]
-        return [word for it in chosen for word in ("--only", it.partition("::")[2])]
+    def goals_of(self, name, functions, bugs):
+        """What the goals of these functions say where these bugs stand. The callers of a function whose proof is refused aren't
+        tried: they would all be checked again, and say nothing of the bug."""
+        chosen = [it for it in self.paths if any(is_of(it, name, function) for function in functions)]
+        return self.planted(bugs, "--allow-holes", *(f"--only={it.partition('::')[2]}" for it in chosen))
 
     def planted(self, bugs, *words):
         """What a check says where these bugs stand in the crate as it was kept."""
@@ -239,10 +242,7 @@ class Copy:
             bring_back(self.kept / part, self.crate / part)
         for bug in bugs:
             plant(self.crate, bug)
-        said, self.checks = self.check(*words), self.checks + 1
-        heading = "".join(f"# {bug}\n" for bug in bugs)
-        (self.at / f"said{self.checks}.log").write_text(f"{heading}{said}")
-        return said
+        return self.check(*words)
 
 
 def is_of(path, name, function):
@@ -265,15 +265,16 @@ def is_in(path, module, owner, last):
     return rest[:1] == [last] or rest[:2] == ["fn", last]
 
 
-def verdict_of(bug, name, said):
-    """refused; by its proof, if a written proof names what the bug took away and no goal is open; not covered, if the
-    borrow checker leaves no goals to judge it by; not reached, if it leaves none of a function that it calls; or none, also if
-    only the written proof of another function, in which another bug stands, is refused."""
-    verdict = None
+def verdict_of(function, name, said):
+    """refused; by its proof, if a written proof names what the bug took away and no goal is open; not covered, if the borrow
+    checker, or a contract that is no longer read, leaves no goals to judge it by; not reached, if it leaves none of a function that
+    it calls; none, if no goal of its own refuses it and another function's proof is refused, in which another bug stands; or let
+    through."""
+    verdicts = set()
     for path, what in re.findall(r"(?m)^(?:fn|closure) (\S+): (.*)$", said):
-        if not is_of(path, name, bug.function):
+        if not is_of(path, name, function):
             continue
-        if "the borrow checker does not cover" in what:
+        if "the borrow checker does not cover" in what or "did not admit its contract" in what:
             return "not covered"
         if "the borrow checker's part in its proof is not made yet" in what:
             return "not reached"
@@ -281,14 +282,16 @@ def verdict_of(bug, name, said):
         folder = "/".join(path.split("::")[1:])
         stands = re.fullmatch(r"not proved; it stands on (.*), which antt refuses", own)
         is_of_another = stands and f".proofs.{folder.replace('/', '.')}." not in stands[1]
-        is_well = own == "no proof:" or re.fullmatch(r"(proved|no holes)( where its callers give what it asks)?", own)
-        if is_well or "waits for the proof" in what or is_of_another:
-            verdict = verdict or "none"
-            continue
         errors = re.findall(rf"(?m)^\./proofs/{re.escape(folder)}/\S+: error: (.*(?:\n  .*)?)", said)
-        by_proof = "did not prove" not in own and errors and all(GONE.search(" ".join(it.split())) for it in errors)
-        verdict = "by its proof" if by_proof and verdict != "refused" else "refused"
-    return verdict
+        if re.fullmatch(r"no holes( where its callers give what it asks)?", what):
+            verdicts.add("let through")
+        elif own in ("no holes", "no proof:") or "waits for the proof" in what or is_of_another:
+            verdicts.add("none")
+        elif "did not prove" not in own and errors and all(GONE.search(" ".join(it.split())) for it in errors):
+            verdicts.add("by its proof")
+        else:
+            verdicts.add("refused")
+    return next((it for it in ("refused", "by its proof", "none", "let through") if it in verdicts), None)
 
 
 def verdict_of_all(said):
@@ -304,49 +307,38 @@ def verdict_of_all(said):
 
 
 def judge(copy, name, bugs):
-    """What is said to pass is tried together, and so costs no search that finds nothing. The others are planted round by round."""
     for bug in bugs:
         if bug.is_constant:
-            bug.verdict = verdict_of_all(copy.planted([bug]))
-    passing = [it for it in bugs if it.passes and not it.verdict]
-    for chosen in one_of_each(passing):
-        judge_together(copy, name, chosen)
-        tell(bugs, "planted")
+            judge_constant(copy, name, bug)
     judge_by_rounds(copy, name, bugs)
-    left = [it for it in bugs if it.verdict == "none"]
-    for chosen in one_of_each(left):
-        judge_together(copy, name, chosen)
-        tell(bugs, "judged")
 
 
-def one_of_each(bugs):
-    """Lists of the bugs, each with at most one of a function."""
-    while bugs:
-        chosen = {}
-        for bug in bugs:
-            chosen.setdefault(bug.function, bug)
-        yield list(chosen.values())
-        bugs = [it for it in bugs if it not in chosen.values()]
+def judge_constant(copy, name, bug):
+    """Any function may refuse it. The call whose meaning it turns is asked first, since the whole crate may have to be proved again."""
+    bug.verdict = verdict_of(bug.call, name, copy.goals_of(name, [bug.call], [bug]))
+    if bug.verdict != "refused":
+        bug.verdict = verdict_of_all(copy.planted([bug]))
 
 
 def judge_by_rounds(copy, name, bugs):
+    """A round has at most one bug of each function. A bug that calls a function whose proof was refused, and that its own goals don't
+    refuse, is tried again beside its like, and then alone."""
     cycles = {}
     while waiting := [it for it in bugs if it.verdict is None]:
-        chosen = {}
-        for bug in waiting:
-            chosen.setdefault(cycles.get(bug.function, bug.function), bug)
-        said = copy.planted(chosen.values(), "--allow-holes", *copy.only(name, chosen.values()))
+        tries, chosen = min(it.tries for it in waiting), {}
+        for bug in waiting[:1] if tries == 2 else waiting:
+            if bug.tries == tries:
+                chosen.setdefault(cycles.get(bug.function, bug.function), bug)
+        said = copy.goals_of(name, [it.function for it in chosen.values()], chosen.values())
         if not re.search(r"(?m)^only=\d+ holes=", said):
             blame(copy, said, list(chosen.values()))
         else:
             for bug in chosen.values():
-                bug.verdict = verdict_of(bug, name, said) or "no verdict"
-            # what stands below them has its verdict by now, and isn't in the next round
-            for bug in chosen.values():
-                if bug.verdict == "not reached" and len(chosen) > 1:
-                    bug.verdict = None
+                bug.tries += 1
+                verdict = verdict_of(bug.function, name, said) or "no verdict"
+                bug.verdict = None if verdict in ("none", "not reached") and bug.tries <= 2 else verdict
             part_cycles(name, said, chosen.values(), cycles)
-        tell(bugs, "planted")
+        tell(bugs)
 
 
 def part_cycles(name, said, chosen, cycles):
@@ -361,16 +353,16 @@ def part_cycles(name, said, chosen, cycles):
         cycles.update((it.function, folder) for it in those)
         if len(those) > 1:
             for bug in those:
-                bug.verdict = None
+                bug.verdict, bug.tries = None, 0
 
 
-def tell(bugs, what):
+def tell(bugs):
     """Says of each bug so far what became of it, so that a run that is ended early has said something."""
     left = sum(it.verdict is None for it in bugs)
     found = sorted((it.verdict, it.line) for it in bugs if it.verdict)
     lines = {verdict: [line for said, line in found if said == verdict] for verdict, _ in found}
     said = "; ".join(f"{verdict}: lines {', '.join(map(str, at))}" for verdict, at in lines.items())
-    heading = f"# {len(bugs) - left} of {len(bugs)} {what} in {processor_minutes():.1f} processor minutes"
+    heading = f"# {len(bugs) - left} of {len(bugs)} judged in {processor_minutes():.1f} processor minutes"
     print(f"{heading}: {said}", file=sys.stderr, flush=True)
 
 
@@ -378,28 +370,6 @@ def processor_minutes():
     """What the checks took so far."""
     spent = os.times()
     return (spent.children_user + spent.children_system) / 60
-
-
-def judge_together(copy, name, bugs):
-    """If the crate is proved with all of these in it, they are let through. If it isn't, what a goal of its own function refuses is
-    refused, and the others are tried again; if no goal of their own refuses any, what calls them does, and each half is tried by itself."""
-    said = copy.planted(bugs)
-    if "logic=proved" in said:
-        for bug in bugs:
-            bug.verdict = "let through"
-        return
-    for bug in bugs:
-        verdict = verdict_of(bug, name, said)
-        bug.verdict = "none" if verdict is None or verdict == "not reached" and len(bugs) > 1 else verdict
-    left = [it for it in bugs if it.verdict == "none"]
-    if len(bugs) == 1 and left:
-        left[0].verdict = "doesn't compile" if errors_of(said) else "refused by its callers"
-    elif left and len(left) < len(bugs):
-        judge_together(copy, name, left)
-    elif left:
-        middle = len(bugs) // 2
-        judge_together(copy, name, bugs[:middle])
-        judge_together(copy, name, bugs[middle:])
 
 
 def compiled(copy, bugs):
