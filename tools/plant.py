@@ -256,13 +256,14 @@ def is_of(path, name, function):
 
 
 def is_in(path, module, owner, last):
-    """Whether a path is that of a function, of a type or of none, in this module: an impl of a trait has both names in one."""
+    """Whether a path is that of a function, of a type or of none, in this module, or of a closure in it: an impl of a trait has both
+    names in one."""
     if not path.startswith(module):
         return False
-    rest = path[len(module):].replace("+", "").split("::")
+    rest = path[len(module):].removeprefix("fn::").replace("+", "").split("::")
     if owner:
         return rest[0].startswith(owner) and (rest[1:2] == [last] or rest[1:3] == ["fn", last])
-    return rest[:1] == [last] or rest[:2] == ["fn", last]
+    return rest[:1] == [last]
 
 
 def verdict_of(function, name, said):
