@@ -4,6 +4,7 @@ import io
 from unittest import mock
 
 from cheap import Cheap, cheap
+from django.contrib.admin import site
 from django.contrib.auth import authenticate, hashers
 from django.contrib.auth import forms as djangos_forms
 from django.contrib.auth.management.commands import changepassword
@@ -13,11 +14,13 @@ from django.core.exceptions import ValidationError
 from django.core.management import CommandError, call_command
 from django.db import connections
 from django.test import TestCase, TransactionTestCase, override_settings
+from django.urls import path
 from django.utils.encoding import force_bytes
 from django.utils.http import urlsafe_base64_encode
 from meanwhile import before_update, is_right, meanwhile, reset_elsewhere, stands
 
 from rigzumal.django import forms, passwords, users
+from rigzumal.django.site import AdminSite
 
 NEW = "Nq7-xx!zz"
 GIVEN = {"old_password": "old", "new_password1": NEW, "new_password2": NEW}
@@ -245,6 +248,31 @@ class AtomicViews(Views):
         super().setUp()
 
 
+class Second(AdminSite):
+    """A project's own site, with a page of its own for a change."""
+
+    password_change_template = "registration/password_change_done.html"
+
+    def password_change(self, request, extra_context=None):
+        return super().password_change(request, {"of_the_project": 1})
+
+
+class SecondSite(Cheap, TestCase):
+    urlpatterns = [path("admin/", site.urls), path("second/", Second("second").urls)]
+
+    def test_a_projects_own_site(self):
+        User.objects.create_superuser("root", password="old")
+        self.client.force_login(User.objects.get())
+        change = "/second/password_change/"
+        with override_settings(ROOT_URLCONF=SecondSite):
+            page = self.client.get(change)
+            self.assertTemplateUsed(page, Second.password_change_template)
+            self.assertEqual(page.context["of_the_project"], 1)
+            page = self.client.post(change, GIVEN)
+        self.assertRedirects(page, change + "done/", fetch_redirect_response=False)
+        self.assertTrue(is_right(User.objects.get(), NEW))
+
+
 class Admin(Cheap, TestCase):
     """An administrator, while the user or a thief does something."""
 
@@ -313,6 +341,7 @@ class Admin(Cheap, TestCase):
             page = self.client.post(f"{self.page}change/", form, follow=True)
         self.assertEqual(page.redirect_chain, [(f"{self.page}change/", 302)])
         self.assertContains(page, CHANGED)
+        self.assertEqual([it.level_tag for it in page.context["messages"]], ["error"])
 
 
 class ComparingAdmin(Admin):
