@@ -9,8 +9,6 @@
 - docs/PLANTED.md names each wrong body that the gate has to try, with the file or the test that it stands in: each is there.
 - docs/PLANTED.md says how many bugs there are in how many lists: those of plants/. Each fits the code (tools/plant.py --fits),
   and what is said to refuse each that no clause refuses is there.
-- Each bug that is planted in C, Python and Rust fits the code (tools/planting.py --fits), and docs/PLANTED_BUGS.md has those of
-  each list that it has.
 - docs/PROMISES.md names calls, clauses, wrong bodies, tests and files (tools/promises.py).
 - Each link between pages leads to a file, and each picture has a text for those who can't see it.
 - docs/DEFINITIONS.md names each file of specs/ in its crate's section.
@@ -29,7 +27,6 @@ import sys
 import textwrap
 
 import plant
-import planting
 import promises
 
 TOP = pathlib.Path(__file__).resolve().parent.parent
@@ -175,8 +172,6 @@ def main():
         *planted(),
         *bugs(),
         *let_through(),
-        *([*planting.misfits()] or [None]),
-        *([*planting.strays()] or [None]),
         *rooms(),
         *definitions(),
         *walks(),
