@@ -3,7 +3,7 @@ use Rattle.std.proofs.Common.{◌≡◌, ◌<◌, ◌≤◌, ℕ, zero, suc, ◌
 use Rattle.std.proofs.lemmas.List.{length-take-le}
 use Rattle.std.proofs.Math.Nat.{mul-le-mul_left}
 use Rattle.std.proofs.Math.ListN.{get_or-append}
-use Rattle.std.proofs.Math.Seq.{get_or-append_seam}
+use Rattle.std.proofs.Math.Seq.{get_or-append_seam, take-append_seam}
 use Rattle.cred_scrypt.specs.Scrypt.{words_of, piece}
 
 -- what holds of each element, and of one that is pushed, holds of each afterwards
@@ -21,6 +21,10 @@ unfolding words_of
 length-words_of b zero = refl
 length-words_of b (suc n) =
     simp length-append (omega (arith, length-words_of b n))
+
+-- a list that was written as a whole over another of its length
+pub written_whole : {X : Type 0} (new old : List X) (n : ℕ) → n ≡ length new → take n (new ++ drop (length new) old) ≡ new
+written_whole new old n all = ap (λ m. take m (new ++ drop (length new) old)) all ∙ take-append_seam new (drop (length new) old)
 
 -- the part i < n of n equal parts ends by their end
 pub part_inside : (width i n : ℕ) → i < n → width * i + width ≤ width * n

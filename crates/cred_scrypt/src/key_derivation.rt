@@ -1,16 +1,18 @@
 //! scrypt itself: PBKDF2, ROMix on each piece, and PBKDF2 again (RFC 7914, section 6).
-ghost use Rattle.std.specs.Prelude.{◌≡◌, ◌<◌, ℕ, IfOk, length, slice_index_or};
+ghost use Rattle.std.specs.Prelude.{◌≡◌, ◌<◌, ◌*◌, ℕ, List, IfOk, length, slice_index_or};
+ghost use Rattle.cred_scrypt.specs.Pbkdf2.{pbkdf2};
 ghost use Rattle.cred_scrypt.specs.PieceWork.{CanWork, Works};
-ghost use Rattle.cred_scrypt.specs.Scrypt.{scrypt};
+ghost use Rattle.cred_scrypt.specs.Pieces.{AreCut, AreMixed, AreWhole};
+ghost use Rattle.cred_scrypt.specs.Scrypt.{mixed_pieces, scrypt};
 ghost use Rattle.cred_scrypt.specs.declared.pieces.Piece.{Piece};
 ghost use denote.Param.Send.{IsSync};
 
 use crate::error::ScryptError;
 use crate::params::ScryptParams;
 use crate::pbkdf::pbkdf2;
-use crate::pieces::{Mixing, Piece, mixed, mixed_in};
+use crate::pieces::{Mixing, Piece};
 use crate::scratch::ScryptScratch;
-use cred_pool::{Alone, Crew, CrewFn, Gate, run_parts};
+use cred_pool::{CrewFn, Gate, run_parts};
 use std::alloc::Global;
 use std::marker::Sync;
 use std::thread::Threads;
@@ -43,29 +45,17 @@ pub fn scrypt<R: Threads + Sync, G: Gate + Sync>(
             → Works shared.entry.now (slice_index_or parts.entry.now i d)
             (slice_index_or parts.exit.now i d) }
     { run_parts(rt, workers, gate, shared, parts) };
-    scrypt_by(&CrewFn { work_each }, alloc, params, pw, salt)
+    let mut pieces = first_pieces(alloc, params, pw, salt)?;
+    Piece::mix_all(&CrewFn { work_each }, alloc, params, &mut pieces);
+    key_of(alloc, params, pw, &pieces)
 }
 
 /// The same key with all work on the caller's thread, so that no runtime is needed: the pieces are
-/// mixed in turn, with the gate around each. The errors are the same.
-pub fn scrypt_alone<G: Gate>(
-    alloc: Global,
-    gate: &G,
-    params: &ScryptParams,
-    pw: &[u8],
-    salt: &[u8],
-) -> Result<Vec<u8>, ScryptError>
-    ensures memory { (e : _) → result ≡ Err e → e ≡ ScryptError.Memory }
-    ensures ok { IfOk result (λ key. key.items
-        ≡ scrypt params.now.ln params.now.r params.now.p params.now.len pw.now salt.now) }
-    ensures size { IfOk result (λ key. length key.items ≡ params.now.len) }
-{
-    scrypt_by(&Alone::new(gate), alloc, params, pw, salt)
-}
-
-/// The same key by a table that is kept from key to key. What an earlier key left there is never
-/// read. A thread that derives many keys so spares the system from taking the table back each time
-/// and giving it out anew. The errors are the same, and leave the scratch good for the next key.
+/// mixed in turn, with the gate around each. Their table is kept from key to key, up to the
+/// scratch's bound. So a thread that derives many keys doesn't have the system take it back each
+/// time. A key never reads what an earlier one left there.
+///
+/// The errors are the same, and leave the scratch good for the next key.
 pub fn scrypt_in<G: Gate>(
     scratch: &mut ScryptScratch,
     alloc: Global,
@@ -80,28 +70,51 @@ pub fn scrypt_in<G: Gate>(
     ensures size { IfOk result (λ key. length key.items ≡ params.now.len) }
     ensures most { scratch.new ≡ scratch.old }
 {
-    let size = 128 * u32::from(params.r) * u32::from(params.p);
-    let start = pbkdf2(alloc, pw, salt, 1, size)?;
-    let pieces = mixed_in(scratch, alloc, gate, params, &start)?;
-    pbkdf2(alloc, pw, &pieces, 1, params.len)
+    let mut pieces = first_pieces(alloc, params, pw, salt)?;
+    Piece::mix_in_turn(scratch, alloc, gate, params, &mut pieces);
+    key_of(alloc, params, pw, &pieces)
 }
 
-/// The same key with the pieces mixed by this crew.
-fn scrypt_by<W: Crew<Mixing, Piece>>(
-    crew: &W,
+/// The pieces before they are mixed (step 1).
+fn first_pieces(
     alloc: Global,
     params: &ScryptParams,
     pw: &[u8],
     salt: &[u8],
-) -> Result<Vec<u8>, ScryptError>
-    requires { W.ready crew.now }
+) -> Result<Vec<Piece>, ScryptError>
     ensures memory { (e : _) → result ≡ Err e → e ≡ ScryptError.Memory }
-    ensures ok { IfOk result (λ key. key.items
-        ≡ scrypt params.now.ln params.now.r params.now.p params.now.len pw.now salt.now) }
+    ensures count { IfOk result (λ pieces. length pieces.items ≡ params.now.p) }
+    ensures cut { IfOk result (λ pieces. AreCut params.now.r
+        (pbkdf2 pw.now salt.now 1 (128 * params.now.r * params.now.p)) pieces.items) }
+    ensures whole { IfOk result (λ pieces. AreWhole params.now.r pieces.items) }
+{
+    let bytes = pbkdf2(alloc, pw, salt, 1, pieces_len(params))?;
+    Piece::cut(alloc, usize::from(params.r), usize::from(params.p), &bytes)
+}
+
+/// The key that the mixed pieces give (step 3).
+///
+/// Errors: `Memory` if a piece had no table, or if there is not enough for the key.
+fn key_of(
+    alloc: Global,
+    params: &ScryptParams,
+    pw: &[u8],
+    pieces: &[Piece],
+) -> Result<Vec<u8>, ScryptError>
+    requires { length pieces.now ≡ params.now.p }
+    ensures memory { (e : _) → result ≡ Err e → e ≡ ScryptError.Memory }
+    ensures ok { (b : List ℕ) → AreMixed params.now.ln params.now.r b pieces.now
+        → IfOk result (λ key. key.items
+        ≡ pbkdf2 pw.now (mixed_pieces params.now.ln params.now.r b params.now.p) 1 params.now.len) }
     ensures size { IfOk result (λ key. length key.items ≡ params.now.len) }
 {
-    let size = 128 * u32::from(params.r) * u32::from(params.p);
-    let start = pbkdf2(alloc, pw, salt, 1, size)?;
-    let mixed = mixed(crew, alloc, params, &start)?;
+    let mixed = Piece::joined(alloc, pieces_len(params) as usize, pieces)?;
     pbkdf2(alloc, pw, &mixed, 1, params.len)
+}
+
+/// The length of all pieces in bytes.
+fn pieces_len(params: &ScryptParams) -> u32
+    ensures { result ≡ 128 * params.now.r * params.now.p }
+{
+    128 * u32::from(params.r) * u32::from(params.p)
 }

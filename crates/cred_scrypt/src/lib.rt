@@ -2,8 +2,8 @@
 //! Salsa20/8, BlockMix and ROMix.
 //!
 //! [`scrypt`] derives a key from a password and a salt. Worker threads mix its p pieces, and the
-//! key is the standard's whatever their number. [`scrypt_alone`] mixes them on the caller's
-//! thread, and [`scrypt_in`] with a table that is kept from key to key.
+//! key is the standard's whatever their number. [`scrypt_in`] mixes them on the caller's thread,
+//! with a table that is kept from key to key.
 #![tactic(auto)]
 
 mod blockmix;
@@ -22,7 +22,7 @@ mod xor;
 pub use blockmix::block_mix;
 pub use error::ScryptError;
 pub use hmac::hmac_sha256;
-pub use key_derivation::{scrypt, scrypt_alone, scrypt_in};
+pub use key_derivation::{scrypt, scrypt_in};
 pub use params::{
     MAX_BLOCK_SIZE, MAX_BLOCKS, MAX_LEN, MAX_LN, MAX_ROWS, MIN_LEN, ScryptParams,
     ranges_are_these_numbers,

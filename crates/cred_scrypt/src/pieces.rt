@@ -43,43 +43,6 @@ impl Part<Mixing> for Piece {
     }
 }
 
-/// The `p` pieces of `bytes`, each mixed by itself by this crew, and joined again in order.
-pub(crate) fn mixed<W: Crew<Mixing, Piece>>(
-    crew: &W,
-    alloc: Global,
-    params: &ScryptParams,
-    bytes: &[u8],
-) -> Result<Vec<u8>, ScryptError>
-    requires crew { W.ready crew.now }
-    requires size { length bytes.now ≡ 128 * params.now.r * params.now.p }
-    ensures memory { (e : _) → result ≡ Err e → e ≡ ScryptError.Memory }
-    ensures ok { IfOk result (λ mixed. mixed.items
-        ≡ mixed_pieces params.now.ln params.now.r bytes.now params.now.p) }
-{
-    let mut pieces = Piece::cut(alloc, usize::from(params.r), usize::from(params.p), bytes)?;
-    Piece::mix_all(crew, alloc, params, pieces.as_mut_slice());
-    Piece::joined(alloc, bytes.len(), &pieces)
-}
-
-/// The same on the caller's thread, one piece after another, with a table that is kept.
-pub(crate) fn mixed_in<G: Gate>(
-    scratch: &mut ScryptScratch,
-    alloc: Global,
-    gate: &G,
-    params: &ScryptParams,
-    bytes: &[u8],
-) -> Result<Vec<u8>, ScryptError>
-    requires size { length bytes.now ≡ 128 * params.now.r * params.now.p }
-    ensures memory { (e : _) → result ≡ Err e → e ≡ ScryptError.Memory }
-    ensures ok { IfOk result (λ mixed. mixed.items
-        ≡ mixed_pieces params.now.ln params.now.r bytes.now params.now.p) }
-    ensures most { scratch.new ≡ scratch.old }
-{
-    let mut pieces = Piece::cut(alloc, usize::from(params.r), usize::from(params.p), bytes)?;
-    Piece::mix_in_turn(scratch, alloc, gate, params, pieces.as_mut_slice());
-    Piece::joined(alloc, bytes.len(), &pieces)
-}
-
 impl Piece {
     ghost use Rattle.cred_scrypt.specs.Pieces.{AreCut, AreMixed, AreWhole};
 
@@ -101,7 +64,7 @@ impl Piece {
     }
 
     /// Cuts `bytes` into `p` pieces.
-    fn cut(alloc: Global, r: usize, p: usize, bytes: &[u8]) -> Result<Vec<Piece>, ScryptError>
+    pub(crate) fn cut(alloc: Global, r: usize, p: usize, bytes: &[u8]) -> Result<Vec<Piece>, ScryptError>
         requires small { 128 * r * p < 2 ^ 32 }
         requires size { length bytes.now ≡ 128 * r * p }
         ensures memory { (e : _) → result ≡ Err e → e ≡ ScryptError.Memory }
@@ -122,7 +85,7 @@ impl Piece {
     }
 
     /// Has the crew mix each piece.
-    fn mix_all<W: Crew<Mixing, Piece>>(
+    pub(crate) fn mix_all<W: Crew<Mixing, Piece>>(
         crew: &W,
         alloc: Global,
         params: &ScryptParams,
@@ -141,7 +104,7 @@ impl Piece {
     }
 
     /// Mixes each piece, between the gate's `enter` and `leave` with its index.
-    fn mix_in_turn<G: Gate>(
+    pub(crate) fn mix_in_turn<G: Gate>(
         scratch: &mut ScryptScratch,
         alloc: Global,
         gate: &G,
@@ -164,7 +127,7 @@ impl Piece {
     /// The bytes of all the pieces, in order.
     ///
     /// Errors: `Memory` if there was not enough for a piece's table, or is not for the bytes.
-    fn joined(alloc: Global, size: usize, pieces: &[Piece]) -> Result<Vec<u8>, ScryptError>
+    pub(crate) fn joined(alloc: Global, size: usize, pieces: &[Piece]) -> Result<Vec<u8>, ScryptError>
         ensures memory { (e : _) → result ≡ Err e → e ≡ ScryptError.Memory }
         ensures ok { (ln r : ℕ) (b : List ℕ) → AreMixed ln r b pieces.now
             → IfOk result (λ bytes. bytes.items ≡ mixed_pieces ln r b (length pieces.now)) }

@@ -1,16 +1,20 @@
-use Rattle.std.proofs.Common.{◌≡◌, ◌*◌}
+use Rattle.std.proofs.Common.{◌≡◌, ◌*◌, ◌∙◌, ap, arith}
 use Rattle.cred_scrypt.specs.Pbkdf2.{pbkdf2}
-use Rattle.cred_scrypt.specs.Scrypt.{scrypt, mixed_pieces}
+use Rattle.cred_scrypt.specs.Pieces.{AreCut, AreMixed}
+use Rattle.cred_scrypt.specs.Scrypt.{scrypt}
+use Rattle.cred_scrypt.proofs.Cuts.{written_whole}
 use Rattle.cred_scrypt.proofs.key_derivation.scrypt_in.Goals as goal
 
 pub returns-clause-ok : goal.returns-clause-ok
 unfolding scrypt
 returns-clause-ok g c =
     let params = c.args.params.now in
-    let pw = c.args.pw.now in
-    let salt = c.args.salt.now in
-    let start : c.deref.result.now ≡ pbkdf2 pw salt 1 (128 * params.r * params.p) =
-    rw (c.deref.ensures.value, ← c.from.ensures, ← c.from-2.ensures) c.in_ok-start.ensures.ok in
-    let mixed : c.deref-2.result.now ≡ mixed_pieces params.ln params.r c.deref.result.now params.p =
-    rw c.deref-2.ensures.value c.in_ok-pieces.ensures.ok in
-    rw (← start, ← mixed) c.pbkdf2-2.ensures.ok
+    let b = pbkdf2 c.args.pw.now c.args.salt.now 1 (128 * params.r * params.p) in
+    let pieces = c.mix_in_turn.new.pieces in
+    let before = c.in_ok-pieces.pieces in
+    let cut : AreCut params.r b c.deref_mut.result.now =
+    rw c.deref_mut.ensures.value c.in_ok-pieces.ensures.cut in
+    let back : c.deref.result.now ≡ pieces =
+    c.deref.ensures.value ∙ written_whole pieces before.items before.len (omega arith) in
+    let mixed : AreMixed params.ln params.r b c.deref.result.now = rw back (c.mix_in_turn.ensures.mixed b cut) in
+    c.key_of.ensures.ok b mixed
