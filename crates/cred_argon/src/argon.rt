@@ -57,25 +57,10 @@ pub fn argon2<R: Threads + Sync, G: Gate + Sync>(
     )
 }
 
-/// The same with all the work done on the caller's thread, so that it needs no runtime: each lane
-/// of a slice in turn, behind the gate. The errors are the same.
-pub fn argon2_alone<G: Gate>(
-    alloc: Global,
-    gate: &G,
-    params: &Params,
-    pw: &[u8],
-    salt: &[u8],
-    secret: &[u8],
-    assoc: &[u8],
-) -> Result<Vec<u8>, ArgonError>
-    ensures { Hashes params.now pw.now salt.now secret.now assoc.now result }
-{
-    argon2_by(&Alone::new(gate), alloc, params, pw, salt, secret, assoc)
-}
-
-/// The same in memory that is kept from hash to hash. What an earlier hash left there is never
-/// read. A thread that makes many hashes so spares the system from taking its memory back each time
-/// and giving it out anew.
+/// The same tag with all work on the caller's thread, so that no runtime is needed: each lane of a
+/// slice in turn, behind the gate. The memory is kept from hash to hash, up to the scratch's bound.
+/// So a thread that makes many hashes doesn't have the system take it back each time. A hash never
+/// reads what an earlier one left there.
 ///
 /// Beside the memory that is kept, at most that of the parameters is taken, and some KiB. The
 /// errors are the same, and leave the scratch good for the next hash.

@@ -2,10 +2,10 @@
 //! 0x10.
 //!
 //! [`argon2`] makes a tag from a password, a salt and [`Params`], its lanes worked by threads;
-//! [`argon2_alone`] makes it on the caller's thread, and [`argon2_in`] in memory that is kept from
-//! hash to hash. [`begin_lanes`], [`work_lane`] and [`tag_of_lanes`] are its parts, for a caller
-//! who has threads and memory of its own. [`compress`] and [`reference`] are the two parts that its
-//! memory is filled with; look at them alone if you like.
+//! [`argon2_in`] makes it on the caller's thread, in memory that is kept from hash to hash.
+//! [`begin_lanes`], [`work_lane`] and [`tag_of_lanes`] are its parts, for a caller who has threads
+//! and memory of its own. [`compress`] and [`reference`] are the two parts that its memory is
+//! filled with; look at them alone if you like.
 #![tactic(auto)]
 
 mod address;
@@ -32,7 +32,7 @@ mod start;
 mod tag;
 mod turn;
 
-pub use argon::{argon2, argon2_alone, argon2_in};
+pub use argon::{argon2, argon2_in};
 pub use block::{Block, compress};
 pub use error::ArgonError;
 pub use kind::{Kind, Version};

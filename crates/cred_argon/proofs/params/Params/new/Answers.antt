@@ -1,6 +1,0 @@
--- Written out, so that a body that doesn't meet this is refused here, without a long search.
-use Rattle.std.proofs.Common.{rules}
-use Rattle.cred_argon.proofs.params.Params.new.Goals as goal
-
-pub returns-clause-ok : goal.returns-clause-ok
-returns-clause-ok c = search rules
