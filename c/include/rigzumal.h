@@ -21,9 +21,9 @@
  * took at one time, and 64 MiB at most. Tools count it as the process's own until the system, when
  * it is short of memory, takes it back by itself; rigzumal_trim gives it back at once.
  *
- * Memory is cleared as it is given back; the stack below the call, 22 KiB of it, and the vector
- * registers are cleared after each call. Blocks of 64 KiB and more are in no core dump, and read as
- * zero in a forked child. Where the memory is large it has huge pages.
+ * Memory is cleared as it is given back; the stack below the call, 22 KiB of it, and all vector
+ * registers that the processor has are cleared after each call. Blocks of 64 KiB and more are in no
+ * core dump, and read as zero in a forked child. Where the memory is large it has huge pages.
  *
  * Any x86-64 processor runs the library. One that has every feature of x86-64-v2 or x86-64-v3 gets
  * a build for it, which is chosen as the first call is made.

@@ -5,6 +5,7 @@
 #define _GNU_SOURCE
 #include "check.h"
 #include "jobs.h"
+#include "stored.h"
 
 #include <pthread.h>
 #include <stdatomic.h>
@@ -80,51 +81,12 @@ static int found_in_process(const char *name) {
 static const struct job *job;
 static _Atomic(int) is_done, may_end;
 static int answer;
-static unsigned char registers[16][32];
-
-#define STORE(n) __asm__ volatile("vmovups %%ymm" #n ", %0" : "=m"(registers[n]))
-#define STORE_HALF(n) __asm__ volatile("movups %%xmm" #n ", %0" : "=m"(registers[n]))
-#define FOR_ALL(do)                                                                                \
-    do                                                                                             \
-        (0);                                                                                       \
-    do                                                                                             \
-        (1);                                                                                       \
-    do                                                                                             \
-        (2);                                                                                       \
-    do                                                                                             \
-        (3);                                                                                       \
-    do                                                                                             \
-        (4);                                                                                       \
-    do                                                                                             \
-        (5);                                                                                       \
-    do                                                                                             \
-        (6);                                                                                       \
-    do                                                                                             \
-        (7);                                                                                       \
-    do                                                                                             \
-        (8);                                                                                       \
-    do                                                                                             \
-        (9);                                                                                       \
-    do                                                                                             \
-        (10);                                                                                      \
-    do                                                                                             \
-        (11);                                                                                      \
-    do                                                                                             \
-        (12);                                                                                      \
-    do                                                                                             \
-        (13);                                                                                      \
-    do                                                                                             \
-        (14);                                                                                      \
-    do                                                                                             \
-    (15)
+static struct vectors vectors;
+static struct stored registers;
 
 static void *make_call(void *unused) {
     answer = job->call(vault);
-    if (__builtin_cpu_supports("avx2")) {
-        FOR_ALL(STORE);
-    } else {
-        FOR_ALL(STORE_HALF);
-    }
+    store_registers(vectors, &registers);
     atomic_store(&is_done, 1);
     while (!atomic_load(&may_end))
         __builtin_ia32_pause();
@@ -161,7 +123,7 @@ static int leaves_a_copy(struct vault *from) {
 }
 
 int main(void) {
-    __builtin_cpu_init();
+    vectors = vectors_here();
     vault = mmap(NULL, sizeof *vault, PROT_READ | PROT_WRITE, MAP_PRIVATE | MAP_ANONYMOUS, -1, 0);
     CHECK(vault != MAP_FAILED);
     CHECK(mprotect(vault, sizeof *vault, PROT_READ | PROT_WRITE | PROT_EXEC) == 0); /* apart */

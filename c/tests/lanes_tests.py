@@ -14,7 +14,7 @@ from harness import (
 )
 
 
-LANES = ["-DGIVEN=BUILD_V1", "tests/given_build.c", "src/lanes.c", "src/secrets.c"]
+LANES = ["-DGIVEN=BUILD_V1", "tests/given_build.c", "src/lanes.c", "src/secrets.c", "src/registers.c"]
 
 
 def test_lanes():

@@ -69,17 +69,25 @@ def test_cleared_memory():
             run(built("cleared", flags, linked))
 
 
+REGISTERS = ["src/secrets.c", "src/registers.c"]
+
+
 def test_registers():
-    """No vector register holds anything after a call, whichever build it chose."""
-    run(built("registers", ["-O2"], ["src/secrets.c", "src/processor.c"]))
-    for build in ("V1", "V2"):
-        run(
-            built(
-                "registers",
-                ["-O2", f"-DGIVEN=BUILD_{build}"],
-                ["src/secrets.c", "tests/given_build.c"],
-            )
-        )
+    """No vector or mask register holds anything after a call, and none that isn't kept is used."""
+    said = run(built("registers", ["-O2"], REGISTERS))
+    for kept in (0x7, 0x3):  # a system without AVX-512, and without AVX
+        system = [f'-DREAD_KEPT_REGISTERS="mov ${kept}, %0; mov $0, %1"', f"-DKEPT={kept}"]
+        run(built("registers", ["-O2", *system], REGISTERS))
+    return said
+
+
+def test_registers_on_processors():
+    """The same on processors that have fewer."""
+    need("qemu-x86_64")
+    program = built("registers", ["-O2", "-static"], REGISTERS)
+    for name, said in (("qemu64", "of 16 bytes"), ("Haswell", "of 32 bytes")):
+        if said not in run("qemu-x86_64", "-cpu", name, program):
+            raise Failed(name)
 
 
 def test_depth_of_calls():

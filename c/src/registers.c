@@ -1,0 +1,64 @@
+/* All registers that there are, whatever build the proved code has: the C library copies and clears
+ * in zmm16 to zmm31 where it finds AVX-512. */
+#include "registers.h"
+
+#include <cpuid.h>
+#include <stdatomic.h>
+#include <stdbool.h>
+#include <stdint.h>
+
+enum vectors { SSE = 1, AVX, AVX512 };
+
+/* Reads into eax and edx which registers the system keeps of a thread that it interrupts; a test
+ * has a system that keeps fewer. */
+#ifndef READ_KEPT_REGISTERS
+#define READ_KEPT_REGISTERS "xgetbv"
+#endif
+
+static enum vectors asked(void) {
+    enum { OSXSAVE = 1 << 27, AVX512F = 1 << 16 }; /* of leaf 1, ecx, and of leaf 7, ebx */
+    enum { WIDE = 0x6, WIDEST = 0xe6 };            /* the states of SSE and AVX, and of AVX-512 */
+    uint32_t a, b, c, d, kept, high;
+    if (!__get_cpuid(1, &a, &b, &c, &d) || !(c & OSXSAVE))
+        return SSE;
+    __asm__ volatile(READ_KEPT_REGISTERS : "=a"(kept), "=d"(high) : "c"(0));
+    if ((kept & WIDE) != WIDE)
+        return SSE;
+    bool has_512 = __get_cpuid_count(7, 0, &a, &b, &c, &d) && (b & AVX512F);
+    return has_512 && (kept & WIDEST) == WIDEST ? AVX512 : AVX;
+}
+
+/* Asked once, since a virtual machine answers slowly; threads that ask at once find the same. */
+static enum vectors vectors(void) {
+    static _Atomic(int) known;
+    int found = atomic_load_explicit(&known, memory_order_relaxed);
+    if (found == 0) {
+        found = (int)asked();
+        atomic_store_explicit(&known, found, memory_order_relaxed);
+    }
+    return (enum vectors)found;
+}
+
+#define CLEAR(n) "pxor %%xmm" #n ", %%xmm" #n "\n\t"
+#define CLEAR_WIDEST(n) "vpxord %%zmm" #n ", %%zmm" #n ", %%zmm" #n "\n\t"
+#define CLEAR_MASK(n) "kxorw %%k" #n ", %%k" #n ", %%k" #n "\n\t"
+#define EIGHT(of) of(0) of(1) of(2) of(3) of(4) of(5) of(6) of(7)
+#define NEXT_EIGHT(of) of(8) of(9) of(10) of(11) of(12) of(13) of(14) of(15)
+#define UPPER_SIXTEEN(of)                                                                          \
+    of(16) of(17) of(18) of(19) of(20) of(21) of(22) of(23) of(24) of(25) of(26) of(27) of(28)     \
+        of(29) of(30) of(31)
+
+/* The others hold no value of a compiler's: the library is built for any x86-64 processor. */
+#define CHANGED                                                                                    \
+    "xmm0", "xmm1", "xmm2", "xmm3", "xmm4", "xmm5", "xmm6", "xmm7", "xmm8", "xmm9", "xmm10",       \
+        "xmm11", "xmm12", "xmm13", "xmm14", "xmm15"
+
+void clear_vector_registers(void) {
+    enum vectors found = vectors();
+    if (found == SSE)
+        __asm__ volatile(EIGHT(CLEAR) NEXT_EIGHT(CLEAR)::: CHANGED);
+    else
+        __asm__ volatile("vzeroall" ::: CHANGED);
+    if (found == AVX512)
+        __asm__ volatile(UPPER_SIXTEEN(CLEAR_WIDEST) EIGHT(CLEAR_MASK)::);
+}
