@@ -18,10 +18,11 @@
 #include <sys/mman.h>
 #include <unistd.h>
 
-enum { SLICES = 4, MOST_HELPERS = 254, PAGE = 4096, LEAST_STACK = 512 * 1024 };
+enum { SLICES = 4, MOST_HELPERS = 254, PAGE = 4096, LEAST_STACK = 1024 * 1024 };
 
-/* What a child doesn't get of a helper's stack: the whole pages of what is cleared. */
-enum { WIPED_STACK = CLEARED_STACK / PAGE * PAGE };
+/* What neither a child nor a core dump gets of a helper's stack: the whole pages of what is
+ * cleared. */
+enum { HIDDEN_STACK = CLEARED_STACK / PAGE * PAGE };
 
 /* In KiB: where four lanes begin to gain by threads on an idle machine. */
 #ifndef LEAST_SHARED_MEMORY
@@ -112,34 +113,61 @@ static void clear_segments(struct run *run) {
     }
 }
 
-/* What a helper does. Its stack, as deep as calls reach below the first page's end in a gap above
- * them, reads as zero in a child that is forked meanwhile, and is cleared. */
+/* What a helper does. Its stack is hidden as deep as calls reach below the first page's end in a
+ * gap above them: what lies higher is the C library's, which reads it in a child. */
 static void *help(void *run) {
     unsigned char gap[PAGE];
     unsigned char *end = gap + PAGE - (uintptr_t)(gap + PAGE) % PAGE;
-    madvise(end - WIPED_STACK, WIPED_STACK, MADV_WIPEONFORK);
+    madvise(end - HIDDEN_STACK, HIDDEN_STACK, MADV_WIPEONFORK);
+    madvise(end - HIDDEN_STACK, HIDDEN_STACK, MADV_DONTDUMP);
     work_segments(run);
     clear_segments(run);
     clear_traces();
-    madvise(end - WIPED_STACK, WIPED_STACK, MADV_KEEPONFORK);
     return NULL;
 }
 
-/* Starts so many helpers or as many as there can be, on which no signal is handled. Their stacks
- * are as large as other threads', which may have to hold much that is thread-local, and larger
- * where those are small. */
-static uint32_t start_helpers(struct run *run, pthread_t *helpers, uint32_t wanted) {
+/* The helpers' stacks, one above another in a mapping of their own, each over a page that nobody
+ * may touch. The C library would keep its own for later threads, and a child would run on what it
+ * may not see. */
+struct stacks {
+    unsigned char *start;
+    size_t size; /* of each, with its page below */
+    uint32_t count;
+};
+
+/* Each is as large as other threads' stacks, which may have to hold much that is thread-local, and
+ * larger where those are small. */
+static bool map_stacks(struct stacks *stacks, pthread_attr_t *attributes) {
+    size_t size;
+    if (pthread_attr_getstacksize(attributes, &size) != 0 || size < LEAST_STACK)
+        size = LEAST_STACK;
+    stacks->size = PAGE + (size + PAGE - 1) / PAGE * PAGE;
+    stacks->start = mmap(NULL, stacks->count * stacks->size, PROT_READ | PROT_WRITE,
+                         MAP_PRIVATE | MAP_ANONYMOUS | MAP_NORESERVE | MAP_STACK, -1, 0);
+    return stacks->start != MAP_FAILED;
+}
+
+static bool start_helper(struct run *run, pthread_t *helper, pthread_attr_t *attributes,
+                         unsigned char *stack, size_t size) {
+    return mprotect(stack, PAGE, PROT_NONE) == 0 &&
+           pthread_attr_setstack(attributes, stack + PAGE, size - PAGE) == 0 &&
+           pthread_create(helper, attributes, help, run) == 0;
+}
+
+/* Starts a helper on each stack or on as many as there can be: no signal is handled there. */
+static uint32_t start_helpers(struct run *run, pthread_t *helpers, struct stacks *stacks) {
     pthread_attr_t attributes;
-    size_t stack_size;
     sigset_t all, before;
     uint32_t started = 0;
     if (pthread_attr_init(&attributes) != 0)
         return 0;
-    if (pthread_attr_getstacksize(&attributes, &stack_size) == 0 && stack_size < LEAST_STACK)
-        pthread_attr_setstacksize(&attributes, LEAST_STACK);
+    if (!map_stacks(stacks, &attributes))
+        stacks->count = 0;
     sigfillset(&all);
     pthread_sigmask(SIG_SETMASK, &all, &before);
-    while (started < wanted && pthread_create(&helpers[started], &attributes, help, run) == 0)
+    while (started < stacks->count &&
+           start_helper(run, &helpers[started], &attributes, stacks->start + started * stacks->size,
+                        stacks->size))
         started++;
     pthread_sigmask(SIG_SETMASK, &before, NULL);
     pthread_attr_destroy(&attributes);
@@ -149,12 +177,15 @@ static uint32_t start_helpers(struct run *run, pthread_t *helpers, uint32_t want
 /* Works all that comes after the beginning. */
 static void work_with_helpers(struct run *run, uint32_t wanted) {
     pthread_t helpers[MOST_HELPERS];
-    uint32_t started = start_helpers(run, helpers, wanted);
+    struct stacks stacks = {.count = wanted};
+    uint32_t started = start_helpers(run, helpers, &stacks);
     work_segments(run);
     make_tag(run);
     clear_segments(run);
     for (uint32_t i = 0; i < started; i++)
         pthread_join(helpers[i], NULL);
+    if (stacks.count > 0)
+        munmap(stacks.start, stacks.count * stacks.size);
 }
 
 /* The caller's memory, slice behind slice. */

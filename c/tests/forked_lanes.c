@@ -1,9 +1,10 @@
 /* A child that is forked while lanes are worked in threads finds nothing of it: neither in the
- * memory nor on the helpers' stacks, and can start threads of its own. src/lanes.c and src/heap.c
- * are over a stand-in for a segment's export that leaves marks in both, on helpers alone, and waits
- * for the fork. */
+ * memory nor on the helpers' stacks, and its own threads can fork. After the call the helpers'
+ * stacks are unmapped. src/lanes.c and src/heap.c are over a stand-in for a segment's export that
+ * leaves marks in both, on helpers alone, and waits for the fork. */
 #define _GNU_SOURCE
 #include "check.h"
+#include "flags.h"
 #include "lanes.h"
 #include "marks.h"
 
@@ -17,8 +18,17 @@ enum { LANES = 4, SEGMENT = 64, TURNS = 10 };
 static pthread_t caller;
 static _Atomic(int) marked, is_forked;
 
+/* What is left on a helper's stack is in no core dump, as long as it is there. */
+static void check_stack(void) {
+    char flags[512], here;
+    read_flags(&here, flags, sizeof flags);
+    CHECK(strstr(flags, " dd") != NULL);
+    CHECK(strstr(flags, " wf") != NULL);
+}
+
 static uint8_t segment(struct argon2_block *own) {
     if (!pthread_equal(pthread_self(), caller)) {
+        check_stack();
         leave_marks();
         own->words[5] = MARK;
         marked++;
@@ -66,11 +76,7 @@ static void *call(void *unused) {
     return unused;
 }
 
-static void *nothing(void *unused) {
-    return unused;
-}
-
-/* A thread that forks, on a stack that a helper may have had before: its child has it as it is. */
+/* A thread that forks: its child has the thread's stack as it is. */
 static void *fork_here(void *unused) {
     volatile unsigned char depths[16 * 1024];
     for (size_t i = 0; i < sizeof depths; i++)
@@ -86,8 +92,8 @@ static void *fork_here(void *unused) {
     return unused;
 }
 
-/* On as many stacks as there were helpers: the C library hands out those that they had. */
-static void test_stacks_after_a_call(void) {
+/* In as many threads as there were helpers, which have those stacks that the C library kept. */
+static void fork_in_threads(void) {
     pthread_t threads[LANES];
     for (int i = 0; i < LANES; i++)
         CHECK(pthread_create(&threads[i], NULL, fork_here, NULL) == 0);
@@ -97,19 +103,27 @@ static void test_stacks_after_a_call(void) {
 
 static void be_child(void) {
     CHECK_NUMBER(marks_left(), 0);
-    pthread_t thread;
-    CHECK(pthread_create(&thread, NULL, nothing, NULL) == 0);
-    CHECK(pthread_join(thread, NULL) == 0);
+    fork_in_threads();
     CHECK_NUMBER(marks_left(), 0);
     _exit(0);
 }
 
+/* How many bytes the process has mapped. */
+static unsigned long mapped(void) {
+    unsigned long pages = 0;
+    FILE *counts = fopen("/proc/self/statm", "r");
+    CHECK(counts != NULL && fscanf(counts, "%lu", &pages) == 1);
+    fclose(counts);
+    return pages * 4096;
+}
+
 int main(void) {
+    unsigned long before = 0;
     for (int turn = 0; turn < TURNS; turn++) {
         pthread_t thread;
         marked = is_forked = 0;
         CHECK(pthread_create(&thread, NULL, call, NULL) == 0);
-        while (marked == 0)
+        while (marked < LANES - 1) /* on all helpers */
             usleep(50);
         CHECK(marks_left() > 0);
         pid_t child = fork();
@@ -121,7 +135,9 @@ int main(void) {
         CHECK(WIFEXITED(status) && WEXITSTATUS(status) == 0);
         CHECK(pthread_join(thread, NULL) == 0);
         CHECK_NUMBER(marks_left(), 0);
-        test_stacks_after_a_call();
+        fork_in_threads();
+        CHECK(turn == 0 || mapped() == before);
+        before = mapped();
     }
     return 0;
 }

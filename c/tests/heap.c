@@ -5,6 +5,7 @@
 #include "heap.h"
 
 #include "check.h"
+#include "flags.h"
 
 #include <errno.h>
 #include <pthread.h>
@@ -172,23 +173,6 @@ static void try_changed_sizes(void) {
             CHECK(is_all(moved.start, 0x77, kept));
             rattle_dealloc(moved.start);
         }
-}
-
-/* The flags that /proc/self/smaps gives the mapping of an address. */
-static void read_flags(const void *address, char *flags, size_t size) {
-    FILE *maps = fopen("/proc/self/smaps", "r");
-    CHECK(maps != NULL);
-    char line[512];
-    bool is_here = false;
-    uintptr_t start, end;
-    *flags = '\0';
-    while (fgets(line, sizeof line, maps) != NULL) {
-        if (sscanf(line, "%lx-%lx ", &start, &end) == 2)
-            is_here = start <= (uintptr_t)address && (uintptr_t)address < end;
-        else if (is_here && strncmp(line, "VmFlags:", 8) == 0)
-            snprintf(flags, size, "%s", line + 8);
-    }
-    fclose(maps);
 }
 
 /* Large blocks are the process's own, in no core dump, and read as zero in a forked child. */

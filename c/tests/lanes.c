@@ -16,7 +16,7 @@
 #include <unistd.h>
 
 enum {
-    LEAST_STACK = 512 * 1024,
+    LEAST_STACK = 1024 * 1024,
     SLICES = 4,
     MOST_LANES = 255,
     MANY_PASSES = 300,
