@@ -149,6 +149,8 @@ def bench():
     ):
         for i, (name, colour, hatch) in enumerate(zip(names, ("#2f7d4f", "#c2cad6", "#e8c46a"), ("", "//", "\\\\"))):
             shown = [(j, float(it[1 + i])) for j, it in enumerate(rows) if it[1 + i]]
+            if not shown:  # it isn't measured
+                continue
             bars = axis.barh([j + 0.27 * (i - 1) for j, _ in shown], [ms for _, ms in shown], 0.25, color=colour, hatch=hatch, label=name, edgecolor=INK)
             axis.bar_label(bars, fmt="%.0f", padding=3, fontsize=8)
         axis.set_yticks(range(len(rows)), [it[0] for it in rows])

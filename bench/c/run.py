@@ -19,16 +19,16 @@ import statistics
 import sys
 import time
 
+from libraries import ORIGINAL, library, libsodium
+
 TOP = pathlib.Path(__file__).resolve().parent.parent.parent
 OURS = TOP / "c/out/librigzumal.so.1"
-ORIGINAL = "/usr/lib/x86_64-linux-gnu/libargon2.so.1"
-SODIUM = "libsodium.so.23"
 PASSWORD, SALT = b"password", b"sixteen of salt."
 
 # Memory in KiB, passes, lanes.
 ARGON2 = [(65536, 3, 1), (65536, 3, 4), (65536, 3, 16), (102400, 2, 8), (19456, 2, 1), (1024, 2, 1)]
 # ln, r, p.
-SCRYPT = [(14, 8, 1), (17, 8, 1), (14, 8, 4)]
+SCRYPT = [(14, 8, 1), (15, 8, 1), (16, 8, 1), (17, 8, 1), (14, 8, 4)]
 
 
 DATA = [ctypes.c_char_p, ctypes.c_size_t]
@@ -38,14 +38,6 @@ class Numbers(ctypes.Structure):
     """struct rigzumal_argon2, and the first three of struct rigzumal_scrypt."""
 
     _fields_ = [(f"number{i}", ctypes.c_uint32) for i in range(5)]
-
-
-def library(path):
-    try:
-        return ctypes.CDLL(str(path))
-    except OSError:
-        print(f"{path} is not there", file=sys.stderr)
-        return None
 
 
 def rigzumal_argon2(ours):
@@ -181,7 +173,7 @@ def print_head(names, has_other):
 def argon2_table(times, other):
     always = lambda setting: True
     ways = {"ours": (rigzumal_argon2(library(OURS)), always)}
-    original, sodium = library(ORIGINAL), library(SODIUM)
+    original, sodium = library(ORIGINAL), libsodium()
     if original is not None:
         ways["original"] = (original_argon2(original), always)
     if sodium is not None:
@@ -204,19 +196,19 @@ def argon2_table(times, other):
 def scrypt_table(times, other):
     always = lambda setting: True
     ways = {"ours": (rigzumal_scrypt(library(OURS)), always), "openssl": (openssl_scrypt, always)}
-    sodium = library(SODIUM)
+    sodium = libsodium()
     if sodium is not None:
         ways["sodium"] = (sodium_scrypt(sodium), always)
     if other is not None:
         ways["other"] = (rigzumal_scrypt(other), always)
     found = times_of(ways, SCRYPT, times)
-    names = "N, r, p|Ours, ms|OpenSSL, ms|libsodium, ms|Ours over OpenSSL|Ours over libsodium"
+    names = "N, r, p|Ours, ms|OpenSSL, ms|libsodium, ms|Ours over OpenSSL|Ours over libsodium|of processor time, median"
     print_head(names.split("|"), other is not None)
     for ln, r, p in SCRYPT:
         setting = (ln, r, p)
         cells = [f"{1 << ln}, {r}, {p}"]
         cells += [wall(found, setting, name) for name in ("ours", "openssl", "sodium")]
-        cells += [ratio(found, setting, name) for name in ("openssl", "sodium")]
+        cells += [ratio(found, setting, name) for name in ("openssl", "sodium")] + [median_ratio(found, setting, "sodium")]
         print("| " + " | ".join(cells + over_other(found, setting)) + " |")
 
 

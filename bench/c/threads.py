@@ -22,11 +22,11 @@ import tempfile
 import threading
 import time
 
+from libraries import ORIGINAL, library, libsodium
+
 TOP = pathlib.Path(__file__).resolve().parent.parent.parent
 C = TOP / "c"
 OURS = C / "out/librigzumal.so.1"
-ORIGINAL = "/usr/lib/x86_64-linux-gnu/libargon2.so.1"
-SODIUM = "libsodium.so.23"
 PASSWORD, SALT = b"password", b"sixteen of salt."
 CALLERS = (1, 2, 4)
 EACH = 2
@@ -42,14 +42,6 @@ class Numbers(ctypes.Structure):
     """struct rigzumal_argon2."""
 
     _fields_ = [(name, ctypes.c_uint32) for name in ("kind", "version", "memory", "passes", "lanes")]
-
-
-def library(path):
-    try:
-        return ctypes.CDLL(str(path))
-    except OSError:
-        print(f"{path} is not there", file=sys.stderr)
-        return None
 
 
 def ours(path, has_threads):
@@ -203,7 +195,7 @@ def main():
     with tempfile.TemporaryDirectory() as room:
         path = without_least_memory(room) if given.small else OURS
         ways = {"one thread": ours(path, False), "threads": ours(path, True)}
-        original, sodium = library(ORIGINAL), library(SODIUM)
+        original, sodium = library(ORIGINAL), libsodium()
         if original is not None:
             ways["libargon2"] = by_original(original)
         if sodium is not None:
