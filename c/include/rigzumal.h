@@ -18,8 +18,9 @@
  * Any number of threads may call at the same time, and each call works on its own thread alone, but
  * for the five calls at the end: with those several threads may work the lanes of one tag.
  * Nothing stays after a call but cleared memory, which the next calls take again: as much as calls
- * took at one time, and 64 MiB at most. Tools count it as the process's own until the system, when
- * it is short of memory, takes it back by itself; rigzumal_trim gives it back at once.
+ * took at one time, and 64 MiB at most, or as much as rigzumal_keep or RIGZUMAL_KEEP in the
+ * environment say. Tools count it as the process's own until the system, when it is short of
+ * memory, takes it back by itself; rigzumal_trim gives it back at once.
  *
  * Memory is cleared as it is given back; the stack below the call, 22 KiB of it, and all vector
  * registers that the processor has are cleared after each call. Blocks of 64 KiB and more are in no
@@ -126,6 +127,16 @@ const char *rigzumal_version(void);
  * has. Calls that are under way keep theirs. It is for a program that hashes seldom: the next call
  * has the system map and clear its memory anew, which takes longer. */
 size_t rigzumal_trim(void);
+
+/* Has at most so many bytes kept from now on, in whole huge pages of 2 MiB: 0 keeps nothing, and
+ * 134217728 keeps the table of RIGZUMAL_SCRYPT_COSTS. Gives back what is kept, and answers the
+ * bound that there was. At the start the bound is what RIGZUMAL_KEEP says in bytes, or 64 MiB. */
+size_t rigzumal_keep(size_t most);
+
+/* The same of libargon2.so.1, the drop-in library, which has its own memory and no other call of
+ * this header. */
+size_t rigzumal_libargon2_trim(void);
+size_t rigzumal_libargon2_keep(size_t most);
 
 /* What a fault means in words, and its name in one word, as "mismatch". Never null. */
 const char *rigzumal_strerror(int fault);

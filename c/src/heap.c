@@ -2,9 +2,10 @@
  * that of lanes.c.
  *
  * Every block is cleared as it is given back. Small blocks come from the C library. Large ones are
- * cut one behind another from areas of huge pages, so that many lanes get huge pages too. Four
- * areas, cleared, are kept for the next call of any thread: a hash of up to 64 MiB maps nothing,
- * and the system has no page to clear for it.
+ * cut one behind another from areas of huge pages, so that many lanes get huge pages too; what is
+ * larger than such an area has one of its own. Cleared areas, of 64 MiB in all or what the program
+ * says, are kept for the next call of any thread: it maps nothing, and the system has no page to
+ * clear for it.
  *
  * What is given back was taken on the same thread, in the same call: the table of blocks is the
  * thread's own, and is gone when the call is over. Sizes stand in that table and not before the
@@ -24,63 +25,184 @@ enum { KIB = 1024, MIB = 1024 * KIB };
 #define HUGE_PAGE ((size_t)2 * MIB)
 #define AREA ((size_t)16 * MIB)
 #define LEAST_ALIGN ((size_t)64)
-enum { KEPT_AREAS = 4 };
 
 static size_t rounded_up(size_t size, size_t unit) {
     return (size + unit - 1) / unit * unit;
 }
 
-/* Areas: mappings that begin at a multiple of AREA. */
+/* Areas: mappings of whole huge pages. One number stands for an area: its start, which is a
+ * multiple of a huge page, and in the bits below how many huge pages it has. No area is 0. */
 
-static _Atomic(unsigned char *) kept_areas[KEPT_AREAS];
+typedef uintptr_t area;
 
-static unsigned char *map_area(size_t size) {
-    if (size > PTRDIFF_MAX - 2 * AREA)
-        return NULL;
+static area area_at(unsigned char *start, size_t size) {
+    return (area)start + size / HUGE_PAGE;
+}
+
+static unsigned char *start_of(area it) {
+    return (unsigned char *)(it / HUGE_PAGE * HUGE_PAGE);
+}
+
+static size_t size_of(area it) {
+    return it % HUGE_PAGE * HUGE_PAGE;
+}
+
+static area map_area(size_t size) {
+    if (size > PTRDIFF_MAX - 2 * HUGE_PAGE)
+        return 0;
     unsigned char *mapping =
-        mmap(NULL, size + AREA, PROT_READ | PROT_WRITE, MAP_PRIVATE | MAP_ANONYMOUS, -1, 0);
+        mmap(NULL, size + HUGE_PAGE, PROT_READ | PROT_WRITE, MAP_PRIVATE | MAP_ANONYMOUS, -1, 0);
     if (mapping == MAP_FAILED)
-        return NULL;
-    size_t before = (AREA - (uintptr_t)mapping % AREA) % AREA;
+        return 0;
+    size_t before = (HUGE_PAGE - (uintptr_t)mapping % HUGE_PAGE) % HUGE_PAGE;
     if (before > 0)
         munmap(mapping, before);
-    munmap(mapping + before + size, AREA - before);
+    munmap(mapping + before + size, HUGE_PAGE - before);
     madvise(mapping + before, size, MADV_HUGEPAGE);
     madvise(mapping + before, size, MADV_DONTDUMP);
     madvise(mapping + before, size, MADV_WIPEONFORK);
-    return mapping + before;
+    return area_at(mapping + before, size);
 }
 
-static unsigned char *take_area(void) {
-    for (int i = 0; i < KEPT_AREAS; i++) {
-        unsigned char *area = atomic_exchange(&kept_areas[i], NULL);
-        if (area != NULL)
-            return area;
-    }
-    return map_area(AREA);
+static void unmap_area(area it) {
+    if (it != 0)
+        munmap(start_of(it), size_of(it));
 }
 
-/* Keeps a cleared area, whose pages the system may take back: they read as zero either way. */
-static void give_area(unsigned char *area) {
-    madvise(area, AREA, MADV_FREE);
-    for (int i = 0; i < KEPT_AREAS; i++) {
-        unsigned char *none = NULL;
-        if (atomic_compare_exchange_strong(&kept_areas[i], &none, area))
-            return;
+/* The areas that are kept, and how many bytes they have: never more than the most, but for a moment
+ * after it is lowered. An area's bytes are counted before it is put into its place, and until it is
+ * taken out. */
+
+enum { PLACES = 4 };
+static _Atomic(area) kept_areas[PLACES];
+static atomic_size_t kept, most_kept = 64 * MIB;
+
+/* Takes out the smallest of the kept areas that have so many bytes; 0 if there is none. */
+static area take_kept(size_t size) {
+    for (;;) {
+        area least = 0;
+        int place = 0;
+        for (int i = 0; i < PLACES; i++) {
+            area it = atomic_load(&kept_areas[i]);
+            if (it != 0 && size_of(it) >= size && (least == 0 || size_of(it) < size_of(least))) {
+                least = it;
+                place = i;
+            }
+        }
+        if (least == 0)
+            return 0;
+        if (atomic_compare_exchange_strong(&kept_areas[place], &least, 0)) {
+            atomic_fetch_sub(&kept, size_of(least));
+            return least;
+        }
     }
-    munmap(area, AREA);
+}
+
+static bool count_kept(size_t size) {
+    size_t before = atomic_load(&kept);
+    while (before + size <= atomic_load(&most_kept))
+        if (atomic_compare_exchange_weak(&kept, &before, before + size))
+            return true;
+    return false;
+}
+
+static bool put_kept(area it) {
+    if (!count_kept(size_of(it)))
+        return false;
+    for (int i = 0; i < PLACES; i++) {
+        area none = 0;
+        if (atomic_compare_exchange_strong(&kept_areas[i], &none, it))
+            return true;
+    }
+    atomic_fetch_sub(&kept, size_of(it));
+    return false;
 }
 
 size_t unmap_kept_areas(void) {
     size_t unmapped = 0;
-    for (int i = 0; i < KEPT_AREAS; i++) {
-        unsigned char *area = atomic_exchange(&kept_areas[i], NULL);
-        if (area == NULL)
+    for (int i = 0; i < PLACES; i++) {
+        area it = atomic_exchange(&kept_areas[i], 0);
+        if (it == 0)
             continue;
-        munmap(area, AREA);
-        unmapped += AREA;
+        atomic_fetch_sub(&kept, size_of(it));
+        unmap_area(it);
+        unmapped += size_of(it);
     }
     return unmapped;
+}
+
+/* The first bytes of an area, of which the others are unmapped; 0 if none are left. */
+static area cut_area(area it, size_t size) {
+    if (size_of(it) <= size)
+        return it;
+    munmap(start_of(it) + size, size_of(it) - size);
+    return size == 0 ? 0 : area_at(start_of(it), size);
+}
+
+/* Keeps a cleared area, or as much of it as may be kept, in the place of smaller ones if need be.
+ * The system may take its pages back: they read as zero either way. */
+static void give_area(area it) {
+    it = cut_area(it, atomic_load(&most_kept));
+    if (it == 0)
+        return;
+    madvise(start_of(it), size_of(it), MADV_FREE);
+    while (!put_kept(it)) {
+        area other = take_kept(0);
+        unmap_area(other != 0 ? other : it);
+        if (other == 0)
+            return;
+    }
+    if (atomic_load(&kept) > atomic_load(&most_kept)) /* it was lowered meanwhile */
+        unmap_kept_areas();
+}
+
+/* Has the pages of a kept area be the first of a new one, which is larger. Where that fails the
+ * system may have unmapped those that they were to replace, and another thread may have mapped
+ * there since: so much is left as it is. */
+static area grown_area(area it, area kept_one) {
+    unsigned char *start = start_of(it);
+    size_t moved = size_of(kept_one);
+    if (mremap(start_of(kept_one), moved, moved, MREMAP_MAYMOVE | MREMAP_FIXED, start) !=
+        MAP_FAILED)
+        return it;
+    unmap_area(kept_one);
+    munmap(start + moved, size_of(it) - moved);
+    return 0;
+}
+
+static area new_area(size_t size) {
+    area it = map_area(size);
+    size_t most = atomic_load(&most_kept);
+    area kept_one = it != 0 && most > 0 && size > most ? take_kept(most) : 0;
+    return kept_one == 0 ? it : grown_area(it, kept_one);
+}
+
+/* A kept area, or a new one; if need be one in the place of all that are kept. */
+static area take_area(size_t size) {
+    area it = take_kept(size);
+    if (it == 0)
+        it = new_area(size);
+    if (it != 0)
+        return it;
+    unmap_kept_areas();
+    return map_area(size);
+}
+
+size_t keep_at_most(size_t size) {
+    size_t before = atomic_exchange(&most_kept, size / HUGE_PAGE * HUGE_PAGE);
+    unmap_kept_areas();
+    return before;
+}
+
+/* The environment's bound, in bytes; what is no number is passed over. */
+__attribute__((constructor)) static void read_bound(void) {
+    const char *text = secure_getenv("RIGZUMAL_KEEP");
+    if (text == NULL || *text < '0' || *text > '9')
+        return;
+    char *end;
+    unsigned long long size = strtoull(text, &end, 10);
+    if (*end == '\0')
+        keep_at_most(size);
 }
 
 __attribute__((destructor)) static void leave_nothing(void) {
@@ -89,19 +211,17 @@ __attribute__((destructor)) static void leave_nothing(void) {
 
 /* The blocks that this thread has taken, the newest last. */
 
-enum origin { FROM_LIBRARY, FROM_AREA, OWN_AREA };
-
 struct block {
     unsigned char *start;
     size_t size;
-    enum origin origin;
+    area area; /* 0: it is the C library's */
 };
 
 static _Thread_local struct {
     struct block *blocks;
     size_t count, room;
-    unsigned char *area; /* the one that blocks are cut from, or null */
-    size_t used;         /* how many of its bytes are cut off */
+    area area;   /* the one that blocks are cut from, or 0 */
+    size_t used; /* how many of its bytes are cut off */
 } taken;
 
 static bool has_room_for_block(void) {
@@ -128,18 +248,22 @@ static struct block library_block(size_t size) {
     void *start = NULL;
     if (posix_memalign(&start, LEAST_ALIGN, size) != 0)
         start = NULL;
-    return (struct block){start, size, FROM_LIBRARY};
+    return (struct block){start, size, 0};
 }
 
-static struct block area_block(size_t size) {
-    if (taken.area == NULL || size > AREA - taken.used) {
-        unsigned char *area = take_area();
-        if (area == NULL)
-            return library_block(size);
-        taken.area = area;
+/* A block of an area that others are cut from too. Where there is no room for such an area it is as
+ * small as it can be. */
+static struct block cut_block(size_t size) {
+    if (taken.area == 0 || size > size_of(taken.area) - taken.used) {
+        area it = take_area(AREA);
+        if (it == 0)
+            it = take_area(rounded_up(size, HUGE_PAGE));
+        if (it == 0)
+            return (struct block){NULL, 0, 0};
+        taken.area = it;
         taken.used = 0;
     }
-    struct block block = {taken.area + taken.used, size, FROM_AREA};
+    struct block block = {start_of(taken.area) + taken.used, size, taken.area};
     taken.used += rounded_up(size, LEAST_ALIGN);
     return block;
 }
@@ -148,34 +272,28 @@ static struct block new_block(size_t size) {
     if (size < LEAST_LARGE)
         return library_block(size);
     if (size <= AREA)
-        return area_block(size);
-    size_t whole = rounded_up(size, HUGE_PAGE);
-    return (struct block){map_area(whole), whole, OWN_AREA};
+        return cut_block(size);
+    area it = take_area(rounded_up(size, HUGE_PAGE));
+    return (struct block){start_of(it), size, it};
 }
 
-static unsigned char *area_of(const unsigned char *start) {
-    return (unsigned char *)((uintptr_t)start / AREA * AREA);
-}
-
-static bool is_area_in_use(const unsigned char *area) {
+static bool is_area_in_use(area it) {
     for (size_t i = 0; i < taken.count; i++)
-        if (taken.blocks[i].origin == FROM_AREA && area_of(taken.blocks[i].start) == area)
+        if (taken.blocks[i].area == it)
             return true;
     return false;
 }
 
 /* Gives back a block of an area, which is no longer in the table. */
 static void give_area_block(struct block block) {
-    unsigned char *area = area_of(block.start);
-    bool is_newest = area == taken.area &&
-                     block.start + rounded_up(block.size, LEAST_ALIGN) == area + taken.used;
-    if (is_newest)
-        taken.used = (size_t)(block.start - area);
-    if (is_area_in_use(area))
+    size_t at = (size_t)(block.start - start_of(block.area));
+    if (block.area == taken.area && at + rounded_up(block.size, LEAST_ALIGN) == taken.used)
+        taken.used = at;
+    if (is_area_in_use(block.area))
         return;
-    if (area == taken.area)
-        taken.area = NULL;
-    give_area(area);
+    if (block.area == taken.area)
+        taken.area = 0;
+    give_area(block.area);
 }
 
 /* What the proved code calls. An answer that isn't ok has a pointer that isn't null all the same.
@@ -221,12 +339,10 @@ static struct block struck_out(const void *start) {
 
 /* Gives back a block that is cleared, and no longer in the table. */
 static void give_back(struct block block) {
-    if (block.origin == FROM_LIBRARY)
+    if (block.area == 0)
         free(block.start);
-    else if (block.origin == FROM_AREA)
-        give_area_block(block);
     else
-        munmap(block.start, block.size);
+        give_area_block(block);
     free_empty_table();
 }
 
@@ -249,7 +365,7 @@ void *take_zeros(size_t size) {
     struct tried tried = rattle_alloc(size, LEAST_ALIGN);
     if (!tried.ok)
         return NULL;
-    if (taken.blocks[taken.count - 1].origin == FROM_LIBRARY) /* areas are zero */
+    if (taken.blocks[taken.count - 1].area == 0) /* the others are zero */
         memset(tried.start, 0, size);
     return tried.start;
 }

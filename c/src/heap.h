@@ -14,4 +14,8 @@ void give_zeros(void *start);
 /* Gives the kept areas back to the system: how many bytes they have. */
 size_t unmap_kept_areas(void);
 
+/* Has at most so many bytes kept from now on, and gives all that is kept back: how many could be
+ * kept before. */
+size_t keep_at_most(size_t size);
+
 #endif

@@ -7,11 +7,12 @@
  * tags are proved all the same. Lanes are worked by as many threads as the context has, as the
  * original does, or as are of use; one that can't be started is no fault. A context's callbacks
  * give the memory and get it back cleared; without them up to 64 MiB, cleared, are kept for the
- * next call. The inputs may overlap what is written, but not one another where flags have one of
- * them cleared. */
+ * next call, as rigzumal.h says. The inputs may overlap what is written, but not one another where
+ * flags have one of them cleared. */
 #define _GNU_SOURCE
 #include "libargon2.h"
 
+#include "heap.h"
 #include "rigzumal.h"
 #include "secrets.h"
 #include "with_threads.h"
@@ -263,3 +264,11 @@ PUBLIC int argon2_verify(const char *encoded, const void *pwd, size_t pwdlen, ar
 CALLS_OF(argon2d, Argon2_d)
 CALLS_OF(argon2i, Argon2_i)
 CALLS_OF(argon2id, Argon2_id)
+
+PUBLIC size_t rigzumal_libargon2_trim(void) {
+    return unmap_kept_areas();
+}
+
+PUBLIC size_t rigzumal_libargon2_keep(size_t most) {
+    return keep_at_most(most);
+}

@@ -15,6 +15,10 @@ size_t rigzumal_trim(void) {
     return unmap_kept_areas();
 }
 
+size_t rigzumal_keep(size_t most) {
+    return keep_at_most(most);
+}
+
 /* Clears what a call left, and hands its answer on. */
 static int cleared(uint8_t answer) {
     clear_traces();

@@ -1,6 +1,6 @@
-/* Kept areas go to one thread at a time, and none is lost. heap.c is built over
- * tests/slow_atomics.h, so that a thread rests before each step on the kept areas: what isn't one
- * step is met by another thread. */
+/* Kept areas go to one thread at a time, none is lost, and none is kept over the bound. heap.c is
+ * built over tests/slow_atomics.h, so that a thread rests before each step on the kept areas: what
+ * isn't one step is met by another thread. */
 #define _GNU_SOURCE
 #include "check.h"
 #include "heap.h"
@@ -23,6 +23,15 @@ void rattle_dealloc(void *start);
 enum { THREADS = 8, TURNS = 150, SIZE = 64 * 1024, AREA = 16 * 1024 * 1024, KEPT = 4 * AREA };
 
 static _Atomic(size_t) mapped;
+
+/* How many steps this thread makes before the bound is lowered, or -1. */
+static _Thread_local int steps_to_lowering = -1;
+
+void rest(void) {
+    if (steps_to_lowering >= 0 && steps_to_lowering-- == 0)
+        keep_at_most(0);
+    usleep(20);
+}
 
 void *__real_mmap(void *at, size_t size, int protection, int flags, int file, off_t offset);
 void *__wrap_mmap(void *at, size_t size, int protection, int flags, int file, off_t offset);
@@ -77,6 +86,17 @@ static void *work(void *number) {
     return NULL;
 }
 
+/* What is given back while the bound is lowered isn't kept, before whichever step that is. */
+static void lower_bound(void) {
+    for (int step = 0; steps_to_lowering < 0; step++) {
+        keep_at_most(KEPT);
+        void *block = rattle_alloc(SIZE, 8).start;
+        steps_to_lowering = step;
+        rattle_dealloc(block);
+        CHECK(steps_to_lowering < 0 ? mapped == 0 : step > 4); /* to the last step */
+    }
+}
+
 int main(void) {
     pthread_t threads[THREADS], giver;
     int numbers[THREADS];
@@ -90,5 +110,6 @@ int main(void) {
     CHECK(pthread_join(giver, NULL) == 0);
     CHECK(mapped <= KEPT);
     CHECK(unmap_kept_areas() <= KEPT && mapped == 0);
+    lower_bound();
     return 0;
 }

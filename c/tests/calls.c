@@ -504,6 +504,16 @@ static void test_trim(void) {
     }
 }
 
+/* The bound is answered as it is replaced, and what is kept goes. */
+static void test_keep(void) {
+    enum { MIB = 1024 * 1024 };
+    CHECK_NUMBER(rigzumal_check(records[0], "password", 8), RIGZUMAL_OK);
+    CHECK(rigzumal_keep(0) == 64 * MIB && rigzumal_trim() == 0);
+    CHECK_NUMBER(rigzumal_check(records[0], "password", 8), RIGZUMAL_OK);
+    CHECK(rigzumal_trim() == 0);
+    CHECK(rigzumal_keep(64 * MIB) == 0);
+}
+
 int main(void) {
     test_secrets();
     test_faults_with_secrets();
@@ -524,5 +534,6 @@ int main(void) {
     test_bad_parts_of_records();
     test_words();
     test_trim();
+    test_keep();
     return 0;
 }

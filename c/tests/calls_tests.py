@@ -150,14 +150,15 @@ def test_symbols():
     declared = set(
         re.findall(r"^(?:int|size_t|const char \*)\s*(rigzumal_\w+)\(", header, re.MULTILINE)
     )
+    added = {it for it in declared if it.startswith("rigzumal_libargon2_")}
     ours = shown(OUT / "librigzumal.so.1") - {"RIGZUMAL_1"}
-    if ours != declared:
+    if ours != declared - added:
         raise Failed(str(ours ^ declared))
     for name in ("librigzumal.so.1", "libargon2.so.1"):
         if f"[{name}]" not in run("readelf", "-d", OUT / name):
             raise Failed(f"{name} has another soname")
     ours = shown(OUT / "libargon2.so.1")
-    if len(ours) != 22:
+    if len(added) != 2 or not added < ours or len(ours) != 22 + len(added):
         raise Failed(str(ours))
-    if ORIGINAL.exists() and ours != shown(ORIGINAL):
+    if ORIGINAL.exists() and ours - added != shown(ORIGINAL):
         raise Failed(str(ours ^ shown(ORIGINAL)))

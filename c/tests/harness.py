@@ -36,7 +36,7 @@ VALGRIND = "valgrind -q --error-exitcode=9 --leak-check=full --errors-for-leak-k
 
 # The functions that the linker puts before those of the C library, or of this one.
 WRAPPED = {
-    "heap": "posix_memalign free realloc mmap munmap madvise",
+    "heap": "posix_memalign free realloc mmap mremap munmap madvise",
     "refused": "posix_memalign malloc realloc mmap",
     "areas": "mmap munmap madvise",
     "drawn_salts": "getrandom",

@@ -22,15 +22,19 @@ struct tried rattle_alloc(size_t size, size_t align);
 struct tried rattle_realloc(void *old, size_t kept, size_t size, size_t align);
 void rattle_dealloc(void *start);
 
-enum { KIB = 1024, MIB = 1024 * KIB, BLOCKS = 24, STEPS = 1200, AREA = 16 * MIB, KEPT = 4 * AREA };
+enum { KIB = 1024, MIB = 1024 * KIB, BLOCKS = 24, STEPS = 1200 };
+enum { HUGE_PAGE = 2 * MIB, AREA = 16 * MIB, KEPT = 4 * AREA };
 
-static size_t mapped;
-static bool is_refusing, is_refusing_maps, is_refusing_tables;
+static size_t mapped, moved;
+static size_t most_mapped = SIZE_MAX; /* more is refused */
+static bool is_refusing, is_refusing_moves, is_refusing_tables;
 
 int __real_posix_memalign(void **start, size_t align, size_t size);
 int __wrap_posix_memalign(void **start, size_t align, size_t size);
 void *__real_mmap(void *at, size_t size, int protection, int flags, int file, off_t offset);
 void *__wrap_mmap(void *at, size_t size, int protection, int flags, int file, off_t offset);
+void *__real_mremap(void *old, size_t size, size_t new_size, int flags, void *to);
+void *__wrap_mremap(void *old, size_t size, size_t new_size, int flags, void *to);
 int __real_munmap(void *start, size_t size);
 int __wrap_munmap(void *start, size_t size);
 int __real_madvise(void *start, size_t size, int advice);
@@ -74,10 +78,19 @@ void *__wrap_realloc(void *start, size_t size) {
 }
 
 void *__wrap_mmap(void *at, size_t size, int protection, int flags, int file, off_t offset) {
-    if (is_refusing_maps)
+    if (mapped + size > most_mapped)
         return MAP_FAILED;
     mapped += size;
     return __real_mmap(at, size, protection, flags, file, offset);
+}
+
+void *__wrap_mremap(void *old, size_t size, size_t new_size, int flags, void *to) {
+    CHECK(new_size == size && is_all(old, 0, 4096));
+    if (is_refusing_moves)
+        return MAP_FAILED;
+    mapped -= size; /* they take the place of as many */
+    moved += size;
+    return __real_mremap(old, size, new_size, flags, to);
 }
 
 int __wrap_munmap(void *start, size_t size) {
@@ -167,7 +180,7 @@ static void try_changed_sizes(void) {
             CHECK(moved.ok);
             if (sizes[from] < 64 * KIB) /* it was the C library's: __wrap_free has looked at it */
                 CHECK(freed == freed_before + 1);
-            else if (sizes[from] <= 16 * MIB) /* a kept area, or the one that is in use */
+            else /* a kept area, or the one that is in use */
                 CHECK(is_all(old.start, 0, sizes[from]) || moved.start == old.start);
             size_t kept = sizes[from] < sizes[to] ? sizes[from] : sizes[to];
             CHECK(is_all(moved.start, 0x77, kept));
@@ -198,24 +211,24 @@ static bool is_advised(int advice, const unsigned char *start, size_t size) {
     return it->times == 1 && it->start <= start && start + size <= it->start + it->size;
 }
 
-/* The whole of a new mapping is to have huge pages, once; the system may have the pages of a kept
- * area; and a block of its own is unmapped. */
+/* The whole of a new mapping is to have huge pages, once; the system may have the pages of what is
+ * kept; and the rest is unmapped. */
 static void try_advice(void) {
-    static const size_t sizes[] = {64 * KIB, 5 * MIB, 16 * MIB, 40 * MIB};
+    static const size_t sizes[] = {64 * KIB, 5 * MIB, 16 * MIB, 40 * MIB, 64 * MIB, 70 * MIB};
     for (size_t i = 0; i < sizeof sizes / sizeof sizes[0]; i++) {
         unmap_kept_areas();
         CHECK(mapped == 0);
         memset(advised, 0, sizeof advised);
         struct tried tried = rattle_alloc(sizes[i], 8);
         size_t whole = sizes[i] <= AREA ? AREA : sizes[i];
-        CHECK(tried.ok && mapped == whole && (uintptr_t)tried.start % AREA == 0);
+        CHECK(tried.ok && mapped == whole && (uintptr_t)tried.start % HUGE_PAGE == 0);
         CHECK(is_advised(MADV_HUGEPAGE, tried.start, whole));
         CHECK(is_advised(MADV_DONTDUMP, tried.start, whole));
         CHECK(is_advised(MADV_WIPEONFORK, tried.start, whole));
         CHECK(advised[MADV_FREE].times == 0);
         rattle_dealloc(tried.start);
-        CHECK(whole == AREA ? is_advised(MADV_FREE, tried.start, AREA) && mapped == AREA
-                            : advised[MADV_FREE].times == 0 && mapped == 0);
+        size_t rest = whole < KEPT ? whole : KEPT;
+        CHECK(is_advised(MADV_FREE, tried.start, rest) && mapped == rest);
     }
 }
 
@@ -258,26 +271,131 @@ static void try_giving_some_back(void) {
     }
 }
 
-/* As many areas as are kept are taken again, with no mapping. */
+/* Takes so many blocks of a size and gives them back: nothing else is kept then. */
+static void keep_blocks(int blocks, size_t size) {
+    unsigned char *taken[4];
+    unmap_kept_areas();
+    for (int i = 0; i < blocks; i++)
+        taken[i] = rattle_alloc(size, 8).start;
+    for (int i = 0; i < blocks; i++)
+        rattle_dealloc(taken[i]);
+    CHECK(mapped == blocks * size);
+}
+
+/* As many as are kept are taken again, with no mapping: blocks of an area and larger ones. */
 static void try_kept_areas(void) {
-    unsigned char *first[4], *second[4];
-    for (int i = 0; i < 4; i++)
-        first[i] = rattle_alloc(AREA, 8).start;
-    for (int i = 0; i < 4; i++)
-        rattle_dealloc(first[i]);
-    is_refusing_maps = true;
-    for (int i = 0; i < 4; i++) {
-        second[i] = take_zeros(AREA);
-        CHECK((uintptr_t)second[i] % AREA == 0 && is_all(second[i], 0, AREA));
-        bool is_known = false;
-        for (int j = 0; j < 4; j++)
-            is_known |= second[i] == first[j];
-        CHECK(is_known);
+    static const struct {
+        int blocks;
+        size_t size;
+    } tried[] = {{4, AREA}, {2, 2 * AREA}, {1, 40 * MIB}, {1, KEPT}};
+    for (size_t i = 0; i < sizeof tried / sizeof tried[0]; i++) {
+        unsigned char *taken[4];
+        keep_blocks(tried[i].blocks, tried[i].size);
+        most_mapped = mapped;
+        for (int j = 0; j < tried[i].blocks; j++) {
+            taken[j] = take_zeros(tried[i].size);
+            CHECK(taken[j] != NULL && is_all(taken[j], 0, tried[i].size));
+        }
+        most_mapped = SIZE_MAX;
+        for (int j = 0; j < tried[i].blocks; j++)
+            give_zeros(taken[j]);
+        CHECK(mapped == tried[i].blocks * tried[i].size);
     }
-    is_refusing_maps = false;
-    for (int i = 0; i < 4; i++)
-        give_zeros(second[i]);
-    CHECK(mapped == KEPT);
+}
+
+/* The smallest area that is large enough is taken, and the others stay for what needs them. */
+static void try_smallest_area(void) {
+    unmap_kept_areas();
+    unsigned char *large = rattle_alloc(40 * MIB, 8).start, *small = rattle_alloc(AREA, 8).start;
+    rattle_dealloc(large);
+    rattle_dealloc(small);
+    CHECK(rattle_alloc(AREA, 8).start == small && rattle_alloc(20 * MIB, 8).start == large);
+    rattle_dealloc(large);
+    rattle_dealloc(small);
+    CHECK(unmap_kept_areas() == 40 * MIB + AREA && mapped == 0);
+}
+
+/* What is given back last is kept, in the place of the smallest where there is no room for all. */
+static void try_replaced_areas(void) {
+    unsigned char *first[3], *last = rattle_alloc(30 * MIB, 8).start;
+    for (int i = 0; i < 3; i++)
+        first[i] = rattle_alloc((size_t)(16 + 2 * i) * MIB, 8).start;
+    for (int i = 0; i < 3; i++)
+        rattle_dealloc(first[i]);
+    rattle_dealloc(last);
+    CHECK(mapped == 50 * MIB);
+    CHECK(rattle_alloc(30 * MIB, 8).start == last && rattle_alloc(20 * MIB, 8).start == first[2]);
+    rattle_dealloc(last);
+    rattle_dealloc(first[2]);
+}
+
+/* The pages that are kept of a larger block are the first of the next one: cleared, and with one
+ * mapping for all. Where they can't be moved the block is a new one. */
+static void try_grown_areas(void) {
+    unmap_kept_areas();
+    for (int turn = 0; turn < 4; turn++) {
+        moved = 0;
+        is_refusing_moves = turn == 3;
+        unsigned char *start = take_zeros(100 * MIB);
+        CHECK(moved == (turn == 1 || turn == 2 ? KEPT : 0));
+        CHECK(is_all(start, 0, 100 * MIB) && (uintptr_t)start % HUGE_PAGE == 0);
+        char flags[512];
+        for (size_t at = 0; at < 100 * MIB; at += 99 * MIB) {
+            read_flags(start + at, flags, sizeof flags);
+            CHECK(strstr(flags, " dd") != NULL && strstr(flags, " wf") != NULL);
+        }
+        memset(start, 1, 100 * MIB);
+        rattle_dealloc(start);
+        CHECK(mapped == (turn == 3 ? 2 * KEPT : KEPT)); /* those that were not moved are left */
+    }
+    is_refusing_moves = false;
+    mapped -= KEPT;
+}
+
+/* A program may keep more, less, or nothing. What is kept is given back as it says so. */
+static void try_bounds(void) {
+    static const struct {
+        size_t bound, kept;
+    } bounds[] = {{0, 0},
+                  {HUGE_PAGE - 1, 0},
+                  {HUGE_PAGE, HUGE_PAGE},
+                  {20 * MIB + 5, 20 * MIB},
+                  {SIZE_MAX, 100 * MIB}};
+    keep_blocks(4, AREA);
+    CHECK(keep_at_most(0) == KEPT && mapped == 0);
+    for (size_t i = 0; i < sizeof bounds / sizeof bounds[0]; i++) {
+        keep_at_most(bounds[i].bound);
+        unsigned char *block = rattle_alloc(100 * MIB, 8).start;
+        memset(block, 1, 100 * MIB);
+        rattle_dealloc(block);
+        CHECK(mapped == bounds[i].kept);
+        CHECK(keep_at_most(0) == bounds[i].bound / HUGE_PAGE * HUGE_PAGE && mapped == 0);
+    }
+    keep_at_most(KEPT);
+    keep_blocks(4, AREA);
+}
+
+/* Where no area can be mapped large blocks have as little as they need, with the same flags, and
+ * what is kept is given up for one that would else be refused. */
+static void try_little_room(void) {
+    unmap_kept_areas();
+    most_mapped = 3 * HUGE_PAGE;
+    unsigned char *first = take_zeros(64 * KIB), *second = take_zeros(HUGE_PAGE);
+    CHECK(first != NULL && second != NULL && mapped == 2 * HUGE_PAGE);
+    char flags[512];
+    read_flags(second, flags, sizeof flags);
+    CHECK(strstr(flags, " dd") != NULL && strstr(flags, " wf") != NULL);
+    CHECK(take_zeros(HUGE_PAGE) == NULL); /* its start is to be aligned */
+    give_zeros(first);
+    give_zeros(second);
+    most_mapped = SIZE_MAX;
+    keep_blocks(2, AREA);
+    most_mapped = 24 * MIB;
+    unsigned char *larger = take_zeros(20 * MIB);
+    CHECK(larger != NULL && mapped == 20 * MIB);
+    give_zeros(larger);
+    most_mapped = SIZE_MAX;
+    keep_blocks(4, AREA);
 }
 
 /* What was given back last is taken again first, while another block stands below it, whatever its
@@ -294,23 +412,21 @@ static void try_used_again(void) {
     }
 }
 
-/* Memory for those who clear it themselves is zero wherever it is from. Of the four of 16 MiB the
- * last has no area. */
+/* Memory for those who clear it themselves is zero wherever it is from. */
 static void try_zeros(void) {
-    static const size_t sizes[] = {1024,     48 * KIB, 64 * KIB, 5 * MIB, 16 * MIB,
-                                   16 * MIB, 16 * MIB, 16 * MIB, 1024,    40 * MIB};
+    static const size_t sizes[] = {1024,     48 * KIB, 64 * KIB, 5 * MIB,
+                                   16 * MIB, 16 * MIB, 1024,     40 * MIB};
     enum { SIZES = sizeof sizes / sizeof sizes[0] };
     unsigned char *taken[SIZES];
     for (int i = 0; i < SIZES; i++) {
-        is_refusing_maps = i < SIZES - 1;
         taken[i] = take_zeros(sizes[i]);
         CHECK(taken[i] != NULL && (uintptr_t)taken[i] % 64 == 0);
         CHECK(is_all(taken[i], 0, sizes[i]));
         memset(taken[i], i + 1, sizes[i]);
     }
-    is_refusing_maps = true;
-    CHECK(take_zeros(17 * MIB) == NULL);
-    is_refusing_maps = false;
+    most_mapped = mapped;
+    CHECK(take_zeros(17 * MIB) == NULL && take_zeros(AREA) == NULL);
+    most_mapped = SIZE_MAX;
     for (int i = 0; i < SIZES; i++) {
         CHECK(is_all(taken[i], i + 1, sizes[i]));
         memset(taken[i], 0, sizes[i]);
@@ -377,7 +493,7 @@ int main(void) {
             check_block(&blocks[i]);
             rattle_dealloc(blocks[i].start);
         }
-    CHECK(mapped == KEPT);
+    CHECK(mapped <= KEPT && mapped >= KEPT / 2);
     try_changed_sizes();
     try_flags();
     try_zeros();
@@ -385,6 +501,11 @@ int main(void) {
     try_giving_back();
     try_giving_some_back();
     try_kept_areas();
+    try_smallest_area();
+    try_replaced_areas();
+    try_grown_areas();
+    try_bounds();
+    try_little_room();
     try_used_again();
     try_many_blocks();
     try_refused_growth();

@@ -7,10 +7,13 @@ from harness import (
     SANITIZED,
     SOURCES,
     VALGRIND,
+    Failed,
     built,
     need,
     run,
 )
+
+MIB = 1024 * 1024
 
 
 def test_heap():
@@ -21,6 +24,22 @@ def test_heap():
 def test_kept_areas():
     """Kept areas go to one thread at a time."""
     run(built("areas", ["-O1", "-include", "tests/slow_atomics.h"], ["src/heap.c"]))
+
+
+def test_kept_memory():
+    """What is kept after calls of each size: up to 64 MiB, or what the environment says."""
+    program = built("kept", ["-O2"], ["out/librigzumal.so", f"-Wl,-rpath,{OUT}"])
+    for bound, kept in (
+        (None, "16 32 64 60 64"),
+        ("0", "0 0 0 0 0"),
+        (str(20 * MIB), "16 20 20 20 20"),
+        (str(128 * MIB), "16 32 64 80 128"),
+        ("16M", "16 32 64 60 64"),  # no number, and passed over
+        ("", "16 32 64 60 64"),
+    ):
+        found = run(program, env={} if bound is None else {"RIGZUMAL_KEEP": bound}).strip()
+        if found != kept:
+            raise Failed(f"RIGZUMAL_KEEP={bound}: {found}, and not {kept}")
 
 
 def test_forked_children():
