@@ -13,9 +13,9 @@ use crate::scheme::{Scheme, Variant};
 use crate::scratch::Scratch;
 use crate::setting::Setting;
 use crate::tag::{MAX_TAG, Tag};
-use cred_argon::{Kind, Params, Version, argon2, argon2_alone, argon2_in};
+use cred_argon::{Kind, Params, Version, argon2, argon2_in};
 use cred_pool::Gate;
-use cred_scrypt::{ScryptParams, scrypt, scrypt_alone, scrypt_in};
+use cred_scrypt::{ScryptParams, scrypt, scrypt_in};
 use std::alloc::Global;
 use std::marker::Sync;
 use std::thread::Threads;
@@ -93,35 +93,10 @@ pub fn tag_of<R: Threads + Sync, G: Gate + Sync>(
     }
 }
 
-/// The same with all the work done on the caller's thread, so that it needs no runtime, and for a
-/// password of any length that Argon2 takes.
-///
-/// Errors: `Memory` if there is too little for the setting.
-pub fn tag_alone<G: Gate>(
-    alloc: Global,
-    gate: &G,
-    setting: &Setting,
-    len: u8,
-    pw: &[u8],
-) -> Result<Tag, TagError>
-    requires low { 4 ≤ len }
-    requires high { len ≤ 64 }
-    requires password { length pw.now < 2 ^ 32 }
-    ensures made { IfOk result (λ t. t ≡ tag setting.now len pw.now) }
-    ensures ranges { IfOk result IsTag }
-{
-    let salt = setting.salt();
-    match Function::of(setting, len) {
-        Function::Argon2(params) => {
-            tag_made(argon2_alone(alloc, gate, &params, pw, salt, b"", b""))
-        }
-        Function::Scrypt(params) => tag_made(scrypt_alone(alloc, gate, &params, pw, salt)),
-    }
-}
-
-/// The same in memory that is kept from tag to tag. What an earlier tag left there is never read. A
-/// thread that makes many tags so spares the system from taking its memory back each time and
-/// giving it out anew.
+/// The same with all work on the caller's thread, so that no runtime is needed, and for a password
+/// of any length that Argon2 takes. The memory is kept from tag to tag, up to the scratch's bound.
+/// So a thread that makes many tags doesn't have the system take it back each time. A tag never
+/// depends on what an earlier one left there.
 ///
 /// Errors: `Memory` if there is too little for the setting. The scratch is good for the next tag
 /// then, too.

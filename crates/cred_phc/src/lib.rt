@@ -20,7 +20,7 @@ mod write;
 
 pub use cred_argon::Version;
 pub use error::PhcError;
-pub use hashing::{TagError, argon2_params, tag_alone, tag_in, tag_of};
+pub use hashing::{TagError, argon2_params, tag_in, tag_of};
 pub use laws::{
     equal_passwords, equal_records, equal_schemes, equal_settings, equal_tags, equal_variants,
     equal_versions, known_faults, known_texts, old_not_read, one_value_each,
