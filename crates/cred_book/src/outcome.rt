@@ -8,7 +8,7 @@ ghost use denote.Param.Send.{IsSync};
 use crate::reply::Reply;
 use crate::request::Request;
 use crate::ticket::Ticket;
-use cred_phc::{Password, Record, Scratch, Setting, Tag, TagError, tag_alone, tag_in, tag_of};
+use cred_phc::{Password, Record, Scratch, Setting, Tag, TagError, tag_in, tag_of};
 use cred_pool::Gate;
 use std::alloc::Global;
 use std::cell::Cell;
@@ -128,26 +128,9 @@ impl<F: Fn(&Setting, u8, &Password) -> Result<Tag, TagError>> TagMaker for TagFn
     }
 }
 
-/// The caller's thread, which makes tags by itself and so needs no runtime. It works the lanes or
-/// pieces in turn, with the gate around each.
-#[derive(Drop)]
-pub(crate) struct HashingAlone<'a, G> {
-    pub(crate) alloc: Global,
-    pub(crate) gate: &'a G,
-}
-
-impl<G: Gate> TagMaker for HashingAlone<'_, G> {
-    ghost use Rattle.std.specs.Prelude.{⊤};
-
-    ghost ready = { λ _. ⊤ };
-
-    fn tag(&self, setting: &Setting, len: u8, pw: &Password) -> Result<Tag, TagError> {
-        tag_alone(self.alloc, self.gate, setting, len, pw.bytes())
-    }
-}
-
-/// The caller's thread with memory that it keeps from tag to tag. A maker is shared while it makes
-/// a tag, so the memory is in a cell.
+/// The caller's thread, which needs no runtime. It works the lanes or pieces in turn, with the gate
+/// around each, in memory that it keeps from tag to tag. A maker is shared while it makes a tag, so
+/// the memory is in a cell.
 #[derive(Drop)]
 pub(crate) struct HashingIn<'a, G> {
     pub(crate) alloc: Global,

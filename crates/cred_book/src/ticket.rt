@@ -7,7 +7,7 @@ ghost use Rattle.cred_book.specs.Commits.{judgement_at};
 ghost use Rattle.cred_book.specs.Works.{is_verify, whole};
 
 use crate::change::Change;
-use crate::outcome::{Hashing, HashingAlone, HashingIn, Operations, Outcome};
+use crate::outcome::{Hashing, HashingIn, Operations, Outcome};
 use crate::reply::Reply;
 use crate::request::Request;
 use crate::same::is_same;
@@ -80,19 +80,8 @@ impl Ticket {
         self.worked(outcome)
     }
 
-    /// The same with all the hashing on the caller's thread, so that it needs no runtime.
-    ///
-    /// Errors: the ticket comes back if memory runs out.
-    pub fn work_alone<G: Gate>(self, alloc: Global, gate: &G) -> Result<Worked, Ticket>
-        ensures worked { IfOk result (λ worked. worked ≡ self) }
-        ensures back { IfErr result (λ ticket. ticket ≡ self) }
-    {
-        let maker = HashingAlone { alloc, gate };
-        let outcome = Operations { maker }.outcome(&self);
-        self.worked(outcome)
-    }
-
-    /// The same in memory that is kept from hash to hash, for a thread that works many tickets.
+    /// The same on the caller's thread, so that no runtime is needed, in memory that is kept from
+    /// hash to hash.
     ///
     /// Errors: the ticket comes back if memory runs out. The scratch is good for the next ticket
     /// then, too.
