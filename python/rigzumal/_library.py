@@ -4,10 +4,14 @@ from __future__ import annotations
 
 import ctypes
 import os
-import pathlib
-from typing import Any, Final, NamedTuple, Optional, Union
 
-Secret = Union[bytes, str]
+TYPE_CHECKING = False
+if TYPE_CHECKING:
+    from typing import Any, Final, Optional, Union
+
+    from typing_extensions import TypeAlias
+
+Secret: TypeAlias = "Union[bytes, str]"
 """A password or the like: bytes, or text, which stands for its bytes in UTF-8."""
 
 TEXT_SIZE: Final = 513
@@ -50,6 +54,14 @@ class InvalidRecordError(RigzumalError, ValueError):
 class InvalidNumbersError(RigzumalError, ValueError):
     """A cost, a kind, a version or a size is outside its range."""
 
+    def __init__(self, number: int, said: str = "") -> None:
+        super().__init__(number)
+        if said:
+            self.args = (said,)
+
+    def __reduce__(self) -> tuple[Any, ...]:
+        return type(self), (self.number, str(self))
+
 
 class NoRandomError(RigzumalError):
     """The system gave no random bytes for a salt."""
@@ -83,20 +95,22 @@ def bytes_of(secret: Secret) -> bytes:
         except UnicodeEncodeError:
             pass
         raise ValueError("the text has no form in UTF-8")
-    if not isinstance(secret, (bytes, bytearray, memoryview)):
-        raise TypeError(f"bytes or str is wanted, not {type(secret).__name__}")
-    return bytes(secret)
+    return data_of(secret, "bytes or str is")
 
 
-def data_of(data: object) -> bytes:
+def data_of(data: object, wanted: str = "bytes are") -> bytes:
     """The bytes of a salt or the like, which no text stands for.
 
     Raises:
-        TypeError: it isn't bytes, a bytearray or a memoryview.
+        TypeError: it holds no bytes, as bytes, a bytearray, a memoryview or an array do.
     """
-    if not isinstance(data, (bytes, bytearray, memoryview)):
-        raise TypeError(f"bytes are wanted, not {type(data).__name__}")
-    return bytes(data)
+    if isinstance(data, bytes):
+        return data
+    try:
+        return bytes(memoryview(data))  # type: ignore[arg-type]
+    except TypeError:
+        pass
+    raise TypeError(f"{wanted} wanted, not {type(data).__name__}")
 
 
 def text_bytes(text: Secret) -> bytes:
@@ -151,10 +165,12 @@ def _path() -> str:
     named = os.environ.get("RIGZUMAL_LIBRARY")
     if named:
         return named
-    here = pathlib.Path(__file__).resolve().parent
-    for folder in (here, here.parent.parent / "c" / "out"):
-        if (folder / NAME).exists():
-            return str(folder / NAME)
+    here = os.path.dirname(os.path.realpath(__file__))
+    made = os.path.join(os.path.dirname(os.path.dirname(here)), "c", "out")
+    for folder in (here, made):
+        path = os.path.join(folder, NAME)
+        if os.path.exists(path):
+            return path
     return NAME
 
 
@@ -172,6 +188,7 @@ def _load() -> Any:
     data = [pointer, size]
     library.rigzumal_version.restype = pointer
     library.rigzumal_trim.restype = size
+    library.rigzumal_keep.argtypes, library.rigzumal_keep.restype = [size], size
     library.rigzumal_strerror.restype = pointer
     library.rigzumal_word.restype = pointer
     made = data + [size, pointer] + data * 2
@@ -202,10 +219,19 @@ def version() -> str:
 def trim() -> int:
     """Gives the memory that is kept for the next hashes back to the system: how many bytes.
 
-    It is as much as hashes took at one time, and 64 MiB at most. The system takes it by itself when
-    it is short of memory; this is for a program that hashes seldom.
+    It is as much as hashes took at one time, and at most what `keep` says. The system takes it by
+    itself when it is short of memory; this is for a program that hashes seldom.
     """
     return int(_library.rigzumal_trim())
+
+
+def keep(most: int) -> int:
+    """Has at most so many bytes kept from now on; 0 keeps nothing. Answers the bound that there
+    was: 64 MiB, or what RIGZUMAL_KEEP in the environment says."""
+    whole_number("most", most)
+    if not 0 <= most < 2**63:
+        raise OverflowError("most is to be 0 to 2^63 - 1")
+    return int(_library.rigzumal_keep(most))
 
 
 def pair(data: bytes) -> tuple[bytes, int]:
@@ -213,25 +239,21 @@ def pair(data: bytes) -> tuple[bytes, int]:
     return data, len(data)
 
 
-class Salt(NamedTuple):
-    """A salt, or how many bytes of one the library is to draw."""
-
-    data: Optional[bytes]
-    size: int
-
-
 def record(
     costs: str,
-    salt: Salt,
+    salt: Union[bytes, int],
     tag_size: int,
     password: Secret,
     secret: Optional[bytes] = None,
     threads: int = 1,
 ) -> str:
-    """rigzumal_record_threads, or if there is a secret rigzumal_record_with_secret_threads."""
+    """rigzumal_record_threads, or if there is a secret rigzumal_record_with_secret_threads.
+
+    The salt is one, or how many bytes of one the library is to draw."""
     text = ctypes.create_string_buffer(TEXT_SIZE)
     room = (text, TEXT_SIZE, checked(tag_size), text_bytes(costs))
-    given = (*room, salt.data, checked(salt.size), *pair(bytes_of(password)))
+    drawn = (None, checked(salt)) if isinstance(salt, int) else pair(salt)
+    given = (*room, *drawn, *pair(bytes_of(password)))
     if secret is None:
         fault = _library.rigzumal_record_threads(*given, checked(threads))
     else:
@@ -261,6 +283,14 @@ def parts(text: Secret) -> Parts:
     found = Parts()
     raise_fault(_library.rigzumal_parts(ctypes.byref(found), text_bytes(text)))
     return found
+
+
+def in_range(name: str, number: int, least: int, most: int, fault: int) -> None:
+    """Raises an InvalidNumbersError of this fault that names the number, if it is out of range."""
+    whole_number(name, number)
+    if not least <= number <= most:
+        said = f"{name} is to be {least} to {most}, and not {number}"
+        raise InvalidNumbersError(fault, said)
 
 
 def whole_number(name: str, number: object) -> None:

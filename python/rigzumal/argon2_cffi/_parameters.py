@@ -6,8 +6,8 @@ from dataclasses import dataclass
 from typing import Union
 
 from rigzumal import _library
+from rigzumal.argon2_cffi._encoded import LONG, Encoded, Type
 from rigzumal.argon2_cffi.exceptions import InvalidHashError
-from rigzumal.argon2_cffi.low_level import Type
 
 _SCRYPT = 3
 _NO_VERSION = 18
@@ -43,11 +43,13 @@ def extract_parameters(hash: Union[str, bytes]) -> Parameters:
     Raises:
         InvalidHashError: it is no hash of Argon2.
     """
-    text = _library.text_bytes(hash)
     try:
+        text = _library.text_bytes(hash)
         parts = _library.parts(text)
     except _library.InvalidRecordError as fault:
-        raise InvalidHashError(number=fault.number) from None
+        return _long_parameters(hash, fault.number)
+    except ValueError:  # it has no form in UTF-8
+        raise InvalidHashError from None
     if parts.scheme == _SCRYPT:
         raise InvalidHashError(number=2)
     return Parameters(
@@ -58,4 +60,21 @@ def extract_parameters(hash: Union[str, bytes]) -> Parameters:
         time_cost=parts.passes,
         memory_cost=parts.memory,
         parallelism=parts.lanes,
+    )
+
+
+def _long_parameters(hash: Union[str, bytes], fault: int) -> Parameters:
+    """Those of a hash whose salt or tag is longer than the library reads, which has this fault."""
+    read = Encoded.read(_library.bytes_of(hash)) if fault in LONG else None
+    if read is None:
+        raise InvalidHashError(number=fault)
+    it = read.numbers
+    return Parameters(
+        type=it.type,
+        version=_NO_VERSION if it.version == 0x10 else it.version,
+        salt_len=len(read.salt),
+        hash_len=len(read.tag),
+        time_cost=it.time_cost,
+        memory_cost=it.memory_cost,
+        parallelism=it.parallelism,
     )

@@ -6,9 +6,10 @@ import secrets
 from typing import Final, Literal, Optional, Union
 
 from rigzumal.argon2_cffi import profiles
+from rigzumal.argon2_cffi._encoded import Type
 from rigzumal.argon2_cffi._parameters import Parameters, extract_parameters
 from rigzumal.argon2_cffi.exceptions import InvalidHashError
-from rigzumal.argon2_cffi.low_level import Type, hash_secret, verify_secret
+from rigzumal.argon2_cffi.low_level import hash_secret, verify_secret
 
 _DEFAULT = profiles.RFC_9106_LOW_MEMORY
 DEFAULT_RANDOM_SALT_LENGTH: Final = _DEFAULT.salt_len
@@ -42,8 +43,8 @@ class PasswordHasher:
         time_cost: passes, 1 or more.
         memory_cost: in KiB, 8 a lane to 2097152.
         parallelism: lanes, 1 to 255, and how many threads may work them.
-        hash_len: bytes of the tag, 4 to 64.
-        salt_len: bytes of a drawn salt, 8 to 48.
+        hash_len: bytes of the tag, 4 or more.
+        salt_len: bytes of a drawn salt, 8 or more.
         encoding: of passwords that are text.
         type: the kind of Argon2.
 
@@ -140,11 +141,14 @@ class PasswordHasher:
         Raises:
             VerifyMismatchError: it is one of another password.
             VerificationError: it can't be verified for another reason.
-            InvalidHashError: it begins with no name of Argon2's kinds.
+            InvalidHashError: it begins with no name of Argon2's kinds, or no string of C is so.
         """
-        encoded = _bytes_of(hash, "ascii")
+        try:
+            encoded = _bytes_of(hash, "ascii")
+        except UnicodeEncodeError:
+            raise InvalidHashError from None
         kind = _TYPES.get(encoded[:9])
-        if kind is None:
+        if kind is None or b"\0" in encoded:
             raise InvalidHashError
         return verify_secret(encoded, _bytes_of(password, self.encoding), kind)
 

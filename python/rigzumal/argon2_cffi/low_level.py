@@ -2,11 +2,12 @@
 
 from __future__ import annotations
 
-from enum import Enum
+from hmac import compare_digest
 from typing import Final, Literal, Optional
 
 from rigzumal import _library
 from rigzumal._library import RigzumalError
+from rigzumal.argon2_cffi._encoded import LONG, Encoded, Numbers, Type
 from rigzumal.argon2_cffi.exceptions import (
     HashingError,
     VerificationError,
@@ -26,40 +27,51 @@ ARGON2_VERSION = 19
 """The version of Argon2 (RFC 9106)."""
 
 
-class Type(Enum):
-    """The kinds of Argon2."""
-
-    D = 0
-    I = 1  # noqa: E741
-    ID = 2
-
-
 _MOST_LANES: Final = 255
+_RANGE: Final = 5
 
-# libargon2's messages by its numbers, as far as they are answered here.
-_MESSAGES = {
-    0: "OK",
-    -2: "Output is too short",
-    -3: "Output is too long",
-    -5: "Password is too long",
-    -6: "Salt is too short",
-    -7: "Salt is too long",
-    -12: "Time cost is too small",
-    -14: "Memory cost is too small",
-    -15: "Memory cost is too large",
-    -16: "Too few lanes",
-    -17: "Too many lanes",
-    -22: "Memory allocation error",
-    -26: "There is no such version of Argon2",
-    -31: "Encoding failed",
-    -32: "Decoding failed",
-    -35: "The password does not match the supplied hash",
-}
+# libargon2's messages, from 0 down to -35.
+_MESSAGES: Final = (
+    "OK",
+    "Output pointer is NULL",
+    "Output is too short",
+    "Output is too long",
+    "Password is too short",
+    "Password is too long",
+    "Salt is too short",
+    "Salt is too long",
+    "Associated data is too short",
+    "Associated data is too long",
+    "Secret is too short",
+    "Secret is too long",
+    "Time cost is too small",
+    "Time cost is too large",
+    "Memory cost is too small",
+    "Memory cost is too large",
+    "Too few lanes",
+    "Too many lanes",
+    "Password pointer is NULL, but password length is not 0",
+    "Salt pointer is NULL, but salt length is not 0",
+    "Secret pointer is NULL, but secret length is not 0",
+    "Associated data pointer is NULL, but ad length is not 0",
+    "Memory allocation error",
+    "The free memory callback is NULL",
+    "The allocate memory callback is NULL",
+    "Argon2_Context context is NULL",
+    "There is no such version of Argon2",
+    "Output pointer mismatch",
+    "Not enough threads",
+    "Too many threads",
+    "Missing arguments",
+    "Encoding failed",
+    "Decoding failed",
+    "Threading failure",
+    "Some of encoded parameters are too long or too short",
+    "The password does not match the supplied hash",
+)
 
 # The number of libargon2 that is nearest to a fault of rigzumal.h.
-_NUMBERS = {
-    6: -7,
-    7: -3,
+_NUMBERS: Final = {
     8: -22,
     10: -35,
     13: -26,
@@ -73,7 +85,8 @@ _NUMBERS = {
 
 def error_to_str(error: int) -> str:
     """libargon2's message for one of its numbers."""
-    return _MESSAGES.get(error, "Unknown error code")
+    known = -len(_MESSAGES) < error <= 0
+    return _MESSAGES[-error] if known else "Unknown error code"
 
 
 def _message_of(fault: RigzumalError) -> str:
@@ -133,20 +146,24 @@ def hash_secret(
     type: Type,
     version: int = ARGON2_VERSION,
 ) -> bytes:
-    """The encoded hash, as hash_secret_raw makes it: salts of 8 to 48 bytes, tags of 4 to 64.
+    """The encoded hash, as hash_secret_raw makes it.
 
     Raises:
         HashingError: a number or a size is outside its range, or there is too little memory.
         TypeError: the secret or the salt isn't bytes.
     """
-    costs = (type.value, version, memory_cost, time_cost, parallelism)
+    salt = _library.data_of(salt)
     tag = hash_secret_raw(
         secret, salt, time_cost, memory_cost, parallelism, hash_len, type, version
     )
+    costs = (type.value, version, memory_cost, time_cost, parallelism)
     try:
         return _library.written_argon2(costs, salt, tag).encode()
     except RigzumalError as fault:
-        raise HashingError(_message_of(fault), fault.number) from None
+        if fault.number not in LONG:
+            raise HashingError(_message_of(fault), fault.number) from None
+    numbers = Numbers(type, version, memory_cost, time_cost, parallelism)
+    return Encoded(numbers, salt, tag).text()
 
 
 def verify_secret(hash: bytes, secret: bytes, type: Type) -> Literal[True]:
@@ -160,7 +177,9 @@ def verify_secret(hash: bytes, secret: bytes, type: Type) -> Literal[True]:
     if not hash.startswith(f"$argon2{type.name.lower()}$".encode()):
         raise VerificationError(error_to_str(-32))
     try:
-        _library.raise_fault(_library.check(hash, secret, threads=_MOST_LANES))
+        _library.raise_fault(_verdict(hash, secret))
+    except VerificationError:
+        raise
     except _library.VerifyMismatchError:
         raise VerifyMismatchError(error_to_str(-35)) from None
     except RigzumalError as fault:
@@ -168,3 +187,19 @@ def verify_secret(hash: bytes, secret: bytes, type: Type) -> Literal[True]:
         said = error_to_str(known.get(fault.number, -32))
         raise VerificationError(said, fault.number) from None
     return True
+
+
+def _verdict(hash: bytes, secret: bytes) -> int:
+    """The library's, which reads no salt of over 48 bytes and no tag of over 64; else ours."""
+    fault = _library.check(hash, secret, threads=_MOST_LANES)
+    read = Encoded.read(hash) if fault in (_RANGE, *LONG) else None
+    if read is None:
+        return fault
+    it, salt, tag = read
+    numbers = (it.time_cost, it.memory_cost, it.parallelism)
+    number = _first_fault(salt, *numbers, len(tag))
+    if number is not None:
+        raise VerificationError(error_to_str(number), fault)
+    costs = (it.type.value, it.version, it.memory_cost, it.time_cost, it.parallelism)
+    made = _library.raw_argon2(costs, secret, salt, b"", b"", len(tag), it.parallelism)
+    return _library.OK if compare_digest(made, tag) else _library.MISMATCH

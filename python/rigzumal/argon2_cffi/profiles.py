@@ -1,7 +1,7 @@
 """argon2-cffi's profiles."""
 
 from rigzumal.argon2_cffi._parameters import Parameters
-from rigzumal.argon2_cffi.low_level import Type
+from rigzumal.argon2_cffi._encoded import Type
 
 RFC_9106_HIGH_MEMORY = Parameters(Type.ID, 19, 16, 32, 1, 2097152, 4)
 """RFC 9106's first recommendation: 2 GiB."""
@@ -14,3 +14,8 @@ PRE_21_2 = Parameters(Type.ID, 19, 16, 16, 2, 102400, 8)
 
 CHEAPEST = Parameters(Type.ID, 19, 8, 4, 1, 8, 1)
 """For tests alone."""
+
+
+def get_default_parameters() -> Parameters:
+    """What PasswordHasher takes if it is told nothing."""
+    return RFC_9106_LOW_MEMORY

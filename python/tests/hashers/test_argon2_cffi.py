@@ -1,6 +1,7 @@
 """rigzumal.argon2_cffi beside the argon2-cffi that is installed: what one makes the other reads, and
 the answers and messages are the same. Its own tests: argon2_cffi_own.py."""
 
+import array
 import dataclasses
 import inspect
 import pickle
@@ -35,11 +36,11 @@ class LowLevel(unittest.TestCase):
             kind = draw.choice("D I ID".split())
             named = {
                 "secret": draw.randbytes(draw.choice((0, 1, 64, 300))),
-                "salt": draw.randbytes(draw.choice((0, 7, 8, 16, 48))),
+                "salt": draw.randbytes(draw.choice((0, 7, 8, 16, 48, 49, 64, 65, 66, 400))),
                 "time_cost": draw.choice((0, 1, 1, 2)),
                 "memory_cost": draw.choice((0, 7, 8, 64, 100)),
                 "parallelism": draw.choice((0, 1, 1, 2, 4)),
-                "hash_len": draw.choice((1, 3, 4, 32, 64)),
+                "hash_len": draw.choice((1, 3, 4, 32, 64, 65, 66, 67, 128, 500)),
                 "version": draw.choice((16, 19)),
             }
             for name in ("hash_secret", "hash_secret_raw"):
@@ -60,11 +61,49 @@ class LowLevel(unittest.TestCase):
                     ]
                     self.assertEqual(*answers, (given, kind, password))
 
+    def test_long_hashes_are_verified(self):
+        """With salts and tags that no record has, as they are and damaged."""
+        for salt, size in ((b"s" * 49, 32), (b"s" * 64, 16), (b"somesalt", 65), (b"s" * 300, 300)):
+            for version in (16, 19):
+                for it in theirs.Type:
+                    hashed = theirs.low_level.hash_secret(b"x", salt, 1, 16, 2, size, it, version)
+                    kind = ours.Type[it.name]
+                    self.assertIs(ours.low_level.verify_secret(hashed, b"x", kind), True)
+                    with self.assertRaises(ours.exceptions.VerifyMismatchError):
+                        ours.low_level.verify_secret(hashed, b"y", kind)
+        for damage in (
+            lambda it: it[:-1],
+            lambda it: it + b"A",
+            lambda it: it + b"$",
+            lambda it: it.replace(b"m=16", b"m=016"),
+            lambda it: it.replace(b"m=16", b"m=15"),
+            lambda it: it.replace(b"m=16", b"m=99999999999"),
+            lambda it: it.replace(b"t=1", b"t=0"),
+            lambda it: it.replace(b"p=2", b"p=0"),
+            lambda it: it[:-40] + b"!" + it[-39:],
+        ):
+            answers = [
+                outcome(it.low_level.verify_secret, damage(hashed), b"x", it.Type.ID)
+                for it in (ours, theirs)
+            ]
+            self.assertEqual(*answers, damage(hashed))
+        with self.assertRaisesRegex(ours.exceptions.VerificationError, "Decoding failed"):
+            unknown = hashed.replace(b"v=19", b"v=18")
+            ours.low_level.verify_secret(unknown, b"x", ours.Type.ID)
+
     def test_messages_are_theirs(self):
-        for number in (0, -2, -3, -5, -6, -7, -12, -14, -15, -16, -17, -22, -26, -32, -35, 1):
+        for number in range(-60, 20):
             self.assertEqual(
                 ours.low_level.error_to_str(number), theirs.low_level.error_to_str(number)
             )
+
+    def test_salts_of_any_bytes(self):
+        for holds in (bytearray, memoryview, lambda it: array.array("B", it)):
+            salt = b"sixteen of salt."
+            wanted = theirs.low_level.hash_secret(b"x", salt, 1, 8, 1, 32, theirs.Type.ID)
+            made = ours.low_level.hash_secret(b"x", holds(salt), 1, 8, 1, 32, ours.Type.ID)
+            self.assertEqual(made, wanted)
+            self.assertIn("c2l4", ours.PasswordHasher(1, 8, 1).hash("x", salt=holds(salt)))
 
     def test_types(self):
         for wrong in ("x", 5, None):
@@ -146,11 +185,21 @@ class Hashers(unittest.TestCase):
     def test_a_salt_may_be_given(self):
         hashed = ours.PasswordHasher(**COSTS).hash("x", salt=b"sixteen of salt.")
         self.assertIn("$c2l4dGVlbiBvZiBzYWx0Lg$", hashed)
-        for salt, said in ((b"", "Salt is too short"), (bytes(49), "Salt is too long")):
-            with self.assertRaisesRegex(ours.exceptions.HashingError, said):
-                ours.PasswordHasher(**COSTS).hash("x", salt=salt)
-        with self.assertRaisesRegex(ours.exceptions.HashingError, "Output is too long"):
-            ours.PasswordHasher(**COSTS, hash_len=65).hash("x")
+        with self.assertRaisesRegex(ours.exceptions.HashingError, "Salt is too short"):
+            ours.PasswordHasher(**COSTS).hash("x", salt=b"")
+
+    def test_what_no_hash_can_be(self):
+        """A zero byte and text that isn't ASCII are no hash, for each call, and a ValueError."""
+        hasher = ours.PasswordHasher(**COSTS)
+        for text in (hasher.hash("x") + "\0", "$argon2id$\ud800", "$argon2id$\xe9", "\ud800"):
+            for call in (
+                hasher.check_needs_rehash,
+                ours.extract_parameters,
+                lambda it: hasher.verify(it, "x"),
+            ):
+                with self.assertRaises(ours.exceptions.InvalidHash) as raised:
+                    call(text)
+                self.assertIsInstance(raised.exception, ValueError)
 
     def test_signatures_begin_as_theirs(self):
         for name in ("__init__", "verify", "check_needs_rehash"):
@@ -166,7 +215,8 @@ class Hashers(unittest.TestCase):
 class Parameters(unittest.TestCase):
     def test_they_are_theirs(self):
         texts = [ours.PasswordHasher(**COSTS).hash("x"), OLD]
-        texts += [theirs.PasswordHasher(**COSTS, hash_len=13, salt_len=9).hash("x")]
+        for tag, salt in ((13, 9), (70, 16), (32, 60), (600, 600)):
+            texts += [theirs.PasswordHasher(**COSTS, hash_len=tag, salt_len=salt).hash("x")]
         for text in texts:
             mine, other = ours.extract_parameters(text), theirs.extract_parameters(text)
             for it in dataclasses.fields(mine):
@@ -187,6 +237,17 @@ class Parameters(unittest.TestCase):
         ):
             wanted = ours.Parameters(ours.Type.ID, 19, salt, tag, passes, memory, lanes)
             self.assertEqual(getattr(ours.profiles, name), wanted)
+
+    def test_defaults(self):
+        """Those of argon2-cffi since its version 21.2, which say RFC 9106's second recommendation."""
+        hashed = ours.PasswordHasher().hash("x")
+        self.assertTrue(hashed.startswith("$argon2id$v=19$m=65536,t=3,p=4$"), hashed)
+        self.assertEqual(ours.profiles.get_default_parameters(), ours.extract_parameters(hashed))
+        names = "TIME_COST MEMORY_COST PARALLELISM HASH_LENGTH RANDOM_SALT_LENGTH"
+        found = [getattr(ours, f"DEFAULT_{name}") for name in names.split()]
+        self.assertEqual(found, [3, 65536, 4, 32, 16])
+        self.assertEqual(ours.low_level.ARGON2_VERSION, 19)
+        self.assertEqual(ours.PasswordHasher().encoding, "utf-8")
 
     def test_profiles(self):
         for name in ("RFC_9106_LOW_MEMORY", "RFC_9106_HIGH_MEMORY", "PRE_21_2", "CHEAPEST"):
