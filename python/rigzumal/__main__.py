@@ -5,23 +5,30 @@
     python3 -m rigzumal calibrate --target-ms 250 --memory 64M
     python3 -m rigzumal accounts --help
 
-The password is what standard input gives, all of it, with a newline at its end too: it
-stands in no argument.
+The password stands in no argument. At a terminal it is asked for, unseen; else it is what standard
+input gives, all of it, with a newline at its end too.
 """
 
 from __future__ import annotations
 
 import argparse
+import getpass
+import os
 import sys
-from typing import Union
+from typing import NoReturn, Union
 
 from rigzumal import PasswordHasher, RigzumalError, ScryptHasher, VerifyMismatchError
 from rigzumal import _library
-from rigzumal._calibrate import trials
+from rigzumal._calibrate import LEAST_SAFE_MEMORY, trials, why_busy
 from rigzumal._newline import hint
 from rigzumal._parts import none_of_ours
 
 _UNITS = {"K": 1, "M": 1024, "G": 1024 * 1024}
+_LEAST_TARGET, _MOST_TARGET = 10, 60_000
+
+
+class _Refused(Exception):
+    """What the command doesn't do, in words."""
 
 
 def _memory(text: str) -> int:
@@ -40,26 +47,53 @@ def _threads(text: str) -> int:
     return int(text)
 
 
+def _target(text: str) -> float:
+    """Milliseconds that a login may take."""
+    try:
+        target = float(text)
+    except ValueError:
+        target = 0
+    if not _LEAST_TARGET <= target <= _MOST_TARGET:
+        raise argparse.ArgumentTypeError(
+            f"{text!r} is not {_LEAST_TARGET} to {_MOST_TARGET} milliseconds"
+        )
+    return target
+
+
+class _Words(argparse.ArgumentParser):
+    """Words that a fault doesn't repeat, since one may be a password."""
+
+    def error(self, message: str) -> NoReturn:
+        if message.startswith("unrecognized arguments"):
+            message = "a word too many; a password stands in no argument"
+        super().error(message)
+
+
 def _words() -> argparse.ArgumentParser:
-    words = argparse.ArgumentParser(
+    words = _Words(
         prog="python3 -m rigzumal",
-        description="Makes and verifies records of a password, which it reads from"
-        " standard input.",
+        description="Makes and verifies records of a password, which it asks for at a terminal"
+        " and else reads from standard input.",
     )
+    words.add_argument("--version", action="version", version=_library.version())
     commands = words.add_subparsers(dest="command", required=True)
     make = commands.add_parser("hash", help="writes a new record")
     make.add_argument("--scrypt", action="store_true", help="by scrypt, not Argon2id")
-    make.add_argument("--memory", type=int, default=65536, help="of Argon2, in KiB")
+    make.add_argument("--memory", type=_memory, default=65536, help="of Argon2, as 64M")
     make.add_argument("--passes", type=int, default=3, help="of Argon2")
     make.add_argument("--lanes", type=int, default=4, help="of Argon2")
     make.add_argument("--log2-n", type=int, default=17, help="of scrypt")
+    make.add_argument("--empty", action="store_true", help="the password may be empty")
     verify = commands.add_parser("verify", help="writes yes, or no with status 1")
     verify.add_argument("record")
     calibrate = commands.add_parser(
         "calibrate", help="writes the costs that this machine does in a time"
     )
     calibrate.add_argument(
-        "--target-ms", type=float, default=250, help="milliseconds that a hash may take"
+        "--target-ms",
+        type=_target,
+        default=250,
+        help="milliseconds that a hash may take",
     )
     calibrate.add_argument(
         "--memory",
@@ -74,37 +108,84 @@ def _words() -> argparse.ArgumentParser:
         default=1,
         help="how many work the lanes of a hash; 1 for a service with many logins",
     )
-    commands.add_parser(
-        "accounts", help="accounts in a service's own database: accounts --help"
+    calibrate.add_argument(
+        "--below",
+        action="store_true",
+        help="the costs may be below OWASP's least, m=19456 with t=2",
     )
     return words
 
 
-def _verify(record: str, password: bytes) -> int:
+def _say(text: str) -> None:
+    print(f"rigzumal: {text}", file=sys.stderr)
+
+
+def _password(is_new: bool) -> bytes:
+    """What is typed, or all that standard input gives."""
+    if not sys.stdin.isatty():
+        return sys.stdin.buffer.read()
+    password = getpass.getpass("Password: ")
+    if is_new and getpass.getpass("The same again: ") != password:
+        raise _Refused("the two passwords differ")
+    return password.encode(errors="surrogateescape")
+
+
+def _hash(given: argparse.Namespace) -> None:
+    """Writes a new record."""
+    hasher: Union[PasswordHasher, ScryptHasher] = (
+        ScryptHasher(log2_n=given.log2_n)
+        if given.scrypt
+        else PasswordHasher(given.passes, given.memory, given.lanes)
+    )
+    password = _password(is_new=True)
+    if password in (b"", b"\n") and not given.empty:
+        raise _Refused("the password is empty; --empty allows it")
+    print(hasher.hash(password))
+
+
+def _verify(record: str) -> int:
     """Writes yes, or no with status 1."""
 
     def is_right(password: bytes) -> bool:
         return _library.check(record, password) == _library.OK
 
+    password = _password(is_new=False)
     try:
         PasswordHasher().verify(record, password)
     except VerifyMismatchError:
         print("no")
         said = hint(password, is_right)
         if said:
-            print(f"rigzumal: {said}", file=sys.stderr)
+            _say(said)
         return 1
     print("yes")
     return 0
 
 
-def _calibrate(target: float, memory: int, lanes: int, threads: int) -> None:
+def _calibrate(given: argparse.Namespace) -> None:
     """Writes each costs that were tried with their time, and then those to take."""
-    found = None
-    for found in trials(target, memory, lanes, threads):
+    if given.memory < LEAST_SAFE_MEMORY and not given.below:
+        raise _Refused(f"--memory is below {LEAST_SAFE_MEMORY} KiB; --below allows it")
+    busy = why_busy()
+    numbers = (given.target_ms, given.memory, given.lanes, given.threads, given.below)
+    for found in trials(*numbers):
         print(f"# {found.hasher.costs}: {found.milliseconds:.1f} ms", file=sys.stderr)
-    if found is not None:
-        print(found.hasher.costs)
+    if found.milliseconds > given.target_ms:
+        lower = "" if given.below else "; --below allows lower ones"
+        _say(f"the least costs take {found.milliseconds:.0f} ms here{lower}")
+    if busy:
+        _say(f"{busy}: it does more when it is idle")
+    print(found.hasher.costs)
+
+
+def _run(given: argparse.Namespace) -> int:
+    if given.command == "calibrate":
+        _calibrate(given)
+    elif given.command == "verify":
+        return _verify(given.record)
+    else:
+        _hash(given)
+    return 0
 
 
 def main() -> int:
@@ -115,24 +196,24 @@ def main() -> int:
         return cli.main(sys.argv[2:])
     given = _words().parse_args()
     try:
-        if given.command == "calibrate":
-            _calibrate(given.target_ms, given.memory, given.lanes, given.threads)
-            return 0
-        password = sys.stdin.buffer.read()
-        if given.command == "verify":
-            return _verify(given.record, password)
-        hasher: Union[PasswordHasher, ScryptHasher] = (
-            ScryptHasher(log2_n=given.log2_n)
-            if given.scrypt
-            else PasswordHasher(given.passes, given.memory, given.lanes)
-        )
-        print(hasher.hash(password))
+        status = _run(given)
+        sys.stdout.flush()
+        return status
     except RigzumalError as fault:
         said = none_of_ours(getattr(given, "record", ""))
         said = f"{fault}{said and f' ({said})'}"
-        print(f"rigzumal: {fault.number} {fault.word}: {said}", file=sys.stderr)
-        return 2
-    return 0
+        _say(f"{fault.number} {fault.word}: {said}")
+    except _Refused as refused:
+        _say(str(refused))
+    except EOFError:
+        _say("there is no password")
+    except KeyboardInterrupt:
+        return 130
+    except OSError as fault:
+        # What is left to write goes nowhere.
+        os.dup2(os.open(os.devnull, os.O_WRONLY), sys.stdout.fileno())
+        _say(fault.strerror or str(fault))
+    return 2
 
 
 if __name__ == "__main__":

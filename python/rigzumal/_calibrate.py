@@ -2,36 +2,48 @@
 
 from __future__ import annotations
 
+import os
 import time
-from dataclasses import dataclass, replace
-from typing import Iterator
+from collections.abc import Iterator
+from typing import Final, NamedTuple, Optional
 
 from rigzumal._hashers import PasswordHasher
 
-LEAST_MEMORY = 8
+LEAST_MEMORY: Final = 8
 """KiB a lane, below which there is no Argon2."""
 
+LEAST_SAFE_MEMORY: Final = 19456
+"""KiB of OWASP's least costs with two passes."""
 
-@dataclass(frozen=True)
-class Measured:
-    """Costs, and how long a hash of them took: the median of some, in milliseconds."""
+_OF_ONE_PASS: Final = 47104
+"""KiB of OWASP's least costs with one pass."""
+
+
+class Measured(NamedTuple):
+    """Costs, and how long a hash of them took at best, in milliseconds."""
 
     hasher: PasswordHasher
     milliseconds: float
 
 
 def measured(hasher: PasswordHasher, turns: int = 5) -> Measured:
-    """The median time of some hashes, after one that isn't counted."""
+    """The best time of some hashes, after one that isn't counted."""
     times = []
     for _ in range(turns + 1):
         begun = time.perf_counter()
         hasher.hash("a password to be timed")
         times.append((time.perf_counter() - begun) * 1000)
-    return Measured(hasher, sorted(times[1:])[turns // 2])
+    return Measured(hasher, min(times[1:]))
+
+
+def is_safe(hasher: PasswordHasher) -> bool:
+    """Whether the costs are OWASP's least for passwords, or higher; RFC 9106's are."""
+    memory, passes = hasher.memory_cost, hasher.time_cost
+    return memory >= _OF_ONE_PASS or memory >= LEAST_SAFE_MEMORY and passes >= 2
 
 
 def trials(
-    target: float, memory: int, lanes: int, threads: int = 1
+    target: float, memory: int, lanes: int, threads: int = 1, below: bool = False
 ) -> Iterator[Measured]:
     """Each costs that were tried: the last ones are those to take.
 
@@ -43,21 +55,33 @@ def trials(
         memory: KiB.
         lanes: 1 to 255.
         threads: how many may work them.
+        below: whether they may be below OWASP's least costs.
     """
+    least = max(LEAST_MEMORY * lanes, 0 if below else LEAST_SAFE_MEMORY)
     found = measured(PasswordHasher(1, memory, lanes, threads=threads))
     yield found
-    while found.milliseconds > target and memory > LEAST_MEMORY * lanes:
+    while found.milliseconds > target and memory > least:
         share = min(0.95, target / found.milliseconds)
-        memory = max(LEAST_MEMORY * lanes, int(memory * share))
-        found = measured(replace(found.hasher, memory_cost=memory))
+        memory = max(least, int(memory * share))
+        found = measured(found.hasher.replace(memory_cost=memory))
         yield found
     while True:
         passes = int(found.hasher.time_cost * target / found.milliseconds)
         if passes <= found.hasher.time_cost:
-            return
-        more = measured(replace(found.hasher, time_cost=passes))
+            break
+        more = measured(found.hasher.replace(time_cost=passes))
         yield more
         if more.milliseconds > target:
             yield found
-            return
+            break
         found = more
+    if not below and not is_safe(found.hasher):
+        yield measured(found.hasher.replace(time_cost=2, memory_cost=least))
+
+
+def why_busy() -> Optional[str]:
+    """What to say if other work may have the processors, and None if it hasn't."""
+    load, processors = os.getloadavg()[0], os.cpu_count() or 1
+    if load <= processors / 2:
+        return None
+    return f"the machine is busy (a load of {load:.1f} on {processors} processors)"

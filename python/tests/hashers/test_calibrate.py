@@ -7,7 +7,7 @@ import sys
 import unittest
 from unittest import mock
 
-from rigzumal import __main__, _calibrate
+from rigzumal import PasswordHasher, __main__, _calibrate
 from rigzumal._calibrate import Measured, measured, trials
 
 
@@ -26,14 +26,14 @@ def with_a_slow_start(it):
     return 50 + 10 * it.time_cost
 
 
-def tried(machine, target, memory, lanes, threads=1):
+def tried(machine, target, memory, lanes, threads=1, below=True):
     """The trials on a machine."""
 
     def timed(hasher, turns=5):
         return Measured(hasher, machine(hasher))
 
     with mock.patch.object(_calibrate, "measured", timed):
-        return list(itertools.islice(trials(target, memory, lanes, threads), 200))
+        return list(itertools.islice(trials(target, memory, lanes, threads, below), 200))
 
 
 class Trials(unittest.TestCase):
@@ -86,8 +86,54 @@ class Trials(unittest.TestCase):
         self.assertEqual((one.time_cost, four.time_cost), (1, 7))
 
 
+class Safety(unittest.TestCase):
+    """What is never gone below unless it is asked for: OWASP's least costs."""
+
+    def test_the_least_costs_are_owasps(self):
+        for memory, passes, is_safe in (
+            (19456, 2, True),
+            (19456, 1, False),
+            (19455, 2, False),
+            (19455, 9, False),
+            (47103, 1, False),
+            (47104, 1, True),
+            (65536, 3, True),
+        ):
+            hasher = PasswordHasher(passes, memory, 1)
+            self.assertEqual(_calibrate.is_safe(hasher), is_safe, (memory, passes))
+
+    def test_a_slow_machine_has_them_all_the_same(self):
+        for machine in (linear(1), linear(1 / 64), with_dear_passes(1), with_a_slow_start):
+            for memory in (19456, 20000, 47103, 47104, 65536, 2**20):
+                for lanes in (1, 4, 255):
+                    last = tried(machine, 20, memory, lanes, below=False)[-1].hasher
+                    self.assertTrue(_calibrate.is_safe(last), (memory, last))
+                    self.assertLessEqual(last.memory_cost, memory)
+
+    def test_a_fast_machine_is_as_before(self):
+        for target in (100, 250, 1000):
+            found, wanted = (
+                tried(linear(1 / 1024), target, 65536, 4, below=below)[-1]
+                for below in (False, True)
+            )
+            self.assertEqual(found, wanted)
+
+
+class Busy(unittest.TestCase):
+    def test_it_is_said_when_half_of_the_processors_are(self):
+        for load, processors, said in (
+            (0.0, 4, None),
+            (2.0, 4, None),
+            (2.1, 4, "the machine is busy (a load of 2.1 on 4 processors)"),
+            (0.6, 1, "the machine is busy (a load of 0.6 on 1 processors)"),
+        ):
+            with mock.patch.object(_calibrate.os, "getloadavg", lambda: (load, 9, 9)):
+                with mock.patch.object(_calibrate.os, "cpu_count", lambda: processors):
+                    self.assertEqual(_calibrate.why_busy(), said)
+
+
 class Timing(unittest.TestCase):
-    def test_the_time_is_the_median_after_the_first(self):
+    def test_the_time_is_the_best_after_the_first(self):
         for first in (0, 4, 6, 100):
             now, hashes = [0.0], []
             seconds = iter((first, 5, 1, 9, 3, 7))
@@ -99,32 +145,46 @@ class Timing(unittest.TestCase):
 
             with mock.patch.object(_calibrate.time, "perf_counter", lambda: now[0]):
                 found = measured(Hasher())
-            self.assertEqual((found.milliseconds, len(hashes)), (5000, 6))
+            self.assertEqual((found.milliseconds, len(hashes)), (1000, 6))
 
 
 class Shell(unittest.TestCase):
-    def asked(self, *words):
-        """What the shell's command asks for, and what it writes."""
-        calls, out = [], io.StringIO()
+    def asked(self, *words, machine=linear(1 / 1024)):
+        """What the shell's command asks for, what it writes, and what it says."""
+        calls, out, said = [], io.StringIO(), io.StringIO()
 
         def noted(*given):
             calls.append(given)
-            return iter(tried(linear(1 / 1024), *given))
+            return iter(tried(machine, *given))
 
         argv = ["rigzumal", "calibrate", *words]
         with mock.patch.object(__main__, "trials", noted), mock.patch.object(sys, "argv", argv):
-            with contextlib.redirect_stdout(out), contextlib.redirect_stderr(io.StringIO()):
+            with contextlib.redirect_stdout(out), contextlib.redirect_stderr(said):
                 self.assertEqual(__main__.main(), 0)
-        return calls, out.getvalue()
+        return calls, out.getvalue(), said.getvalue()
 
     def test_each_word_counts(self):
-        calls, said = self.asked()
-        self.assertEqual(calls, [(250, 65536, 4, 1)])
+        calls, said, _ = self.asked()
+        self.assertEqual(calls, [(250, 65536, 4, 1, False)])
         self.assertEqual(said, "$argon2id$v=19$m=65536,t=3,p=4\n")
-        words = "--target-ms 70 --memory 32M --lanes 3 --threads 2".split()
-        calls, said = self.asked(*words)
-        self.assertEqual(calls, [(70, 32768, 3, 2)])
+        words = "--target-ms 70 --memory 32M --lanes 3 --threads 2 --below".split()
+        calls, said, _ = self.asked(*words)
+        self.assertEqual(calls, [(70, 32768, 3, 2, True)])
         self.assertEqual(said, "$argon2id$v=19$m=32768,t=4,p=3\n")
+
+    def test_costs_that_take_too_long_are_said(self):
+        _, costs, said = self.asked("--target-ms", "20", machine=linear(1 / 1024))
+        self.assertEqual(costs, "$argon2id$v=19$m=19456,t=2,p=4\n")
+        self.assertIn("the least costs take 38 ms here; --below allows lower ones", said)
+        _, costs, said = self.asked("--target-ms", "20", "--below", machine=linear(1 / 1024))
+        self.assertEqual(costs, "$argon2id$v=19$m=20480,t=1,p=4\n")
+        self.assertNotIn("least costs", said)
+
+    def test_a_busy_machine_is_said(self):
+        with mock.patch.object(__main__, "why_busy", lambda: "the machine is busy"):
+            self.assertIn("the machine is busy: ", self.asked()[2])
+        with mock.patch.object(__main__, "why_busy", lambda: None):
+            self.assertNotIn("busy", self.asked()[2])
 
 
 if __name__ == "__main__":
