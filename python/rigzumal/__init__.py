@@ -17,6 +17,7 @@ from rigzumal._library import (
     OutOfMemoryError,
     RigzumalError,
     VerifyMismatchError,
+    keep,
     trim,
     version,
 )
@@ -34,6 +35,7 @@ __all__ = [
     "Type",
     "VerifyMismatchError",
     "argon2",
+    "keep",
     "parts",
     "scrypt",
     "trim",

@@ -2,23 +2,18 @@
 
 from __future__ import annotations
 
-import re
-from dataclasses import dataclass
-from typing import Final
-
 from rigzumal import _library
+from rigzumal._frozen import Frozen
 from rigzumal._library import Secret
 
+TYPE_CHECKING = False
+if TYPE_CHECKING:
+    from typing import Final
+
 _SCHEMES: Final = ("argon2d", "argon2i", "argon2id", "scrypt")
-# As other programs begin a record: $2b$.., or Django's pbkdf2_sha256$... Nothing else is
-# shown, since what stands there may be a password.
-_OTHERS: Final = re.compile(
-    r"\$([A-Za-z0-9-]{1,20})\$|((?:pbkdf2|bcrypt|argon2|scrypt|md5|sha1)[a-z0-9_]{0,9})\$"
-)
 
 
-@dataclass(frozen=True)
-class Parts:
+class Parts(Frozen):
     """The numbers of a record.
 
     Attributes:
@@ -38,6 +33,26 @@ class Parts:
     lanes: int
     salt_size: int
     tag_size: int
+
+    def __init__(
+        self,
+        scheme: str,
+        version: int,
+        memory: int,
+        passes: int,
+        lanes: int,
+        salt_size: int,
+        tag_size: int,
+    ) -> None:
+        self._set(
+            scheme=scheme,
+            version=version,
+            memory=memory,
+            passes=passes,
+            lanes=lanes,
+            salt_size=salt_size,
+            tag_size=tag_size,
+        )
 
     @property
     def costs(self) -> tuple[str, int, int, int, int]:
@@ -63,9 +78,19 @@ def parts(record: Secret) -> Parts:
     )
 
 
+# As other programs begin a record: $2b$.., or Django's pbkdf2_sha256$... Nothing else is
+# shown, since what stands there may be a password.
+_OTHERS: Final = (
+    r"\$([A-Za-z0-9-]{1,20})\$"
+    r"|((?:pbkdf2|bcrypt|argon2|scrypt|md5|sha1)[a-z0-9_]{0,9})\$"
+)
+
+
 def none_of_ours(record: str) -> str:
     """Says the scheme of another program's record; empty if it shows none."""
-    found = _OTHERS.match(record)
+    import re
+
+    found = re.match(_OTHERS, record)
     name = found and (found[1] or found[2])
     if not name or name in _SCHEMES and record.startswith("$"):
         return ""

@@ -129,7 +129,7 @@ class Judge:
 
     def _setting(self) -> str:
         salt = os.urandom(self._hasher.salt_len)
-        return f"{self._hasher._costs()}${_base64(salt)}"
+        return f"{self._hasher.costs}${_base64(salt)}"
 
     def _goes_up(self, found: Parts) -> bool:
         """Whether an upgrade replaces a record of these numbers.

@@ -13,7 +13,6 @@ import subprocess
 import sys
 import tempfile
 import unittest
-from dataclasses import replace
 
 import rigzumal
 from rigzumal import PasswordHasher, ScryptHasher, Type, _library
@@ -59,7 +58,7 @@ class Kinds(unittest.TestCase):
                 self.assertEqual(hasher.hash("password", salt=b"somesalt"), record)
                 self.assertEqual(hasher.costs, record.rsplit("$", 2)[0])
                 self.assertTrue(hasher.hash("x").startswith(hasher.costs + "$"))
-                self.assertFalse(replace(hasher, salt_len=8).check_needs_rehash(record))
+                self.assertFalse(hasher.replace(salt_len=8).check_needs_rehash(record))
             for other in RECORDS.values():
                 hasher = PasswordHasher(2, 256, 1, salt_len=8, type=kind)
                 self.assertEqual(hasher.check_needs_rehash(other), other != record)
@@ -95,7 +94,7 @@ class Rehash(unittest.TestCase):
         self.assertFalse(hasher.check_needs_rehash(record))
         for name, numbers in changes.items():
             for number in numbers:
-                other = replace(hasher, **{name: number})
+                other = hasher.replace(**{name: number})
                 self.assertTrue(other.check_needs_rehash(record), (name, number))
                 self.assertTrue(hasher.check_needs_rehash(other.hash("x")), (name, number))
 

@@ -8,6 +8,7 @@ import multiprocessing
 import os
 import pathlib
 import pickle
+import pty
 import subprocess
 import sys
 import threading
@@ -41,6 +42,9 @@ class Calls:
 
     def __exit__(self, *_):
         rigzumal._library._library = self.library
+
+    def names(self):
+        return [name for name, _ in self.made]
 
     def __getattr__(self, name):
         def call(*given):
@@ -98,14 +102,12 @@ class Threads(unittest.TestCase):
         self.assertEqual(made["rigzumal_check_threads"], 255)  # as many as there are lanes
 
     def test_bad_numbers(self):
-        for bad in (0, -1):
-            with self.assertRaises(ValueError):
+        for bad in (0, -1, 2**32):
+            with self.assertRaises(rigzumal.InvalidNumbersError):
                 PasswordHasher(threads=bad)
         for bad in ("2", 2.0, None, True):
             with self.assertRaises(TypeError):
                 PasswordHasher(threads=bad)
-        with self.assertRaises(OverflowError):
-            PasswordHasher(1, 64, 4, threads=2**32).hash("x")
         with self.assertRaises(OverflowError):
             rigzumal.argon2(
                 "x", b"somesalt", time_cost=1, memory_cost=64, parallelism=4, threads=-1
@@ -221,6 +223,177 @@ class Hashers(unittest.TestCase):
         self.assertEqual(found, [ARGON2] * 160)
 
 
+class Defaults(unittest.TestCase):
+    """What a user has who names nothing."""
+
+    def test_of_hashers(self):
+        argon2 = PasswordHasher()
+        self.assertEqual(argon2.costs, "$argon2id$v=19$m=65536,t=3,p=4")
+        self.assertEqual(ScryptHasher().costs, "$scrypt$ln=17,r=8,p=1")
+        for hasher, front in (
+            (argon2, "$argon2id$v=19$m=65536,t=3,p=4$"),
+            (ScryptHasher(), "$scrypt$ln=17,r=8,p=1$"),
+        ):
+            record = hasher.hash("x")
+            self.assertTrue(record.startswith(front), record)
+            parts = rigzumal.parts(record)
+            self.assertEqual((parts.salt_size, parts.tag_size), (16, 32))
+            self.assertFalse(hasher.check_needs_rehash(record))
+        self.assertEqual((argon2.threads, argon2.secret, argon2.secrets), (1, None, ()))
+        self.assertEqual((argon2.type, int(argon2.type)), (Type.ID, 2))
+
+    def test_of_the_functions(self):
+        costs = {"time_cost": 1, "memory_cost": 8, "parallelism": 1}
+        named = {"hash_len": 32, "type": Type.ID, "version": 0x13, "secret": b"", "threads": 1}
+        tag = rigzumal.argon2("x", b"somesalt", **costs)
+        self.assertEqual(tag, rigzumal.argon2("x", b"somesalt", **costs, **named, associated=b""))
+        key = rigzumal.scrypt("x", b"somesalt", log2_n=1, r=1, p=1)
+        self.assertEqual(key, rigzumal.scrypt("x", b"somesalt", log2_n=1, r=1, p=1, length=32))
+
+    def test_of_what_is_kept(self):
+        script = "import rigzumal; print(rigzumal.keep(0), rigzumal.keep(2**21), rigzumal.keep(0))"
+        for bound, wanted in (({}, 2**26), ({"RIGZUMAL_KEEP": str(2**25)}, 2**25)):
+            env = {**os.environ, **bound}
+            done = subprocess.run([sys.executable, "-c", script], capture_output=True, env=env)
+            self.assertEqual(done.stdout.decode(), f"{wanted} 0 {2**21}\n")
+        for wrong, kind in ((-1, OverflowError), (2**63, OverflowError), ("0", TypeError)):
+            self.assertRaises(kind, rigzumal.keep, wrong)
+
+    def test_modules_that_take_long_are_not_imported(self):
+        """Beside ctypes and enum all are small: twice argon2-cffi's time at most."""
+        package = str(pathlib.Path(rigzumal.__file__).parents[1])
+        script = (
+            f"import sys; sys.path.insert(0, {package!r}); import rigzumal; print(*sys.modules)"
+        )
+        done = subprocess.run([sys.executable, "-I", "-S", "-c", script], capture_output=True)
+        found = set(done.stdout.decode().split())
+        self.assertIn("rigzumal._hashers", found)
+        slow = {"argparse", "ast", "dataclasses", "getpass", "inspect", "pathlib", "re", "typing"}
+        self.assertEqual(found & slow, set())
+
+
+class Values(unittest.TestCase):
+    """Hashers and parts are values."""
+
+    def test_they_do_not_change(self):
+        for value, name in ((SMALL, "time_cost"), (ScryptHasher(), "log2_n")):
+            for name in (name, "hash_len", "another"):
+                with self.assertRaises(AttributeError):
+                    setattr(value, name, 1)
+                with self.assertRaises(AttributeError):
+                    delattr(value, name)
+        with self.assertRaises(AttributeError):
+            rigzumal.parts(ARGON2).memory = 1
+
+    def test_equal_ones_are_equal_in_each_number(self):
+        self.assertEqual(SMALL, PasswordHasher(2, 256, 1))
+        self.assertEqual(hash(SMALL), hash(PasswordHasher(2, 256, 1)))
+        self.assertNotEqual(ScryptHasher(), PasswordHasher())
+        self.assertNotEqual(SMALL, "another")
+        self.assertEqual(rigzumal.parts(ARGON2), rigzumal.parts(ARGON2))
+        others = [
+            SMALL.replace(**{name: number})
+            for name, number in (
+                ("time_cost", 3),
+                ("memory_cost", 257),
+                ("parallelism", 2),
+                ("hash_len", 31),
+                ("salt_len", 15),
+                ("type", Type.I),
+                ("secret", b""),
+                ("secret", b"pepper"),
+                ("secrets", [b"pepper"]),
+                ("secrets", [b"pepper", b"salt"]),
+                ("secrets", [b"salt", b"pepper"]),
+                ("threads", 2),
+            )
+        ]
+        self.assertEqual(len({SMALL, *others}), 13)
+
+    def test_a_change_leaves_the_others(self):
+        hasher = PasswordHasher(1, 16, 2, 33, 17, Type.D, b"pepper", 3)
+        self.assertEqual(hasher.replace(hash_len=32).replace(hash_len=33), hasher)
+        self.assertEqual(hasher.replace(time_cost=2).time_cost, 2)
+        with self.assertRaises(rigzumal.InvalidNumbersError):
+            hasher.replace(time_cost=0)
+
+    def test_they_are_shown_without_a_secret(self):
+        shown = "PasswordHasher(time_cost=1, memory_cost=8, parallelism=1, hash_len=32, salt_len=16"
+        shown += ", type=<Type.ID: 2>, threads=1)"
+        for hasher in (
+            PasswordHasher(1, 8, 1),
+            PasswordHasher(1, 8, 1, secret=b"pepper"),
+            PasswordHasher(1, 8, 1, secrets=[b"pepper", b"older"]),
+        ):
+            self.assertEqual(repr(hasher), shown)
+        shown = "ScryptHasher(log2_n=4, block_size=8, parallelism=1, hash_len=32, salt_len=16)"
+        self.assertEqual(repr(ScryptHasher(4)), shown)
+
+    def test_copies_are_equal(self):
+        for value in (SMALL.replace(secrets=[b"a", b"b"]), ScryptHasher(4), rigzumal.parts(ARGON2)):
+            for made in (copy.copy(value), copy.deepcopy(value), pickle.loads(pickle.dumps(value))):
+                self.assertEqual(made, value)
+
+
+class Rotation(unittest.TestCase):
+    """Peppers that change: verified with any, made with the first."""
+
+    OLD, NEW = (SMALL.replace(secret=it) for it in (b"old", b"new"))
+    BOTH = SMALL.replace(secrets=[b"new", bytearray(b"old")])
+
+    def test_records_of_each_are_verified(self):
+        for hasher in (self.OLD, self.NEW, self.BOTH):
+            self.assertIs(self.BOTH.verify(hasher.hash("x"), "x"), True)
+        for record in (self.OLD.hash("y"), self.NEW.hash("y"), SMALL.hash("x")):
+            with self.assertRaises(rigzumal.VerifyMismatchError):
+                self.BOTH.verify(record, "x")
+
+    def test_records_are_of_the_first(self):
+        record = self.BOTH.hash("x")
+        self.assertIs(self.NEW.verify(record, "x"), True)
+        with self.assertRaises(rigzumal.VerifyMismatchError):
+            self.OLD.verify(record, "x")
+
+    def test_those_of_older_ones_are_made_anew(self):
+        self.assertIsNone(self.BOTH.verify_and_rehash(self.NEW.hash("x"), "x"))
+        made = self.BOTH.verify_and_rehash(self.OLD.hash("x"), "x")
+        self.assertIs(self.NEW.verify(made, "x"), True)
+        self.assertIsNone(self.BOTH.verify_and_rehash(made, "x"))
+        for record in (self.NEW.hash("y"), self.OLD.hash("y")):
+            with self.assertRaises(rigzumal.VerifyMismatchError):
+                self.BOTH.verify_and_rehash(record, "x")
+
+    def test_those_of_other_costs_are_made_anew(self):
+        for hasher in (SMALL, self.NEW, ScryptHasher(log2_n=4)):
+            self.assertIsNone(hasher.verify_and_rehash(hasher.hash("x"), "x"))
+            old = hasher.replace(salt_len=17).hash("x")
+            made = hasher.verify_and_rehash(old, "x")
+            self.assertFalse(hasher.check_needs_rehash(made))
+            self.assertIs(hasher.verify(made, "x"), True)
+        with self.assertRaises(rigzumal.InvalidRecordError):
+            SMALL.verify_and_rehash("x", "x")
+
+    def test_a_hash_for_each_that_is_tried(self):
+        for record, tried in ((self.NEW.hash("x"), 1), (self.OLD.hash("x"), 2), (ARGON2, 2)):
+            with Calls() as calls:
+                try:
+                    self.BOTH.verify(record, "x")
+                except rigzumal.VerifyMismatchError:
+                    pass
+            self.assertEqual(calls.names().count("rigzumal_check_with_secret_threads"), tried)
+        with Calls() as calls:
+            with self.assertRaises(rigzumal.InvalidRecordError):
+                self.BOTH.verify(ARGON2[:-1], "x")
+        self.assertEqual(calls.names().count("rigzumal_check_with_secret_threads"), 1)
+
+    def test_bad_secrets(self):
+        with self.assertRaises(ValueError):
+            PasswordHasher(secret=b"", secrets=[b"x"])
+        for wrong in ([None], ["x"], 5):
+            with self.assertRaises(TypeError):
+                PasswordHasher(secrets=wrong)
+
+
 class Salts(unittest.TestCase):
     """Where a salt comes from, by a getrandom that is the test's own."""
 
@@ -332,14 +505,67 @@ class Refusals(unittest.TestCase):
             self.refused(rigzumal.InvalidRecordError, word, SMALL.verify, text, "password")
             self.refused(rigzumal.InvalidRecordError, word, SMALL.check_needs_rehash, text)
 
+    def test_numbers_of_a_hasher(self):
+        """Each is refused as the hasher is made, by its name, its range and its fault."""
+        argon2 = {"time_cost": 1, "memory_cost": 16, "parallelism": 2}
+        scrypt = {"log2_n": 4, "block_size": 8, "parallelism": 1}
+        for kind, given, name, least, most, word in (
+            (PasswordHasher, argon2, "time_cost", 1, 2**32 - 1, "passes"),
+            (PasswordHasher, argon2, "memory_cost", 16, 2097152, "cost"),
+            (PasswordHasher, {"memory_cost": 2097152}, "parallelism", 1, 255, "lanes"),
+            (PasswordHasher, argon2, "hash_len", 4, 64, "tag"),
+            (PasswordHasher, argon2, "salt_len", 8, 48, "salt"),
+            (PasswordHasher, argon2, "threads", 1, 2**32 - 1, "range"),
+            (ScryptHasher, scrypt, "log2_n", 1, 21, "scryptcost"),
+            (ScryptHasher, {"block_size": 1}, "log2_n", 1, 15, "scryptcost"),
+            (ScryptHasher, {"block_size": 2}, "log2_n", 1, 23, "scryptcost"),
+            (ScryptHasher, {"block_size": 255}, "log2_n", 1, 16, "scryptcost"),
+            (ScryptHasher, {"log2_n": 4}, "block_size", 1, 255, "blocksize"),
+            (ScryptHasher, scrypt, "parallelism", 1, 255, "blocks"),
+            (ScryptHasher, scrypt, "hash_len", 4, 64, "tag"),
+            (ScryptHasher, scrypt, "salt_len", 1, 48, "salt"),
+        ):
+            for number in (least, most):
+                self.assertEqual(getattr(kind(**{**given, name: number}), name), number)
+            for number in (least - 1, most + 1, -1):
+                with self.assertRaises(rigzumal.InvalidNumbersError) as raised:
+                    kind(**{**given, name: number})
+                said = f"{name} is to be {least} to {most}, and not {number}"
+                self.assertEqual((str(raised.exception), raised.exception.word), (said, word))
+                other = pickle.loads(pickle.dumps(raised.exception))
+                self.assertEqual((str(other), other.number), (said, raised.exception.number))
+
+    def test_what_a_hasher_takes_the_library_takes(self):
+        """At the ends of each range that a test has the memory and the time for."""
+        for hasher in (
+            PasswordHasher(1, 8, 1),
+            PasswordHasher(1, 2040, 255),
+            PasswordHasher(9, 8, 1, 4, 8),
+            PasswordHasher(1, 8, 1, 64, 48, threads=2**32 - 1),
+            ScryptHasher(1, 1, 1, 4, 1),
+            ScryptHasher(15, 1, 1, 64, 48),
+            ScryptHasher(1, 255, 255),
+        ):
+            self.assertTrue(hasher.verify(hasher.hash("x"), "x"))
+        for hasher in (ScryptHasher(23, 2), ScryptHasher(21, 8), ScryptHasher(16, 255, 255)):
+            record = f"{hasher.costs}$c29tZXNhbHQ$c29tZXRhZw"
+            self.assertEqual(rigzumal.parts(record).memory, hasher.log2_n)
+        record = f"{PasswordHasher(2**32 - 1, 2097152, 255).costs}$c29tZXNhbHQ$c29tZXRhZw"
+        self.assertEqual(rigzumal.parts(record).passes, 2**32 - 1)
+
+    def test_salts(self):
+        for hasher, sizes, range_ in (
+            (SMALL, (0, 7, 49), "8 to 48"),
+            (SMALL.replace(secret=b"x"), (0, 7, 49), "8 to 48"),
+            (ScryptHasher(log2_n=1), (0, 49), "1 to 48"),
+        ):
+            for size in sizes:
+                with self.assertRaises(rigzumal.InvalidNumbersError) as raised:
+                    hasher.hash("x", salt=bytes(size))
+                said = f"the salt's length is to be {range_}, and not {size}"
+                self.assertEqual((str(raised.exception), raised.exception.word), (said, "salt"))
+
     def test_numbers(self):
-        bad = rigzumal.InvalidRecordError
-        self.refused(bad, "range", PasswordHasher(0, 256, 1).hash, "x")
-        self.refused(bad, "range", PasswordHasher(1, 7, 1).hash, "x")
-        self.refused(bad, "params", PasswordHasher(-1, 256, 1).hash, "x")
-        self.refused(bad, "tag", PasswordHasher(1, 8, 1, 65).hash, "x")
-        self.refused(bad, "salt", SMALL.hash, "x", salt=b"short")
-        self.refused(bad, "shape", SMALL.hash, "x", salt=b"")
         bad = rigzumal.InvalidNumbersError
         given = {"time_cost": 1, "memory_cost": 8, "parallelism": 1}
         for change, word in (
@@ -456,25 +682,98 @@ class Shell(unittest.TestCase):
             made = run(["hash", *given.split()], b"secret").stdout.decode()
             self.assertTrue(made.startswith(costs), made)
 
+    def test_an_empty_password_is_asked_for(self):
+        costs = ["--memory", "8", "--passes", "1", "--lanes", "1"]
+        for given in (b"", b"\n"):
+            refused = run(["hash", *costs], given)
+            self.assertEqual((refused.returncode, refused.stdout), (2, b""))
+            self.assertEqual(
+                refused.stderr, b"rigzumal: the password is empty; --empty allows it\n"
+            )
+            record = run(["hash", "--empty", *costs], given).stdout.decode().strip()
+            self.assertTrue(SMALL.verify(record, given))
+            self.assertEqual(run(["verify", record], given).stdout, b"yes\n")
+
+    def at_a_terminal(self, words, *lines):
+        """The status of the command, what it wrote, and what stood on its terminal."""
+        child, terminal = pty.fork()
+        if child == 0:
+            os.execv(sys.executable, [sys.executable, "-m", "rigzumal", *words])
+        shown = b""
+        for line in lines:
+            while not shown.endswith(b": "):
+                shown += os.read(terminal, 1)
+            os.write(terminal, line)
+            shown += b"|"
+        try:
+            while True:
+                shown += os.read(terminal, 1000)
+        except OSError:  # the other end is closed
+            pass
+        os.close(terminal)
+        return os.waitstatus_to_exitcode(os.waitpid(child, 0)[1]), shown.decode()
+
+    def test_at_a_terminal_the_password_is_unseen(self):
+        costs = ["--memory", "8", "--passes", "1", "--lanes", "1"]
+        status, shown = self.at_a_terminal(["hash", *costs], b"hunter2\n", b"hunter2\n")
+        self.assertEqual(status, 0, shown)
+        self.assertNotIn("hunter2", shown)
+        self.assertTrue(shown.startswith("Password: |\r\nThe same again: |"), shown)
+        record = shown.splitlines()[-1]
+        self.assertTrue(SMALL.verify(record, "hunter2"))
+        status, shown = self.at_a_terminal(["verify", record], b"hunter2\n")
+        self.assertEqual((status, shown.splitlines()), (0, ["Password: |", "yes"]))
+        status, shown = self.at_a_terminal(["hash", *costs], b"hunter2\n", b"hunter3\n")
+        self.assertEqual(status, 2)
+        self.assertEqual(shown.splitlines()[-1], "rigzumal: the two passwords differ")
+        status, shown = self.at_a_terminal(["hash", *costs], b"\n", b"\n")
+        self.assertEqual((status, "--empty" in shown), (2, True))
+
+    def test_no_traceback(self):
+        """At Ctrl-C, at the end of a terminal's input, and where nothing can be written."""
+        for key, wanted in ((b"\x03", 130), (b"\x04", 2)):
+            status, shown = self.at_a_terminal(["hash"], key)
+            self.assertEqual((status, "Traceback" in shown), (wanted, False), shown)
+        words = [sys.executable, "-m", "rigzumal", "hash", "--memory", "8", "--lanes", "1"]
+        with open("/dev/full", "wb") as full:
+            done = subprocess.run(words, input=b"x", stdout=full, stderr=subprocess.PIPE)
+        self.assertEqual(done.stderr, b"rigzumal: No space left on device\n")
+        self.assertEqual(done.returncode, 2)
+
+    def test_no_fault_repeats_a_word(self):
+        refused = run(["hash", "hunter2"], b"")
+        self.assertEqual((refused.returncode, b"hunter2" in refused.stderr), (2, False))
+        self.assertIn(b"a password stands in no argument", refused.stderr)
+
+    def test_numbers_are_named(self):
+        refused = run(["hash", "--lanes", "0"], b"secret")
+        wanted = b"rigzumal: 14 lanes: parallelism is to be 1 to 255, and not 0\n"
+        self.assertEqual((refused.returncode, refused.stderr), (2, wanted))
+
     def test_calibration(self):
-        done = run(["calibrate", "--target-ms", "40", "--memory", "4M", "--lanes", "1"], b"")
+        words = "calibrate --target-ms 40 --memory 4M --lanes 1".split()
+        done = run([*words, "--below"], b"")
         self.assertEqual(done.returncode, 0, done.stderr)
         self.assertRegex(done.stdout.decode(), r"^\$argon2id\$v=19\$m=\d+,t=\d+,p=1\n$")
-        least = run(["calibrate", "--target-ms", "0.001", "--memory", "1M", "--lanes", "2"], b"")
-        self.assertEqual(least.stdout, b"$argon2id$v=19$m=16,t=1,p=2\n")
-        for memory in ("16", "16K", "16k"):
-            done = run(
-                ["calibrate", "--target-ms", "0.001", "--memory", memory, "--lanes", "1"], b""
-            )
-            self.assertEqual(done.stdout, b"$argon2id$v=19$m=8,t=1,p=1\n")
-            self.assertIn(b"$argon2id$v=19$m=16,t=1,p=1: ", done.stderr)
-        refused = run(["calibrate", "--memory", "1M", "--lanes", "0"], b"")
+        refused = run(words, b"")
+        self.assertEqual((refused.returncode, refused.stdout), (2, b""))
+        self.assertEqual(
+            refused.stderr, b"rigzumal: --memory is below 19456 KiB; --below allows it\n"
+        )
+        done = run("calibrate --target-ms 10 --memory 19M --lanes 1".split(), b"")
+        self.assertEqual(done.stdout, b"$argon2id$v=19$m=19456,t=2,p=1\n")
+        refused = run(["calibrate", "--lanes", "0"], b"")
         self.assertEqual((refused.returncode, b"Traceback" in refused.stderr), (2, False))
-        self.assertEqual(_memory("2G"), 2 * 1024 * 1024)
-        self.assertEqual(run(["calibrate", "--memory", "4X"], b"").returncode, 2)
-        for bad in ("0", "-1", "x"):
-            refused = run(["calibrate", "--threads", bad], b"")
-            self.assertEqual((refused.returncode, b"Traceback" in refused.stderr), (2, False))
+        for text, memory in (("2G", 2097152), ("16", 16), ("16K", 16), ("16k", 16), ("1M", 1024)):
+            self.assertEqual(_memory(text), memory)
+        for words in (
+            *(f"--target-ms {it}" for it in ("9.9", "0", "-5", "60001", "nan", "inf", "x", "1e9")),
+            *(f"--threads {it}" for it in ("0", "-1", "x")),
+            "--memory 4X",
+        ):
+            refused = run(["calibrate", *words.split()], b"")
+            self.assertEqual((refused.returncode, refused.stdout), (2, b""), words)
+            self.assertNotIn(b"Traceback", refused.stderr)
 
     def test_the_version_is_the_headers(self):
         header = pathlib.Path(__file__).parents[3] / "c/include/rigzumal.h"

@@ -1,0 +1,46 @@
+"""Values with names, which don't change. dataclasses would do, but take longer to import than all
+the rest of the package."""
+
+from __future__ import annotations
+
+TYPE_CHECKING = False
+if TYPE_CHECKING:
+    from typing import Any, NoReturn, TypeVar
+
+    Self = TypeVar("Self", bound="Frozen")
+
+
+class Frozen:
+    """Values that are equal, and have one hash, if all of their attributes are."""
+
+    def _set(self, **values: object) -> None:
+        """Gives the attributes, in the order in which they are shown."""
+        vars(self).update(values)
+
+    def _shown(self) -> dict[str, object]:
+        """What stands in the repr."""
+        return vars(self)
+
+    def replace(self: Self, **changes: Any) -> Self:
+        """The same with other values of some attributes."""
+        return type(self)(**{**vars(self), **changes})
+
+    __replace__ = replace  # copy.replace, of Python 3.13
+
+    def __setattr__(self, name: str, value: object) -> NoReturn:
+        raise AttributeError(f"a {type(self).__name__} doesn't change")
+
+    def __delattr__(self, name: str) -> NoReturn:
+        raise AttributeError(f"a {type(self).__name__} doesn't change")
+
+    def __eq__(self, other: object) -> bool:
+        if type(other) is not type(self):
+            return NotImplemented
+        return vars(self) == vars(other)
+
+    def __hash__(self) -> int:
+        return hash((type(self), *vars(self).values()))
+
+    def __repr__(self) -> str:
+        shown = ", ".join(f"{name}={value!r}" for name, value in self._shown().items())
+        return f"{type(self).__qualname__}({shown})"
