@@ -15,6 +15,7 @@
 - Each library and program of crates.txt has a page, crates/NAME/README.md, and stands in docs/pictures/crates.svg.
 - Code after a line `<!-- from FILE -->` stands in that file, word for word but for what is left out at a line of two dots.
 - A proof by hand, which may give a ghost field any value, stands in a folder that is named here.
+- The files that say a version say that of VERSION.
 
 The last line is `N passed, M failed`, and the status is 1 if anything failed.
 """
@@ -41,6 +42,21 @@ PAGES = [
 
 # The folders of proofs by hand: each makes values of one struct with ghost data, and its page says what is trusted of that.
 WALKS = {"cred_cli/proofs/call_log"}
+# The files that say the version, and how.
+VERSIONED = {
+    "c/include/rigzumal.h": r'RIGZUMAL_LIBRARY_VERSION "(.*)"',
+    "c/man/rigzumal.3": r'^\.TH .* "rigzumal (\S+)"',
+    "rust/Cargo.toml": r'^version = "(.*)"',
+    "CHANGELOG.md": r"^## (\d+\.\d+\.\d+)",
+}
+
+
+def versions():
+    """What is wrong with each file that says the version."""
+    there = (TOP / "VERSION").read_text().strip()
+    for file, form in VERSIONED.items():
+        said = re.search(form, (TOP / file).read_text(), re.M)
+        yield None if said and said[1] == there else f"{file} says version {said and said[1]}, and VERSION {there}"
 
 
 def figures():
@@ -175,6 +191,7 @@ def main():
         *rooms(),
         *definitions(),
         *walks(),
+        *versions(),
     ]
     for page in PAGES:
         found += [*links(page), *callers(page)]
