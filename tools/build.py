@@ -1,18 +1,19 @@
 #!/usr/bin/env python3
 """Proves and builds a program from nothing, crates side by side, and runs it on the words that come after `--`, if that is there.
 
-    python3 tools/build.py [--cpu LEVEL] [PROGRAM] [-- WORD..]          (PROGRAM: credbook)
+    python3 tools/build.py [--cpu LEVEL] [--built] [PROGRAM] [-- WORD..]          (PROGRAM: credbook)
 
 The program is compiled for LEVEL: x86-64, x86-64-v2 or x86-64-v3, and without the flag for the highest of them whose features this
-processor has. It says on standard error what it is going to do, and then prints a line for each library below the program, with the
-seconds that it took. What the program prints is all that comes on standard output, and its status is this script's. What is built
-already is taken as it is, if its sources are unchanged. `rt run` alone does the same in more time: one rt at a time may work above a
-library, so libraries that don't use each other are worked here in two copies of the sources, and what was proved is copied back. The
-variable RT names another rt.
+processor has. On standard error it says every half minute, and as each library is proved, how many are, and about how long the rest
+will take. What the program prints is all that comes on standard output, and its status is this script's. What is built already is
+taken as it is, if its sources are unchanged; with --built nothing else is done, and the status is 1 if the program isn't built for
+LEVEL. `rt run` alone does the same in more time: one rt at a time may work above a library, so libraries that don't use each other
+are worked here in two copies of the sources, and what was proved is copied back. The variable RT names another rt.
 """
 
 import argparse
 import concurrent.futures
+import contextlib
 import hashlib
 import os
 import pathlib
@@ -25,7 +26,12 @@ import time
 
 TOP = pathlib.Path(__file__).resolve().parent.parent
 AT_ONCE = 2
+# Seconds between two lines on standard error.
+EVERY = float(os.environ.get("BUILD_SAYS_EVERY", 25))
 RT = os.environ.get("RT", "rt")
+# How long each took on a machine with four processors, beside other work; others count as 60. Only proportions matter.
+SECONDS = {"cred_pool": 44, "cred_blake": 68, "cred_scrypt": 118, "cred_base64": 14, "cred_argon": 132, "cred_phc": 82, "cred_book": 85}
+SECONDS |= {"cred_file": 415, "cred_cli": 509, "cred_admin": 138, "cred_keep": 254, "cred_many": 318, "cred_serve": 96, "credkeep": 900}
 LEVELS = ("x86-64", "x86-64-v2", "x86-64-v3")
 # Each level's features by the system's names for them, beside those of the levels below.
 FEATURES = {
@@ -82,25 +88,71 @@ def bring(name, source, target):
         subprocess.run(["cp", "-a", source / proved, target / proved], check=True)
 
 
-def build(name, below, copies, alone):
+class Progress:
+    """How far a build is, on standard error."""
+
+    def __init__(self, names):
+        self.names, self.running, self.done, self.began = names, [], [], time.monotonic()
+        self.ended = threading.Event()
+
+    def __enter__(self):
+        self.teller = threading.Thread(target=self.tell, daemon=True)
+        self.teller.start()
+        return self
+
+    def __exit__(self, *_):
+        self.ended.set()
+        self.teller.join()
+
+    def tell(self):
+        while not self.ended.wait(EVERY):
+            self.say(f"{', '.join(self.running)}: at work", "\r" if sys.stderr.isatty() else "\n")
+
+    @contextlib.contextmanager
+    def of(self, name, what):
+        """Tells when one of the names is begun and done."""
+        began = time.monotonic()
+        self.running.append(name)
+        try:
+            yield
+            self.done.append(name)
+        finally:
+            self.running.remove(name)
+        self.say(f"{name}: {what}, {time.monotonic() - began:.0f} s")
+
+    def say(self, what, end="\n"):
+        """What happened, how much is done, and how long the rest takes at the pace so far."""
+        whole, running, done = (sum(SECONDS.get(it, 60) for it in part) for part in (self.names, self.running, self.done))
+        pace = (time.monotonic() - self.began) / (done + running / 2) if done else 0.7
+        left = round((whole - done - running / 2) * pace / 60)
+        rest = f", about {left or 1} minute{'s' if left > 1 else ''} left" if len(self.done) < len(self.names) else ""
+        clear = "\033[K" if sys.stderr.isatty() else ""
+        print(f"{clear}{what}; {len(self.done)} of {len(self.names)} done{rest}", end=end, file=sys.stderr, flush=True)
+
+
+def build(name, below, copies, alone, progress):
     """Proves one library in a copy that is free, and brings what was proved to the repository."""
-    began, copy = time.monotonic(), copies.take()
+    copy = copies.take()
     try:
-        for it in below:
-            bring(it, TOP, copy)
-        words = [RT, "lib"] if alone else [RT, "lib", "--jobs", "2"]
-        done = subprocess.run(words, cwd=copy / "crates" / name, capture_output=True, text=True)
-        if done.returncode:
-            raise SystemExit(f"{name}: not proved\n{(done.stdout + done.stderr)[-4000:]}")
-        bring(name, copy, TOP)
+        with progress.of(name, "proved"):
+            for it in below:
+                bring(it, TOP, copy)
+            words = [RT, "lib"] if alone else [RT, "lib", "--jobs", "2"]
+            done = subprocess.run(words, cwd=copy / "crates" / name, capture_output=True, text=True)
+            if done.returncode:
+                raise SystemExit(f"{name}: not proved\n{(done.stdout + done.stderr)[-4000:]}")
+            bring(name, copy, TOP)
     finally:
         copies.give_back(copy)
-    print(f"{name}: proved, {time.monotonic() - began:.0f} s", file=sys.stderr, flush=True)
 
 
-def build_all(libraries, named):
+def missing_of(libraries):
+    return [it for it in libraries if not (TOP / "crates" / it / "out/rlib/stamp").is_file()]
+
+
+def build_all(libraries, named, progress):
     """Builds each library once those below it are built."""
-    missing = [it for it in libraries if not (TOP / "crates" / it / "out/rlib/stamp").is_file()]
+    missing = missing_of(libraries)
     with tempfile.TemporaryDirectory(prefix="build-") as room, concurrent.futures.ThreadPoolExecutor(AT_ONCE) as pool:
         copies, left, running = Copies(room), list(missing), {}
         while left or running:
@@ -109,7 +161,7 @@ def build_all(libraries, named):
             for name in ready[: AT_ONCE - len(running)]:
                 left.remove(name)
                 alone = not running and len(ready) == 1
-                running[pool.submit(build, name, libraries_below(name, named), copies, alone)] = name
+                running[pool.submit(build, name, libraries_below(name, named), copies, alone, progress)] = name
             done = concurrent.futures.wait(running, return_when=concurrent.futures.FIRST_COMPLETED).done
             for it in done:
                 running.pop(it)
@@ -137,20 +189,28 @@ def sum_of(program, below, level):
     return found.hexdigest()
 
 
-def build_program(program, below, level):
-    """Proves a program over its libraries and compiles it for a level, unless that is done."""
-    folder = TOP / "crates" / program
-    built, seal = folder / "out" / program, folder / "out" / f"{program}.level"
-    if built.is_file() and seal.is_file() and seal.read_text() == sum_of(program, below, level):
-        return
+def files_of(program):
+    """Where a built program lies, and what it was built of and for."""
+    out = TOP / "crates" / program / "out"
+    return out / program, out / f"{program}.level"
+
+
+def is_built(program, below, level):
+    built, seal = files_of(program)
+    return built.is_file() and seal.is_file() and seal.read_text() == sum_of(program, below, level)
+
+
+def build_program(program, below, level, progress):
+    """Proves a program over its libraries and compiles it for a level."""
+    built, seal = files_of(program)
     built.unlink(missing_ok=True)
-    began = time.monotonic()
-    # rt builds a program as it runs it: here for its help.
-    done = subprocess.run([RT, "run", f"--cpu={level}", "--", "--help"], cwd=folder, capture_output=True, text=True)
-    if not built.is_file():
-        raise SystemExit(f"{program}: not proved\n{(done.stdout + done.stderr)[-4000:]}")
-    seal.write_text(sum_of(program, below, level))
-    print(f"{program}: proved and built, {time.monotonic() - began:.0f} s", file=sys.stderr, flush=True)
+    with progress.of(program, "proved and built"):
+        # rt builds a program as it runs it: here for its help.
+        words = [RT, "run", f"--cpu={level}", "--", "--help"]
+        done = subprocess.run(words, cwd=TOP / "crates" / program, capture_output=True, text=True)
+        if not built.is_file():
+            raise SystemExit(f"{program}: not proved\n{(done.stdout + done.stderr)[-4000:]}")
+        seal.write_text(sum_of(program, below, level))
 
 
 def main():
@@ -161,16 +221,18 @@ def main():
     named = crates()
     reader = argparse.ArgumentParser(usage=__doc__.split("\n\n")[1].strip())
     reader.add_argument("--cpu", choices=LEVELS, metavar="LEVEL", help=", ".join(LEVELS))
+    reader.add_argument("--built", action="store_true")
     reader.add_argument("program", nargs="?", default="credbook", choices=[*named], metavar="PROGRAM")
     asked = reader.parse_args(ours)
     level = asked.cpu or level_of(pathlib.Path("/proc/cpuinfo").read_text())
     below = libraries_below(asked.program, named)
-    missing = [it for it in below if not (TOP / "crates" / it / "out/rlib/stamp").is_file()]
-    if missing:
-        print(f"{asked.program}: proves {len(missing)} libraries first, which takes minutes", file=sys.stderr, flush=True)
-    print(f"{asked.program}: for {level}{'' if asked.cpu else ', which this processor has'}", file=sys.stderr, flush=True)
-    build_all(below, named)
-    build_program(asked.program, below, level)
+    if not is_built(asked.program, below, level):
+        if asked.built:
+            raise SystemExit(f"{asked.program} isn't built for {level}: make programs CPU={level} does it")
+        print(f"{asked.program}: for {level}{'' if asked.cpu else ', which this processor has'}", file=sys.stderr, flush=True)
+        with Progress([*missing_of(below), asked.program]) as progress:
+            build_all(below, named, progress)
+            build_program(asked.program, below, level, progress)
     if "--" in sys.argv:
         os.chdir(TOP / "crates" / asked.program)
         os.execv(f"out/{asked.program}", [asked.program, *theirs])

@@ -1,0 +1,102 @@
+"""tools/build.py: what it builds, in which order, and what it says meanwhile.
+
+    python3 -m unittest tests/tools/test_build.py
+"""
+
+import os
+import pathlib
+import re
+import shutil
+import subprocess
+import sys
+import tempfile
+import unittest
+
+BUILD = pathlib.Path(__file__).resolve().parents[2] / "tools/build.py"
+CRATES = """# lowest first
+low:
+other:
+high: low
+program: low other high
+"""
+# A toolchain that notes what it is asked, and leaves what the real one leaves.
+RT = """#!/bin/sh
+name=$(basename "$PWD")
+echo "$name $*" >> "$ASKED"
+sleep 0.3
+[ "$name" != "${FAILING-}" ] || { echo "a goal stands open"; exit 1; }
+mkdir -p out/rlib
+touch out/rlib/stamp
+[ "$1" != run ] || { printf '#!/bin/sh\\necho answered "$@"\\nexit 7\\n' > out/program; chmod +x out/program; }
+"""
+
+
+class Build(unittest.TestCase):
+    def setUp(self):
+        room = tempfile.TemporaryDirectory()
+        self.addCleanup(room.cleanup)
+        self.top = pathlib.Path(room.name)
+        for name in ("low", "other", "high", "program"):
+            (self.top / "crates" / name / "src").mkdir(parents=True)
+        (self.top / "tools").mkdir()
+        shutil.copy(BUILD, self.top / "tools")
+        (self.top / "crates.txt").write_text(CRATES)
+        (self.top / "HANDLES").write_text("")
+        (self.top / "rt").write_text(RT)
+        (self.top / "rt").chmod(0o755)
+
+    def build(self, *words, **env):
+        env = {**os.environ, "RT": str(self.top / "rt"), "ASKED": str(self.top / "asked"), "BUILD_SAYS_EVERY": "0.1", **env}
+        command = [sys.executable, self.top / "tools/build.py", *words]
+        return subprocess.run(command, env=env, capture_output=True, text=True, timeout=60)
+
+    def asked(self):
+        asked, path = [], self.top / "asked"
+        if path.exists():
+            asked = [it.split()[0] for it in path.read_text().splitlines()]
+            path.unlink()
+        return asked
+
+    def test_order(self):
+        """Each library once and after those below it, then the program, whose output and status are handed on."""
+        said = self.build("--cpu", "x86-64", "program", "--", "a", "b")
+        self.assertEqual((said.stdout, said.returncode), ("answered a b\n", 7))
+        asked = self.asked()
+        self.assertEqual(sorted(asked), ["high", "low", "other", "program"])
+        self.assertLess(asked.index("low"), asked.index("high"))
+        self.assertEqual(asked[-1], "program")
+
+    def test_progress(self):
+        """It counts what is done, says what is at work, and guesses the time that is left."""
+        said = self.build("--cpu", "x86-64", "program").stderr.splitlines()
+        self.assertEqual(said[0], "program: for x86-64")
+        done = [it for it in said if ": proved" in it]
+        self.assertEqual([re.search(r"(\d of \d) done", it)[1] for it in done], ["1 of 4", "2 of 4", "3 of 4", "4 of 4"])
+        self.assertTrue(all(re.search(r"about \d+ minutes? left$", it) for it in done[:-1]), done)
+        self.assertRegex(done[-1], r"^program: proved and built, \d+ s; 4 of 4 done$")
+        self.assertTrue(any("low, other: at work; 0 of 4 done" in it for it in said), said)
+
+    def test_built(self):
+        """What is built is taken as it is, until a source, the level or the program changes."""
+        self.assertEqual(self.build("--built", "--cpu", "x86-64", "program").returncode, 1)
+        self.assertEqual(self.asked(), [])
+        self.build("--cpu", "x86-64", "program")
+        self.asked()
+        self.assertEqual(self.build("--built", "--cpu", "x86-64", "program").returncode, 0)
+        self.assertEqual(self.build("--cpu", "x86-64", "program").stderr, "")
+        self.assertEqual(self.asked(), [])
+        said = self.build("--built", "--cpu", "x86-64-v2", "program")
+        self.assertEqual((said.returncode, said.stderr), (1, "program isn't built for x86-64-v2: make programs CPU=x86-64-v2 does it\n"))
+        (self.top / "crates/low/src/lib.rt").write_text("// changed\n")
+        self.assertEqual(self.build("--built", "--cpu", "x86-64", "program").returncode, 1)
+
+    def test_failure(self):
+        """A library that isn't proved ends the build, with what the toolchain said."""
+        said = self.build("program", FAILING="high")
+        self.assertEqual(said.returncode, 1)
+        self.assertIn("high: not proved\na goal stands open\n", said.stderr)
+        self.assertNotIn("program", self.asked())
+
+
+if __name__ == "__main__":
+    unittest.main()
