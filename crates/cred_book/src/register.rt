@@ -1,6 +1,6 @@
 //! A book that grows with its accounts.
 
-ghost use Rattle.std.specs.Prelude.{◌≡◌, ◌<◌, ◌≤◌, IfErr, IfOk, MatchBool, true};
+ghost use Rattle.std.specs.Prelude.{◌≡◌, ◌+◌, ◌<◌, ◌≤◌, IfErr, IfOk, MatchBool, true};
 ghost use Rattle.std.specs.FinMap as map;
 ghost use Rattle.cred_book.specs.Accounts.{register_capacity};
 ghost use Rattle.cred_book.specs.Calls.{AdmitsWithin, EntersWithin, Loads, Shows};
@@ -106,6 +106,13 @@ impl Register {
             (map.len self.now < register_capacity) }
     {
         self.accounts.len() >= CAPACITY
+    }
+
+    /// How many more names there is room for.
+    pub fn room(&self) -> usize
+        ensures { map.len self.now + result ≡ register_capacity }
+    {
+        CAPACITY - self.len()
     }
 
     /// How many names there are, at most 2^24.

@@ -13,9 +13,6 @@ use crate::together::{remove_all, take_together};
 use cred_book::{BookError, Register};
 use sqlite::Alter;
 
-/// How many accounts a kept book can have.
-const CAPACITY: usize = 16_777_216;
-
 impl<S: Alter> FileBook<S> {
     /// Adds accounts and replaces the records of others, by one transaction of the database: so a
     /// crash leaves the book as it was, or with all of it.
@@ -64,7 +61,7 @@ fn has_room(book: &Register, added: &Register) -> bool
     ensures { MatchBool result (fin.len book.now + fin.len added.now ≤ register_capacity)
         (register_capacity < fin.len book.now + fin.len added.now) }
 {
-    added.len() <= CAPACITY - book.len()
+    added.len() <= book.room()
 }
 
 /// Whether a name is in both.
