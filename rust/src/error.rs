@@ -1,7 +1,7 @@
 //! What is refused, and why.
 
 use crate::ffi;
-use std::fmt;
+use core::fmt;
 
 macro_rules! errors {
     ($($(#[$doc:meta])* $name:ident = $number:literal,)*) => {
@@ -98,6 +98,7 @@ impl fmt::Display for Error {
     }
 }
 
+#[cfg(feature = "std")]
 impl std::error::Error for Error {}
 
 #[cfg(test)]

@@ -3,8 +3,9 @@
 //! overlaps nothing that is read. Slices, `CStr` and borrows are just that.
 
 use crate::{Argon2, Error, Parts, Scrypt};
-use std::ffi::{c_char, c_int, CStr, CString};
-use std::ptr;
+use alloc::{ffi::CString, vec};
+use core::ffi::{c_char, c_int, CStr};
+use core::{ptr, sync::atomic};
 
 /// Into so many bytes every record fits, with its zero byte.
 const TEXT_SIZE: usize = 513;
@@ -13,6 +14,7 @@ const TEXT_SIZE: usize = 513;
 extern "C" {
     fn rigzumal_version() -> *const c_char;
     fn rigzumal_trim() -> usize;
+    fn rigzumal_keep(most: usize) -> usize;
     fn rigzumal_strerror(fault: c_int) -> *const c_char;
     fn rigzumal_record_fault(record: *const c_char) -> c_int;
     fn rigzumal_parts(parts: *mut [u32; 7], record: *const c_char) -> c_int;
@@ -60,6 +62,20 @@ pub(crate) fn meaning(fault: c_int) -> &'static str {
 pub(crate) fn trim() -> usize {
     // SAFETY: memory that is in use is not given back.
     unsafe { rigzumal_trim() }
+}
+
+pub(crate) fn keep(most: usize) -> usize {
+    // SAFETY: it takes any number.
+    unsafe { rigzumal_keep(most) }
+}
+
+/// Writes zeros that no optimisation leaves out.
+pub(crate) fn clear(secret: &mut [u8]) {
+    for byte in secret {
+        // SAFETY: the byte is borrowed alone.
+        unsafe { ptr::write_volatile(byte, 0) };
+    }
+    atomic::compiler_fence(atomic::Ordering::SeqCst);
 }
 
 pub(crate) fn record_fault(record: &CStr) -> Result<(), Error> {

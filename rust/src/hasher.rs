@@ -1,8 +1,8 @@
 //! What makes records and verifies them.
 
 use crate::{ffi, Algorithm, Error, Parts, Record, Scheme};
-use std::ffi::{CStr, CString};
-use std::fmt;
+use alloc::{boxed::Box, ffi::CString, string::ToString};
+use core::{ffi::CStr, fmt};
 
 /// By which function a new record is made, and its costs.
 ///
@@ -79,6 +79,16 @@ pub(crate) struct NewRecord<'a> {
     pub(crate) threads: u32,
 }
 
+/// A secret's bytes, which are cleared when their hasher is dropped, as in each clone of it.
+#[derive(Clone)]
+struct Secret(Box<[u8]>);
+
+impl Drop for Secret {
+    fn drop(&mut self) {
+        ffi::clear(&mut self.0);
+    }
+}
+
 /// Makes records and verifies them.
 ///
 /// It is `Send` and `Sync`: one is enough for all threads of a program.
@@ -98,7 +108,7 @@ pub struct Hasher {
     costs: Costs,
     salt_len: Option<usize>,
     tag_len: Option<usize>,
-    secret: Option<Box<[u8]>>,
+    secret: Option<Secret>,
     threads: u32,
 }
 
@@ -122,11 +132,11 @@ impl Hasher {
     }
 
     /// The same with a secret beside each password, which a program keeps apart from its records:
-    /// K of RFC 9106, section 3.1. Such a hasher verifies records of this secret alone, and none of
+    /// K of RFC 9106, section 3.1. The hasher clears its copy when it is dropped. Such a hasher verifies records of this secret alone, and none of
     /// scrypt: [`Error::Scheme`].
     #[must_use]
     pub fn secret(self, secret: &[u8]) -> Hasher {
-        Hasher { secret: Some(secret.into()), ..self }
+        Hasher { secret: Some(Secret(secret.into())), ..self }
     }
 
     /// The same with up to so many threads for the lanes of each record. They make one login faster
@@ -134,6 +144,10 @@ impl Hasher {
     #[must_use]
     pub fn threads(self, threads: u32) -> Hasher {
         Hasher { threads, ..self }
+    }
+
+    fn secret_bytes(&self) -> Option<&[u8]> {
+        self.secret.as_ref().map(|secret| &*secret.0)
     }
 
     fn tag_size(&self) -> usize {
@@ -151,7 +165,7 @@ impl Hasher {
             salt,
             salt_len: self.salt_size(),
             tag_len: self.tag_size(),
-            secret: self.secret.as_deref(),
+            secret: self.secret_bytes(),
             threads: self.threads,
         };
         ffi::record(&it, password).map(Record::of_library)
@@ -179,7 +193,7 @@ impl Hasher {
     /// # Errors
     /// [`Error::Mismatch`] if it is one of another; [`Error::InputSize`]; [`Error::Memory`].
     pub fn verify_password(&self, password: &[u8], record: &Record) -> Result<(), Error> {
-        ffi::check(record.as_c_str(), password, self.secret.as_deref(), self.threads)
+        ffi::check(record.as_c_str(), password, self.secret_bytes(), self.threads)
     }
 
     /// Whether the record is of another scheme, other costs or other sizes than a new one.

@@ -62,14 +62,22 @@
 //! # assert!(matches!(refused, Err(Error::Password)));
 //! ```
 //!
+//! # Features
+//!
+//! `std`, which is on by default, makes [`Error`] a `std::error::Error`. Without it the crate needs
+//! `core` and `alloc` alone; the library underneath needs Linux and its C library all the same.
+//!
 //! # Building
 //!
 //! `build.rs` takes the library from the folder that `RIGZUMAL_LIB_DIR` names, from `c/out` beside
 //! the crate, or from where pkg-config finds it: `librigzumal.a` where it lies there, or else
 //! `librigzumal.so`.
 
+#![cfg_attr(not(feature = "std"), no_std)]
 #![deny(missing_docs, unsafe_code, unsafe_op_in_unsafe_fn)]
 #![warn(clippy::pedantic)]
+
+extern crate alloc;
 
 mod error;
 #[allow(unsafe_code)]
@@ -94,11 +102,18 @@ pub fn verify(password: &[u8], record: &Record) -> Result<(), Error> {
 
 /// Gives the memory that is kept for the next hashes back to the system: how many bytes.
 ///
-/// It is as much as hashes took at one time, and 64 MiB at most; the system takes it by itself when
-/// it is short of memory.
+/// It is as much as hashes took at one time, and at most what [`keep`] says; the system takes it by
+/// itself when it is short of memory.
 #[allow(clippy::must_use_candidate)] // it is called for what it does
 pub fn trim() -> usize {
     ffi::trim()
+}
+
+/// Has at most so many bytes kept from now on, 0 for none, and answers the bound that there was:
+/// 64 MiB, or what `RIGZUMAL_KEEP` in the environment says.
+#[allow(clippy::must_use_candidate)] // it is called for what it does
+pub fn keep(most: usize) -> usize {
+    ffi::keep(most)
 }
 
 /// The version of the library in use.

@@ -1,9 +1,8 @@
 //! Records of passwords, and what stands in them.
 
 use crate::{ffi, Algorithm, Error};
-use std::ffi::{CStr, CString};
-use std::fmt;
-use std::str::FromStr;
+use alloc::ffi::CString;
+use core::{ffi::CStr, fmt, hint, str::FromStr};
 
 /// A record of a password: a string of Argon2 or scrypt that can be verified here, as
 /// `$argon2id$v=19$m=65536,t=3,p=4$SALT$TAG`.
@@ -19,8 +18,18 @@ use std::str::FromStr;
 /// assert_eq!(text.parse::<Record>(), Err(Error::Range));
 /// # Ok::<(), Error>(())
 /// ```
-#[derive(Clone, PartialEq, Eq)]
+#[derive(Clone, Eq)]
 pub struct Record(CString);
+
+impl PartialEq for Record {
+    /// In a time that doesn't depend on where two records differ, but for their lengths.
+    fn eq(&self, other: &Record) -> bool {
+        let (one, other) = (self.0.as_bytes(), other.0.as_bytes());
+        let differences =
+            one.iter().zip(other).fold(0, |sum, (a, b)| hint::black_box(sum | (a ^ b)));
+        one.len() == other.len() && differences == 0
+    }
+}
 
 impl Record {
     pub(crate) fn of_library(text: CString) -> Record {

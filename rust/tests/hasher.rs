@@ -39,6 +39,9 @@ fn numbers_by_default() {
     let parts = Hasher::default().hash_password(b"x").unwrap().parts().unwrap();
     assert_eq!((parts.memory, parts.passes, parts.lanes), (65536, 3, 4));
     assert_eq!((parts.salt_len, parts.tag_len), (16, 32));
+    assert_eq!(Algorithm::default(), Algorithm::Argon2id);
+    assert_eq!(Version::default(), Version::V0x13);
+    assert!(format!("{:?}", Hasher::default()).ends_with("has_secret: false, threads: 0 }"));
     let raw = Argon2::default();
     assert_eq!((raw.algorithm, raw.version), (Algorithm::Argon2id, Version::V0x13));
     assert_eq!((raw.memory, raw.passes, raw.lanes, raw.threads), (65536, 3, 4, 1));
@@ -158,15 +161,14 @@ fn threads_and_memory() {
     assert!(rigzumal::trim() > 0);
 }
 
-/// How many threads this process has for most of the time that a hash with so many takes: one that
-/// was joined may be listed for a moment more.
-fn usual_threads_with(threads: u32) -> usize {
-    let hasher = Hasher::new(Costs::argon2id(65536, 2, 4)).threads(threads);
+/// How many threads this process has for most of the time that some work takes: one that was joined
+/// may be listed for a moment more.
+fn usual_threads_in(work: impl FnOnce() + Send) -> usize {
     let is_over = AtomicBool::new(false);
     let mut times = [0; 64];
     thread::scope(|scope| {
         scope.spawn(|| {
-            hasher.hash_password(b"x").unwrap();
+            work();
             is_over.store(true, Ordering::Relaxed);
         });
         while !is_over.load(Ordering::Relaxed) {
@@ -194,12 +196,41 @@ fn threads_are_those_asked_for() {
         assert!(said.contains("the threads were counted"), "{said}");
         return;
     }
-    let alone = usual_threads_with(1);
+    let record = Hasher::new(Costs::argon2id(65536, 2, 4)).hash_password(b"x").unwrap();
+    let with = |threads| {
+        let hasher = Hasher::new(Costs::argon2id(65536, 2, 4)).threads(threads);
+        let (one, other) = (&hasher, &record);
+        [
+            usual_threads_in(|| drop(one.hash_password(b"x").unwrap())),
+            usual_threads_in(|| one.verify_password(b"x", other).unwrap()),
+        ]
+    };
+    let [alone, _] = with(1);
     if thread::available_parallelism().unwrap().get() > 1 {
-        assert!(usual_threads_with(4) > alone);
+        assert!(with(4).iter().all(|count| *count > alone));
     }
-    assert_eq!(usual_threads_with(0), alone);
+    assert_eq!(with(0), [alone; 2]);
+    assert_eq!(usual_threads_in(|| verify(b"x", &record).unwrap()), alone);
     println!("the threads were counted");
+}
+
+/// In a process of its own, since what is kept is the process's.
+#[test]
+fn what_is_kept_is_bounded() {
+    if env::var_os(CHILD).is_none() {
+        for (variable, wanted) in [("unset", "bound 67108864"), ("2097152", "bound 2097152")] {
+            let said =
+                child_of("what_is_kept_is_bounded", &format!("export RIGZUMAL_KEEP={variable};"));
+            assert!(said.contains(wanted), "{said}");
+        }
+        return;
+    }
+    println!("bound {}", rigzumal::keep(0));
+    least().hash_password(b"x").unwrap();
+    Hasher::new(Costs::argon2id(1024, 1, 1)).hash_password(b"x").unwrap();
+    assert_eq!((rigzumal::trim(), rigzumal::keep(1 << 21)), (0, 0));
+    Hasher::new(Costs::argon2id(4096, 1, 1)).hash_password(b"x").unwrap();
+    assert_eq!((rigzumal::trim(), rigzumal::keep(0)), (1 << 21, 1 << 21));
 }
 
 #[test]

@@ -2,8 +2,8 @@
 
     /usr/bin/python3 rust/tests/run.py [NAME ..]
 
-What a test needs and this machine doesn't have is named, and the test is skipped. Debian's
-packages for all of it: cargo, rust-clippy, rustfmt, argon2.
+What a test needs and this machine doesn't have is named, and the test is skipped: Debian's package
+argon2, and cargo, clippy and rustfmt of Rust 1.70 or later, which Debian has since its version 13.
 """
 
 import pathlib
@@ -19,7 +19,7 @@ from testing import ROOM, Failed, need, run
 LIBRARIES = CRATE.parent / "c/out"
 ROOM_OF_CARGO = {"CARGO_TARGET_DIR": str(ROOM / "cargo"), "RIGZUMAL_LIB_DIR": str(LIBRARIES)}
 STRICT = {"RUSTDOCFLAGS": "-D warnings", **ROOM_OF_CARGO}
-MOST_UNSAFE_LINES = 120
+MOST_UNSAFE_LINES = 140
 
 
 def cargo(*words, env=None):
@@ -40,7 +40,9 @@ def test_rust_layout():
     """rustfmt leaves the crate as it is, clippy and rustdoc say nothing, and no line is long."""
     need("cargo", "cargo-clippy", "cargo-fmt")
     cargo("fmt", "--check")
-    cargo("clippy", "--offline", "--locked", "--all-targets", "--", "-D", "warnings")
+    for features in ([], ["--no-default-features"]):
+        words = ("--offline", "--locked", *features)
+        cargo("clippy", *words, "--all-targets", "--", "-D", "warnings")
     cargo("doc", "--offline", "--locked", env=STRICT)
     for path in [*CRATE.glob("src/*.rs"), *CRATE.glob("tests/*.rs"), CRATE / "build.rs"]:
         long = [it for it in path.read_text().splitlines() if len(it) > 100]
