@@ -16,7 +16,7 @@
  * All sizes are in bytes but those of a memory cost. Strings end with a zero byte.
  *
  * Any number of threads may call at the same time, and each call works on its own thread alone, but
- * for the five calls at the end: with those several threads may work the lanes of one tag.
+ * for the calls at the end: with those several threads may work the lanes of one tag.
  * Nothing stays after a call but cleared memory, which the next calls take again: as much as calls
  * took at one time, and 64 MiB at most, or as much as rigzumal_keep or RIGZUMAL_KEEP in the
  * environment say. Tools count it as the process's own until the system, when it is short of
@@ -54,31 +54,28 @@ extern "C" {
 /* The version of this header; rigzumal_version answers that of the library. */
 #define RIGZUMAL_LIBRARY_VERSION "0.2.0"
 
-/* Into so many bytes every record fits, with its zero byte. */
-#define RIGZUMAL_TEXT_SIZE 513u
-
-/* So many bytes of the caller's stack are enough for any call. */
-#define RIGZUMAL_STACK_SIZE 24576u
-
-/* A salt and a tag as they are usual. */
-#define RIGZUMAL_SALT_SIZE 16u
-#define RIGZUMAL_TAG_SIZE 32u
-
-/* The sizes that a record's salt and tag may have; a salt of scrypt may be as short as 1 byte. */
-#define RIGZUMAL_SALT_SIZE_MIN 8u
-#define RIGZUMAL_SALT_SIZE_MAX 48u
-#define RIGZUMAL_TAG_SIZE_MIN 4u
-#define RIGZUMAL_TAG_SIZE_MAX 64u
+/* Sizes in bytes. */
+enum rigzumal_size {
+    RIGZUMAL_TEXT_SIZE = 513,    /* into which every record fits, with its zero byte */
+    RIGZUMAL_STACK_SIZE = 24576, /* of the caller's stack, enough for any call */
+    RIGZUMAL_SALT_SIZE = 16,     /* as usual */
+    RIGZUMAL_TAG_SIZE = 32,
+    RIGZUMAL_SALT_SIZE_MIN = 8, /* in a record; of scrypt 1 */
+    RIGZUMAL_SALT_SIZE_MAX = 48,
+    RIGZUMAL_TAG_SIZE_MIN = 4,
+    RIGZUMAL_TAG_SIZE_MAX = 64
+};
 
 /* The kinds of Argon2, and what stands for scrypt beside them. For passwords: Argon2id. */
-#define RIGZUMAL_ARGON2D 0u
-#define RIGZUMAL_ARGON2I 1u
-#define RIGZUMAL_ARGON2ID 2u
-#define RIGZUMAL_SCRYPT 3u
+enum rigzumal_scheme {
+    RIGZUMAL_ARGON2D = 0,
+    RIGZUMAL_ARGON2I = 1,
+    RIGZUMAL_ARGON2ID = 2,
+    RIGZUMAL_SCRYPT = 3
+};
 
 /* The versions of Argon2. For new records: 0x13, which is written v=19. */
-#define RIGZUMAL_VERSION_10 0x10u
-#define RIGZUMAL_VERSION_13 0x13u
+enum rigzumal_argon2_version { RIGZUMAL_VERSION_10 = 0x10, RIGZUMAL_VERSION_13 = 0x13 };
 
 /* Costs for rigzumal_record. RFC 9106's second recommendation, 64 MiB; and scrypt with 128 MiB. */
 #define RIGZUMAL_ARGON2_COSTS "$argon2id$v=19$m=65536,t=3,p=4"
@@ -108,7 +105,7 @@ enum rigzumal_fault {
     RIGZUMAL_TAG_SIZE_FAULT = 17, /* the tag hasn't 4 to 2^32 - 1 bytes */
     RIGZUMAL_INPUT_SIZE = 18,     /* an input has 2^32 bytes or more */
     /* Of the numbers of scrypt. */
-    RIGZUMAL_SCRYPT_COST = 19, /* ln isn't 1 to 24 and below 16 r, or the table is over 2 GiB */
+    RIGZUMAL_SCRYPT_COST = 19, /* ln isn't 1 to 23 and below 16 r, or the table is over 2 GiB */
     RIGZUMAL_BLOCK_SIZE = 20,  /* r isn't 1 to 255 */
     RIGZUMAL_BLOCKS = 21,      /* p isn't 1 to 255 */
     RIGZUMAL_KEY_SIZE = 22,    /* the key hasn't 1 to 2^32 - 1 bytes */
@@ -117,7 +114,9 @@ enum rigzumal_fault {
     RIGZUMAL_COPY = 24,          /* the copy is not a record */
     RIGZUMAL_LONG_PASSWORD = 25, /* a password has over 256 bytes */
     /* Of a salt that is drawn. */
-    RIGZUMAL_NO_RANDOM = 26 /* the system gave no random bytes: see getrandom(2) */
+    RIGZUMAL_NO_RANDOM = 26, /* the system gave no random bytes: see getrandom(2) */
+    /* Of rigzumal_needs_rehash. */
+    RIGZUMAL_OTHER_COSTS = 27 /* the record has other costs, or another salt or tag size */
 };
 
 /* The version of the library in use, as "0.2.0". */
@@ -171,20 +170,26 @@ int rigzumal_check_with_secret(const char *record, const void *password, size_t 
 int rigzumal_record_fault(const char *record);
 int rigzumal_setting_fault(const char *setting);
 
-/* What stands in a record. */
+/* What stands in a record, or in costs. */
 struct rigzumal_parts {
-    uint32_t scheme;  /* RIGZUMAL_ARGON2D to RIGZUMAL_SCRYPT */
-    uint32_t version; /* of scrypt 0 */
-    uint32_t memory;  /* in KiB; of scrypt ln */
-    uint32_t passes;  /* of scrypt r */
-    uint32_t lanes;   /* of scrypt p */
-    uint32_t salt_size;
-    uint32_t tag_size;
+    uint32_t scheme;    /* RIGZUMAL_ARGON2D to RIGZUMAL_SCRYPT */
+    uint32_t version;   /* of scrypt 0 */
+    uint32_t memory;    /* in KiB; of scrypt ln */
+    uint32_t passes;    /* of scrypt r */
+    uint32_t lanes;     /* of scrypt p */
+    uint32_t salt_size; /* 0 of costs without a salt */
+    uint32_t tag_size;  /* 0 of costs */
 };
 
-/* Reads the numbers of a record, as to see whether it is to be made anew under higher costs.
+/* Reads the numbers of a record, or of costs, with or without a salt after them.
  * Faults: SHAPE to TOO_LONG. */
-int rigzumal_parts(struct rigzumal_parts *parts, const char *record);
+int rigzumal_parts(struct rigzumal_parts *parts, const char *text);
+
+/* Whether a record is to be made again, because its scheme, costs, or the sizes of its salt and tag
+ * are others than those of a new one: OK if it may stay, otherwise OTHER_COSTS. A login that was
+ * right is the moment for it, since it has the password. If the costs have a salt, salt_size is 0.
+ * Faults: SHAPE to TOO_LONG, of the record, and then of the costs. */
+int rigzumal_needs_rehash(const char *record, const char *costs, size_t salt_size, size_t tag_size);
 
 /* The operations on the record of an account. */
 enum rigzumal_operation {
@@ -267,7 +272,7 @@ int rigzumal_argon2_write(char *text, size_t text_size, const struct rigzumal_ar
 
 /* The numbers of a scrypt key (RFC 7914, section 2). Its table has 128 * r * 2^ln bytes. */
 struct rigzumal_scrypt {
-    uint32_t ln; /* N is 2 to the power of ln: 1 to 24, below 16 * r */
+    uint32_t ln; /* N is 2 to the power of ln: 1 to 23, below 16 * r */
     uint32_t r;  /* the block size: 1 to 255 */
     uint32_t p;  /* the parallelization: 1 to 255 */
 };
@@ -306,6 +311,53 @@ int rigzumal_record_with_secret_threads(char *text, size_t text_size, size_t tag
 int rigzumal_check_with_secret_threads(const char *record, const void *password,
                                        size_t password_size, const void *secret, size_t secret_size,
                                        uint32_t threads);
+
+/* The inputs of the next calls by their names, of which those that aren't given are none:
+ *
+ *     struct rigzumal_inputs inputs = {.password = password, .password_size = password_size,
+ *                                      .salt_size = RIGZUMAL_SALT_SIZE, .secret = pepper,
+ *                                      .secret_size = pepper_size, .threads = 4};
+ *     rigzumal_record_from(record, sizeof record, RIGZUMAL_TAG_SIZE, costs, &inputs);
+ */
+struct rigzumal_inputs {
+    const void *password;
+    size_t password_size;
+    const void *salt; /* null: it is drawn, in a record of a salt_size over 0 */
+    size_t salt_size;
+    const void *secret; /* null: there is none; of records too it is K of RFC 9106 */
+    size_t secret_size;
+    const void *associated; /* null: there is none; of records too it is X of RFC 9106 */
+    size_t associated_size;
+    uint32_t threads; /* as in the calls above; 0 is as 1 */
+};
+
+/* rigzumal_argon2_threads, and rigzumal_record_threads and rigzumal_check_threads with a secret and
+ * associated data too. Scrypt has neither: SCHEME. */
+int rigzumal_argon2_from(void *tag, size_t tag_size, const struct rigzumal_argon2 *numbers,
+                         const struct rigzumal_inputs *inputs);
+int rigzumal_record_from(char *text, size_t text_size, size_t tag_size, const char *costs,
+                         const struct rigzumal_inputs *inputs);
+int rigzumal_check_from(const char *record, const struct rigzumal_inputs *inputs);
+
+/* The inputs of a step, as rigzumal_step takes them. */
+struct rigzumal_step_inputs {
+    uint32_t operation;
+    const char *copy;
+    const void *password;
+    size_t password_size;
+    const void *new_password;
+    size_t new_password_size;
+    const char *setting;
+    const void *secret; /* null: there is none */
+    size_t secret_size;
+    uint32_t threads; /* 0 is as 1 */
+};
+
+/* rigzumal_step with a secret and threads. With either, C does what the proved code does without:
+ * the hashing is proved, the choice of the reply is not. Scrypt has no secret: SCHEME, of the copy
+ * and of the setting. */
+int rigzumal_step_from(char *text, size_t text_size, uint32_t *reply,
+                       const struct rigzumal_step_inputs *inputs);
 
 #ifdef __cplusplus
 }

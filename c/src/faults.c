@@ -34,6 +34,7 @@ static const struct {
     [RIGZUMAL_COPY] = {"copy", "the copy is not a record"},
     [RIGZUMAL_LONG_PASSWORD] = {"longpassword", "a password has over 256 bytes"},
     [RIGZUMAL_NO_RANDOM] = {"norandom", "the system gave no random bytes for a salt"},
+    [RIGZUMAL_OTHER_COSTS] = {"othercosts", "the record has other costs or sizes than a new one"},
 };
 
 enum { FAULTS = sizeof faults / sizeof faults[0] };

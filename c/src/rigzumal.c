@@ -19,12 +19,6 @@ size_t rigzumal_keep(size_t most) {
     return keep_at_most(most);
 }
 
-/* Clears what a call left, and hands its answer on. */
-static int cleared(uint8_t answer) {
-    clear_traces();
-    return answer;
-}
-
 int rigzumal_argon2(void *tag, size_t tag_size, const struct rigzumal_argon2 *numbers,
                     const void *password, size_t password_size, const void *salt, size_t salt_size,
                     const void *secret, size_t secret_size, const void *associated,
@@ -92,16 +86,4 @@ int rigzumal_argon2_write(char *text, size_t text_size, const struct rigzumal_ar
     uint8_t answer = v1_cred_write(numbers, BYTES(salt, salt_size), BYTES(tag, tag_size),
                                    ROOM(text, text_size), &written);
     return ended(answer, text, written);
-}
-
-int rigzumal_record_fault(const char *record) {
-    return cleared(v1_cred_record_fault(TEXT(record)));
-}
-
-int rigzumal_setting_fault(const char *setting) {
-    return cleared(v1_cred_setting_fault(TEXT(setting)));
-}
-
-int rigzumal_parts(struct rigzumal_parts *parts, const char *record) {
-    return cleared(v1_cred_record_parts(TEXT(record), parts));
 }

@@ -1,55 +1,64 @@
-/* Records whose tags have a secret (RFC 9106's K) beside the password. The proved code reads and
- * writes the texts and makes the tags; here two tags are compared. */
+/* Records whose tags have a secret or associated data (K and X of RFC 9106) beside the password.
+ * The proved code reads and writes the texts and makes the tags; here two tags are compared. */
 #define _GNU_SOURCE
 #include "parts.h"
 #include "secrets.h"
 #include "setting.h"
-
-#include <stdbool.h>
-
-/* A password and the secret beside it. */
-struct inputs {
-    const void *password;
-    size_t password_size;
-    const void *secret;
-    size_t secret_size;
-};
 
 static struct rigzumal_argon2 numbers_of(const struct setting_reading *setting) {
     const struct tag_numbers *it = &setting->numbers;
     return (struct rigzumal_argon2){it->kind, it->version, it->memory, it->passes, it->lanes};
 }
 
-static int make_tag(uint8_t *tag, const struct setting_reading *setting, struct inputs inputs,
-                    uint32_t threads) {
+static int make_tag(uint8_t *tag, const struct setting_reading *setting,
+                    const struct rigzumal_inputs *inputs) {
     struct rigzumal_argon2 numbers = numbers_of(setting);
-    return rigzumal_argon2_threads(tag, setting->numbers.tag_size, &numbers, inputs.password,
-                                   inputs.password_size, setting->salt, setting->salt_size,
-                                   inputs.secret, inputs.secret_size, NULL, 0, threads);
+    struct rigzumal_inputs with_salt = *inputs;
+    with_salt.salt = setting->salt;
+    with_salt.salt_size = setting->salt_size;
+    return rigzumal_argon2_from(tag, setting->numbers.tag_size, &numbers, &with_salt);
 }
 
-int rigzumal_record_with_secret_threads(char *text, size_t text_size, size_t tag_size,
-                                        const char *costs, const void *salt, size_t salt_size,
-                                        const void *password, size_t password_size,
-                                        const void *secret, size_t secret_size, uint32_t threads) {
+static int make_record(char *text, size_t text_size, size_t tag_size, const char *costs,
+                       const struct rigzumal_inputs *inputs) {
     struct setting setting;
     struct setting_reading reading;
-    int fault = make_setting(&setting, costs, salt, salt_size);
+    int fault = make_setting(&setting, costs, inputs->salt, inputs->salt_size);
     if (fault == RIGZUMAL_OK)
         fault = v1_cred_hash_read(setting.text, setting.size,
                                   tag_size > UINT32_MAX ? 0 : (uint32_t)tag_size, &reading);
     uint8_t tag[RIGZUMAL_TAG_SIZE_MAX];
-    struct inputs inputs = {password, password_size, secret, secret_size};
     if (fault == RIGZUMAL_OK)
-        fault = make_tag(tag, &reading, inputs, threads);
+        fault = make_tag(tag, &reading, inputs);
     if (fault == RIGZUMAL_OK) {
         struct rigzumal_argon2 numbers = numbers_of(&reading);
         fault = rigzumal_argon2_write(text, text_size, &numbers, reading.salt, reading.salt_size,
                                       tag, tag_size);
     }
     explicit_bzero(tag, sizeof tag);
-    clear_traces();
-    return fault;
+    return cleared(fault);
+}
+
+static int check(const char *record, const struct rigzumal_inputs *inputs) {
+    struct record_reading reading;
+    int fault = v1_cred_check_read(TEXT(record), &reading);
+    uint8_t tag[RIGZUMAL_TAG_SIZE_MAX];
+    if (fault == RIGZUMAL_OK)
+        fault = make_tag(tag, &reading.setting, inputs);
+    if (fault == RIGZUMAL_OK && !are_equal(tag, reading.tag, reading.setting.numbers.tag_size))
+        fault = RIGZUMAL_MISMATCH;
+    explicit_bzero(tag, sizeof tag);
+    explicit_bzero(reading.tag, sizeof reading.tag);
+    return cleared(fault);
+}
+
+int rigzumal_record_with_secret_threads(char *text, size_t text_size, size_t tag_size,
+                                        const char *costs, const void *salt, size_t salt_size,
+                                        const void *password, size_t password_size,
+                                        const void *secret, size_t secret_size, uint32_t threads) {
+    struct rigzumal_inputs inputs = {password,    password_size, salt, salt_size, secret,
+                                     secret_size, NULL,          0,    threads};
+    return make_record(text, text_size, tag_size, costs, &inputs);
 }
 
 int rigzumal_record_with_secret(char *text, size_t text_size, size_t tag_size, const char *costs,
@@ -62,22 +71,36 @@ int rigzumal_record_with_secret(char *text, size_t text_size, size_t tag_size, c
 int rigzumal_check_with_secret_threads(const char *record, const void *password,
                                        size_t password_size, const void *secret, size_t secret_size,
                                        uint32_t threads) {
-    struct record_reading reading;
-    int fault = v1_cred_check_read(TEXT(record), &reading);
-    uint8_t tag[RIGZUMAL_TAG_SIZE_MAX];
-    struct inputs inputs = {password, password_size, secret, secret_size};
-    if (fault == RIGZUMAL_OK)
-        fault = make_tag(tag, &reading.setting, inputs, threads);
-    if (fault == RIGZUMAL_OK && !are_equal(tag, reading.tag, reading.setting.numbers.tag_size))
-        fault = RIGZUMAL_MISMATCH;
-    explicit_bzero(tag, sizeof tag);
-    explicit_bzero(reading.tag, sizeof reading.tag);
-    clear_traces();
-    return fault;
+    struct rigzumal_inputs inputs = {password,    password_size, NULL, 0,      secret,
+                                     secret_size, NULL,          0,    threads};
+    return check(record, &inputs);
 }
 
 int rigzumal_check_with_secret(const char *record, const void *password, size_t password_size,
                                const void *secret, size_t secret_size) {
     return rigzumal_check_with_secret_threads(record, password, password_size, secret, secret_size,
                                               1);
+}
+
+int rigzumal_argon2_from(void *tag, size_t tag_size, const struct rigzumal_argon2 *numbers,
+                         const struct rigzumal_inputs *inputs) {
+    return rigzumal_argon2_threads(tag, tag_size, numbers, inputs->password, inputs->password_size,
+                                   inputs->salt, inputs->salt_size, inputs->secret,
+                                   inputs->secret_size, inputs->associated, inputs->associated_size,
+                                   inputs->threads);
+}
+
+int rigzumal_record_from(char *text, size_t text_size, size_t tag_size, const char *costs,
+                         const struct rigzumal_inputs *inputs) {
+    if (inputs->secret != NULL || inputs->associated != NULL)
+        return make_record(text, text_size, tag_size, costs, inputs);
+    return rigzumal_record_threads(text, text_size, tag_size, costs, inputs->salt,
+                                   inputs->salt_size, inputs->password, inputs->password_size,
+                                   inputs->threads);
+}
+
+int rigzumal_check_from(const char *record, const struct rigzumal_inputs *inputs) {
+    if (inputs->secret != NULL || inputs->associated != NULL)
+        return check(record, inputs);
+    return rigzumal_check_threads(record, inputs->password, inputs->password_size, inputs->threads);
 }

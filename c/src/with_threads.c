@@ -19,13 +19,6 @@ static uint8_t end_tag(const void *inputs, const struct argon2_block *last, size
     return CALL(cred_argon2_end, it->numbers, last, count, it->tag, it->numbers->tag_size);
 }
 
-/* Works a task, clears what it left, and hands its answer on. */
-static int cleared_work(const struct task *task, uint32_t threads) {
-    uint8_t answer = work_lanes(task, threads);
-    clear_traces();
-    return answer;
-}
-
 int rigzumal_argon2_threads(void *tag, size_t tag_size, const struct rigzumal_argon2 *numbers,
                             const void *password, size_t password_size, const void *salt,
                             size_t salt_size, const void *secret, size_t secret_size,
@@ -41,12 +34,12 @@ int rigzumal_argon2_threads(void *tag, size_t tag_size, const struct rigzumal_ar
     struct tag_inputs inputs = {&task.numbers, password,  salt,        secret,          associated,
                                 password_size, salt_size, secret_size, associated_size, tag};
     task.inputs = &inputs;
-    return cleared_work(&task, threads);
+    return cleared(work_lanes(&task, threads));
 }
 
 int make_tag_in(struct argon2_block *memory, const struct tag_inputs *inputs, uint32_t threads) {
     struct task task = {*inputs->numbers, begin_tag, end_tag, inputs, memory};
-    return cleared_work(&task, useful_threads(&task.numbers, threads));
+    return cleared(work_lanes(&task, useful_threads(&task.numbers, threads)));
 }
 
 struct check_inputs {
@@ -76,7 +69,7 @@ int rigzumal_check_threads(const char *record, const void *password, size_t pass
         answer = rigzumal_check(record, password, password_size);
     } else {
         struct task task = {inputs.record.setting.numbers, begin_check, end_check, &inputs, NULL};
-        answer = cleared_work(&task, threads);
+        answer = cleared(work_lanes(&task, threads));
     }
     explicit_bzero(inputs.record.tag, sizeof inputs.record.tag);
     return answer;
@@ -122,7 +115,7 @@ int rigzumal_record_threads(char *text, size_t text_size, size_t tag_size, const
         return rigzumal_record(text, text_size, tag_size, (const char *)setting.text, NULL, 0,
                                password, password_size);
     struct task task = {inputs.setting.numbers, begin_record, end_record, &inputs, NULL};
-    fault = cleared_work(&task, threads);
+    fault = cleared(work_lanes(&task, threads));
     if (fault == RIGZUMAL_OK)
         text[written] = '\0';
     return fault;

@@ -92,10 +92,6 @@ static void test_faults_of_texts(void) {
     for (size_t i = 0; i < sizeof texts / sizeof texts[0]; i++) {
         CHECK_NUMBER(rigzumal_record_fault(texts[i].text), texts[i].fault);
         CHECK_NUMBER(rigzumal_check(texts[i].text, "password", 8), texts[i].fault);
-        struct rigzumal_parts parts;
-        memset(&parts, 0x5a, sizeof parts);
-        CHECK_NUMBER(rigzumal_parts(&parts, texts[i].text), texts[i].fault);
-        CHECK(is_all(&parts, 0x5a, sizeof parts));
     }
     char long_text[600];
     memset(long_text, '$', sizeof long_text - 1);
@@ -255,15 +251,75 @@ static void test_bad_parts_of_records(void) {
     CHECK(is_all(text, 0x5a, sizeof text));
 }
 
+/* Each fault has its own word, and what it means names what is wrong. */
 static void test_words(void) {
-    CHECK(strcmp(rigzumal_word(RIGZUMAL_OK), "ok") == 0);
-    CHECK(strcmp(rigzumal_word(RIGZUMAL_KEY_SIZE), "keysize") == 0);
-    CHECK(strcmp(rigzumal_word(RIGZUMAL_NO_RANDOM), "norandom") == 0);
-    CHECK(strcmp(rigzumal_strerror(RIGZUMAL_MEMORY), "out of memory") == 0);
-    CHECK(strcmp(rigzumal_word(-1), "unknown") == 0);
-    CHECK(strcmp(rigzumal_strerror(RIGZUMAL_NO_RANDOM + 1), "no such fault") == 0);
-    for (int fault = RIGZUMAL_OK; fault <= RIGZUMAL_NO_RANDOM; fault++)
-        CHECK(strcmp(rigzumal_word(fault), "unknown") != 0 && rigzumal_strerror(fault)[0] != '\0');
+    static const struct {
+        int fault;
+        const char *word, *meaning;
+    } faults[] = {
+        {RIGZUMAL_OK, "ok", "no fault"},
+        {RIGZUMAL_SHAPE, "shape", "field"},
+        {RIGZUMAL_SCHEME, "scheme", "argon2id and scrypt"},
+        {RIGZUMAL_VERSION, "version", "version"},
+        {RIGZUMAL_PARAMS, "params", "form of the scheme"},
+        {RIGZUMAL_RANGE, "range", "outside its range"},
+        {RIGZUMAL_SALT, "salt", "the salt"},
+        {RIGZUMAL_TAG, "tag", "the tag"},
+        {RIGZUMAL_MEMORY, "memory", "out of memory"},
+        {RIGZUMAL_TOO_LONG, "toolong", "512 bytes"},
+        {RIGZUMAL_MISMATCH, "mismatch", "another password"},
+        {RIGZUMAL_NO_ROOM, "noroom", "room"},
+        {RIGZUMAL_NO_KIND, "nokind", "kind of Argon2"},
+        {RIGZUMAL_NO_VERSION, "noversion", "version of Argon2"},
+        {RIGZUMAL_LANES, "lanes", "lanes is not 1 to 255"},
+        {RIGZUMAL_COST, "cost", "8 KiB a lane to 2 GiB"},
+        {RIGZUMAL_PASSES, "passes", "pass"},
+        {RIGZUMAL_TAG_SIZE_FAULT, "tagsize", "4 to 2^32 - 1 bytes"},
+        {RIGZUMAL_INPUT_SIZE, "inputsize", "an input has 2^32 bytes"},
+        {RIGZUMAL_SCRYPT_COST, "scryptcost", "the cost is out of range"},
+        {RIGZUMAL_BLOCK_SIZE, "blocksize", "the block size is not 1 to 255"},
+        {RIGZUMAL_BLOCKS, "blocks", "the parallelization is not 1 to 255"},
+        {RIGZUMAL_KEY_SIZE, "keysize", "the key has not 1"},
+        {RIGZUMAL_NO_OPERATION, "nooperation", "operation"},
+        {RIGZUMAL_COPY, "copy", "the copy is not a record"},
+        {RIGZUMAL_LONG_PASSWORD, "longpassword", "256 bytes"},
+        {RIGZUMAL_NO_RANDOM, "norandom", "random bytes"},
+        {RIGZUMAL_OTHER_COSTS, "othercosts", "other costs"},
+    };
+    enum { FAULTS = sizeof faults / sizeof faults[0] };
+    for (int i = 0; i < FAULTS; i++) {
+        CHECK(faults[i].fault == i);
+        CHECK(strcmp(rigzumal_word(i), faults[i].word) == 0);
+        CHECK(strstr(rigzumal_strerror(i), faults[i].meaning) != NULL);
+    }
+    CHECK(strcmp(rigzumal_word(-1), "unknown") == 0 &&
+          strcmp(rigzumal_word(FAULTS), "unknown") == 0);
+    CHECK(strcmp(rigzumal_strerror(-1), "no such fault") == 0);
+    CHECK(strcmp(rigzumal_strerror(FAULTS), "no such fault") == 0);
+}
+
+/* What a program has that takes the header's names: RFC 9106's second recommendation, and scrypt
+ * with 128 MiB. A record by them is one that says so. */
+static void test_usual_values(void) {
+    static const struct {
+        const char *costs, *front;
+    } usual[] = {{RIGZUMAL_ARGON2_COSTS, "$argon2id$v=19$m=65536,t=3,p=4$"},
+                 {RIGZUMAL_SCRYPT_COSTS, "$scrypt$ln=17,r=8,p=1$"}};
+    for (int i = 0; i < 2; i++) {
+        char record[RIGZUMAL_TEXT_SIZE];
+        struct rigzumal_parts parts;
+        CHECK_NUMBER(rigzumal_record(record, sizeof record, RIGZUMAL_TAG_SIZE, usual[i].costs, NULL,
+                                     RIGZUMAL_SALT_SIZE, "password", 8),
+                     RIGZUMAL_OK);
+        CHECK(strncmp(record, usual[i].front, strlen(usual[i].front)) == 0);
+        CHECK_NUMBER(rigzumal_parts(&parts, record), RIGZUMAL_OK);
+        CHECK(parts.salt_size == 16 && parts.tag_size == 32);
+    }
+    CHECK(RIGZUMAL_TEXT_SIZE == 513 && RIGZUMAL_STACK_SIZE == 24 * 1024);
+    CHECK(RIGZUMAL_SALT_SIZE_MIN == 8 && RIGZUMAL_SALT_SIZE_MAX == 48);
+    CHECK(RIGZUMAL_TAG_SIZE_MIN == 4 && RIGZUMAL_TAG_SIZE_MAX == 64);
+    CHECK(RIGZUMAL_ARGON2D == 0 && RIGZUMAL_ARGON2I == 1 && RIGZUMAL_ARGON2ID == 2);
+    CHECK(RIGZUMAL_SCRYPT == 3 && RIGZUMAL_VERSION_10 == 0x10 && RIGZUMAL_VERSION_13 == 0x13);
 }
 
 /* A record of which any letter of the tag is another one is of another password, or no record if it
@@ -533,6 +589,7 @@ int main(void) {
     test_bad_numbers_of_scrypt();
     test_bad_parts_of_records();
     test_words();
+    test_usual_values();
     test_trim();
     test_keep();
     return 0;

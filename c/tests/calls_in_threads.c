@@ -86,7 +86,47 @@ static void try_libargon2(void) {
     CHECK_NUMBER(argon2id_verify(record, "Password", 8), ARGON2_VERIFY_MISMATCH);
 }
 
+/* The calls without _threads start none, whatever the costs have. */
+static void try_calls_without_threads(void) {
+    static const char costs[] = "$argon2id$v=19$m=256,t=2,p=4";
+    struct rigzumal_argon2 numbers = {RIGZUMAL_ARGON2ID, RIGZUMAL_VERSION_13, 256, 2, LANES};
+    unsigned char tag[32];
+    char text[TEXT];
+    CHECK_NUMBER(rigzumal_argon2(tag, 32, &numbers, "password", 8, "somesalt", 8, "", 0, NULL, 0),
+                 RIGZUMAL_OK);
+    CHECK_NUMBER(rigzumal_record(text, TEXT, 24, costs, "somesalt", 8, "password", 8), RIGZUMAL_OK);
+    CHECK_NUMBER(rigzumal_check(text, "password", 8), RIGZUMAL_OK);
+    CHECK_NUMBER(rigzumal_record_with_secret(text, TEXT, 24, costs, "somesalt", 8, "password", 8,
+                                             "pepper", 6),
+                 RIGZUMAL_OK);
+    CHECK_NUMBER(rigzumal_check_with_secret(text, "password", 8, "pepper", 6), RIGZUMAL_OK);
+    uint32_t reply;
+    CHECK_NUMBER(rigzumal_step(text, TEXT, &reply, RIGZUMAL_ENROL, NULL, "password", 8, NULL, 0,
+                               "$argon2id$v=19$m=256,t=2,p=4$c29tZXNhbHQ"),
+                 RIGZUMAL_OK);
+    struct rigzumal_inputs inputs = {.password = "password", .password_size = 8};
+    CHECK_NUMBER(rigzumal_check_from(text, &inputs), RIGZUMAL_OK);
+    inputs.secret = "pepper";
+    CHECK_NUMBER(rigzumal_check_from(text, &inputs), RIGZUMAL_OK); /* of no byte */
+}
+
+/* A step starts as many as it is allowed, for the check and for the new record. */
+static void try_step(uint32_t threads) {
+    char text[TEXT];
+    uint32_t reply;
+    struct rigzumal_step_inputs inputs = {.operation = RIGZUMAL_CHANGE,
+                                          .copy = record,
+                                          .password = "password",
+                                          .password_size = 8,
+                                          .setting = "$argon2id$v=19$m=256,t=2,p=4$c29tZXNhbHQ",
+                                          .threads = threads};
+    CHECK_NUMBER(rigzumal_step_from(text, TEXT, &reply, &inputs), RIGZUMAL_OK);
+    CHECK(reply == RIGZUMAL_REPLY_REPLACED);
+}
+
 int main(void) {
+    try_calls_without_threads();
+    CHECK(started == 0);
     for (uint32_t threads = 1; threads <= LANES + 1; threads++) {
         uint32_t helpers = threads <= LANES ? threads - 1 : LANES - 1;
         started = 0;
@@ -94,6 +134,8 @@ int main(void) {
         CHECK(started == 3 * (int)helpers);
         try_records(threads);
         CHECK(started == 9 * (int)helpers);
+        try_step(threads);
+        CHECK(started == 11 * (int)helpers);
     }
     started = 0;
     try_libargon2();

@@ -1,24 +1,18 @@
 """What the tests of the library share: how a test in C is built, and under what it runs."""
 
-import functools
 import os
 import pathlib
 import re
+import shutil
 import sys
+import unittest
 
 HERE = pathlib.Path(__file__).resolve().parent
 TOP = HERE.parent
 sys.path.insert(0, str(TOP.parent / "tools"))
 
 import testing
-from testing import (  # noqa: F401 (the tests take them from here)
-    ROOM,
-    Failed,
-    Skipped,
-    compiler,
-    need,
-    need_module,
-)
+from testing import ROOM, compiler  # noqa: F401 (the tests take them from here)
 
 OUT = TOP / "out"
 ORIGINAL = pathlib.Path("/usr/lib/x86_64-linux-gnu/libargon2.so.1")
@@ -49,13 +43,33 @@ WRAPPED = {
 # Has tags of every size worked in threads where a call asks for them.
 IN_THREADS = "-DLEAST_SHARED_MEMORY=1"
 
-# What a command wrote, in the library's folder.
-run = functools.partial(testing.run, at=TOP)
+
+def run(*words, at=TOP, **options):
+    """What a command wrote, in the library's folder, if it ended as it has to."""
+    try:
+        return testing.run(*words, at=at, **options)
+    except testing.Failed as failed:
+        raise AssertionError(str(failed)) from None
+
+
+def need(*programs):
+    """Skips a test where a program isn't installed."""
+    for name in programs:
+        if shutil.which(name) is None:
+            raise unittest.SkipTest(f"{name} isn't installed")
+
+
+def need_module(*modules):
+    """Skips a test where this Python lacks a module."""
+    try:
+        testing.need_module(*modules)
+    except testing.Skipped as skipped:
+        raise unittest.SkipTest(str(skipped)) from None
 
 
 def need_original():
     if not ORIGINAL.exists():
-        raise Skipped("libargon2-1 is not there")
+        raise unittest.SkipTest("libargon2-1 isn't installed")
 
 
 def wraps(name):

@@ -214,6 +214,54 @@ static int step_at_a_bad_record(struct vault *vault) {
     return step(vault, RIGZUMAL_VERIFY, vault->bad_record, RIGZUMAL_REPLY_NO);
 }
 
+static struct rigzumal_inputs inputs_of(const struct vault *vault) {
+    return (struct rigzumal_inputs){.password = vault->password,
+                                    .password_size = PASSWORD,
+                                    .salt = salt,
+                                    .salt_size = sizeof salt,
+                                    .secret = vault->secret,
+                                    .secret_size = SECRET,
+                                    .threads = 2};
+}
+
+static int record_from(struct vault *vault) {
+    struct rigzumal_inputs inputs = inputs_of(vault);
+    return rigzumal_record_from(vault->text, sizeof vault->text, TAG, costs, &inputs);
+}
+
+static int check_from(struct vault *vault) {
+    struct rigzumal_inputs inputs = inputs_of(vault);
+    return rigzumal_check_from(vault->record_with_secret, &inputs);
+}
+
+static int wrong_check_from(struct vault *vault) {
+    struct rigzumal_inputs inputs = inputs_of(vault);
+    inputs.associated = salt;
+    inputs.associated_size = 4;
+    return rigzumal_check_from(vault->record_with_secret, &inputs);
+}
+
+static int step_from(struct vault *vault) {
+    struct rigzumal_step_inputs inputs = {.operation = RIGZUMAL_CHANGE,
+                                          .copy = vault->record_with_secret,
+                                          .password = vault->password,
+                                          .password_size = PASSWORD,
+                                          .new_password = vault->secret,
+                                          .new_password_size = SECRET,
+                                          .setting =
+                                              "$argon2id$v=19$m=64,t=1,p=2$c2l4dGVlbiBvZiBzYWx0Lg",
+                                          .secret = vault->secret,
+                                          .secret_size = SECRET,
+                                          .threads = 2};
+    uint32_t reply = 0;
+    int fault = rigzumal_step_from(vault->text, sizeof vault->text, &reply, &inputs);
+    return fault == RIGZUMAL_OK && reply != RIGZUMAL_REPLY_REPLACED ? -1 : fault;
+}
+
+static int needs_rehash(struct vault *vault) {
+    return rigzumal_needs_rehash(vault->record, costs, sizeof salt, TAG);
+}
+
 static int libargon2_raw(struct vault *vault) {
     return argon2id_hash_raw(1, 64, 2, vault->password, PASSWORD, salt, sizeof salt, vault->made,
                              TAG);
@@ -316,6 +364,11 @@ const struct job jobs[] = {
     {"rigzumal_step of a change", step_of_a_change, RIGZUMAL_OK},
     {"rigzumal_step of an upgrade", step_of_an_upgrade, RIGZUMAL_OK},
     {"rigzumal_step at a bad record", step_at_a_bad_record, RIGZUMAL_COPY},
+    {"rigzumal_record_from", record_from, RIGZUMAL_OK},
+    {"rigzumal_check_from", check_from, RIGZUMAL_OK},
+    {"rigzumal_check_from of another", wrong_check_from, RIGZUMAL_MISMATCH},
+    {"rigzumal_step_from of a change", step_from, RIGZUMAL_OK},
+    {"rigzumal_needs_rehash", needs_rehash, RIGZUMAL_OK},
     {"argon2_ctx", libargon2_ctx, ARGON2_OK},
     {"argon2id_verify_ctx", libargon2_verify_ctx, ARGON2_OK},
     {"argon2id_verify_ctx of another tag", libargon2_wrong_verify_ctx, ARGON2_VERIFY_MISMATCH},

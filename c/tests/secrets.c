@@ -109,6 +109,21 @@ static int check_with_secret(void) {
     return rigzumal_check_with_secret(record, password, PASSWORD, secret, SECRET);
 }
 
+static int verify_with_secret(void) {
+    struct rigzumal_step_inputs inputs = {.operation = RIGZUMAL_VERIFY,
+                                          .copy = record,
+                                          .password = password,
+                                          .password_size = PASSWORD,
+                                          .secret = secret,
+                                          .secret_size = SECRET};
+    uint32_t reply = 0;
+    int fault = rigzumal_step_from(NULL, 0, &reply, &inputs);
+    show(&fault, sizeof fault);
+    show(&reply, sizeof reply);
+    CHECK_NUMBER(fault, RIGZUMAL_OK);
+    return reply == RIGZUMAL_REPLY_YES ? RIGZUMAL_OK : RIGZUMAL_MISMATCH;
+}
+
 static int libargon2_check(void) {
     int number = argon2i_verify(record, password, PASSWORD);
     show(&number, sizeof number);
@@ -189,6 +204,7 @@ static const struct judgement {
     {"change", change, 1},
     {"upgrade", upgrade, 1},
     {"removal", removal, 1},
+    {"verify_with_secret", verify_with_secret, 3},
 };
 
 enum { CALLS = sizeof calls / sizeof calls[0] };
@@ -196,7 +212,7 @@ enum { JUDGEMENTS = sizeof judgements / sizeof judgements[0] };
 
 /* Makes the record that a check reads, before the secrets are hidden. */
 static void make_record(const char *name) {
-    if (strcmp(name, "check_with_secret") == 0)
+    if (strcmp(name, "check_with_secret") == 0 || strcmp(name, "verify_with_secret") == 0)
         CHECK_NUMBER(new_record_with_secret(), RIGZUMAL_OK);
     else if (strcmp(name, "libargon2_long_check") == 0)
         CHECK_NUMBER(argon2i_hash_encoded(2, 48, 2, password, PASSWORD, salt, sizeof salt, 80,

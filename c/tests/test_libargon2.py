@@ -2,6 +2,7 @@
 
 import shutil
 import sys
+import unittest
 
 from harness import (
     HERE,
@@ -14,8 +15,6 @@ from harness import (
     SANITIZED,
     SOURCES,
     WARNINGS,
-    Failed,
-    Skipped,
     compiler,
     need,
     need_module,
@@ -25,87 +24,87 @@ from harness import (
 )
 
 
-def test_against_libargon2():
-    """The original's answers over random calls, good and bad."""
-    need_original()
-    return run(sys.executable, HERE / "against_libargon2.py", OUT / "libargon2.so.1", ORIGINAL, "1")
+class Libargon2(unittest.TestCase):
+    def test_against_libargon2(self):
+        """The original's answers over random calls, good and bad."""
+        need_original()
+        run(sys.executable, HERE / "against_libargon2.py", OUT / "libargon2.so.1", ORIGINAL, "1")
 
-
-def test_against_libargon2_sanitized():
-    """The same with our C under the sanitizers and all lanes in threads, over other calls."""
-    need_original()
-    library = ROOM / "sanitized.so"
-    sources = [*LIBARGON2, *SOURCES]
-    run(
-        compiler(),
-        *WARNINGS,
-        *SANITIZED,
-        IN_THREADS,
-        "-fPIC",
-        "-shared",
-        "-Wl,-Bsymbolic",
-        *sources,
-        "-o",
-        library,
-    )
-    asan = run(compiler(), "-print-file-name=libasan.so").strip()
-    env = {"LD_PRELOAD": asan, "ASAN_OPTIONS": "detect_leaks=0"}
-    return run(sys.executable, HERE / "against_libargon2.py", library, ORIGINAL, "2", env=env)
-
-
-def test_passlib_argon2():
-    """passlib's own tests for Argon2 run as with the original."""
-    need_original()
-    need_module("argon2", "passlib.tests.test_handlers_argon2")
-    ours, theirs = passlibs("test_handlers_argon2", OURS), passlibs("test_handlers_argon2", None)
-    if ours != theirs:
-        raise Failed(f"ours {ours}, theirs {theirs}")
-    return f"{ours[0][0]} tests"
-
-
-def test_php():
-    """password_hash under each library, password_verify under the other."""
-    need_original()
-    need("php")
-    if "libargon2" not in run("ldd", shutil.which("php")):
-        raise Skipped("php has no libargon2")
-    for maker, reader in ((OURS, {}), ({}, OURS), (OURS, OURS)):
-        for kind in ("PASSWORD_ARGON2I", "PASSWORD_ARGON2ID"):
-            costs = "['memory_cost' => 1024, 'time_cost' => 2, 'threads' => 1]"
-            record = run(
-                "php", "-r", f"echo password_hash('a secret', {kind}, {costs});", env=maker
-            )
-            script = (
-                "foreach (['a secret', 'A secret'] as $p) var_dump(password_verify($p, $argv[1]));"
-            )
-            answers = run("php", "-r", script, "--", record, env=reader).split()
-            if answers != ["bool(true)", "bool(false)"]:
-                raise Failed(f"{record}: {answers}")
-
-
-def test_cryptsetup():
-    """A LUKS2 header made under each library is opened under the other."""
-    need_original()
-    need("cryptsetup")
-    try:
-        run("cryptsetup", "benchmark", "--pbkdf", "argon2id")
-    except Failed as refused:
-        raise Skipped(f"cryptsetup does not run here: {refused}") from None
-    costs = "--type luks2 --pbkdf argon2id --pbkdf-memory 4096 --pbkdf-parallel 2 --pbkdf-force-iterations 4"
-    for number, (maker, reader) in enumerate(((OURS, {}), ({}, OURS))):
-        image = ROOM / f"image{number}"
-        with open(image, "wb") as file:
-            file.truncate(32 << 20)
+    def test_against_libargon2_sanitized(self):
+        """The same with our C under the sanitizers and all lanes in threads, over other calls."""
+        need_original()
+        library = ROOM / "sanitized.so"
+        sources = [*LIBARGON2, *SOURCES]
         run(
-            "cryptsetup",
-            "-q",
-            "luksFormat",
-            *costs.split(),
-            image,
-            "-",
-            given=b"a secret",
-            env=maker,
+            compiler(),
+            *WARNINGS,
+            *SANITIZED,
+            IN_THREADS,
+            "-fPIC",
+            "-shared",
+            "-Wl,-Bsymbolic",
+            *sources,
+            "-o",
+            library,
         )
-        test = ("cryptsetup", "open", "--test-passphrase", "--key-file", "-", image)
-        run(*test, given=b"a secret", env=reader)
-        run(*test, given=b"A secret", env=reader, status=2)
+        asan = run(compiler(), "-print-file-name=libasan.so").strip()
+        env = {"LD_PRELOAD": asan, "ASAN_OPTIONS": "detect_leaks=0"}
+        run(sys.executable, HERE / "against_libargon2.py", library, ORIGINAL, "2", env=env)
+
+    def test_passlib_argon2(self):
+        """passlib's own tests for Argon2 run as with the original."""
+        need_original()
+        need_module("argon2", "passlib.tests.test_handlers_argon2")
+        ours, theirs = passlibs("test_handlers_argon2", OURS), passlibs(
+            "test_handlers_argon2", None
+        )
+        if ours != theirs:
+            self.fail(f"ours {ours}, theirs {theirs}")
+
+    def test_php(self):
+        """password_hash under each library, password_verify under the other."""
+        need_original()
+        need("php")
+        if "libargon2" not in run("ldd", shutil.which("php")):
+            self.skipTest("php has no libargon2")
+        for maker, reader in ((OURS, {}), ({}, OURS), (OURS, OURS)):
+            for kind in ("PASSWORD_ARGON2I", "PASSWORD_ARGON2ID"):
+                costs = "['memory_cost' => 1024, 'time_cost' => 2, 'threads' => 1]"
+                record = run(
+                    "php", "-r", f"echo password_hash('a secret', {kind}, {costs});", env=maker
+                )
+                script = "foreach (['a secret', 'A secret'] as $p) var_dump(password_verify($p, $argv[1]));"
+                answers = run("php", "-r", script, "--", record, env=reader).split()
+                if answers != ["bool(true)", "bool(false)"]:
+                    self.fail(f"{record}: {answers}")
+
+    def test_cryptsetup(self):
+        """A LUKS2 header made under each library is opened under the other."""
+        need_original()
+        need("cryptsetup")
+        try:
+            run("cryptsetup", "benchmark", "--pbkdf", "argon2id")
+        except AssertionError as refused:
+            self.skipTest(f"cryptsetup does not run here: {refused}")
+        costs = "--type luks2 --pbkdf argon2id --pbkdf-memory 4096 --pbkdf-parallel 2 --pbkdf-force-iterations 4"
+        for number, (maker, reader) in enumerate(((OURS, {}), ({}, OURS))):
+            image = ROOM / f"image{number}"
+            with open(image, "wb") as file:
+                file.truncate(32 << 20)
+            run(
+                "cryptsetup",
+                "-q",
+                "luksFormat",
+                *costs.split(),
+                image,
+                "-",
+                given=b"a secret",
+                env=maker,
+            )
+            test = ("cryptsetup", "open", "--test-passphrase", "--key-file", "-", image)
+            run(*test, given=b"a secret", env=reader)
+            run(*test, given=b"A secret", env=reader, status=2)
+
+
+if __name__ == "__main__":
+    unittest.main()

@@ -1,0 +1,113 @@
+/* A step with a secret or with threads: what the proved step does without, by the calls that check
+ * a record and make one. */
+#define _GNU_SOURCE
+#include "builds.h"
+#include "secrets.h"
+#include "setting.h"
+#include "texts.h"
+
+#include <stdbool.h>
+
+enum { LONGEST_PASSWORD = 256 };
+
+static bool has_setting(uint32_t operation) {
+    return operation == RIGZUMAL_ENROL || operation == RIGZUMAL_CHANGE ||
+           operation == RIGZUMAL_UPGRADE;
+}
+
+static int setting_fault(const struct rigzumal_step_inputs *inputs) {
+    const char *setting = inputs->setting == NULL ? "" : inputs->setting;
+    int fault = rigzumal_setting_fault(setting);
+    struct rigzumal_parts parts;
+    if (fault == RIGZUMAL_OK && inputs->secret != NULL)
+        fault = rigzumal_parts(&parts, setting);
+    bool is_scrypt =
+        fault == RIGZUMAL_OK && inputs->secret != NULL && parts.scheme == RIGZUMAL_SCRYPT;
+    return is_scrypt ? RIGZUMAL_SCHEME : fault;
+}
+
+/* What is wrong with a step before anything is hashed. */
+static int fault_of_step(const struct rigzumal_step_inputs *inputs) {
+    uint32_t operation = inputs->operation;
+    if (operation < RIGZUMAL_ENROL || operation > RIGZUMAL_REMOVE)
+        return RIGZUMAL_NO_OPERATION;
+    if (inputs->copy != NULL && rigzumal_record_fault(inputs->copy) != RIGZUMAL_OK)
+        return RIGZUMAL_COPY;
+    if (inputs->password_size > LONGEST_PASSWORD ||
+        (operation == RIGZUMAL_CHANGE && inputs->new_password_size > LONGEST_PASSWORD))
+        return RIGZUMAL_LONG_PASSWORD;
+    return has_setting(operation) ? setting_fault(inputs) : RIGZUMAL_OK;
+}
+
+static struct rigzumal_inputs inputs_of(const struct rigzumal_step_inputs *step, bool is_new) {
+    return (struct rigzumal_inputs){.password = is_new ? step->new_password : step->password,
+                                    .password_size =
+                                        is_new ? step->new_password_size : step->password_size,
+                                    .secret = step->secret,
+                                    .secret_size = step->secret_size,
+                                    .threads = step->threads};
+}
+
+/* Whether the costs of the copy are those of the setting: an upgrade has nothing to do then. */
+static bool has_costs_of_setting(const struct rigzumal_step_inputs *inputs) {
+    struct rigzumal_parts copy, setting;
+    return rigzumal_parts(&copy, inputs->copy) == RIGZUMAL_OK &&
+           rigzumal_parts(&setting, inputs->setting) == RIGZUMAL_OK &&
+           has_same_costs(&copy, &setting);
+}
+
+/* Makes the record that is to stand, and replies if it fits. */
+static int make(char *text, size_t text_size, uint32_t *reply, uint32_t replied,
+                const struct rigzumal_step_inputs *step) {
+    struct rigzumal_inputs inputs = inputs_of(step, step->operation == RIGZUMAL_CHANGE);
+    int fault = rigzumal_record_from(text, text_size, RIGZUMAL_TAG_SIZE, step->setting, &inputs);
+    if (fault == RIGZUMAL_OK)
+        *reply = replied;
+    return fault;
+}
+
+/* Replies with nothing written. */
+static int answer(char *text, size_t text_size, uint32_t *reply, uint32_t replied) {
+    if (text_size > 0)
+        text[0] = '\0';
+    *reply = replied;
+    return RIGZUMAL_OK;
+}
+
+static int step_at_record(char *text, size_t text_size, uint32_t *reply,
+                          const struct rigzumal_step_inputs *step) {
+    if (step->operation == RIGZUMAL_ENROL)
+        return answer(text, text_size, reply, RIGZUMAL_REPLY_EXISTS);
+    struct rigzumal_inputs inputs = inputs_of(step, false);
+    int verdict = rigzumal_check_from(step->copy, &inputs);
+    if (verdict != RIGZUMAL_OK && verdict != RIGZUMAL_MISMATCH)
+        return verdict;
+    bool is_right = verdict == RIGZUMAL_OK;
+    if (step->operation == RIGZUMAL_VERIFY)
+        return answer(text, text_size, reply, is_right ? RIGZUMAL_REPLY_YES : RIGZUMAL_REPLY_NO);
+    if (!is_right)
+        return answer(text, text_size, reply, RIGZUMAL_REPLY_WRONG);
+    if (step->operation == RIGZUMAL_REMOVE)
+        return answer(text, text_size, reply, RIGZUMAL_REPLY_REMOVED);
+    if (step->operation == RIGZUMAL_CHANGE)
+        return make(text, text_size, reply, RIGZUMAL_REPLY_REPLACED, step);
+    if (has_costs_of_setting(step))
+        return answer(text, text_size, reply, RIGZUMAL_REPLY_KEPT);
+    return make(text, text_size, reply, RIGZUMAL_REPLY_UPGRADED, step);
+}
+
+int rigzumal_step_from(char *text, size_t text_size, uint32_t *reply,
+                       const struct rigzumal_step_inputs *inputs) {
+    if (inputs->secret == NULL && inputs->threads <= 1)
+        return rigzumal_step(text, text_size, reply, inputs->operation, inputs->copy,
+                             inputs->password, inputs->password_size, inputs->new_password,
+                             inputs->new_password_size, inputs->setting);
+    int fault = fault_of_step(inputs);
+    if (fault != RIGZUMAL_OK)
+        return fault;
+    if (inputs->copy != NULL)
+        return step_at_record(text, text_size, reply, inputs);
+    if (inputs->operation == RIGZUMAL_ENROL)
+        return make(text, text_size, reply, RIGZUMAL_REPLY_ENROLLED, inputs);
+    return answer(text, text_size, reply, RIGZUMAL_REPLY_ABSENT);
+}
