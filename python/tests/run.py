@@ -25,7 +25,10 @@ def main(wanted):
         if wanted and subject not in wanted:
             continue
         print(f"== {subject}", flush=True)
-        if subprocess.run([sys.executable, TESTS / subject / "run.py", *options]).returncode:
+        runner = TESTS / subject / "run.py"
+        discover = ["-W", "error", "-m", "unittest", "discover", "-s", TESTS / subject]
+        words = [runner, *options] if runner.exists() else discover
+        if subprocess.run([sys.executable, *words]).returncode:
             failed.append(subject)
     print(f"== failed: {', '.join(failed)}" if failed else "== all passed")
     return bool(failed)

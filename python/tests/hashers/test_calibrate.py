@@ -7,6 +7,7 @@ import sys
 import unittest
 from unittest import mock
 
+import here  # noqa: F401 (before rigzumal)
 from rigzumal import PasswordHasher, __main__, _calibrate
 from rigzumal._calibrate import Measured, measured, trials
 

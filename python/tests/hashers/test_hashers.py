@@ -14,6 +14,7 @@ import sys
 import tempfile
 import unittest
 
+import here  # noqa: F401 (before rigzumal)
 import rigzumal
 from rigzumal import PasswordHasher, ScryptHasher, Type, _library
 
@@ -276,5 +277,4 @@ class Library(unittest.TestCase):
 
 
 if __name__ == "__main__":
-    os.environ["PYTHONPATH"] = os.pathsep.join(filter(None, sys.path))
     unittest.main()
