@@ -1,4 +1,3 @@
-#!/usr/bin/python3
 """The packages' units under systemd itself, which is the first process of a Debian in namespaces.
 
     /usr/bin/python3 tools/server_tests/booted.py
@@ -17,7 +16,9 @@ import subprocess
 import sys
 import tempfile
 
-from common import CHEAP, holds, need, need_root, real_book, run_tests, same
+import unittest
+
+from served import CHEAP, Case, holds, need, need_root, real_book, same
 from units import base, debs
 
 CGROUPS = pathlib.Path("/sys/fs/cgroup")
@@ -161,7 +162,9 @@ def booted(room: pathlib.Path) -> None:
     unshare = 'exec unshare --mount --pid --fork --kill-child --uts --ipc --net --cgroup bash -c "$SCRIPT"'
     environment = {**os.environ, "ROOM": str(room), "KIND": kind, "SCRIPT": BOOT}
     try:
-        subprocess.run(["bash", "-c", joined + unshare], env=environment, capture_output=True, timeout=400)
+        subprocess.run(
+            ["bash", "-c", joined + unshare], env=environment, capture_output=True, timeout=400
+        )
     finally:
         for group in groups:
             for folder in sorted((it for it in group.rglob("*") if it.is_dir()), reverse=True):
@@ -169,46 +172,62 @@ def booted(room: pathlib.Path) -> None:
             group.rmdir()
 
 
-def under_systemd() -> None:
-    """The units start, hand over their sockets, are restarted after kills, and end in order, in their whole sandbox."""
-    need_root()
-    real_book()
-    need("debootstrap", "unshare", "chroot", "pivot_root")
-    found = debs()
-    with tempfile.TemporaryDirectory(prefix="rigzumal-booted-") as folder:
-        room = pathlib.Path(folder, "root")
-        base(room)
-        room.chmod(0o755)
-        (room / "usr/sbin/policy-rc.d").write_text("#!/bin/sh\nexit 101\n")
-        (room / "usr/sbin/policy-rc.d").chmod(0o755)
-        holds((room / "lib/systemd/systemd").exists(), "the base has no systemd")
-        for deb in found:
-            shutil.copy(deb, room)
-        path = {"PATH": "/usr/sbin:/usr/bin:/sbin:/bin", "DEBIAN_FRONTEND": "noninteractive"}
-        install = ["unshare", "--mount", "--pid", "--fork", "chroot", str(room), "sh", "-c", "mount -t proc proc /proc && dpkg -i /*.deb"]
-        done = subprocess.run(install, env=path, capture_output=True, text=True, timeout=300)
-        same(done.returncode, 0, done.stdout + done.stderr)
-        (room / "etc/default/credkeep-server-users").write_text(f"CREDKEEP_SERVER_OPTIONS=--setting {CHEAP}\n")
-        (room / "inside.py").write_text(INSIDE)
-        system = room / "etc/systemd/system"
-        for name in ("systemd-udevd.service", "systemd-udev-trigger.service", "systemd-sysctl.service", "systemd-modules-load.service"):
-            (system / name).symlink_to("/dev/null")
-        unit = "[Service]\nType=oneshot\nExecStart=/usr/bin/python3 /inside.py\nStandardOutput=append:/said\nStandardError=append:/said\n"
-        unit += "TimeoutStartSec=300\nExecStopPost=/bin/systemctl poweroff --force --force\n"
-        (system / "inside.service").write_text(unit)
-        (system / "multi-user.target.wants").mkdir(exist_ok=True)
-        (system / "multi-user.target.wants/inside.service").symlink_to("../inside.service")
-        booted(room)
-        said = (room / "said").read_text() if (room / "said").exists() else "nothing"
-        lines = said.splitlines()
-        for line in OUGHT.splitlines():
-            holds(line in (it.strip() for it in lines), f"{line!r} isn't in:\n{said}")
-        same(lines.count("login verify 1 yes"), 5, said)
-        logged = said.rpartition("in the log")[2]
-        holds("c2VjcmV0" not in logged and "ada" not in logged, f"logged: {logged}")
+class Booted(Case):
+    def test_under_systemd(self) -> None:
+        """The units start, hand over their sockets, are restarted after kills, and end in order, in their whole sandbox."""
+        need_root()
+        real_book()
+        need("debootstrap", "unshare", "chroot", "pivot_root")
+        found = debs()
+        with tempfile.TemporaryDirectory(prefix="rigzumal-booted-") as folder:
+            room = pathlib.Path(folder, "root")
+            base(room)
+            room.chmod(0o755)
+            (room / "usr/sbin/policy-rc.d").write_text("#!/bin/sh\nexit 101\n")
+            (room / "usr/sbin/policy-rc.d").chmod(0o755)
+            self.assertTrue((room / "lib/systemd/systemd").exists(), "the base has no systemd")
+            for deb in found:
+                shutil.copy(deb, room)
+            path = {"PATH": "/usr/sbin:/usr/bin:/sbin:/bin", "DEBIAN_FRONTEND": "noninteractive"}
+            install = [
+                "unshare",
+                "--mount",
+                "--pid",
+                "--fork",
+                "chroot",
+                str(room),
+                "sh",
+                "-c",
+                "mount -t proc proc /proc && dpkg -i /*.deb",
+            ]
+            done = subprocess.run(install, env=path, capture_output=True, text=True, timeout=300)
+            self.assertEqual(done.returncode, 0, done.stdout + done.stderr)
+            (room / "etc/default/credkeep-server-users").write_text(
+                f"CREDKEEP_SERVER_OPTIONS=--setting {CHEAP}\n"
+            )
+            (room / "inside.py").write_text(INSIDE)
+            system = room / "etc/systemd/system"
+            for name in (
+                "systemd-udevd.service",
+                "systemd-udev-trigger.service",
+                "systemd-sysctl.service",
+                "systemd-modules-load.service",
+            ):
+                (system / name).symlink_to("/dev/null")
+            unit = "[Service]\nType=oneshot\nExecStart=/usr/bin/python3 /inside.py\nStandardOutput=append:/said\nStandardError=append:/said\n"
+            unit += "TimeoutStartSec=300\nExecStopPost=/bin/systemctl poweroff --force --force\n"
+            (system / "inside.service").write_text(unit)
+            (system / "multi-user.target.wants").mkdir(exist_ok=True)
+            (system / "multi-user.target.wants/inside.service").symlink_to("../inside.service")
+            booted(room)
+            said = (room / "said").read_text() if (room / "said").exists() else "nothing"
+            lines = said.splitlines()
+            for line in OUGHT.splitlines():
+                self.assertTrue(line in (it.strip() for it in lines), f"{line!r} isn't in:\n{said}")
+            self.assertEqual(lines.count("login verify 1 yes"), 5, said)
+            logged = said.rpartition("in the log")[2]
+            self.assertTrue("c2VjcmV0" not in logged and "ada" not in logged, f"logged: {logged}")
 
-
-TESTS = [under_systemd]
 
 if __name__ == "__main__":
-    sys.exit(run_tests(TESTS, sys.argv[1:]))
+    unittest.main()

@@ -77,20 +77,50 @@ class Book:
 
     def answer(self, words: list[str]) -> str:
         operation, fields = words[0], words[1:]
-        counts = {"account": "1", "show": "1", "disable": "1", "delete": "1", "verify": "2", "login": "2", "remove": "2"}
-        counts |= {"enrol": "23", "reset": "23", "upgrade": "23", "change": "34", "load": "2", "rename": "2", "list": "2"}
+        counts = {
+            "account": "1",
+            "show": "1",
+            "disable": "1",
+            "delete": "1",
+            "verify": "2",
+            "login": "2",
+            "remove": "2",
+        }
+        counts |= {
+            "enrol": "23",
+            "reset": "23",
+            "upgrade": "23",
+            "change": "34",
+            "load": "2",
+            "rename": "2",
+            "list": "2",
+        }
         if operation not in counts or str(len(fields)) not in counts[operation]:
             return "bad 11 line"
         if operation == "list":
             names = sorted(it for it in self.records if it >= fields[0])[: int(fields[1])]
             return " ".join(["names", *names])
-        if not NAME.fullmatch(fields[0]) or (operation == "rename" and not NAME.fullmatch(fields[1])):
+        if not NAME.fullmatch(fields[0]) or (
+            operation == "rename" and not NAME.fullmatch(fields[1])
+        ):
             return "bad 3 name"
-        passwords = {"verify": 1, "login": 1, "remove": 1, "enrol": 1, "reset": 1, "upgrade": 1, "change": 2}
+        passwords = {
+            "verify": 1,
+            "login": 1,
+            "remove": 1,
+            "enrol": 1,
+            "reset": 1,
+            "upgrade": 1,
+            "change": 2,
+        }
         plain = [decoded(it) for it in fields[1 : 1 + passwords.get(operation, 0)]]
         if None in plain:
             return "bad 13 password"
-        if len(fields) > 1 + len(plain) and operation not in ("load", "rename") and not fields[-1].startswith("$"):
+        if (
+            len(fields) > 1 + len(plain)
+            and operation not in ("load", "rename")
+            and not fields[-1].startswith("$")
+        ):
             return "bad 1 shape"
         return self.done(operation, fields, [it or b"" for it in plain])
 
@@ -130,7 +160,9 @@ class Book:
             return "exists"
         return self.at_record(operation, name, record, plain, setting)
 
-    def at_record(self, operation: str, name: str, record: str, plain: list[bytes], setting: str) -> str:
+    def at_record(
+        self, operation: str, name: str, record: str, plain: list[bytes], setting: str
+    ) -> str:
         right = self.is_right(record, plain[0])
         if operation in ("verify", "login"):
             if right and operation == "login" and not record.startswith(self.costs + "$"):
@@ -174,19 +206,39 @@ class Faults:
     def write(self, operation: str, tag: str, said: str) -> None:
         """Writes an answer, or what comes in its place."""
         self.written += 1
-        for word, ends in (("dies", lambda: os._exit(5)), ("killed", lambda: os.kill(os.getpid(), signal.SIGKILL))):
+        for word, ends in (
+            ("dies", lambda: os._exit(5)),
+            ("killed", lambda: os.kill(os.getpid(), signal.SIGKILL)),
+        ):
             if word in self.all and self.written > int(self.all[word]):
                 os.write(1, f"{tag} {said}".encode())
                 ends()
         if "endless" in self.all and operation == "verify":
             os.write(1, b"x" * (4 << 20))
         if "garbage" in self.all:
-            os.write(1, random.choice([b"\n", b"yes\n", b"* yes\n", b"0 yes\n", b"-1 yes\n", b"99999999 yes\n", b"\xff\x00 yes\n"]))
+            os.write(
+                1,
+                random.choice(
+                    [
+                        b"\n",
+                        b"yes\n",
+                        b"* yes\n",
+                        b"0 yes\n",
+                        b"-1 yes\n",
+                        b"99999999 yes\n",
+                        b"\xff\x00 yes\n",
+                    ]
+                ),
+            )
         os.write(1, f"{tag} {said}\n".encode())
 
 
 def serve(path: str, options: dict[str, str]) -> None:
-    book, faults, lines = Book(path, options.get("--setting", COSTS)), Faults(), queue.Queue[Optional[str]]()
+    book, faults, lines = (
+        Book(path, options.get("--setting", COSTS)),
+        Faults(),
+        queue.Queue[Optional[str]](),
+    )
     log = open(os.environ["BOOK_LOG"], "a", buffering=1) if "BOOK_LOG" in os.environ else None
     output = threading.Lock()
 
@@ -201,9 +253,14 @@ def serve(path: str, options: dict[str, str]) -> None:
                 continue
             with output:
                 said = book.answer(words)
-                faults.write(words[0], tag, faults.all.get("answers", said) if words[0] == "verify" else said)
+                faults.write(
+                    words[0], tag, faults.all.get("answers", said) if words[0] == "verify" else said
+                )
 
-    threads = [threading.Thread(target=work, daemon=True) for _ in range(int(options.get("--at-once", "4")))]
+    threads = [
+        threading.Thread(target=work, daemon=True)
+        for _ in range(int(options.get("--at-once", "4")))
+    ]
     for thread in threads:
         thread.start()
     for line in sys.stdin:

@@ -1,8 +1,6 @@
 #!/usr/bin/python3
 """Debian's own programs, unchanged, ask the book as docs/SERVERS.md tells them to.
 
-    /usr/bin/python3 tools/server_tests/programs.py [TEST..]
-
 Each test runs in namespaces of its own (unshare: mounts, processes, network), in which /etc, /run and
 the programs' folders are copies: nothing of the machine is changed, and no process is left. The files
 that a program reads are written from the page, word for word. What isn't installed is skipped by
@@ -28,7 +26,22 @@ import urllib.error
 import urllib.request
 from collections.abc import Callable
 
-from common import CHEAP, FAST_BOOK, PYTHON, TOP, Client, Skipped, chosen_book, field_of, holds, need, need_root, run_tests, same, until
+from common import (
+    CHEAP,
+    FAST_BOOK,
+    PYTHON,
+    TOP,
+    Client,
+    Skipped,
+    chosen_book,
+    field_of,
+    holds,
+    need,
+    need_root,
+    run_tests,
+    same,
+    until,
+)
 
 PAGE = TOP / "docs/SERVERS.md"
 SECURITY = pathlib.Path("/usr/lib/x86_64-linux-gnu/security")
@@ -58,7 +71,9 @@ def commands_on_page(word: str) -> list[str]:
 
 
 def shell(line: str, status: int = 0) -> str:
-    done = subprocess.run(line, shell=True, stdout=subprocess.PIPE, stderr=subprocess.STDOUT, text=True, timeout=60)
+    done = subprocess.run(
+        line, shell=True, stdout=subprocess.PIPE, stderr=subprocess.STDOUT, text=True, timeout=60
+    )
     same(done.returncode, status, f"{line}: {done.stdout}")
     return done.stdout
 
@@ -87,9 +102,13 @@ def prepared(room: pathlib.Path) -> None:
         str(SECURITY),
     ):
         private(room, path)
-    shell("mount -t tmpfs none /run && mkdir -p /run/sshd /run/lock /run/apache2 /run/dovecot && ip link set lo up")
+    shell(
+        "mount -t tmpfs none /run && mkdir -p /run/sshd /run/lock /run/apache2 /run/dovecot && ip link set lo up"
+    )
     shutil.copy(TOP / "c/pam/out/pam_rigzumal.so", SECURITY)
-    with open("/etc/group", "a") as groups, open("/etc/passwd", "a") as users, open("/etc/shadow", "a") as shadow:
+    with open("/etc/group", "a") as groups, open("/etc/passwd", "a") as users, open(
+        "/etc/shadow", "a"
+    ) as shadow:
         print("rigzumal:x:64999:www-data\nvmail:x:64998:\npeople:x:4711:", file=groups)
         users.write("vmail:x:64998:64998::/srv/vmail:/usr/sbin/nologin\n")
         for number, name in enumerate(("ada", "eve"), 4711):
@@ -145,8 +164,18 @@ def is_open(port: int) -> bool:
 
 
 def pamtester(service: str, user: str, tasks: str, typed: str, status: int, text: str) -> None:
-    done = subprocess.run(["pamtester", service, user, *tasks.split()], input=typed, capture_output=True, text=True, timeout=60)
-    same((done.returncode, text in done.stdout + done.stderr), (status, True), f"{tasks}: {done.stdout}{done.stderr}")
+    done = subprocess.run(
+        ["pamtester", service, user, *tasks.split()],
+        input=typed,
+        capture_output=True,
+        text=True,
+        timeout=60,
+    )
+    same(
+        (done.returncode, text in done.stdout + done.stderr),
+        (status, True),
+        f"{tasks}: {done.stdout}{done.stderr}",
+    )
 
 
 # ---- the programs
@@ -173,7 +202,9 @@ def pam(room: pathlib.Path) -> None:
     for _ in range(10):
         with Client(RUN / "login.sock") as client:
             client.ask("verify ada -")
-    pamtester("book", "ada", "authenticate", "fresh\n", 1, "Have exhausted maximum number of retries")
+    pamtester(
+        "book", "ada", "authenticate", "fresh\n", 1, "Have exhausted maximum number of retries"
+    )
 
 
 def stack(room: pathlib.Path) -> None:
@@ -208,8 +239,21 @@ def su(room: pathlib.Path) -> None:
     )
 
     def tried(password: str) -> str:
-        words = ["setpriv", "--reuid", "4712", "--regid", "4711", "--clear-groups", "su", "ada", "-c", "id -un"]
-        return subprocess.run(words, input=f"{password}\n", capture_output=True, text=True, timeout=60).stdout.strip()
+        words = [
+            "setpriv",
+            "--reuid",
+            "4712",
+            "--regid",
+            "4711",
+            "--clear-groups",
+            "su",
+            "ada",
+            "-c",
+            "id -un",
+        ]
+        return subprocess.run(
+            words, input=f"{password}\n", capture_output=True, text=True, timeout=60
+        ).stdout.strip()
 
     same([tried("secret"), tried("guess"), tried("unixword")], ["ada", "", ""])
     server.stop()
@@ -219,7 +263,7 @@ def su(room: pathlib.Path) -> None:
 def nginx(room: pathlib.Path) -> None:
     need("nginx")
     if not pathlib.Path("/usr/lib/nginx/modules/ngx_http_auth_pam_module.so").exists():
-        raise Skipped("libnginx-mod-http-auth-pam is not there")
+        raise unittest.SkipTest("libnginx-mod-http-auth-pam is not there")
     server = started(room)
     install("/etc/pam.d/nginx", "/etc/nginx/sites-enabled/book")
     pathlib.Path("/etc/nginx/sites-enabled/default").unlink(missing_ok=True)
@@ -234,15 +278,23 @@ def web_logins(port: int, server: Server) -> None:
     def got(user: str, password: str) -> int:
         request = urllib.request.Request(f"http://127.0.0.1:{port}/")
         if user:
-            request.add_header("Authorization", "Basic " + base64.b64encode(f"{user}:{password}".encode()).decode())
+            request.add_header(
+                "Authorization", "Basic " + base64.b64encode(f"{user}:{password}".encode()).decode()
+            )
         try:
             with urllib.request.urlopen(request, timeout=30) as answer:
                 return int(answer.status)
         except urllib.error.HTTPError as fault:
             return fault.code
 
-    same([got("ada", "secret"), got("ada", "guess"), got("zoe", "secret"), got("", "")], [200, 401, 401, 401])
-    same([got("ada", ""), got("ada", "x" * 300), got("ADA", "secret"), got("ada%20", "secret")], [401] * 4)
+    same(
+        [got("ada", "secret"), got("ada", "guess"), got("zoe", "secret"), got("", "")],
+        [200, 401, 401, 401],
+    )
+    same(
+        [got("ada", ""), got("ada", "x" * 300), got("ADA", "secret"), got("ada%20", "secret")],
+        [401] * 4,
+    )
     same(got("bob", "other word"), 200)
     server.disable("bob", "other word")
     holds(got("bob", "other word") in (401, 403), "bob is disabled")
@@ -255,7 +307,7 @@ def web_logins(port: int, server: Server) -> None:
 def apache(room: pathlib.Path) -> None:
     need("apache2")
     if not pathlib.Path("/usr/lib/apache2/modules/mod_authnz_pam.so").exists():
-        raise Skipped("libapache2-mod-authnz-pam is not there")
+        raise unittest.SkipTest("libapache2-mod-authnz-pam is not there")
     server = started(room)
     install("/etc/pam.d/apache2", "/etc/apache2/conf-enabled/book.conf")
     shell("a2enmod authnz_pam")
@@ -295,7 +347,7 @@ def dovecot(room: pathlib.Path) -> None:
 def run_dovecot(room: pathlib.Path, *changes: tuple[str, str]) -> None:
     need("dovecot")
     if not pathlib.Path("/usr/lib/dovecot/imap").exists():
-        raise Skipped("dovecot-imapd is not there")
+        raise unittest.SkipTest("dovecot-imapd is not there")
     install("/etc/pam.d/dovecot", "/etc/pam.d/mail", "/etc/dovecot/local.conf")
     own = pathlib.Path("/etc/dovecot/conf.d/10-auth.conf")
     own.write_text(own.read_text().replace("!include auth-system.conf.ext", ""))
@@ -320,10 +372,19 @@ def dovecot_mail_names(room: pathlib.Path) -> None:
     same([imap("ada@example.org", "mail word"), imap("ada@Example.ORG", "mail word")], [True, True])
     same([imap("ada@example.org", "secret"), imap("ada@example.net", "mail word")], [False, False])
     same([imap("ada", "secret"), imap("ada", "mail word")], [True, False])
-    pathlib.Path("/etc/dovecot/local.conf").write_text(on_page("/etc/dovecot/local.conf") + QUICK + "auth_username_format = %Ln\n")
+    pathlib.Path("/etc/dovecot/local.conf").write_text(
+        on_page("/etc/dovecot/local.conf") + QUICK + "auth_username_format = %Ln\n"
+    )
     shell("doveadm reload")
     time.sleep(1)
-    same([imap("Ada@example.org", "secret"), imap("ada@example.net", "secret"), imap("ada@example.org", "x")], [True, True, False])
+    same(
+        [
+            imap("Ada@example.org", "secret"),
+            imap("ada@example.net", "secret"),
+            imap("ada@example.org", "x"),
+        ],
+        [True, True, False],
+    )
 
 
 def postfix(room: pathlib.Path) -> None:
@@ -332,7 +393,9 @@ def postfix(room: pathlib.Path) -> None:
     server = started(room)
     install("/etc/pam.d/smtp", "/etc/postfix/sasl/smtpd.conf")
     shell("adduser -q postfix sasl && mkdir -p /var/spool/postfix/var/run/saslauthd")
-    shell("chgrp sasl /var/spool/postfix/var/run/saslauthd && chmod 710 /var/spool/postfix/var/run/saslauthd")
+    shell(
+        "chgrp sasl /var/spool/postfix/var/run/saslauthd && chmod 710 /var/spool/postfix/var/run/saslauthd"
+    )
     shell("saslauthd -a pam -m /var/spool/postfix/var/run/saslauthd")
     (tried,) = commands_on_page("testsaslauthd")
     holds('0: OK "Success."' in shell(tried), "testsaslauthd")
@@ -349,7 +412,9 @@ def postfix(room: pathlib.Path) -> None:
         "myhostname=mail.example.org",
     ):
         shell(f"postconf -e '{line}'")
-    shell("if [ -x /usr/lib/postfix/configure-instance.sh ]; then /usr/lib/postfix/configure-instance.sh -; fi")
+    shell(
+        "if [ -x /usr/lib/postfix/configure-instance.sh ]; then /usr/lib/postfix/configure-instance.sh -; fi"
+    )
     shell("postfix start")
     until(lambda: is_open(25), "postfix")
 
@@ -359,14 +424,19 @@ def postfix(room: pathlib.Path) -> None:
             try:
                 if user:
                     client.login(user, password)
-                client.sendmail("ada@example.org", ["someone@example.net"], "Subject: x\r\n\r\ntext\r\n")
+                client.sendmail(
+                    "ada@example.org", ["someone@example.net"], "Subject: x\r\n\r\ntext\r\n"
+                )
                 return "taken"
             except smtplib.SMTPAuthenticationError:
                 return "not let in"
             except smtplib.SMTPRecipientsRefused:
                 return "not relayed"
 
-    same([sent("ada", "secret"), sent("ada", "guess"), sent("zoe", "x"), sent("", "")], ["taken", "not let in", "not let in", "not relayed"])
+    same(
+        [sent("ada", "secret"), sent("ada", "guess"), sent("zoe", "x"), sent("", "")],
+        ["taken", "not let in", "not let in", "not relayed"],
+    )
     holds("sasl_username=ada" in pathlib.Path("/var/log/postfix.log").read_text(), "the log")
     server.ask(f"reset ada {field_of(b'fresh')}", "replaced")
     same([sent("ada", "secret"), sent("ada", "fresh")], ["not let in", "taken"])
@@ -379,20 +449,29 @@ def sshd(room: pathlib.Path) -> None:
     server = started(room)
     install("/etc/pam.d/sshd", "/etc/ssh/sshd_config.d/book.conf")
     pathlib.Path("/etc/pam.d/common-session").write_text("session required pam_permit.so\n")
-    shell(f"ssh-keygen -A && ssh-keygen -q -t ed25519 -N '' -f {room}/key && mkdir -p /etc/ssh/keys && cp {room}/key.pub /etc/ssh/keys/ada")
+    shell(
+        f"ssh-keygen -A && ssh-keygen -q -t ed25519 -N '' -f {room}/key && mkdir -p /etc/ssh/keys && cp {room}/key.pub /etc/ssh/keys/ada"
+    )
     shell("/usr/sbin/sshd -o 'AuthorizedKeysFile /etc/ssh/keys/%u' -o 'ListenAddress 127.0.0.1'")
     until(lambda: is_open(22), "sshd")
     common = "-o StrictHostKeyChecking=no -o UserKnownHostsFile=/dev/null -o LogLevel=ERROR -o NumberOfPasswordPrompts=1"
 
     def tried(password: str, user: str = "ada") -> str:
         line = f"sshpass -p '{password}' ssh {common} -o PreferredAuthentications=keyboard-interactive -o PubkeyAuthentication=no {user}@127.0.0.1 id -un"
-        return subprocess.run(line, shell=True, capture_output=True, text=True, timeout=60).stdout.strip()
+        return subprocess.run(
+            line, shell=True, capture_output=True, text=True, timeout=60
+        ).stdout.strip()
 
     def by_key() -> str:
         line = f"ssh {common} -i {room}/key -o BatchMode=yes ada@127.0.0.1 id -un"
-        return subprocess.run(line, shell=True, capture_output=True, text=True, timeout=60).stdout.strip()
+        return subprocess.run(
+            line, shell=True, capture_output=True, text=True, timeout=60
+        ).stdout.strip()
 
-    same([tried("secret"), tried("guess"), tried("unixword"), tried("unixword", "eve")], ["ada", "", "", ""])
+    same(
+        [tried("secret"), tried("guess"), tried("unixword"), tried("unixword", "eve")],
+        ["ada", "", "", ""],
+    )
     same(by_key(), "ada")
     server.disable("ada", "secret")
     same([tried("secret"), by_key()], ["", ""])
@@ -416,7 +495,7 @@ def inside(test: Callable[[pathlib.Path], None]) -> Callable[[], None]:
             command = [*words, PYTHON, __file__, "--inside", test.__name__, room]
             done = subprocess.run(command, capture_output=True, text=True, timeout=300)
         if done.returncode == 77:
-            raise Skipped(done.stdout.strip())
+            raise unittest.SkipTest(done.stdout.strip())
         same(done.returncode, 0, f"{done.stdout}{done.stderr}")
 
     outer.__name__ = test.__name__

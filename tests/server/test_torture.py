@@ -55,7 +55,9 @@ class Running:
                 self.starts += 1
                 environment = {**os.environ, "BOOK_FAULTS": self.given.faults}
                 with open(self.folder / "log", "ab") as log:
-                    self.process = subprocess.Popen(command(self.given, self.folder), stderr=log, env=environment)
+                    self.process = subprocess.Popen(
+                        command(self.given, self.folder), stderr=log, env=environment
+                    )
             await asyncio.sleep(0.02)
 
     def book(self) -> Optional[int]:
@@ -82,21 +84,33 @@ class Running:
 class Log:
     """What was asked, and what was answered, of each account."""
 
-    operations: dict[str, list[Operation]] = field(default_factory=lambda: {name: [] for name in NAMES})
+    operations: dict[str, list[Operation]] = field(
+        default_factory=lambda: {name: [] for name in NAMES}
+    )
     denials: list[tuple[str, Operation]] = field(default_factory=list)
-    passwords: dict[str, list[str]] = field(default_factory=lambda: {name: ["never"] for name in NAMES})
+    passwords: dict[str, list[str]] = field(
+        default_factory=lambda: {name: ["never"] for name in NAMES}
+    )
     counts: dict[str, int] = field(default_factory=dict)
 
     def note(self, name: str, operation: Operation, said: Optional[str]) -> None:
         """Files an operation by its answer, or by none."""
         self.counts[said or "no answer"] = self.counts.get(said or "no answer", 0) + 1
-        kind, old, new = operation.kind, record_of(operation.password), record_of(operation.password_after)
+        kind, old, new = (
+            operation.kind,
+            record_of(operation.password),
+            record_of(operation.password_after),
+        )
         if said in (None, "unavailable", "enrolled", "replaced") and operation.password_after:
             if kind in ("enrol", "change"):  # it may be right from now on
                 at = -1 if said in (None, "unavailable") else len(self.passwords[name])
                 self.passwords[name].insert(at, operation.password_after)
         if said is None or said == "unavailable":
-            changes = {"enrol": (None, new, "enrolled"), "change": (old, new, "replaced"), "remove": (old, None, "removed")}
+            changes = {
+                "enrol": (None, new, "enrolled"),
+                "change": (old, new, "replaced"),
+                "remove": (old, None, "removed"),
+            }
             if kind in changes:
                 operation.attempts = [Attempt(*changes[kind])]
                 self.operations[name].append(operation)
@@ -110,7 +124,9 @@ class Log:
         if said not in ("yes", "absent", "enrolled", "replaced", "removed", "kept"):
             raise Illegal(f"{operation.id} ({kind}) was answered {said}", [operation])
         operation.before = None if said in ("absent", "enrolled") else old
-        operation.after = {"enrolled": new, "replaced": new, "removed": None}.get(said, operation.before)
+        operation.after = {"enrolled": new, "replaced": new, "removed": None}.get(
+            said, operation.before
+        )
         self.operations[name].append(operation)
 
 
@@ -138,10 +154,14 @@ class Asking:
         known = self.log.passwords[name]
         password = made if kind == "enrol" else self.chance.choice([*known[-4:], *known[-1:] * 6])
         new = f"{made}n" if kind == "change" else None
-        line = f"{kind} {name} {field_of(password.encode())}" + (f" {field_of(new.encode())}" if new else "")
+        line = f"{kind} {name} {field_of(password.encode())}" + (
+            f" {field_of(new.encode())}" if new else ""
+        )
         judged = {"login": "verify"}.get(kind, kind)
         operation = Operation(made, judged, password, time.monotonic(), new_password=new)
-        self.log.note(name, operation, await self.answer("login" if kind in LOGIN else "admin", line))
+        self.log.note(
+            name, operation, await self.answer("login" if kind in LOGIN else "admin", line)
+        )
 
     async def answer(self, door: str, line: str) -> Optional[str]:
         """What is answered, or none if the connection ends first."""
@@ -188,7 +208,9 @@ def stands(folder: pathlib.Path, log: Log, name: str) -> Optional[str]:
     raise Illegal(f"{name}: no password that was ever set is right", [])
 
 
-def surely_stood(operations: list[Operation], last: Optional[str]) -> dict[str, tuple[float, float]]:
+def surely_stood(
+    operations: list[Operation], last: Optional[str]
+) -> dict[str, tuple[float, float]]:
     """From when until when the record of a password stood in any history of these."""
     spans: dict[str, tuple[float, float]] = {}
     for it in operations:
@@ -196,7 +218,11 @@ def surely_stood(operations: list[Operation], last: Optional[str]) -> dict[str, 
             spans[it.after] = (it.answered, float("inf") if it.after == last else 0.0)
     for record, (first, until) in spans.items():
         if until == 0.0:
-            replaced = [it.called for it in operations if record in (it.before, *(a.before for a in it.attempts)) and it.after != it.before]
+            replaced = [
+                it.called
+                for it in operations
+                if record in (it.before, *(a.before for a in it.attempts)) and it.after != it.before
+            ]
             spans[record] = (first, min(replaced, default=0.0))
     return spans
 
@@ -213,7 +239,9 @@ def found_out(operations: list[Operation], last: Optional[str]) -> list[Operatio
     made: list[Operation] = []
 
     def follow() -> None:
-        while more := [it for it in lost if it not in made and it.attempts[0].after in seen - {None}]:
+        while more := [
+            it for it in lost if it not in made and it.attempts[0].after in seen - {None}
+        ]:
             made.extend(more)
             seen.update(it.attempts[0].before for it in more)
 
@@ -238,7 +266,9 @@ def judged(folder: pathlib.Path, log: Log, began: float) -> int:
         last = record_of(stands(folder, log, name))
         now = time.monotonic()
         seed = Operation("first", "seed", None, began - 1, answered=began - 0.5)
-        end = Operation("last", "end", None, now, answered=now + 1, reply="end", before=last, after=last)
+        end = Operation(
+            "last", "end", None, now, answered=now + 1, reply="end", before=last, after=last
+        )
         operations = log.operations[name]
         check(Account(seed, end, found_out(operations, last)))
         spans = surely_stood(operations, last)
@@ -246,7 +276,10 @@ def judged(folder: pathlib.Path, log: Log, began: float) -> int:
             if place == name and it.password and record_of(it.password) in spans:
                 first, until = spans[record_of(it.password) or ""]
                 if first < it.called and it.answered < until:
-                    raise Illegal(f"{it.id} was answered {it.reply}, and its password stood from {first:.3f} to {until:.3f}", [it])
+                    raise Illegal(
+                        f"{it.id} was answered {it.reply}, and its password stood from {first:.3f} to {until:.3f}",
+                        [it],
+                    )
         count += len(operations)
     return count + len(log.denials)
 
@@ -268,7 +301,9 @@ async def aside(call: Callable[..., Result], *given: object) -> Result:
     return await asyncio.get_running_loop().run_in_executor(None, lambda: call(*given))
 
 
-async def tortured(given: Given, folder: pathlib.Path, seconds: float, kills: int, seed: int) -> str:
+async def tortured(
+    given: Given, folder: pathlib.Path, seconds: float, kills: int, seed: int
+) -> str:
     chance, log, running = random.Random(seed), Log(), Running(folder, given)
     keeping = asyncio.ensure_future(running.keep())
     try:
@@ -277,8 +312,12 @@ async def tortured(given: Given, folder: pathlib.Path, seconds: float, kills: in
             for name in NAMES:
                 same(admin.ask(f"account {name}"), "ok")
         began = time.monotonic()
-        clients = [Asking(running, log, random.Random(chance.random()), number) for number in range(64)]
-        killed, *_ = await asyncio.gather(killing(running, chance, kills, seconds), *(it.go(began + seconds) for it in clients))
+        clients = [
+            Asking(running, log, random.Random(chance.random()), number) for number in range(64)
+        ]
+        killed, *_ = await asyncio.gather(
+            killing(running, chance, kills, seconds), *(it.go(began + seconds) for it in clients)
+        )
         await aside(until, lambda: names_stand(folder), "all names are there", 60.0)
         count = await aside(judged, folder, log, began)
         return f"{count} operations, {killed} kills, {running.starts} starts: legal. Answers: {dict(sorted(log.counts.items()))}"
@@ -303,17 +342,26 @@ def main() -> int:
     words = argparse.ArgumentParser()
     words.add_argument("--seconds", type=float, default=60)
     words.add_argument("--kills", type=int, default=20)
-    words.add_argument("--book", choices=("fast", "real"), help="credkeep where it is built, if not given")
+    words.add_argument(
+        "--book", choices=("fast", "real"), help="credkeep where it is built, if not given"
+    )
     words.add_argument("--seed", type=int, default=1)
     given = words.parse_args()
     os.environ["BOOK"] = given.book or os.environ.get("BOOK", "")
     program = chosen_book()
     real = program != FAST_BOOK
     options = ("--tries", "0", "--at-once", "8", *(("--setting", CHEAP) if real else ()))
-    print(run(Given(options, "" if real else "late", program), given.seconds, given.kills, given.seed), flush=True)
+    print(
+        run(
+            Given(options, "" if real else "late", program), given.seconds, given.kills, given.seed
+        ),
+        flush=True,
+    )
     for faults in ("loses=5", "answers=yes"):
         try:
-            print(f"1 failed: a book with {faults} was let through: {run(Given(options, faults), 5, 2, given.seed)}")
+            print(
+                f"1 failed: a book with {faults} was let through: {run(Given(options, faults), 5, 2, given.seed)}"
+            )
             return 1
         except Illegal as refused:
             print(f"a book with {faults} is refused: {str(refused).splitlines()[0]}")

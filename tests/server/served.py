@@ -3,7 +3,6 @@
 from __future__ import annotations
 
 import base64
-import importlib.util
 import os
 import pathlib
 import shutil
@@ -13,11 +12,11 @@ import subprocess
 import sys
 import tempfile
 import time
+import unittest
 from collections.abc import Callable, Iterator
 from contextlib import contextmanager
 from dataclasses import dataclass, field
-from importlib.machinery import SourceFileLoader
-from typing import Any, Optional
+from typing import Optional
 
 HERE = pathlib.Path(__file__).resolve().parent
 TOP = HERE.parent.parent
@@ -25,10 +24,21 @@ FAST_BOOK = HERE / "fast_book.py"
 CREDKEEP = pathlib.Path(os.environ.get("CREDKEEP", TOP / "crates/credkeep/out/credkeep"))
 CHEAP = "$argon2id$v=19$m=64,t=1,p=1"
 PYTHON = os.environ.get("SERVER_PYTHON", "/usr/bin/python3")
+sys.path.insert(0, str(TOP / "python/rigzumal/server"))  # as the server's program does
 
 
-class Skipped(Exception):
-    """What isn't there."""
+class Case(unittest.TestCase):
+    """A test that ends: after so many seconds it fails, wherever it waits."""
+
+    seconds = 300
+
+    def setUp(self) -> None:
+        def too_long(*_: object) -> None:
+            raise TimeoutError(f"over {self.seconds} s")
+
+        signal.signal(signal.SIGALRM, too_long)
+        signal.alarm(self.seconds)
+        self.addCleanup(signal.alarm, 0)
 
 
 def same(is_: object, ought: object, said: str = "") -> None:
@@ -44,21 +54,21 @@ def holds(fact: bool, said: str) -> None:
 def need(*programs: str) -> None:
     for program in programs:
         if shutil.which(program, path=os.environ["PATH"] + ":/usr/sbin:/usr/lib/dovecot") is None:
-            raise Skipped(f"{program} is not there")
+            raise unittest.SkipTest(f"{program} is not there")
 
 
 def need_root() -> None:
     if os.geteuid() != 0:
-        raise Skipped("this isn't root")
+        raise unittest.SkipTest("this isn't root")
 
 
 def real_book() -> pathlib.Path:
     """The built credkeep, if it knows tagged lines."""
     if not CREDKEEP.exists():
-        raise Skipped(f"{CREDKEEP} is not there")
+        raise unittest.SkipTest(f"{CREDKEEP} is not there")
     said = subprocess.run([CREDKEEP, "x", "serve", "--help"], capture_output=True, text=True)
     if "--tagged" not in said.stdout + said.stderr:
-        raise Skipped(f"{CREDKEEP} has no --tagged")
+        raise unittest.SkipTest(f"{CREDKEEP} has no --tagged")
     return CREDKEEP
 
 
@@ -69,7 +79,7 @@ def chosen_book() -> pathlib.Path:
         return FAST_BOOK
     try:
         return real_book()
-    except Skipped:
+    except unittest.SkipTest:
         if word == "real":
             raise
         return FAST_BOOK
@@ -102,19 +112,15 @@ def as_user(uid: int, gid: int, path: pathlib.Path, *lines: str) -> str:
     script = "import socket, sys\ns = socket.socket(socket.AF_UNIX)\ns.settimeout(20)\n"
     script += "try:\n    s.connect(sys.argv[1])\nexcept PermissionError:\n    print('not permitted')\n    sys.exit()\n"
     script += "for line in sys.argv[2:]:\n    s.sendall(b'1 ' + line.encode() + b'\\n')\n    print(s.recv(100).decode()[2:].strip())\n"
-    done = subprocess.run([sys.executable, "-c", script, path, *lines], user=uid, group=gid, extra_groups=[], capture_output=True, text=True)
+    done = subprocess.run(
+        [sys.executable, "-c", script, path, *lines],
+        user=uid,
+        group=gid,
+        extra_groups=[],
+        capture_output=True,
+        text=True,
+    )
     return " ".join(done.stdout.split("\n")).strip() or done.stderr
-
-
-def program() -> Any:
-    """The server's program as a module."""
-    loader = SourceFileLoader("credkeep_server", os.environ.get("CREDKEEP_SERVER", str(TOP / "bin/credkeep-server")))
-    spec = importlib.util.spec_from_loader("credkeep_server", loader)
-    assert spec
-    module = importlib.util.module_from_spec(spec)
-    sys.modules["credkeep_server"] = module
-    loader.exec_module(module)
-    return module
 
 
 class Client:
@@ -186,9 +192,9 @@ class Service:
         return (self.folder / "log").read_text()
 
     def asked(self) -> list[str]:
-        """The lines that came to the book, but those by which the server looks whether it answers."""
+        """The lines that came to the book, but the server's own."""
         lines = (self.folder / "asked").read_text().splitlines()
-        return [it for it in lines if it != "show -"]
+        return [it for it in lines if it not in ("show -", "verify - -")]
 
     def enrol(self, **passwords: str) -> None:
         with Client(self.path("admin")) as admin:
@@ -222,7 +228,10 @@ class Given:
 def command(given: Given, folder: pathlib.Path) -> list[str]:
     sockets = []
     if given.sockets:
-        for name, mode, allowed in (("login", "0660", "verify,change,known"), ("admin", "0600", "all")):
+        for name, mode, allowed in (
+            ("login", "0660", "verify,change,known"),
+            ("admin", "0600", "all"),
+        ):
             sockets += ["--socket", name, str(folder / f"{name}.sock"), mode, "-", allowed]
     server = os.environ.get("CREDKEEP_SERVER", str(TOP / "bin/credkeep-server"))
     words = [*given.before, PYTHON, server, "--credkeep", str(given.program), *sockets]
@@ -237,10 +246,16 @@ def serving(*options: str, **fields: object) -> Iterator[Service]:
     (folder / "asked").touch()
     if given.program != FAST_BOOK and not (folder / "users.db").exists():
         subprocess.run([given.program, folder / "users.db", "init"], check=True)
-    environment = {"BOOK_FAULTS": given.faults, "BOOK_LOG": str(folder / "asked"), **given.environment}
+    environment = {
+        "BOOK_FAULTS": given.faults,
+        "BOOK_LOG": str(folder / "asked"),
+        **given.environment,
+    }
     (folder / "log").write_text("")
     with open(folder / "log", "ab") as log:
-        process = subprocess.Popen(command(given, folder), stderr=log, env={**os.environ, **environment})
+        process = subprocess.Popen(
+            command(given, folder), stderr=log, env={**os.environ, **environment}
+        )
     service = Service(folder, process)
     try:
         if given.waits:
@@ -259,25 +274,3 @@ def serving(*options: str, **fields: object) -> Iterator[Service]:
                 process.wait()
         if given.folder is None:
             shutil.rmtree(folder, ignore_errors=True)
-
-
-def run_tests(tests: list[Callable[[], None]], words: list[str]) -> int:
-    """Runs the tests whose names are given, or all; returns the status."""
-    chosen = [it for it in tests if not words or it.__name__ in words]
-    counts = {"passed": 0, "failed": 0, "skipped": 0}
-    for test in chosen:
-        begun = time.monotonic()
-        try:
-            test()
-            said, word = "", "passed"
-        except Skipped as reason:
-            said, word = f", {reason}", "skipped"
-        except Exception as fault:
-            import traceback
-
-            traceback.print_exc(limit=-4, file=sys.stdout)
-            said, word = f", {type(fault).__name__}", "failed"
-        counts[word] += 1
-        print(f"{test.__name__}: {word.upper() if word == 'failed' else word}{said} ({time.monotonic() - begun:.1f} s)", flush=True)
-    print(", ".join(f"{count} {word}" for word, count in counts.items()))
-    return 1 if counts["failed"] else 0

@@ -1,0 +1,36 @@
+"""credkeep-server(8): lets many clients of Unix sockets ask one kept book.
+
+It imports nothing of the rest of rigzumal, so that bin/credkeep-server can run it alone.
+"""
+
+from __future__ import annotations
+
+import asyncio
+import os
+import resource
+import signal
+import sys
+
+from .log import begin_logging, log
+from .options import Options, Problem, parse
+from .service import Service
+
+
+async def run(options: Options) -> int:
+    return await Service(options).run()
+
+
+def main() -> int:
+    """Runs the program, and returns its status."""
+    begin_logging()
+    os.umask(0o177)
+    signal.signal(signal.SIGHUP, signal.SIG_IGN)
+    resource.setrlimit(resource.RLIMIT_CORE, (0, 0))
+    resource.setrlimit(
+        resource.RLIMIT_NOFILE, resource.getrlimit(resource.RLIMIT_NOFILE)[1:] * 2
+    )
+    try:
+        return asyncio.run(run(parse(sys.argv[1:])))
+    except Problem as problem:
+        log.error("%s", problem)
+        return 1

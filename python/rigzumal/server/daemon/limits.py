@@ -1,0 +1,95 @@
+"""Failed tries, and how long the next one has to wait."""
+
+from __future__ import annotations
+
+import time
+from collections import OrderedDict
+from collections.abc import Iterator
+from dataclasses import dataclass
+
+from .log import log
+
+REMEMBERED = 65536  # names or users
+LONGEST_WAIT, FORGOTTEN = 900.0, 3600.0  # seconds
+
+
+@dataclass
+class Tries:
+    """How many failed, and the moment until which the next has to wait."""
+
+    count: int
+    until: float
+
+
+class Limiter:
+    """Failed tries at each of many names, or of each of many users.
+
+    From `most` on, each doubles the wait for the next. What is remembered is bounded: then what is
+    forgotten anyway goes first, then those who needn't wait, the oldest first.
+    """
+
+    def __init__(self, most: int) -> None:
+        self.most = most
+        self.few: OrderedDict[
+            str, Tries
+        ] = OrderedDict()  # fewer than most, by their last one
+        self.many: OrderedDict[str, Tries] = OrderedDict()
+
+    def is_early(self, key: str) -> bool:
+        """Whether the next try has to wait."""
+        found = self.many.get(key)
+        return found is not None and time.monotonic() < found.until
+
+    def fail(self, key: str) -> None:
+        if self.most == 0:
+            return
+        now = time.monotonic()
+        before = self.many.pop(key, None) or self.few.pop(key, None)
+        fresh = before is None or now >= before.until + FORGOTTEN
+        count = 1 if before is None or fresh else before.count + 1
+        if count < self.most:
+            self.few[key] = Tries(count, now)
+        else:
+            wait = min(2.0 ** min(count - self.most, 60), LONGEST_WAIT)
+            self.many[key] = Tries(count, now + wait)
+            if count == self.most:
+                log.info("%s has to wait after %d failed tries", key, count)
+        if len(self.few) + len(self.many) > REMEMBERED:
+            self.drop_expired()
+        if len(self.few) + len(self.many) > REMEMBERED:
+            (self.few or self.many).popitem(last=False)
+
+    def drop_expired(self) -> None:
+        """Forgets tries that are an hour old."""
+        then = time.monotonic() - FORGOTTEN
+        for key in [key for key, tries in self.many.items() if tries.until <= then]:
+            self.forgive(key, "no failed try for an hour")
+        while self.few and next(iter(self.few.values())).until <= then:
+            self.few.popitem(last=False)
+
+    def forgive(self, key: str, why: str) -> bool:
+        """Forgets the tries of a key; false if there are none."""
+        if self.many.pop(key, None) is not None:
+            log.info("%s has to wait no more: %s", key, why)
+            return True
+        return self.few.pop(key, None) is not None
+
+    def lower(self, key: str) -> None:
+        """Takes one failed try back."""
+        found = self.many.get(key) or self.few.get(key)
+        if found is None:
+            return
+        found.count -= 1
+        if (
+            found.count < self.most
+            and self.forgive(key, "right passwords")
+            and found.count
+        ):
+            self.few[key] = Tries(found.count, time.monotonic())
+
+    def waits(self) -> Iterator[tuple[str, int, float]]:
+        """Who has to wait: with how many failed tries, and for how many seconds more."""
+        now = time.monotonic()
+        for key, tries in self.many.items():
+            if tries.until > now:
+                yield key, tries.count, tries.until - now
