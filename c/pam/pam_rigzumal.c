@@ -28,7 +28,7 @@ enum {
 struct question {
     const char *socket;
     long seconds;
-    bool debug, nullok, mail_names;
+    bool debug, nullok, mail_names, quiet_unknown;
     const char *name, *password, *fresh;
 };
 
@@ -54,6 +54,8 @@ static bool read_option(struct question *question, const char *word) {
         question->nullok = true;
     else if (strcmp(word, "mail_names") == 0)
         question->mail_names = true;
+    else if (strcmp(word, "quiet_unknown") == 0)
+        question->quiet_unknown = true;
     else if (strcmp(word, "try_first_pass") != 0 && strcmp(word, "use_first_pass") != 0)
         return strcmp(word, "use_authtok") == 0; /* pam_get_authtok(3) sees to these three */
     size_t size = strlen(question->socket);
@@ -73,15 +75,17 @@ static int begin(pam_handle_t *pamh, struct question *question, int argc, const 
     return result == PAM_CONV_AGAIN ? PAM_INCOMPLETE : result;
 }
 
-/* Asks for a password; an empty one is taken by nullok alone. */
-static int get_password(pam_handle_t *pamh, const struct question *question, int item, int flags,
-                        const char **password) {
+/* Asks for a password. */
+static int get_password(pam_handle_t *pamh, int item, const char **password) {
     int result = pam_get_authtok(pamh, item, password, NULL);
-    if (result != PAM_SUCCESS)
-        return result == PAM_CONV_AGAIN ? PAM_INCOMPLETE : result;
-    if (**password == '\0' && (!question->nullok || flags & PAM_DISALLOW_NULL_AUTHTOK))
-        return PAM_AUTH_ERR;
-    return strlen(*password) <= MOST_PASSWORD ? PAM_SUCCESS : PAM_AUTH_ERR;
+    return result == PAM_CONV_AGAIN ? PAM_INCOMPLETE : result;
+}
+
+/* Whether the book may have this password; an empty one is taken by nullok alone. */
+static bool is_password(const struct question *question, const char *password, int flags) {
+    if (*password == '\0')
+        return question->nullok && !(flags & PAM_DISALLOW_NULL_AUTHTOK);
+    return strlen(password) <= MOST_PASSWORD;
 }
 
 /* Whether a name may be sent: with no space and no line end in it, it stays one field. */
@@ -182,41 +186,78 @@ static int result_of(const struct operation *operation, const char *answer) {
     return strcmp(answer, "later") == 0 ? PAM_MAXTRIES : PAM_AUTHINFO_UNAVAIL;
 }
 
+static const char *text_item(const pam_handle_t *pamh, int item) {
+    const void *text = NULL;
+    pam_get_item(pamh, item, &text);
+    return text == NULL ? "" : text;
+}
+
+/* Logs a failed try in the form of pam_unix. A name is in it only if the book has it: another one
+ * may be a password that was typed too early. */
+static void log_failure(const pam_handle_t *pamh, const char *name) {
+    pam_syslog(pamh, LOG_NOTICE,
+               "authentication failure; logname= uid=%u euid=%u tty=%s ruser=%s rhost=%s %s%s",
+               getuid(), geteuid(), text_item(pamh, PAM_TTY), text_item(pamh, PAM_RUSER),
+               text_item(pamh, PAM_RHOST), name == NULL ? "" : " user=", name == NULL ? "" : name);
+}
+
+static void log_result(pam_handle_t *pamh, const struct question *question,
+                       const struct operation *operation, int result) {
+    if (result == PAM_AUTHINFO_UNAVAIL)
+        pam_syslog(pamh, LOG_ERR, "%s: no answer to %s", question->socket, operation->word);
+    else if (result == PAM_AUTH_ERR)
+        log_failure(pamh, question->name);
+    else if (result == PAM_MAXTRIES ||
+             (result == PAM_USER_UNKNOWN && operation == &VERIFY && !question->quiet_unknown))
+        log_failure(pamh, NULL);
+    if (question->debug)
+        pam_syslog(pamh, LOG_DEBUG, "%s: %s", operation->word, pam_strerror(pamh, result));
+}
+
 /* Sends a question's line, and says what its answer means. */
-static int ask(pam_handle_t *pamh, const struct question *question,
-               const struct operation *operation) {
-    if (!is_name(question))
-        return PAM_USER_UNKNOWN;
+static int answer_to(const struct question *question, const struct operation *operation) {
     char line[MOST_LINE], answer[MOST_ANSWER];
+    long deadline = milliseconds() + question->seconds * 1000;
+    int fd = connection(question->socket, deadline), result = PAM_AUTHINFO_UNAVAIL;
+    if (fd < 0)
+        return result;
     char *end = stpcpy(stpcpy(stpcpy(stpcpy(line, "1 "), operation->word), " "), question->name);
     end = put_password(put_password(end, question->password), question->fresh);
     *end++ = '\n';
-    long deadline = milliseconds() + question->seconds * 1000;
-    int fd = connection(question->socket, deadline), result = PAM_AUTHINFO_UNAVAIL;
-    if (fd >= 0 && send_line(fd, line, (size_t)(end - line), deadline) &&
-        read_answer(fd, answer, deadline))
+    if (send_line(fd, line, (size_t)(end - line), deadline) && read_answer(fd, answer, deadline))
         result = result_of(operation, answer);
     explicit_bzero(line, sizeof line);
-    if (fd >= 0)
-        close(fd);
-    const void *host = NULL;
-    pam_get_item(pamh, PAM_RHOST, &host);
-    if (result == PAM_AUTHINFO_UNAVAIL)
-        pam_syslog(pamh, LOG_ERR, "%s: no answer to %s", question->socket, operation->word);
-    else if (result == PAM_AUTH_ERR) /* no unknown name: it may be a password typed too early */
-        pam_syslog(pamh, LOG_NOTICE, "authentication failure; rhost=%s user=%s",
-                   host == NULL ? "" : (const char *)host, question->name);
-    if (question->debug)
-        pam_syslog(pamh, LOG_DEBUG, "%s: %s", operation->word, pam_strerror(pamh, result));
+    close(fd);
     return result;
+}
+
+static int ask(pam_handle_t *pamh, const struct question *question,
+               const struct operation *operation) {
+    int result = is_name(question) ? answer_to(question, operation) : PAM_USER_UNKNOWN;
+    log_result(pamh, question, operation, result);
+    return result;
+}
+
+/* Asks whether the password is right. One that no record of the book can have is wrong if the book
+ * has the name, and otherwise another module's to judge. */
+static int verify(pam_handle_t *pamh, struct question *question, int flags) {
+    if (is_password(question, question->password, flags))
+        return ask(pamh, question, &VERIFY);
+    struct question known = *question;
+    known.password = NULL;
+    int result = ask(pamh, &known, &KNOWN);
+    if (result != PAM_SUCCESS && result != PAM_ACCT_EXPIRED)
+        return result;
+    log_failure(pamh, question->name);
+    return PAM_AUTH_ERR;
 }
 
 int pam_sm_authenticate(pam_handle_t *pamh, int flags, int argc, const char **argv) {
     struct question question;
     int result = begin(pamh, &question, argc, argv);
     if (result == PAM_SUCCESS)
-        result = get_password(pamh, &question, PAM_AUTHTOK, flags, &question.password);
-    return result == PAM_SUCCESS ? ask(pamh, &question, &VERIFY) : result;
+        result = get_password(pamh, PAM_AUTHTOK, &question.password);
+    return result == PAM_SUCCESS ? verify(pamh, &question, flags) : result;
 }
 
 int pam_sm_setcred(pam_handle_t *pamh, int flags, int argc, const char **argv) {
@@ -231,20 +272,45 @@ int pam_sm_acct_mgmt(pam_handle_t *pamh, int flags, int argc, const char **argv)
     return result == PAM_SUCCESS ? ask(pamh, &question, &KNOWN) : result;
 }
 
+/* Whether the book has the name; if nobody says so, nothing was asked for yet. */
+static int known(pam_handle_t *pamh, const struct question *question) {
+    int result = ask(pamh, question, &KNOWN);
+    return result == PAM_AUTHINFO_UNAVAIL ? PAM_TRY_AGAIN : result;
+}
+
+/* The first call verifies the old password of a name that the book has. */
+static int begin_change(pam_handle_t *pamh, struct question *question) {
+    int result = known(pamh, question);
+    if (result == PAM_SUCCESS)
+        result = get_password(pamh, PAM_OLDAUTHTOK, &question->password);
+    if (result == PAM_SUCCESS)
+        result = verify(pamh, question, 0);
+    return result == PAM_AUTHINFO_UNAVAIL ? PAM_TRY_AGAIN : result;
+}
+
+/* The second call changes the password. The new one is asked for also if the book lacks the name or
+ * isn't there: a module behind this one that has use_authtok takes it. */
+static int finish_change(pam_handle_t *pamh, struct question *question) {
+    int found = known(pamh, question), result = PAM_SUCCESS;
+    if (found == PAM_SUCCESS)
+        result = get_password(pamh, PAM_OLDAUTHTOK, &question->password);
+    if (result == PAM_SUCCESS && found != PAM_ACCT_EXPIRED)
+        result = get_password(pamh, PAM_AUTHTOK, &question->fresh);
+    if (result != PAM_SUCCESS || found != PAM_SUCCESS)
+        return result != PAM_SUCCESS ? result : found;
+    if (!is_password(question, question->password, 0) || !is_password(question, question->fresh, 0))
+        return PAM_AUTHTOK_ERR;
+    result = ask(pamh, question, &CHANGE);
+    return result == PAM_AUTH_ERR ? PAM_AUTHTOK_ERR : result;
+}
+
 int pam_sm_chauthtok(pam_handle_t *pamh, int flags, int argc, const char **argv) {
     struct question question;
     if (flags & PAM_CHANGE_EXPIRED_AUTHTOK) /* a book's passwords don't expire */
         return PAM_IGNORE;
     int result = begin(pamh, &question, argc, argv);
-    if (result == PAM_SUCCESS)
-        result = get_password(pamh, &question, PAM_OLDAUTHTOK, 0, &question.password);
-    if (flags & PAM_PRELIM_CHECK) {
-        result = result == PAM_SUCCESS ? ask(pamh, &question, &VERIFY) : result;
-        return result == PAM_AUTHINFO_UNAVAIL ? PAM_TRY_AGAIN : result;
-    }
-    if (result == PAM_SUCCESS)
-        result = get_password(pamh, &question, PAM_AUTHTOK, 0, &question.fresh);
-    if (result == PAM_SUCCESS)
-        result = ask(pamh, &question, &CHANGE);
-    return result == PAM_AUTH_ERR ? PAM_AUTHTOK_ERR : result;
+    if (result != PAM_SUCCESS)
+        return result;
+    return flags & PAM_PRELIM_CHECK ? begin_change(pamh, &question)
+                                    : finish_change(pamh, &question);
 }

@@ -12,12 +12,11 @@
  * In the environment: PIECES=1 has send and recv move one byte at a time, and every other call of
  * each kind interrupted. LOOK=HEX looks at the end for bytes, each given with its lowest bit
  * turned, in all memory that may be written, and prints `found N`. LOOK_INSIDE=HEX looks, while the
- * module's call is still under way, as it asks for the other host after its answer came. THREADS=N
+ * module's call is still under way, as it closes its socket after the answer came. THREADS=N
  * does the tasks in N threads at once, each for the user USER0, USER1 .. with its own name as every
  * answer. JUMPS=1 sets the clock on the wall an hour forward at each look. */
 #define _GNU_SOURCE
 #include <dirent.h>
-#include <dlfcn.h>
 #include <errno.h>
 #include <fcntl.h>
 #include <poll.h>
@@ -30,6 +29,7 @@
 #include <string.h>
 #include <sys/socket.h>
 #include <sys/syscall.h>
+#include <sys/un.h>
 #include <time.h>
 #include <unistd.h>
 
@@ -82,12 +82,13 @@ int clock_gettime(clockid_t clock, struct timespec *now) {
 static int found(const char *digits);
 static int found_inside;
 
-int pam_get_item(const pam_handle_t *pamh, int type, const void **item) {
-    int (*own)(const pam_handle_t *, int, const void **);
-    *(void **)&own = dlsym(RTLD_NEXT, "pam_get_item");
-    if (type == PAM_RHOST && getenv("LOOK_INSIDE") != NULL)
+int close(int fd) {
+    struct sockaddr_un at;
+    socklen_t size = sizeof at;
+    if (getenv("LOOK_INSIDE") != NULL && getsockname(fd, (struct sockaddr *)&at, &size) == 0 &&
+        at.sun_family == AF_UNIX)
         found_inside += 1000 + found(getenv("LOOK_INSIDE"));
-    return own(pamh, type, item);
+    return (int)syscall(SYS_close, fd);
 }
 
 void pam_syslog(const pam_handle_t *pamh, int priority, const char *format, ...) {
