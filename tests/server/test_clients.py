@@ -127,6 +127,7 @@ class Clients(Case):
         """What is denied, refused, too early or not there, by name; and what isn't even sent."""
         server, aio = ours()
         with serving("--tries", "1") as service:
+            service.enrol(ada="secret")
             login, admin = server.Client(service.path()), server.Client(str(service.path("admin")))
 
             def raised(call: Callable[[], object]) -> str:
@@ -134,50 +135,121 @@ class Clients(Case):
                     return f"returned {call()!r}"
                 except Exception as fault:
                     text = f"{type(fault).__name__} {fault}"
-                    self.assertTrue("secret" not in text, text)
-                    return type(fault).__name__
+                    self.assertNotIn("secret", text)
+                    return text if isinstance(fault, server.Refused) else type(fault).__name__
 
             self.assertEqual(raised(lambda: login.enrol("ada", "secret")), "Denied")
-            self.assertEqual(raised(lambda: admin.account("Ada")), "Refused")
-            try:
+            self.assertEqual(raised(lambda: admin.account("Ada")), "Refused 3 name")
+            with self.assertRaises(server.Refused) as caught:
                 admin.account("Ada")
-            except server.Refused as fault:
-                self.assertEqual((fault.number, fault.word), (3, "name"))
-            self.assertEqual(login.verify("zoe", "secret"), server.Reply.NO_ACCOUNT)
-            self.assertEqual(raised(lambda: login.verify("zoe", "secret")), "Later")
+            self.assertEqual((caught.exception.number, caught.exception.word), (3, "name"))
+            self.assertEqual(login.verify("ada", "guess"), server.Reply.NO)
+            self.assertEqual(raised(lambda: login.verify("ada", "secret")), "Later")
             asked = len(service.asked())
-            for name in ("", "a b", "a\nb", "a\x7f", "a\tb", " ", "\r"):
+            for name in (
+                "",
+                "a b",
+                "a\nb",
+                "a\x7f",
+                "a\tb",
+                " ",
+                "\r",
+                "\ud800",
+                "x" * 255,
+                "x" * 2000,
+            ):
                 self.assertEqual(
-                    raised(lambda: login.verify(name, "secret")), "ValueError", repr(name)
+                    raised(lambda: admin.rename("ada", name)), "Refused 3 name", repr(name)
                 )
-                self.assertEqual(
-                    raised(lambda: admin.rename("ada", name)), "ValueError", repr(name)
-                )
-            self.assertEqual(raised(lambda: login.verify("ada", "x" * 257)), "ValueError")
+                self.assertEqual(raised(lambda: admin.account(name)), "Refused 3 name", repr(name))
+            self.assertEqual(raised(lambda: admin.reset("ada", "x" * 257)), "ValueError")
+            self.assertEqual(raised(lambda: login.change("ada", "x", "x" * 257)), "ValueError")
             self.assertEqual(raised(lambda: login.verify("ada", 5)), "TypeError")
             self.assertEqual(len(service.asked()), asked)
             self.assertEqual(
                 raised(lambda: asyncio.run(aio.Client(service.path()).enrol("ada", "secret"))),
                 "Denied",
             )
+            nowhere = "/nonexistent/socket"
+            self.assertEqual(raised(lambda: server.Client(nowhere).known("ada")), "Unavailable")
             self.assertEqual(
-                raised(lambda: server.Client("/nonexistent/socket").known("ada")), "Unavailable"
+                raised(lambda: asyncio.run(aio.Client(nowhere).known("ada"))), "Unavailable"
             )
-            self.assertEqual(
-                raised(lambda: asyncio.run(aio.Client("/nonexistent/socket").known("ada"))),
-                "Unavailable",
-            )
-        try:
-            admin.account("Ada")
-        except server.Unavailable:
-            pass
+        with self.assertRaises(server.Unavailable):
+            admin.account("ada")
         asked = importlib.import_module("rigzumal.server._lines").question(
             "verify", "ada", passwords=("secret",)
         )
-        self.assertTrue(
-            field_of(b"secret") not in repr(asked) and "secret" not in repr(asked),
-            "a password in a repr",
+        self.assertNotIn(field_of(b"secret"), repr(asked))
+        self.assertNotIn("secret", repr(asked))
+
+    def test_what_a_form_passes_on(self) -> None:
+        """Names and passwords that no book can have are an answer, and never an exception."""
+        server, aio = ours()
+        R = server.Reply
+        names = (
+            "a b",
+            "Ada",
+            "",
+            "x" * 33,
+            "x" * 254,
+            "x" * 255,
+            "x" * 2000,
+            "a\nb",
+            "\ud800",
+            "\u00e4",
+            "\0",
         )
+        cases = [("verify", (name, "secret"), R.NO) for name in names]
+        cases += [("known", (name,), R.NO_ACCOUNT) for name in names]
+        cases += [("change", (name, "secret", "fresh"), R.NO_ACCOUNT) for name in names]
+        for password in ("x" * 257, "x" * 100_000, "\ud800", b"\0" * 257):
+            cases += [
+                ("verify", ("ada", password), R.NO),
+                ("change", ("ada", password, "x"), R.WRONG),
+            ]
+        with serving() as service:
+            service.enrol(ada="secret")
+            client = server.Client(service.path())
+
+            async def same_ones() -> None:
+                async with aio.Client(service.path()) as book:
+                    for name, fields, ought in cases:
+                        self.assertIs(await getattr(book, name)(*fields), ought, f"{name}{fields}")
+
+            for name, fields, ought in cases:
+                self.assertIs(getattr(client, name)(*fields), ought, f"{name}{fields}")
+            asyncio.run(same_ones())
+
+    def test_long_names_beside_others(self) -> None:
+        """Whatever one task asks for, the others that share its connection are answered."""
+        server, aio = ours()
+
+        async def asks(path: pathlib.Path) -> None:
+            async with aio.Client(path) as book:
+
+                async def honest() -> None:
+                    for _ in range(50):
+                        self.assertIs(await book.verify("ada", "secret"), server.Reply.YES)
+
+                async def visitor() -> None:
+                    for size in (200, 940, 1000, 5000) * 10:
+                        self.assertIs(await book.verify("x" * size, "y" * 256), server.Reply.NO)
+
+                await asyncio.gather(*(honest() for _ in range(8)), visitor())
+
+        with serving("--mail-names") as service:
+            service.enrol(ada="secret")
+            asyncio.run(asks(service.path()))
+
+    def test_replies_are_no_truth(self) -> None:
+        """`if client.verify(..):` fails, whatever the answer; comparisons don't."""
+        server, _ = ours()
+        for reply in server.Reply:
+            with self.assertRaisesRegex(TypeError, "compare it with Reply.YES"):
+                bool(reply)
+            self.assertEqual([it for it in server.Reply if it is reply], [reply])
+            self.assertIn(reply, {reply})
 
     def test_peers_that_say_nothing_right(self) -> None:
         """Garbage, half an answer, another tag, and no answer within the time: Unavailable."""

@@ -12,10 +12,12 @@ from rigzumal.server._lines import (
     LOGIN_SOCKET,
     LONGEST_ANSWER,
     Question,
+    Refused,
     Reply,
     Unavailable,
     answer_of,
     question,
+    question_of_user,
     reply_of,
 )
 
@@ -32,8 +34,8 @@ class Client:
         path: the socket.
         timeout: seconds for a call, in all.
 
-    Each call may raise `ServerError`, and ValueError or TypeError for a name or a
-    password that can't be sent.
+    Each call may raise `ServerError`, and an administrator's calls ValueError for a
+    password of over 256 bytes.
     """
 
     def __init__(
@@ -42,16 +44,27 @@ class Client:
         self._path, self._timeout = os.fspath(path), timeout
 
     def verify(self, name: str, password: Secret) -> Reply:
-        """YES or NO; ABSENT if the account has no record; NO_ACCOUNT."""
-        return self._reply(question("verify", name, passwords=(password,)))
+        """YES or NO; ABSENT if the account has no record; NO_ACCOUNT.
+
+        What no book can have, such as a name with a space, is NO.
+        """
+        no = Reply.NO
+        asked = question_of_user("verify", name, password, no_name=no, wrong=no)
+        return self._reply(asked)
 
     def change(self, name: str, password: Secret, new_password: Secret) -> Reply:
-        """REPLACED, or WRONG for the old password; ABSENT; NO_ACCOUNT."""
-        return self._reply(question("change", name, passwords=(password, new_password)))
+        """REPLACED, or WRONG for the old password; ABSENT; NO_ACCOUNT.
+
+        Raises:
+            ValueError: the new password has over 256 bytes, or is text with no UTF-8.
+        """
+        both, no = (password, new_password), Reply.NO_ACCOUNT
+        return self._reply(question_of_user("change", name, *both, no_name=no))
 
     def known(self, name: str) -> Reply:
         """YES if the account has a record; ABSENT if it has none; NO_ACCOUNT."""
-        return self._reply(question("known", name))
+        no = Reply.NO_ACCOUNT
+        return self._reply(question_of_user("known", name, no_name=no))
 
     def account(self, name: str) -> Reply:
         """OK: adds the name, with no record. `Refused` (1 exists) if it is there."""
@@ -81,8 +94,13 @@ class Client:
         """Up to so many names (1 to 1000) from the first on, in order."""
         return self._answer(question("list", first, str(count))).split()[1:]
 
-    def _reply(self, asked: Question) -> Reply:
-        return reply_of(self._answer(asked))
+    def _reply(self, asked: Union[Question, Reply]) -> Reply:
+        if isinstance(asked, Reply):
+            return asked
+        try:
+            return reply_of(self._answer(asked))
+        except Refused as refused:
+            return asked.reply_to(refused)
 
     def _answer(self, asked: Question) -> str:
         until = time.monotonic() + self._timeout

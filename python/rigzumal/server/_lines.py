@@ -4,8 +4,8 @@ from __future__ import annotations
 
 import base64
 import enum
-from dataclasses import dataclass
-from typing import Final
+from dataclasses import dataclass, replace
+from typing import Final, Optional, Union
 
 from rigzumal._library import Secret, bytes_of
 
@@ -15,12 +15,19 @@ LOGIN_SOCKET: Final = "/run/rigzumal/users/login.sock"
 LONGEST_PASSWORD: Final = 256
 """Bytes of the longest password."""
 
+LONGEST_NAME: Final = 254
+"""Bytes of the longest name: an e-mail address."""
+
 LONGEST_ANSWER: Final = 65536
 """Bytes of an answer at most."""
 
 
 class Reply(enum.Enum):
-    """What the book answers to an operation."""
+    """What the book answers to an operation.
+
+    An answer is never true or false by itself, since NO would be true too: compare it, as
+    in `reply is Reply.YES`.
+    """
 
     YES = "yes"
     NO = "no"
@@ -37,6 +44,11 @@ class Reply(enum.Enum):
     DISABLED = "disabled"
     DELETED = "deleted"
     RENAMED = "renamed"
+
+    def __bool__(self) -> bool:
+        raise TypeError(
+            "an answer is neither true nor false: compare it with Reply.YES"
+        )
 
 
 class ServerError(Exception):
@@ -70,12 +82,22 @@ class Refused(ServerError):
 
 @dataclass(frozen=True, repr=False)
 class Question:
-    """An operation and its fields, without a tag."""
+    """An operation and its fields, without a tag.
+
+    Attributes:
+        no_name: the reply if the name can be in no book; otherwise `Refused` is raised.
+    """
 
     fields: tuple[bytes, ...]
+    no_name: Optional[Reply] = None
 
     def line(self, tag: bytes) -> bytes:
         return b" ".join((tag, *self.fields)) + b"\n"
+
+    def reply_to(self, refused: Refused) -> Reply:
+        if refused.number == 3 and self.no_name is not None:
+            return self.no_name
+        raise refused
 
 
 def question(
@@ -85,19 +107,54 @@ def question(
 
     Raises:
         TypeError: a password is neither bytes nor text.
-        ValueError: a name is empty or has a space, a line end or another control
-            character; a password has over 256 bytes, or is text that has no UTF-8.
+        ValueError: a password has over 256 bytes, or is text that has no UTF-8.
+        Refused: a name can be in no book (3 name).
     """
     fields = [operation.encode()]
     for name in names:
-        if not name or any(letter <= " " or letter == "\x7f" for letter in name):
-            raise ValueError("a name has no spaces and no control characters")
+        if not may_be_name(name):
+            raise Refused(3, "name")
         fields.append(name.encode())
     for password in map(bytes_of, passwords):
         if len(password) > LONGEST_PASSWORD:
             raise ValueError(f"a password has up to {LONGEST_PASSWORD} bytes")
         fields.append(base64.b64encode(password).rstrip(b"=") or b"-")
     return Question(tuple(fields))
+
+
+def question_of_user(
+    operation: str,
+    name: str,
+    *passwords: Secret,
+    no_name: Reply,
+    wrong: Reply = Reply.WRONG,
+) -> Union[Question, Reply]:
+    """A question with what a user typed, or the reply where it can't be right.
+
+    The first password is the present one; a new one may raise as in `question`.
+    """
+    if not may_be_name(name):
+        return no_name
+    if passwords and not may_be_password(passwords[0]):
+        return wrong
+    return replace(question(operation, name, passwords=passwords), no_name=no_name)
+
+
+def may_be_name(name: str) -> bool:
+    """Whether a name can be sent: as one field, and no longer than an address."""
+    try:
+        sent = name.encode()
+    except UnicodeEncodeError:
+        return False
+    return 0 < len(sent) <= LONGEST_NAME and min(sent) > 0x20 and 0x7F not in sent
+
+
+def may_be_password(password: Secret) -> bool:
+    """Whether a record can be of this password."""
+    try:
+        return len(bytes_of(password)) <= LONGEST_PASSWORD
+    except ValueError:
+        return False
 
 
 def answer_of(tag: bytes, line: bytes) -> str:
