@@ -1,4 +1,3 @@
-#!/usr/bin/python3
 """64 clients on 8 accounts through the server's sockets, while the server and the book are killed.
 
     /usr/bin/python3 tools/server_tests/torture.py [--seconds N] [--kills N] [--book fast|real] [--seed N]

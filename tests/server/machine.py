@@ -1,0 +1,198 @@
+"""A machine of its own for Debian's programs: namespaces, layers over its folders, the PAM module, a server."""
+
+from __future__ import annotations
+
+import functools
+import os
+import pathlib
+import re
+import shutil
+import socket
+import subprocess
+import tempfile
+import unittest
+from collections.abc import Callable
+from typing import TypeVar
+
+from served import (
+    CHEAP,
+    FAST_BOOK,
+    HERE,
+    PYTHON,
+    TOP,
+    Case,
+    Client,
+    chosen_book,
+    field_of,
+    holds,
+    need,
+    need_root,
+    same,
+    until,
+)
+
+PAGE = TOP / "docs/SERVERS.md"
+SECURITY = pathlib.Path("/usr/lib/x86_64-linux-gnu/security")
+RUN = pathlib.Path("/run/rigzumal/users")
+
+
+def on_page(path: str) -> str:
+    """The text of a file as the page has it."""
+    found = re.search(rf"```\n# {re.escape(path)}\n(.*?)```", PAGE.read_text(), re.S)
+    holds(found is not None, f"{path} isn't on the page")
+    assert found
+    holds(len(found[1].splitlines()) <= 10, f"{path} has over ten lines")
+    return found[1]
+
+
+def install(*paths: str) -> None:
+    """Writes files as the page has them."""
+    for path in paths:
+        pathlib.Path(path).parent.mkdir(parents=True, exist_ok=True)
+        pathlib.Path(path).write_text(on_page(path))
+
+
+def commands_on_page(word: str) -> list[str]:
+    """The lines of shell on the page that begin with a word."""
+    blocks = re.findall(r"```sh\n(.*?)```", PAGE.read_text(), re.S)
+    return [line for block in blocks for line in block.splitlines() if line.startswith(word)]
+
+
+def shell(line: str, status: int = 0) -> str:
+    done = subprocess.run(
+        line, shell=True, stdout=subprocess.PIPE, stderr=subprocess.STDOUT, text=True, timeout=60
+    )
+    same(done.returncode, status, f"{line}: {done.stdout}")
+    return done.stdout
+
+
+def private(room: pathlib.Path, *paths: str) -> None:
+    """Has changes to folders go into the room, and not to the machine."""
+    over = room / "over"
+    over.mkdir()
+    shell(f"mount -t tmpfs none {over}")
+    for number, path in enumerate(paths):
+        upper, work = over / f"upper{number}", over / f"work{number}"
+        upper.mkdir()
+        upper.chmod(pathlib.Path(path).stat().st_mode)
+        work.mkdir()
+        layers = f"lowerdir={path},upperdir={upper},workdir={work}"
+        shell(f"mount -t overlay overlay -o {layers} {path}")
+
+
+def prepared(room: pathlib.Path) -> None:
+    """A machine with the module, the group, two users and the sockets' folder."""
+    private(room, "/etc", "/var", str(SECURITY))
+    pathlib.Path("/var/lib/rigzumal").mkdir()
+    shell(
+        "mount -t tmpfs none /run && mkdir -p /run/sshd /run/lock /run/apache2 /run/dovecot && ip link set lo up"
+    )
+    shutil.copy(TOP / "c/pam/out/pam_rigzumal.so", SECURITY)
+    with open("/etc/group", "a") as groups, open("/etc/passwd", "a") as users, open(
+        "/etc/shadow", "a"
+    ) as shadow:
+        print("rigzumal:x:64999:www-data\nvmail:x:64998:\npeople:x:4711:", file=groups)
+        users.write("vmail:x:64998:64998::/srv/vmail:/usr/sbin/nologin\n")
+        for number, name in enumerate(("ada", "eve"), 4711):
+            users.write(f"{name}:x:{number}:4711::/tmp:/bin/sh\n")
+        crypted = shell("openssl passwd -6 unixword").strip()
+        shadow.write(f"ada:{crypted}:19000:0:99999:7:::\neve:{crypted}:19000:0:99999:7:::\n")
+    RUN.mkdir(parents=True)
+    os.chmod(RUN, 0o755)
+
+
+class Server:
+    """The book's server, with the sockets that it has by default."""
+
+    def __init__(self, room: pathlib.Path, *options: str) -> None:
+        book = chosen_book()
+        real = book != FAST_BOOK
+        self.file = pathlib.Path("/var/lib/rigzumal/users.db")
+        if real and not self.file.exists():
+            subprocess.run([book, self.file, "init"], check=True)
+        words = [PYTHON, str(TOP / "bin/credkeep-server"), "--credkeep", str(book), *options]
+        words += ["--setting", CHEAP] if real and "--setting" not in options else []
+        with open(room / "log", "w") as log:
+            self.process = subprocess.Popen([*words, str(self.file)], stderr=log)
+        until(lambda: "start: " in (room / "log").read_text(), "the server")
+
+    def enrol(self, **passwords: str) -> None:
+        for name, password in passwords.items():
+            self.ask(f"account {name.replace('_at_', '@')}", "ok")
+            self.ask(f"enrol {name.replace('_at_', '@')} {field_of(password.encode())}", "enrolled")
+
+    def ask(self, line: str, ought: str) -> None:
+        with Client(RUN / "admin.sock") as admin:
+            same(admin.ask(line), ought, line)
+
+    def disable(self, name: str, password: str) -> None:
+        """Takes the record away, and leaves the name."""
+        self.ask(f"remove {name} {field_of(password.encode())}", "removed")
+
+    def stop(self) -> None:
+        self.process.terminate()
+        same(self.process.wait(timeout=40), 0)
+
+
+def started(room: pathlib.Path, *options: str) -> Server:
+    prepared(room)
+    server = Server(room, *options)
+    server.enrol(ada="secret", bob="other word")
+    return server
+
+
+def is_open(port: int) -> bool:
+    with socket.socket() as it:
+        return it.connect_ex(("127.0.0.1", port)) == 0
+
+
+def pamtester(service: str, user: str, tasks: str, typed: str, status: int, text: str) -> None:
+    done = subprocess.run(
+        ["pamtester", service, user, *tasks.split()],
+        input=typed,
+        capture_output=True,
+        text=True,
+        timeout=60,
+    )
+    same(
+        (done.returncode, text in done.stdout + done.stderr),
+        (status, True),
+        f"{tasks}: {done.stdout}{done.stderr}",
+    )
+
+
+Test = TypeVar("Test", bound=Case)
+
+
+def in_namespaces(test: Callable[[Test, pathlib.Path], None]) -> Callable[[Test], None]:
+    """A test that runs itself once more in namespaces of its own, with a room for its copies."""
+
+    @functools.wraps(test)
+    def outer(self: Test) -> None:
+        if "INSIDE" in os.environ:
+            test(self, pathlib.Path(os.environ["INSIDE"]))
+            return
+        need_root()
+        need("unshare", "ip", "make")
+        if pathlib.Path("/usr/include/security/pam_modules.h").exists():
+            subprocess.run(["make", "-s", "-C", TOP / "c/pam"], check=True, timeout=120)
+        module = pathlib.Path(test.__code__.co_filename).stem
+        with tempfile.TemporaryDirectory(prefix="rigzumal-machine-") as room:
+            os.chmod(room, 0o755)
+            words = "unshare --mount --pid --fork --kill-child --mount-proc --net".split()
+            words += [
+                PYTHON,
+                "-m",
+                "unittest",
+                "-v",
+                f"{module}.{type(self).__name__}.{test.__name__}",
+            ]
+            environment = {**os.environ, "INSIDE": room}
+            done = subprocess.run(
+                words, cwd=HERE, env=environment, capture_output=True, text=True, timeout=280
+            )
+        if skipped := re.search("skipped '(.*)'", done.stderr):
+            raise unittest.SkipTest(skipped[1])
+        self.assertEqual(done.returncode, 0, f"{done.stdout}{done.stderr}")
+
+    return outer
