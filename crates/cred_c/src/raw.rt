@@ -16,9 +16,9 @@ use crate::numbers::{
     DONE, NO_KIND, NO_VERSION, argon_number, byte_of, kind_of, scrypt_number, version_of,
 };
 use crate::tag_numbers::Argon2Numbers;
-use cred_argon::{ArgonError, Params, argon2_alone};
+use cred_argon::{ArgonError, ArgonScratch, Params, argon2_in};
 use cred_pool::NoGate;
-use cred_scrypt::{ScryptError, ScryptParams, scrypt_alone};
+use cred_scrypt::{ScryptError, ScryptParams, ScryptScratch, scrypt_in};
 use std::alloc::Global;
 
 /// Writes the Argon2 tag (RFC 9106) of the inputs over `out`, which says the tag's length: 4 bytes
@@ -75,8 +75,9 @@ pub extern "C" fn cred_argon2(
         numbers.lanes,
         len,
     );
+    let mut none = ArgonScratch::new(alloc, 0);
     match params {
-        Ok(params) => match argon2_alone(alloc, &NoGate, &params, pw, salt, secret, assoc) {
+        Ok(params) => match argon2_in(&mut none, alloc, &NoGate, &params, pw, salt, secret, assoc) {
             Ok(tag) => {
                 out.copy_from_slice(&tag);
                 DONE
@@ -120,8 +121,9 @@ pub extern "C" fn cred_scrypt(
     let Ok(len) = u32::try_from(out.len()) else {
         return scrypt_number(ScryptError::Len);
     };
+    let mut none = ScryptScratch::new(alloc, 0);
     match scrypt_params(ln, r, p, len) {
-        Ok(params) => match scrypt_alone(alloc, &NoGate, &params, pw, salt) {
+        Ok(params) => match scrypt_in(&mut none, alloc, &NoGate, &params, pw, salt) {
             Ok(key) => {
                 out.copy_from_slice(&key);
                 DONE

@@ -11,7 +11,7 @@ ghost use Rattle.cred_phc.specs.declared.error.PhcError.{PhcError};
 use crate::numbers::{DONE, WRONG, argon_number};
 use crate::texts::put_record;
 use cred_argon::ArgonError;
-use cred_phc::{PhcError, Record, Setting, parse_record, parse_setting, tag_alone};
+use cred_phc::{PhcError, Record, Scratch, Setting, parse_record, parse_setting, tag_in};
 use cred_pool::NoGate;
 use std::alloc::Global;
 
@@ -40,7 +40,8 @@ fn check(alloc: Global, stored: &Record, pw: &[u8]) -> u8
     if u32::try_from(pw.len()).is_err() {
         return argon_number(ArgonError::InputLen);
     }
-    match tag_alone(
+    match tag_in(
+        &mut Scratch::new(alloc, 0),
         alloc,
         &NoGate,
         &stored.setting(),
@@ -111,7 +112,8 @@ fn hash(
     if u32::try_from(pw.len()).is_err() {
         return argon_number(ArgonError::InputLen);
     }
-    match tag_alone(alloc, &NoGate, setting, tag_len as u8, pw) {
+    let mut none = Scratch::new(alloc, 0);
+    match tag_in(&mut none, alloc, &NoGate, setting, tag_len as u8, pw) {
         Ok(made) => put_record(alloc, &Record::with_tag(*setting, made), out, len),
         Err(_) => PhcError::Memory.number(),
     }

@@ -14,7 +14,7 @@ use crate::numbers::{DONE, NO_OPERATION};
 use crate::operation::{Operation, StepFault, copy_of, operation_of, request_of};
 use crate::texts::put_record;
 use cred_book::{Reply, Ticket, Worked};
-use cred_phc::{PhcError, Record};
+use cred_phc::{PhcError, Record, Scratch};
 use cred_pool::NoGate;
 use std::alloc::Global;
 
@@ -59,7 +59,7 @@ pub extern "C" fn cred_step(
         return NO_OPERATION;
     };
     match begun(operation, copy, pw, new_pw, setting) {
-        Ok(ticket) => match ticket.work_alone(alloc, &NoGate) {
+        Ok(ticket) => match ticket.work_in(&mut Scratch::new(alloc, 0), alloc, &NoGate) {
             Ok(worked) => put_step(alloc, &worked, reply, out, len),
             Err(_) => PhcError::Memory.number(),
         },

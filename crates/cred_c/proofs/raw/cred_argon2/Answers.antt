@@ -1,4 +1,4 @@
-use Rattle.std.proofs.Common.{length, refl, rules, sym}
+use Rattle.std.proofs.Common.{length, refl, sym}
 use Rattle.cred_c.specs.Inputs.{tag_parameters}
 use Rattle.cred_c.proofs.RawFaults.{no_raw_fault}
 use Rattle.cred_c.proofs.raw.cred_argon2.Goals as goal
@@ -16,7 +16,3 @@ returns-in-Err-clause-fine c k v are_of raw =
     let judged = tag_parameters a.numbers.now c.in-Some.kind c.in-Some-version_of.version c.in-Ok.len in
     absurd (no_raw_fault (tag_parameters a.numbers.now k v (length a.out.now)) judged refl refl refl (sym c.in-Ok.ensures.1)
     raw c.in-Err.error ((c.raw-params.ensures.err c.in-Err.error).0 c.in-Err.is))
-
--- Written out, so that a body that doesn't meet this is refused here, without a long search.
-pub returns-in-Ok-argon2_alone-clause-made : goal.returns-in-Ok-argon2_alone-clause-made
-returns-in-Ok-argon2_alone-clause-made c = search rules
