@@ -18,8 +18,6 @@ from rigzumal import argon2_cffi
 EXPECTED = {
     "test_legacy.py::": "the functions that argon2-cffi calls legacy aren't there",
     "test_low_level.py::TestVerify::test_wrong_arg_type": "a TypeError whose text isn't cffi's",
-    "test_low_level.py::test_argument_ranges": "records hold salts of up to 48 bytes and tags of"
-    " up to 64",
     "test_low_level.py::test_core": "there is no `core` and no `ffi`",
     "test_packaging.py::": "what was deprecated, as `__uri__`, isn't there",
     "test_password_hasher.py::TestEnsureBytes::": "a private function of argon2-cffi",
