@@ -44,7 +44,7 @@ test:
 	.ci/run
 	$(MAKE) -C c test RT='$(RT)' PYTHON='$(PYTHON)'
 	$(MAKE) -C python test RT='$(RT)' PYTHON='$(PYTHON)'
-	$(PYTHON) rust/tests/run.py
+	$(PYTHON) -m unittest discover -s rust/tests
 	$(PYTHON) docs/tests/run.py
 
 deb: library

@@ -1,0 +1,220 @@
+"""Tests of the package as it is installed and packed, and of how its sources look. Debian's packages
+for all of them: python3-venv, lintian, mypy, black, python3-django, python3-passlib, python3-flask.
+"""
+
+import base64
+import hashlib
+import pathlib
+import shutil
+import sys
+import unittest
+import zipfile
+
+HERE = pathlib.Path(__file__).resolve().parent
+PYTHON = HERE.parent.parent
+REPOSITORY = PYTHON.parent
+LIBRARIES = REPOSITORY / "c/out"
+sys.path.insert(0, str(REPOSITORY / "tools"))
+
+import testing
+from testing import ROOM, files_below, library_version
+
+FILES = sorted(
+    str(it.relative_to(PYTHON))
+    for it in (PYTHON / "rigzumal").rglob("*")
+    if it.is_file() and it.suffix != ".pyc"
+)
+INSTALLED = "lib/python3/dist-packages"
+SCRIPTS = {
+    "postinst": "py3compile -p python3-rigzumal",
+    "prerm": "py3clean -p python3-rigzumal",
+}
+HASHES = (
+    "import rigzumal; h = rigzumal.PasswordHasher(1, 64, 1)"
+    "; print(h.verify(h.hash('x'), 'x'), rigzumal.__file__)"
+)
+CLEAN = {"PYTHONPATH": "", "LD_LIBRARY_PATH": "", "RIGZUMAL_LIBRARY": ""}
+OVER_LIBRARY = {**CLEAN, "LD_LIBRARY_PATH": str(LIBRARIES)}
+
+
+def run(*words, **options):
+    """What a command wrote on both streams, if it ended as it has to."""
+    try:
+        return testing.run(*words, **options)
+    except testing.Failed as failed:
+        raise AssertionError(str(failed)) from None
+
+
+def need(*programs):
+    """The path of the first of the programs; skips a test where one isn't installed."""
+    paths = [shutil.which(name) for name in programs]
+    for name, path in zip(programs, paths):
+        if path is None:
+            raise unittest.SkipTest(f"{name} isn't installed")
+    return paths[0]
+
+
+def need_module(*modules):
+    """Skips a test where this Python lacks a module."""
+    try:
+        testing.need_module(*modules)
+    except testing.Skipped as skipped:
+        raise unittest.SkipTest(str(skipped)) from None
+
+
+def make(*words):
+    return run("make", *words, at=PYTHON)
+
+
+def check_hashing(python, env, room):
+    """A Python hashes by the package below the folder."""
+    said = run(python, "-c", HASHES, env=env, at=ROOM)
+    if not said.startswith("True ") or str(room) not in said:
+        raise AssertionError(said)
+
+
+def check_record(wheel):
+    """Each file of a wheel has its line in RECORD, with its digest and its size."""
+    with zipfile.ZipFile(wheel) as archive:
+        (record,) = [name for name in archive.namelist() if name.endswith("/RECORD")]
+        lines = set(archive.read(record).decode().splitlines())
+        wanted = {f"{record},,"}
+        for name in set(archive.namelist()) - {record}:
+            data = archive.read(name)
+            digest = base64.urlsafe_b64encode(hashlib.sha256(data).digest()).decode().rstrip("=")
+            wanted.add(f"{name},sha256={digest},{len(data)}")
+        if lines != wanted:
+            raise AssertionError(f"{wheel.name}: {lines ^ wanted}")
+        return {name for name in archive.namelist() if ".dist-info/" not in name}
+
+
+def new_environment(name):
+    """A virtual environment with nothing in it."""
+    room = ROOM / name
+    try:
+        run(sys.executable, "-m", "venv", room)
+    except AssertionError:
+        raise unittest.SkipTest("python3-venv is not there") from None
+    return room
+
+
+class Package(unittest.TestCase):
+    """As it is installed and packed, and how its sources look."""
+
+    def test_installed(self):
+        """Python over what `make install` put there, and where DESTDIR says."""
+        prefix, room = ROOM / "installed", ROOM / "destination"
+        make("install", f"PREFIX={prefix}")
+        make("install", f"DESTDIR={room}", "PREFIX=/opt/rigzumal")
+        for folder in (prefix, room / "opt/rigzumal"):
+            if files_below(folder) != {f"{INSTALLED}/{it}" for it in FILES}:
+                self.fail(f"{folder} holds {files_below(folder)}")
+        env = {**OVER_LIBRARY, "PYTHONPATH": str(prefix / INSTALLED)}
+        check_hashing(sys.executable, env, prefix)
+        names = "import rigzumal.argon2_cffi as it; print(it)"
+        said = run(sys.executable, "-c", names, env=env, at=ROOM)
+        if str(prefix) not in said:
+            self.fail(said)
+
+    def test_uninstalled(self):
+        """`make uninstall` takes away what `make install` put there, and nothing of anyone else's."""
+        room = ROOM / "uninstalled"
+        words = (f"DESTDIR={room}", "PREFIX=/opt/rigzumal")
+        packages = room / "opt/rigzumal" / INSTALLED
+        others = {
+            f"opt/rigzumal/{INSTALLED}/rigzumal/of_another.py",
+            f"opt/rigzumal/{INSTALLED}/rigzumal/django/of_another.py",
+        }
+        for with_others in (False, True):
+            make("install", *words)
+            run(sys.executable, "-m", "compileall", "-q", packages)
+            for name in others if with_others else ():
+                (room / name).write_text("of another")
+            make("uninstall", *words)
+            left = files_below(room)
+            if left != (others if with_others else set()):
+                self.fail(f"left after uninstall: {left}")
+            if not with_others and (packages / "rigzumal").exists():
+                self.fail("the package's folder is left")
+
+    def test_wheel(self):
+        """A virtual environment with the wheel alone imports and hashes, from nothing."""
+        for wheel in (PYTHON / "out").glob("*.whl"):
+            wheel.unlink()
+        make("wheel")
+        (wheel,) = (PYTHON / "out").glob("*.whl")
+        if not wheel.name.endswith("-py3-none-linux_x86_64.whl"):
+            self.fail(wheel.name)
+        held, wanted = check_record(wheel), {*FILES, "rigzumal/librigzumal.so.1"}
+        if held != wanted:
+            self.fail(f"{wheel.name}: {held ^ wanted}")
+        room = new_environment("venv")
+        pip = (room / "bin/pip", "install", "-q", "--no-index", "--force-reinstall")
+        for what in (wheel, PYTHON):
+            run(*pip, what, env=CLEAN)
+            check_hashing(room / "bin/python", CLEAN, room)
+
+    def test_editable(self):
+        """`pip install -e` has the folder itself imported, and leaves nothing when it is taken away."""
+        room = new_environment("editable")
+        python = room / "bin/python"
+        run(room / "bin/pip", "install", "-q", "--no-index", "-e", PYTHON, env=CLEAN)
+        check_hashing(python, CLEAN, PYTHON)
+        run(room / "bin/pip", "uninstall", "-q", "-y", "rigzumal", env=CLEAN)
+        run(python, "-c", "import rigzumal", env=CLEAN, at=ROOM, status=1)
+
+    def test_deb(self):
+        """Debian's package holds its files and no others, hashes, and pleases lintian."""
+        need("dpkg-deb", "lintian")
+        for deb in (PYTHON / "out").glob("*.deb"):
+            deb.unlink()
+        make("deb")
+        (deb,) = (PYTHON / "out").glob("*.deb")
+        said = run("lintian", "--fail-on", "error", deb)
+        room = ROOM / "deb"
+        run("dpkg-deb", "-R", deb, room)
+        held = {it for it in files_below(room) if not it.startswith(("DEBIAN/", "usr/share/doc/"))}
+        wanted = {f"usr/lib/python3/dist-packages/{it}" for it in FILES}
+        if held != wanted:
+            self.fail(f"{deb.name}: {held ^ wanted}")
+        for script, line in SCRIPTS.items():
+            if line not in (room / "DEBIAN" / script).read_text():
+                self.fail(f"{deb.name}: {script} lacks {line}")
+        depends = run("dpkg-deb", "-f", deb, "Depends")
+        if f"librigzumal1 (>= {library_version()})" not in depends:
+            self.fail(f"{deb.name} depends on {depends}")
+        packages = str(room / "usr/lib/python3/dist-packages")
+        check_hashing("/usr/bin/python3", {**OVER_LIBRARY, "PYTHONPATH": packages}, room)
+
+    def test_layout(self):
+        """black leaves the sources as they are: the package's, the packers', and the tests'."""
+        black = (need("black"), "-q", "--check", "-l")
+        run(
+            *black, "88", PYTHON / "rigzumal", PYTHON / "build_backend.py", REPOSITORY / "packaging"
+        )
+        tests = [REPOSITORY / it for it in ("python/tests", "docs/tests", "rust/tests", "c/tests")]
+        tools = [REPOSITORY / "tools" / it for it in ("testing.py",)]
+        run(*black, "100", *tests, *tools, REPOSITORY / "examples/login_page")
+
+    def test_types(self):
+        """mypy takes the package, strictly."""
+        cache = f"--cache-dir={ROOM / 'mypy'}"
+        run(need("mypy"), "--strict", cache, "rigzumal", at=PYTHON)
+
+    def test_types_of_frameworks(self):
+        """mypy --strict, as far as libraries that have no stubs here let it, with the login page."""
+        mypy = (
+            need("mypy"),
+            "--strict",
+            "--ignore-missing-imports",
+            f"--cache-dir={ROOM / 'mypy'}",
+        )
+        need_module("django", "passlib", "flask")
+        run(*mypy, "rigzumal/django", "rigzumal/passlib.py", at=PYTHON)
+        # Of waitress it knows that there are stubs, which nobody needs to have.
+        words = (*mypy, "--disable-error-code=import", "login_page.py")
+        run(*words, at=REPOSITORY / "examples/login_page", env={"MYPYPATH": str(PYTHON)})
+
+
+if __name__ == "__main__":
+    unittest.main()

@@ -1,0 +1,76 @@
+"""Tests of the crate for Rust, after `make -C c`: what cargo, clippy and rustfmt say. They need
+Debian's package argon2, and cargo, clippy and rustfmt of Rust 1.70 or later, as Debian 13 has them.
+"""
+
+import pathlib
+import re
+import shutil
+import sys
+import unittest
+
+CRATE = pathlib.Path(__file__).resolve().parent.parent
+sys.path.insert(0, str(CRATE.parent / "tools"))
+
+import testing
+from testing import ROOM
+
+LIBRARIES = CRATE.parent / "c/out"
+ROOM_OF_CARGO = {"CARGO_TARGET_DIR": str(ROOM / "cargo"), "RIGZUMAL_LIB_DIR": str(LIBRARIES)}
+STRICT = {"RUSTDOCFLAGS": "-D warnings", **ROOM_OF_CARGO}
+MOST_UNSAFE_LINES = 140
+
+
+def cargo(*words, env=None):
+    try:
+        return testing.run("cargo", *words, env=env or ROOM_OF_CARGO, at=CRATE)
+    except testing.Failed as failed:
+        raise AssertionError(str(failed)) from None
+
+
+def need(*programs):
+    """Skips a test where a program isn't installed."""
+    for name in programs:
+        if shutil.which(name) is None:
+            raise unittest.SkipTest(f"{name} isn't installed")
+
+
+class Crate(unittest.TestCase):
+    """The crate, over the built library."""
+
+    def test_rust(self):
+        """The crate's own tests and the examples of its pages, and 1,000 calls beside argon2."""
+        need("cargo", "argon2")
+        said = cargo("test", "--offline", "--locked")
+        counts = [int(it) for it in re.findall(r"test result: ok. (\d+) passed; 0 failed", said)]
+        if sum(counts) < 20 or "0 ignored" not in said:
+            self.fail(said)
+
+    def test_rust_layout(self):
+        """rustfmt leaves the crate as it is, clippy and rustdoc say nothing, and no line is long."""
+        need("cargo", "cargo-clippy", "cargo-fmt")
+        cargo("fmt", "--check")
+        for features in ([], ["--no-default-features"]):
+            words = ("--offline", "--locked", *features)
+            cargo("clippy", *words, "--all-targets", "--", "-D", "warnings")
+        cargo("doc", "--offline", "--locked", env=STRICT)
+        for path in [*CRATE.glob("src/*.rs"), *CRATE.glob("tests/*.rs"), CRATE / "build.rs"]:
+            long = [it for it in path.read_text().splitlines() if len(it) > 100]
+            if long:
+                self.fail(f"{path}: {long}")
+
+    def test_rust_unsafe(self):
+        """What is unsafe stands in one short module, and the crate denies it elsewhere."""
+        if len((CRATE / "src/ffi.rs").read_text().splitlines()) >= MOST_UNSAFE_LINES:
+            self.fail("ffi.rs is long")
+        for path in set(CRATE.glob("src/*.rs")) - {CRATE / "src/ffi.rs"}:
+            if re.search(r"\bunsafe (\{|fn|impl|extern|trait)", path.read_text()):
+                self.fail(f"{path} has unsafe code")
+        lib = (CRATE / "src/lib.rs").read_text()
+        if "#![deny(missing_docs, unsafe_code, unsafe_op_in_unsafe_fn)]" not in lib:
+            self.fail("unsafe code is not denied")
+        if lib.count("allow(unsafe_code)") != 1:
+            self.fail("unsafe code is allowed in another module too")
+
+
+if __name__ == "__main__":
+    unittest.main()
