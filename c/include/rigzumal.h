@@ -9,8 +9,12 @@
  *     if (fault != RIGZUMAL_OK)
  *         puts(rigzumal_strerror(fault));
  *     ...
- *     if (rigzumal_check(record, password, password_size) == RIGZUMAL_OK)
+ *     if (rigzumal_check(record, password, password_size) == RIGZUMAL_OK) {
+ *         if (rigzumal_needs_rehash(record, RIGZUMAL_ARGON2_COSTS, RIGZUMAL_SALT_SIZE,
+ *                                   RIGZUMAL_TAG_SIZE) != RIGZUMAL_OK)
+ *             store_a_new_record();
  *         let_in();
+ *     }
  *
  * Every call answers RIGZUMAL_OK or the number of a fault, and with a fault it has written nothing.
  * All sizes are in bytes but those of a memory cost. Strings end with a zero byte.
