@@ -4,13 +4,20 @@
 #include "check.h"
 
 static const unsigned char salt[16] = "sixteen of salt.";
-static const char costs[] = "$argon2id$v=19$m=64,t=1,p=2";
+uint32_t job_kind = RIGZUMAL_ARGON2ID, job_version = RIGZUMAL_VERSION_13;
+void (*look_at)(void *answer, size_t size);
+
+#define OF_KIND(of_i, of_id) (job_kind == RIGZUMAL_ARGON2I ? (of_i) : (of_id))
+#define COSTS OF_KIND("$argon2i$v=19$m=64,t=1,p=2", "$argon2id$v=19$m=64,t=1,p=2")
+#define DEARER                                                                                     \
+    OF_KIND("$argon2i$v=19$m=72,t=1,p=2$c2l4dGVlbiBvZiBzYWx0Lg",                                   \
+            "$argon2id$v=19$m=72,t=1,p=2$c2l4dGVlbiBvZiBzYWx0Lg")
 static const char scrypt_costs[] = "$scrypt$ln=4,r=2,p=2";
 
 enum { PASSWORD = sizeof((struct vault *)0)->password, SECRET = sizeof((struct vault *)0)->secret };
 
 static int argon2_into(void *to, struct vault *vault, uint32_t memory, size_t secret_size) {
-    struct rigzumal_argon2 numbers = {RIGZUMAL_ARGON2ID, RIGZUMAL_VERSION_13, memory, 1, 2};
+    struct rigzumal_argon2 numbers = {job_kind, job_version, memory, 1, 2};
     return rigzumal_argon2(to, TAG, &numbers, vault->password, PASSWORD, salt, sizeof salt,
                            vault->secret, secret_size, NULL, 0);
 }
@@ -41,12 +48,12 @@ static int key_of_areas(struct vault *vault) {
 }
 
 static int new_record(struct vault *vault) {
-    return rigzumal_record(vault->text, sizeof vault->text, TAG, costs, salt, sizeof salt,
+    return rigzumal_record(vault->text, sizeof vault->text, TAG, COSTS, salt, sizeof salt,
                            vault->password, PASSWORD);
 }
 
 static int new_record_without_room(struct vault *vault) {
-    return rigzumal_record(vault->text, 40, TAG, costs, salt, sizeof salt, vault->password,
+    return rigzumal_record(vault->text, 40, TAG, COSTS, salt, sizeof salt, vault->password,
                            PASSWORD);
 }
 
@@ -56,13 +63,13 @@ static int new_scrypt_record(struct vault *vault) {
 }
 
 static int new_record_with_secret(struct vault *vault) {
-    return rigzumal_record_with_secret(vault->text, sizeof vault->text, TAG, costs, salt,
+    return rigzumal_record_with_secret(vault->text, sizeof vault->text, TAG, COSTS, salt,
                                        sizeof salt, vault->password, PASSWORD, vault->secret,
                                        SECRET);
 }
 
 static int written_record(struct vault *vault) {
-    struct rigzumal_argon2 numbers = {RIGZUMAL_ARGON2ID, RIGZUMAL_VERSION_13, 64, 1, 2};
+    struct rigzumal_argon2 numbers = {job_kind, job_version, 64, 1, 2};
     return rigzumal_argon2_write(vault->text, sizeof vault->text, &numbers, salt, sizeof salt,
                                  vault->tag, TAG);
 }
@@ -80,23 +87,23 @@ static int right_scrypt_check(struct vault *vault) {
 }
 
 static int tag_in_threads(struct vault *vault) {
-    struct rigzumal_argon2 numbers = {RIGZUMAL_ARGON2ID, RIGZUMAL_VERSION_13, 24576, 1, 4};
+    struct rigzumal_argon2 numbers = {job_kind, job_version, 4096, 1, 4};
     return rigzumal_argon2_threads(vault->made, TAG, &numbers, vault->password, PASSWORD, salt,
                                    sizeof salt, vault->secret, SECRET, NULL, 0, 4);
 }
 
 static int new_record_in_threads(struct vault *vault) {
-    return rigzumal_record_threads(vault->text, sizeof vault->text, TAG, costs, salt, sizeof salt,
+    return rigzumal_record_threads(vault->text, sizeof vault->text, TAG, COSTS, salt, sizeof salt,
                                    vault->password, PASSWORD, 2);
 }
 
 static int new_record_in_threads_without_room(struct vault *vault) {
-    return rigzumal_record_threads(vault->text, 40, TAG, costs, salt, sizeof salt, vault->password,
+    return rigzumal_record_threads(vault->text, 40, TAG, COSTS, salt, sizeof salt, vault->password,
                                    PASSWORD, 2);
 }
 
 static int new_record_with_secret_in_threads(struct vault *vault) {
-    return rigzumal_record_with_secret_threads(vault->text, sizeof vault->text, TAG, costs, salt,
+    return rigzumal_record_with_secret_threads(vault->text, sizeof vault->text, TAG, COSTS, salt,
                                                sizeof salt, vault->password, PASSWORD,
                                                vault->secret, SECRET, 2);
 }
@@ -185,33 +192,50 @@ static int libargon2_wrong_verify_ctx(struct vault *vault) {
     return argon2id_verify_ctx(&context, (const char *)vault->tag);
 }
 
-/* A step that answers OK with this reply, or -1. */
-static int step(struct vault *vault, uint32_t operation, const char *copy, uint32_t wanted) {
-    static const char setting[] = "$argon2id$v=19$m=64,t=1,p=2$c2l4dGVlbiBvZiBzYWx0Lg";
+/* OK with one reply, MISMATCH with the other, and otherwise the fault, or -1. */
+static int answer_of(int fault, uint32_t reply, uint32_t right, uint32_t wrong) {
+    if (look_at != NULL) {
+        look_at(&fault, sizeof fault);
+        look_at(&reply, sizeof reply);
+    }
+    if (fault != RIGZUMAL_OK || reply == right)
+        return fault;
+    return reply == wrong ? RIGZUMAL_MISMATCH : -1;
+}
+
+static int step(struct vault *vault, uint32_t operation, const char *copy, uint32_t right,
+                uint32_t wrong) {
     uint32_t reply = 0;
     int fault = rigzumal_step(vault->text, sizeof vault->text, &reply, operation, copy,
-                              vault->password, PASSWORD, vault->secret, SECRET, setting);
-    return fault == RIGZUMAL_OK && reply != wanted ? -1 : fault;
+                              vault->password, PASSWORD, vault->secret, SECRET, DEARER);
+    return answer_of(fault, reply, right, wrong);
 }
 
 static int step_of_an_enrol(struct vault *vault) {
-    return step(vault, RIGZUMAL_ENROL, NULL, RIGZUMAL_REPLY_ENROLLED);
+    return step(vault, RIGZUMAL_ENROL, NULL, RIGZUMAL_REPLY_ENROLLED, 0);
 }
 
 static int step_of_a_verify(struct vault *vault) {
-    return step(vault, RIGZUMAL_VERIFY, vault->record, RIGZUMAL_REPLY_YES);
+    return step(vault, RIGZUMAL_VERIFY, vault->record, RIGZUMAL_REPLY_YES, RIGZUMAL_REPLY_NO);
 }
 
 static int step_of_a_change(struct vault *vault) {
-    return step(vault, RIGZUMAL_CHANGE, vault->record, RIGZUMAL_REPLY_REPLACED);
+    return step(vault, RIGZUMAL_CHANGE, vault->record, RIGZUMAL_REPLY_REPLACED,
+                RIGZUMAL_REPLY_WRONG);
 }
 
 static int step_of_an_upgrade(struct vault *vault) {
-    return step(vault, RIGZUMAL_UPGRADE, vault->scrypt_record, RIGZUMAL_REPLY_UPGRADED);
+    return step(vault, RIGZUMAL_UPGRADE, vault->record, RIGZUMAL_REPLY_UPGRADED,
+                RIGZUMAL_REPLY_WRONG);
+}
+
+static int step_of_a_removal(struct vault *vault) {
+    return step(vault, RIGZUMAL_REMOVE, vault->record, RIGZUMAL_REPLY_REMOVED,
+                RIGZUMAL_REPLY_WRONG);
 }
 
 static int step_at_a_bad_record(struct vault *vault) {
-    return step(vault, RIGZUMAL_VERIFY, vault->bad_record, RIGZUMAL_REPLY_NO);
+    return step(vault, RIGZUMAL_VERIFY, vault->bad_record, RIGZUMAL_REPLY_YES, RIGZUMAL_REPLY_NO);
 }
 
 static struct rigzumal_inputs inputs_of(const struct vault *vault) {
@@ -226,7 +250,7 @@ static struct rigzumal_inputs inputs_of(const struct vault *vault) {
 
 static int record_from(struct vault *vault) {
     struct rigzumal_inputs inputs = inputs_of(vault);
-    return rigzumal_record_from(vault->text, sizeof vault->text, TAG, costs, &inputs);
+    return rigzumal_record_from(vault->text, sizeof vault->text, TAG, COSTS, &inputs);
 }
 
 static int check_from(struct vault *vault) {
@@ -241,25 +265,32 @@ static int wrong_check_from(struct vault *vault) {
     return rigzumal_check_from(vault->record_with_secret, &inputs);
 }
 
-static int step_from(struct vault *vault) {
-    struct rigzumal_step_inputs inputs = {.operation = RIGZUMAL_CHANGE,
+static int step_from(struct vault *vault, uint32_t operation, uint32_t right, uint32_t wrong) {
+    struct rigzumal_step_inputs inputs = {.operation = operation,
                                           .copy = vault->record_with_secret,
                                           .password = vault->password,
                                           .password_size = PASSWORD,
                                           .new_password = vault->secret,
                                           .new_password_size = SECRET,
-                                          .setting =
-                                              "$argon2id$v=19$m=64,t=1,p=2$c2l4dGVlbiBvZiBzYWx0Lg",
+                                          .setting = DEARER,
                                           .secret = vault->secret,
                                           .secret_size = SECRET,
                                           .threads = 2};
     uint32_t reply = 0;
     int fault = rigzumal_step_from(vault->text, sizeof vault->text, &reply, &inputs);
-    return fault == RIGZUMAL_OK && reply != RIGZUMAL_REPLY_REPLACED ? -1 : fault;
+    return answer_of(fault, reply, right, wrong);
+}
+
+static int verify_from(struct vault *vault) {
+    return step_from(vault, RIGZUMAL_VERIFY, RIGZUMAL_REPLY_YES, RIGZUMAL_REPLY_NO);
+}
+
+static int change_from(struct vault *vault) {
+    return step_from(vault, RIGZUMAL_CHANGE, RIGZUMAL_REPLY_REPLACED, RIGZUMAL_REPLY_WRONG);
 }
 
 static int needs_rehash(struct vault *vault) {
-    return rigzumal_needs_rehash(vault->record, costs, sizeof salt, TAG);
+    return rigzumal_needs_rehash(vault->record, COSTS, sizeof salt, TAG);
 }
 
 static int libargon2_raw(struct vault *vault) {
@@ -268,25 +299,25 @@ static int libargon2_raw(struct vault *vault) {
 }
 
 static int libargon2_encoded(struct vault *vault) {
-    return argon2id_hash_encoded(1, 64, 2, vault->password, PASSWORD, salt, sizeof salt, TAG,
-                                 vault->text, ENCODED);
+    return OF_KIND(argon2i_hash_encoded, argon2id_hash_encoded)(
+        1, 64, 2, vault->password, PASSWORD, salt, sizeof salt, TAG, vault->text, ENCODED);
 }
 
 static int libargon2_encoded_without_room(struct vault *vault) {
-    return argon2id_hash_encoded(1, 64, 2, vault->password, PASSWORD, salt, sizeof salt, TAG,
-                                 vault->text, 60);
+    return OF_KIND(argon2i_hash_encoded, argon2id_hash_encoded)(
+        1, 64, 2, vault->password, PASSWORD, salt, sizeof salt, TAG, vault->text, 60);
 }
 
 static int libargon2_verify(struct vault *vault) {
-    return argon2id_verify(vault->record, vault->password, PASSWORD);
+    return OF_KIND(argon2i_verify, argon2id_verify)(vault->record, vault->password, PASSWORD);
 }
 
 static int libargon2_wrong_verify(struct vault *vault) {
-    return argon2id_verify(vault->record, vault->password, PASSWORD - 1);
+    return OF_KIND(argon2i_verify, argon2id_verify)(vault->record, vault->password, PASSWORD - 1);
 }
 
 static int libargon2_bad_verify(struct vault *vault) {
-    return argon2id_verify(vault->bad_record, vault->password, PASSWORD);
+    return OF_KIND(argon2i_verify, argon2id_verify)(vault->bad_record, vault->password, PASSWORD);
 }
 
 /* What no record of rigzumal.h holds. */
@@ -296,16 +327,17 @@ static int libargon2_long_raw(struct vault *vault) {
 }
 
 static int libargon2_long_encoded(struct vault *vault) {
-    return argon2id_hash_encoded(1, 64, 2, vault->password, PASSWORD, salt, sizeof salt, LONG_TAG,
-                                 vault->text, ENCODED);
+    return OF_KIND(argon2i_hash_encoded, argon2id_hash_encoded)(
+        1, 64, 2, vault->password, PASSWORD, salt, sizeof salt, LONG_TAG, vault->text, ENCODED);
 }
 
 static int libargon2_long_verify(struct vault *vault) {
-    return argon2id_verify(vault->long_string, vault->password, PASSWORD);
+    return OF_KIND(argon2i_verify, argon2id_verify)(vault->long_string, vault->password, PASSWORD);
 }
 
 static int libargon2_wrong_long_verify(struct vault *vault) {
-    return argon2id_verify(vault->long_string, vault->password, PASSWORD - 1);
+    return OF_KIND(argon2i_verify, argon2id_verify)(vault->long_string, vault->password,
+                                                    PASSWORD - 1);
 }
 
 static struct vault *of_memory;
@@ -363,11 +395,13 @@ const struct job jobs[] = {
     {"rigzumal_step of a verify", step_of_a_verify, RIGZUMAL_OK},
     {"rigzumal_step of a change", step_of_a_change, RIGZUMAL_OK},
     {"rigzumal_step of an upgrade", step_of_an_upgrade, RIGZUMAL_OK},
+    {"rigzumal_step of a removal", step_of_a_removal, RIGZUMAL_OK},
     {"rigzumal_step at a bad record", step_at_a_bad_record, RIGZUMAL_COPY},
     {"rigzumal_record_from", record_from, RIGZUMAL_OK},
     {"rigzumal_check_from", check_from, RIGZUMAL_OK},
     {"rigzumal_check_from of another", wrong_check_from, RIGZUMAL_MISMATCH},
-    {"rigzumal_step_from of a change", step_from, RIGZUMAL_OK},
+    {"rigzumal_step_from of a verify", verify_from, RIGZUMAL_OK},
+    {"rigzumal_step_from of a change", change_from, RIGZUMAL_OK},
     {"rigzumal_needs_rehash", needs_rehash, RIGZUMAL_OK},
     {"argon2_ctx", libargon2_ctx, ARGON2_OK},
     {"argon2id_verify_ctx", libargon2_verify_ctx, ARGON2_OK},
@@ -408,6 +442,6 @@ void fill_vault(struct vault *vault) {
     memcpy(vault->record, vault->text, sizeof vault->text);
     memcpy(vault->bad_record, vault->text, sizeof vault->text);
     strcat(vault->bad_record, "$");
-    memcpy(vault->setting, costs, sizeof costs);
+    strcpy(vault->setting, COSTS);
     strcat(vault->setting, strrchr(vault->record, '$'));
 }

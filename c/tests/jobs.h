@@ -30,6 +30,12 @@ struct job {
 extern const struct job jobs[];
 extern const int job_count;
 
+/* Of which kind and version their tags are: Argon2id's of 0x13, unless a test wants others. */
+extern uint32_t job_kind, job_version;
+
+/* What a test does with an answer before a job looks at it, if it isn't null. */
+extern void (*look_at)(void *answer, size_t size);
+
 /* Fills the vault: the secrets by a rule, and the rest by the calls. */
 void fill_vault(struct vault *vault);
 

@@ -16,21 +16,22 @@ from harness import (
 
 
 # Which functions may branch on secrets or read at addresses that depend on them, in each call of
-# tests/secrets.c: Argon2id's second half and scrypt's table do by their definitions.
+# tests/jobs.c for tags of a kind: Argon2id's second half and scrypt's table do by their definitions.
 SECRET_CALLS = {
-    "argon2i": [],
-    "old_argon2i": [],
-    "argon2id": ["cred_argon::argon::", "cred_argon::block::"],
-    "scrypt": ["cred_scrypt::romix::", "cred_scrypt::key_derivation::"],
-    "written": [],
-    "new_record": [],
-    "new_record_with_secret": [],
-    "argon2i_in_threads": [],
-    "new_record_in_threads": [],
-    "enrol": [],
-    "libargon2_long_hash": [],
+    ("rigzumal_argon2, small", "i"): [],
+    ("rigzumal_argon2, small", "old"): [],
+    ("rigzumal_argon2, small", "id"): ["cred_argon::argon::", "cred_argon::block::"],
+    ("rigzumal_scrypt, small", "i"): ["cred_scrypt::romix::", "cred_scrypt::key_derivation::"],
+    ("rigzumal_argon2_write", "i"): [],
+    ("rigzumal_record", "i"): [],
+    ("rigzumal_record_with_secret", "i"): [],
+    ("rigzumal_record_from", "i"): [],
+    ("rigzumal_argon2_threads", "i"): [],
+    ("rigzumal_record_threads", "i"): [],
+    ("rigzumal_step of an enrol", "i"): [],
+    ("argon2id_hash_encoded of a long tag", "i"): [],
     # A text is cut at its '$', and is told from one that isn't base64.
-    "hidden_record_fault": [
+    ("rigzumal_record_fault", "i"): [
         "strlen",
         "cred_phc::pieces::",
         "cred_phc::parse::",
@@ -38,29 +39,28 @@ SECRET_CALLS = {
     ],
 }
 
-
 # Calls that judge a tag, right or wrong in its first byte or its last: one jump at one place, by the
 # verdict. Those of C may do without.
 JUDGEMENTS = {
-    "check": r"v[123]_cred_check",
-    "check_in_threads": r"v[123]_cred_check_end",
-    "libargon2_check": r"v[123]_cred_check_end",
-    "verify": r"v[123]_cred_step",
-    "change": r"v[123]_cred_step",
-    "upgrade": r"v[123]_cred_step",
-    "removal": r"v[123]_cred_step",
-    "check_with_secret": "(rigzumal_)?check(_with_secret(_threads)?)?",
-    "verify_with_secret": "(rigzumal_)?check(_from)?",
-    "libargon2_long_check": "argon2_verify_ctx|verify",
+    "rigzumal_check": r"v[123]_cred_check",
+    "rigzumal_check_threads": r"v[123]_cred_check_end",
+    "argon2id_verify": r"v[123]_cred_check_end",
+    "rigzumal_step of a verify": r"v[123]_cred_step",
+    "rigzumal_step of a change": r"v[123]_cred_step",
+    "rigzumal_step of an upgrade": r"v[123]_cred_step",
+    "rigzumal_step of a removal": r"v[123]_cred_step",
+    "rigzumal_check_with_secret": "(rigzumal_)?check(_with_secret(_threads)?)?",
+    "rigzumal_check_from": "(rigzumal_)?check(_from)?",
+    "rigzumal_step_from of a verify": "(rigzumal_)?check(_from)?",
+    "argon2id_verify of a long tag": "argon2_verify_ctx|verify",
 }
-
 
 # Who looks at the number of the verdict in C, where the proved code has made it without a jump: it
 # is all that C sees of the tags.
 LOOKS = {
-    "check_in_threads": {"note_fault"},
-    "libargon2_check": {"note_fault", "number_of", "verify", "argon2_verify"},
-    "verify_with_secret": {"step_at_record", "rigzumal_step_from"},
+    "rigzumal_check_threads": {"note_fault"},
+    "argon2id_verify": {"note_fault", "number_of", "verify", "argon2_verify"},
+    "rigzumal_step_from of a verify": {"step_at_record", "rigzumal_step_from"},
 }
 
 
@@ -73,9 +73,9 @@ def errors_of(log):
     return re.findall(form + r".* at (0x\w+): (.*) \(", log)
 
 
-def errors_in(program, name):
+def errors_in(program, name, kind="i"):
     """The errors of one call: as many as valgrind counts."""
-    log = run("valgrind", "--error-limit=no", program, name)
+    log = run("valgrind", "--error-limit=no", program, name, kind)
     errors = errors_of(log)
     if f"from {len(errors)} contexts" not in log:
         raise AssertionError(f"{name}: {errors}\n{log[-2000:]}")
@@ -83,23 +83,18 @@ def errors_in(program, name):
 
 
 def check_leaks(program):
-    """How many places by design there are in each call of a build."""
-    counts = {}
-    for name, allowed in SECRET_CALLS.items():
-        errors = errors_in(program, name)
+    for (name, kind), allowed in SECRET_CALLS.items():
+        errors = errors_in(program, name, kind)
         wrong = [it for it in errors if not it[2].startswith(tuple(allowed))]
         if wrong:
             raise AssertionError(f"{name}: {wrong}")
-        counts[name] = len(errors)
     for name, place in JUDGEMENTS.items():
         errors = errors_in(program, name)
         jumps = {it for it in errors if it[2] not in LOOKS.get(name, ())}
         if len(jumps) > 1 or not all(re.fullmatch(place, it[2]) for it in jumps):
             raise AssertionError(f"{name}: {errors}")
-        counts[name] = len(jumps)
     if not errors_in(program, "leaking_check"):
         raise AssertionError("a comparison that leaks is not seen")
-    return counts
 
 
 class Secrets(unittest.TestCase):
@@ -128,11 +123,9 @@ class Secrets(unittest.TestCase):
     def test_depth_of_calls(self):
         """What is cleared of the stack is a quarter more than any call uses."""
         lazy = ["-O2", "-Wl,-z,lazy", "tests/jobs.c", *LIBARGON2]
-        said = [
-            run(built("depth", [*lazy, *flags], linked), env={"LD_BIND_NOT": "1"})
-            for linked in (SOURCES, *map(sources_for, ("v1", "v2")))
-            for flags in ([], [IN_THREADS])
-        ]
+        for linked in (SOURCES, *map(sources_for, ("v1", "v2"))):
+            for flags in ([], [IN_THREADS]):
+                run(built("depth", [*lazy, *flags], linked), env={"LD_BIND_NOT": "1"})
 
     def test_small_stacks(self):
         """Each call on as small a stack as the header says, and in a thread with 32 KiB, of each build."""
@@ -147,7 +140,7 @@ class Secrets(unittest.TestCase):
         if not pathlib.Path("/usr/include/valgrind/memcheck.h").exists():
             self.skipTest("valgrind/memcheck.h is not there")
         for linked in (SOURCES, *map(sources_for, ("v1", "v2"))):
-            counts = check_leaks(built("secrets", ["-O2", IN_THREADS, *LIBARGON2], linked))
+            check_leaks(built("secrets", ["-O2", IN_THREADS, "tests/jobs.c", *LIBARGON2], linked))
 
 
 if __name__ == "__main__":
