@@ -127,8 +127,8 @@ static void try_step(uint32_t threads) {
 int main(void) {
     try_calls_without_threads();
     CHECK(started == 0);
-    for (uint32_t threads = 1; threads <= LANES + 1; threads++) {
-        uint32_t helpers = threads <= LANES ? threads - 1 : LANES - 1;
+    for (uint32_t threads = 0; threads <= LANES + 1; threads++) {
+        uint32_t helpers = threads == 0 ? 0 : threads <= LANES ? threads - 1 : LANES - 1;
         started = 0;
         try_tags(threads);
         CHECK(started == 3 * (int)helpers);

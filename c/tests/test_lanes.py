@@ -54,9 +54,10 @@ class Lanes(unittest.TestCase):
         for flags in (["-O1", "-fsanitize=thread"], SANITIZED):
             run(built("with_threads", [*flags, IN_THREADS], LIBARGON2 + SOURCES), ORIGINAL)
 
-    def test_calls_with_threads_under_valgrind(self):
+    def test_calls_in_threads_under_valgrind(self):
         need("valgrind")
-        run(*VALGRIND, built("with_threads", ["-O2", IN_THREADS], LIBARGON2 + SOURCES))
+        program = built("calls_in_threads", ["-O2", IN_THREADS], LIBARGON2 + SOURCES)
+        run(*VALGRIND, program)
 
     def test_faults_with_threads(self):
         """Bad inputs of the calls with threads, under the sanitizers."""

@@ -1,6 +1,6 @@
-/* The calls with threads, of any size: the standard's tags; the original's over random numbers and
- * inputs, with threads refused at random; and how many threads each call starts. The linker puts
- * the functions below before those of the C library. */
+/* The calls with threads beside the original's, over random numbers and inputs and with threads
+ * refused at random, and how many a call of argon2.h starts. The linker puts the functions below
+ * before those of the C library. */
 #define _GNU_SOURCE
 #include "argon2.h"
 #include "check.h"
@@ -49,38 +49,6 @@ int __wrap_sched_getaffinity(pid_t process, size_t size, cpu_set_t *set) {
     for (int i = 0; i < 16; i++)
         CPU_SET(i, set);
     return 0;
-}
-
-/* RFC 9106, section 5: the tags of 5.1, 5.2 and 5.3. */
-static void test_vectors(void) {
-    static const unsigned char tags[3][32] = {
-        {0x51, 0x2b, 0x39, 0x1b, 0x6f, 0x11, 0x62, 0x97, 0x53, 0x71, 0xd3,
-         0x09, 0x19, 0x73, 0x42, 0x94, 0xf8, 0x68, 0xe3, 0xbe, 0x39, 0x84,
-         0xf3, 0xc1, 0xa1, 0x3a, 0x4d, 0xb9, 0xfa, 0xbe, 0x4a, 0xcb},
-        {0xc8, 0x14, 0xd9, 0xd1, 0xdc, 0x7f, 0x37, 0xaa, 0x13, 0xf0, 0xd7,
-         0x7f, 0x24, 0x94, 0xbd, 0xa1, 0xc8, 0xde, 0x6b, 0x01, 0x6d, 0xd3,
-         0x88, 0xd2, 0x99, 0x52, 0xa4, 0xc4, 0x67, 0x2b, 0x6c, 0xe8},
-        {0x0d, 0x64, 0x0d, 0xf5, 0x8d, 0x78, 0x76, 0x6c, 0x08, 0xc0, 0x37,
-         0xa3, 0x4a, 0x8b, 0x53, 0xc9, 0xd0, 0x1e, 0xf0, 0x45, 0x2d, 0x75,
-         0xb6, 0x5e, 0xb5, 0x25, 0x20, 0xe9, 0x6b, 0x01, 0xe6, 0x59},
-    };
-    unsigned char password[32], salt[16], secret[8], associated[12], tag[32];
-    memset(password, 1, sizeof password);
-    memset(salt, 2, sizeof salt);
-    memset(secret, 3, sizeof secret);
-    memset(associated, 4, sizeof associated);
-    for (uint32_t kind = 0; kind < 3; kind++)
-        for (uint32_t threads = 0; threads < 6; threads++) {
-            struct rigzumal_argon2 numbers = {kind, RIGZUMAL_VERSION_13, 32, 3, 4};
-            started = 0;
-            CHECK_NUMBER(rigzumal_argon2_threads(tag, sizeof tag, &numbers, password,
-                                                 sizeof password, salt, sizeof salt, secret,
-                                                 sizeof secret, associated, sizeof associated,
-                                                 threads),
-                         RIGZUMAL_OK);
-            CHECK(memcmp(tag, tags[kind], sizeof tag) == 0);
-            CHECK(started == (threads == 0 ? 0 : threads < 4 ? threads - 1 : 3));
-        }
 }
 
 /* The inputs of a set. */
@@ -249,57 +217,6 @@ static void test_against(const char *original, bool has_large_numbers) {
         test_large_numbers();
 }
 
-static int make_tag(uint32_t threads) {
-    unsigned char tag[32];
-    struct rigzumal_argon2 numbers = {2, RIGZUMAL_VERSION_13, 64, 1, 4};
-    return rigzumal_argon2_threads(tag, sizeof tag, &numbers, "password", 8, "somesalt", 8, NULL, 0,
-                                   NULL, 0, threads);
-}
-
-static const char costs_of_four[] = "$argon2id$v=19$m=64,t=1,p=4";
-static char made[TEXT], made_with_secret[TEXT];
-
-/* Salts are drawn. */
-static int make_record(uint32_t threads) {
-    return rigzumal_record_threads(made, TEXT, 32, costs_of_four, NULL, 16, "password", 8, threads);
-}
-
-static int make_record_with_secret(uint32_t threads) {
-    return rigzumal_record_with_secret_threads(made_with_secret, TEXT, 32, costs_of_four, NULL, 16,
-                                               "password", 8, "secret", 6, threads);
-}
-
-static int check_record(uint32_t threads) {
-    return rigzumal_check_threads(made, "password", 8, threads);
-}
-
-static int check_record_with_secret(uint32_t threads) {
-    return rigzumal_check_with_secret_threads(made_with_secret, "password", 8, "secret", 6,
-                                              threads);
-}
-
-/* How many threads each call starts: one less than is asked for, and than there are lanes. */
-static void test_threads_of_each_call(void) {
-    static int (*const calls[])(uint32_t threads) = {make_tag, make_record, make_record_with_secret,
-                                                     check_record, check_record_with_secret};
-    for (size_t i = 0; i < sizeof calls / sizeof calls[0]; i++)
-        for (uint32_t threads = 0; threads < 7; threads++) {
-            started = 0;
-            CHECK_NUMBER(calls[i](threads), RIGZUMAL_OK);
-            CHECK(started == (threads == 0 ? 0 : threads < 4 ? threads - 1 : 3));
-        }
-}
-
-static void test_drawn_salts(void) {
-    char before[TEXT];
-    for (uint32_t threads = 1; threads < 3; threads++) {
-        CHECK_NUMBER(make_record(threads), RIGZUMAL_OK);
-        memcpy(before, made, sizeof before);
-        CHECK_NUMBER(make_record(threads), RIGZUMAL_OK);
-        CHECK(strcmp(before, made) != 0);
-    }
-}
-
 static int allocate(uint8_t **memory, size_t size) {
     *memory = malloc(size);
     return 0;
@@ -343,14 +260,11 @@ static void test_threads_of_argon2_h(void) {
     CHECK(started == 2 + 3 + 3);
 }
 
-/* Words: the path of the original, or none; and whether large numbers are tried, for which a
+/* Words: the path of the original, and whether large numbers are tried, for which a
  * sanitizer takes too long. */
 int main(int count, char **words) {
-    test_vectors();
-    if (count > 1)
-        test_against(words[1], count > 2);
-    test_threads_of_each_call();
-    test_drawn_salts();
+    CHECK(count > 1);
+    test_against(words[1], count > 2);
     test_threads_of_argon2_h();
     return 0;
 }
