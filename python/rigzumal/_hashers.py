@@ -11,7 +11,7 @@ from rigzumal._library import Secret, in_range
 TYPE_CHECKING = False
 if TYPE_CHECKING:
     from collections.abc import Iterable
-    from typing import Final, Literal, Optional, Union
+    from typing import Any, Final, Literal, Optional, Union
 
     from typing_extensions import TypeAlias
 
@@ -151,8 +151,8 @@ class PasswordHasher(_Hasher):
             at a time: of 64 MiB and four lanes it takes some 0.6 of the time. No more threads
             are started than there are processors, and none below 4 MiB.
         secrets: in place of one secret the new one and older ones, while peppers rotate: records
-            are made with the first and verified with any, so that a wrong password costs a hash
-            for each. `verify_and_rehash` says when a record is of an older one.
+            are made with the first, which `secret` is then, and verified with any, so that a wrong
+            password costs a hash for each. `verify_and_rehash` says when one is of an older one.
 
     Raises:
         InvalidNumbersError: a number is out of its range.
@@ -186,8 +186,9 @@ class PasswordHasher(_Hasher):
         in_range("memory_cost", memory_cost, 8 * parallelism, _MOST_MEMORY, _COST)
         in_range("threads", threads, 1, _MOST, _RANGE)
         self._check_sizes(hash_len, salt_len)
-        older = tuple(_library.data_of(it) for it in secrets)
-        if older and secret is not None:
+        one = None if secret is None else _library.data_of(secret)
+        several = tuple(_library.data_of(it) for it in secrets)
+        if several and one not in (None, several[0]):
             raise ValueError("either a secret or secrets")
         self._set(
             time_cost=time_cost,
@@ -196,10 +197,18 @@ class PasswordHasher(_Hasher):
             hash_len=hash_len,
             salt_len=salt_len,
             type=Type(type),
-            secret=None if secret is None else _library.data_of(secret),
+            secret=several[0] if several else one,
             threads=threads,
-            secrets=older,
+            secrets=several,
         )
+
+    def replace(self, **changes: Any) -> PasswordHasher:
+        """The same with other values of some attributes."""
+        if "secrets" in changes:
+            changes = {"secret": None, **changes}
+        return super().replace(**changes)
+
+    __replace__ = replace
 
     def _shown(self) -> dict[str, object]:
         hidden = ("secret", "secrets")

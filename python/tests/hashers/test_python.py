@@ -389,9 +389,19 @@ class Rotation(unittest.TestCase):
                 self.BOTH.verify(ARGON2[:-1], "x")
         self.assertEqual(calls.names().count("rigzumal_check_with_secret_threads"), 1)
 
+    def test_the_first_is_the_secret(self):
+        """So that who refuses hashers with a secret refuses these."""
+        self.assertEqual((self.BOTH.secret, self.BOTH.secrets), (b"new", (b"new", b"old")))
+        again = self.BOTH.replace(secrets=[b"newer", b"new"])
+        self.assertEqual((again.secret, again.secrets), (b"newer", (b"newer", b"new")))
+        self.assertEqual(self.BOTH.replace(time_cost=1).secrets, (b"new", b"old"))
+        self.assertEqual(self.BOTH.replace(secrets=()).secret, None)
+
     def test_bad_secrets(self):
         with self.assertRaises(ValueError):
             PasswordHasher(secret=b"", secrets=[b"x"])
+        with self.assertRaises(ValueError):
+            self.BOTH.replace(secret=b"other")
         for wrong in ([None], ["x"], 5):
             with self.assertRaises(TypeError):
                 PasswordHasher(secrets=wrong)
