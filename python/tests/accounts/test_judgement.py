@@ -86,8 +86,6 @@ class Upgrades(Base):
             self.accounts(peppered)
         with self.assertRaises(rigzumal.InvalidRecordError):
             self.accounts(LOW, upgrade_from=["$argon2id$m=64"])
-        with self.assertRaises(rigzumal.InvalidRecordError):
-            self.accounts(PasswordHasher(1, 7, 1))
 
 
 class Foreign(Base):
