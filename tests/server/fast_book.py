@@ -15,6 +15,7 @@ it only appends to, a line for each change. In the environment BOOK_FAULTS has w
     endless         its first answer to a verify has no end
     answers=TEXT    each verify is answered by TEXT
     loses=N         each Nth change is answered, and not kept
+    opens=S         it takes so many seconds until it answers
 
 BOOK_LOG names a file to which each line that came is appended, without its tag.
 """
@@ -263,6 +264,7 @@ def serve(path: str, options: dict[str, str]) -> None:
     ]
     for thread in threads:
         thread.start()
+    time.sleep(float(faults.all.get("opens", "0")))
     for line in sys.stdin:
         if log:
             log.write(line.partition(" ")[2])

@@ -11,6 +11,7 @@ import resource
 import signal
 import sys
 
+from . import metrics
 from .log import begin_logging, log
 from .options import Options, Problem, parse
 from .service import Service
@@ -30,7 +31,11 @@ def main() -> int:
         resource.RLIMIT_NOFILE, resource.getrlimit(resource.RLIMIT_NOFILE)[1:] * 2
     )
     try:
-        return asyncio.run(run(parse(sys.argv[1:])))
+        options = parse(sys.argv[1:])
+        if options.metrics:
+            print(metrics.text(options.metrics), end="")
+            return 0
+        return asyncio.run(run(options))
     except Problem as problem:
         log.error("%s", problem)
         return 1

@@ -45,6 +45,11 @@ OPERATIONS: Mapping[bytes, Operation] = {
     b"known": Operation(),
     b"show": Operation(),
     b"list": Operation(names=0),
+    # These are answered by the server, and not by the book.
+    b"stats": Operation(names=0),
+    b"waits": Operation(names=0),
+    b"forgive": Operation(),
+    b"last": Operation(),
 }
 
 
@@ -69,6 +74,8 @@ class Options:
     tries: int = 10
     uid_tries: int = 0
     idle: int = 600
+    audit: str = ""
+    metrics: str = ""
     upgrade: str = ""
     setting: str = ""
     mail_names: bool = False
@@ -137,70 +144,57 @@ def parser() -> Parser:
         description="Lets many clients of Unix sockets ask the kept book FILE.",
         epilog="credkeep-server(8) tells more.",
     )
-    made.add_argument(
-        "file", metavar="FILE", help="the book, which `credkeep FILE init` makes"
-    )
+    text = "the book, which `credkeep FILE init` makes"
+    made.add_argument("file", metavar="FILE", nargs="?", default="", help=text)
     made.add_argument("--version", action="version", version=f"%(prog)s {VERSION}")
     fields = ("NAME", "PATH", "MODE", "GROUP", "OPERATIONS")
     text = "a socket in place of the login and the admin socket; for each one"
     made.add_argument("--socket", nargs=5, action="append", metavar=fields, help=text)
     whole = number(0, 10**9 - 1)
+    seconds = number(0, 3600)
     words: list[tuple[str, str, Callable[[str], object], str]] = [
         (
             "tries",
             "N",
             whole,
-            "failed tries at a name until the next has to wait; 0: no limit",
+            "failed tries at a name until the next waits; 0: no limit",
         ),
         (
             "uid-tries",
             "N",
             whole,
-            "the same for a peer's uid from 1000 to 60000, at any names",
+            "the same for a person's uid at any names; 0: no limit",
         ),
-        (
-            "idle",
-            "SECONDS",
-            whole,
-            "a client that asks for nothing so long is closed; 0: never",
-        ),
+        ("idle", "SECONDS", whole, "a client that asks nothing is closed; 0: never"),
+        ("audit", "LOG", str, "append a JSON line to this file for each change"),
+        ("metrics", "SOCKET", str, "print the counts of this admin socket's server"),
         (
             "upgrade",
             "COSTS",
             costs,
-            "new costs: right verifies upgrade records of other ones",
+            "new costs, to which right verifies upgrade records",
         ),
-        ("setting", "TEXT", str, "handed to credkeep: the costs of new records"),
+        ("setting", "TEXT", str, "for credkeep: the costs of new records"),
         (
             "at-once",
             "N",
             whole,
-            "handed to credkeep: lines hashed at once; 0: the processors",
+            "for credkeep: lines hashed at once; 0: the processors",
         ),
-        ("memory", "SIZE", str, "handed to credkeep: memory for hashes, as 512M"),
-        (
-            "most-memory",
-            "SIZE",
-            str,
-            "handed to credkeep: the bound of a line's own costs",
-        ),
-        (
-            "wait",
-            "SECONDS",
-            number(0, 3600),
-            "handed to credkeep: how long it waits for FILE",
-        ),
+        ("memory", "SIZE", str, "for credkeep: memory for hashes, as 512M"),
+        ("most-memory", "SIZE", str, "for credkeep: the bound of a line's own costs"),
+        ("wait", "SECONDS", seconds, "for credkeep: how long it waits for FILE"),
         ("credkeep", "PROGRAM", str, "another program than credkeep"),
     ]
     for name, metavar, kind, text in words:
         default = getattr(Options, name.replace("-", "_"))
         text += f" ({default})" if default else ""
         made.add_argument(f"--{name}", metavar=metavar, type=kind, help=text)
-    made.add_argument(
-        "--mail-names", action="store_true", help="names may be e-mail addresses"
-    )
-    text = "fold the part before the @ too"
-    made.add_argument("--fold-local-part", action="store_true", help=text)
+    for name, text in (
+        ("mail-names", "names may be e-mail addresses"),
+        ("fold-local-part", "fold the part before the @ too"),
+    ):
+        made.add_argument(f"--{name}", action="store_true", help=text)
     return made
 
 
@@ -236,6 +230,10 @@ def parse(words: Sequence[str]) -> Options:
         Problem: they can't be meant.
     """
     options = parser().parse_args(words, Options())
+    if options.metrics:
+        return options
+    if not options.file:
+        raise Problem("FILE is missing; --help shows all options")
     folder = folder_of(options.file)
     given = options.socket or [
         ["login", f"{folder}/login.sock", "0660", "rigzumal", "verify,change,known"],

@@ -9,29 +9,24 @@ import os
 import re
 import signal
 import time
-from collections import Counter
 from collections.abc import Sequence
 from dataclasses import dataclass
 from functools import partial
-from typing import Any
+from typing import Any, Union
 
 from . import doors
+from .audit import Audit
 from .book import UNAVAILABLE, Book
 from .doors import Client, Guests
-from .limits import Limiter
 from .log import Seldom, log, log_fault, notify
 from .options import OPERATIONS, Operation, Options
+from .tally import Tally
 from .turns import Turns
 
-PEOPLE = range(
-    1000, 60001
-)  # uids whose failed tries count: that of a service logs in many
-RIGHT = frozenset(b"yes replaced upgraded kept removed enrolled".split())
-WRONG = frozenset(b"no wrong absent".split())
 KNOWN = {
     b"none": b"absent",
     b"bad 5 noaccount": b"noaccount",
-}  # what `show` says of no record
+}  # what `show` says otherwise
 PROBE = (b"verify", b"-", b"-")  # a hash, whether the name is there or not
 OTHERS, CHANGES = 64, 128  # places for lines without a hash, and changes at once
 SYNC = 0.01  # seconds that a change waits for the disk, more or less
@@ -59,21 +54,18 @@ class Service:
     """The book, its doors, and who may ask what and when."""
 
     def __init__(self, options: Options) -> None:
-        self.options, self.book = options, Book()
+        self.options, self.book, self.tally = options, Book(), Tally(options)
         self.places = float(options.workers() + 1)
         self.hashes = Turns(self.places, self.start)
         self.others = Turns(float(OTHERS), self.start)
         self.change_share = (
             1.0  # of a place for hashes: as much as of its time it hashes
         )
-        self.names, self.users = Limiter(options.tries), Limiter(options.uid_tries)
         self.guests = [Guests(door) for door in options.doors]
+        self.audit = Audit(options.audit) if options.audit else None
         self.listeners: list[asyncio.AbstractServer] = []
-        self.counts: Counter[str] = Counter()
         self.seldom = Seldom()
         self.is_upgrading = self.is_ending = False
-
-    # ---- lines
 
     def let_in(self, client: Client) -> bool:
         if not self.is_ending and not client.guests.has_room(client.uid):
@@ -82,7 +74,7 @@ class Service:
             self.seldom.log(
                 (client.door, client.uid), text, client.door.name, client.uid, count
             )
-            self.counts["refused"] += 1
+            self.tally.counts["refused"] += 1
             return False
         return not self.is_ending
 
@@ -95,37 +87,14 @@ class Service:
             client.write(b"*", b"bad 11 line")
         elif operation is None or words[0] not in client.door.operations:
             what = "an unknown operation" if operation is None else words[0].decode()
-            text = "denied at %s to uid %d: %s"
-            self.seldom.log(
-                (client.door, client.uid, what),
-                text,
-                client.door.name,
-                client.uid,
-                what,
-            )
-            self.counts["denied"] += 1
+            values = (client.door.name, client.uid, what)
+            self.seldom.log(values, "denied at %s to uid %d: %s", *values)
+            self.tally.counts["denied"] += 1
             client.write(tag, b"denied")
         else:
             names = slice(1, 1 + operation.names)
             words[names] = map(self.in_book, words[names])
             self.queue(client, tag, words, operation)
-
-    def queue(
-        self, client: Client, tag: bytes, words: list[bytes], operation: Operation
-    ) -> None:
-        turns = self.hashes if operation.hashes else self.others
-        share = self.change_share if operation.hashes and operation.changes else 1.0
-        line = Line(client, tag, words, operation, turns, share, time.monotonic())
-        if (
-            sum(map(len, words)) + len(words) > doors.LONGEST
-        ):  # with names that became longer
-            client.write(tag, b"bad 16 long")
-        elif self.is_early(line):
-            self.counts["later"] += 1
-            client.write(tag, b"later")
-        else:
-            client.running += 1
-            turns.take(client.uid, client, share, line)
 
     def in_book(self, name: bytes) -> bytes:
         """What stands in the book for a name; "@", which no name is, where it is refused."""
@@ -145,20 +114,36 @@ class Service:
         digest = hashlib.blake2b(local + b"@" + domain.lower(), digest_size=20).digest()
         return b"e." + base64.b32encode(digest)[:30].lower()
 
+    def queue(
+        self, client: Client, tag: bytes, words: list[bytes], operation: Operation
+    ) -> None:
+        turns = self.hashes if operation.hashes else self.others
+        share = self.change_share if operation.hashes and operation.changes else 1.0
+        line = Line(client, tag, words, operation, turns, share, time.monotonic())
+        if (
+            sum(map(len, words)) + len(words) > doors.LONGEST
+        ):  # with names that became longer
+            client.write(tag, b"bad 16 long")
+        elif own := self.tally.own.get(words[0]):
+            self.tally.clients = len(self.clients())
+            client.write(tag, own(line.name).encode())
+        elif self.is_early(line):
+            client.write(tag, b"later")
+        else:
+            client.running += 1
+            turns.take(client.uid, client, share, line)
+
     def is_early(self, line: Line) -> bool:
-        """Whether it is a try before the time for the next one."""
-        user = f"uid {line.client.uid}"
-        return line.operation.tries and (
-            self.names.is_early(line.name) or self.users.is_early(user)
-        )
+        early = line.operation.tries and self.tally.is_early(line.name, line.client.uid)
+        self.tally.counts["later"] += early
+        return early
 
     def start(self, line: Line) -> bool:
         """Has the book answer a line whose turn it is; false if it needn't any more."""
-        self.counts["milliseconds waited"] += int(1000 * (time.monotonic() - line.came))
+        self.tally.waited += time.monotonic() - line.came
         if line.client.is_gone and not line.operation.changes:
             return False
         if self.is_early(line):
-            self.counts["later"] += 1
             line.client.answer(line.tag, b"later")
             return False
         asked = b"show" if line.words[0] == b"known" else line.words[0]
@@ -166,44 +151,60 @@ class Service:
         return True
 
     def answered(self, line: Line, said: bytes) -> None:
+        line.turns.give_back(line.share)
         if line.words[0] == b"known":
             said = b"yes" if said[:1] == b"$" else KNOWN.get(said, said)
-        elif line.operation.hashes:
-            self.judge(line, said)
-        line.client.answer(line.tag, said)
-        line.turns.give_back(line.share)
+        else:
+            self.tally.note(line.operation, line.name, line.client.uid, said.decode())
+        if not self.audit or not (
+            line.operation.changes or line.operation.tries and said == b"yes"
+        ):
+            line.client.answer(line.tag, said)
+        elif line.operation.changes:
+            self.note(line, said, partial(self.answer_written, line, said))
+        else:
+            self.note(line, said)
+            line.client.answer(line.tag, said)
         if line.words[0] == b"verify" and said == b"yes" and self.options.upgrade:
-            self.upgrade(line.words)
+            self.upgrade(line)
 
-    def judge(self, line: Line, said: bytes) -> None:
-        """Counts failed tries, and forgets them at a right password or a new one."""
-        user = f"uid {line.client.uid}"
-        if said in RIGHT:
-            new = not line.operation.tries
-            self.names.forgive(
-                line.name, "a new password" if new else "a right password"
-            )
-            self.users.lower(user)
-        elif line.operation.tries and (said in WRONG or said == b"noaccount"):
-            if said in WRONG:  # at another name nothing can be guessed
-                self.names.fail(line.name)
-            if line.client.uid in PEOPLE:
-                self.users.fail(user)
+    def answer_written(self, line: Line, said: bytes, is_written: bool) -> None:
+        """Answers a change once the audit log has it; without that nobody says that it was made."""
+        line.client.answer(line.tag, said if is_written else UNAVAILABLE)
 
-    def upgrade(self, words: Sequence[bytes]) -> None:
+    def note(self, line: Line, said: bytes, written: Any = None) -> None:
+        """Has the audit log say who did what. A name that is in no book may be a password."""
+        entry: dict[str, Union[str, int, None]] = {"door": line.client.door.name}
+        entry.update(
+            uid=line.client.uid, pid=line.client.pid, operation=line.words[0].decode()
+        )
+        is_known = not said.startswith((b"noaccount", b"bad", UNAVAILABLE))
+        entry["name"] = line.name if is_known else None
+        if line.words[0] == b"rename" and is_known:
+            entry["new_name"] = line.words[2].decode(errors="replace")
+        if self.audit:
+            self.audit.add({**entry, "answer": said.decode()}, written)
+
+    def upgrade(self, line: Line) -> None:
         """Upgrades a record of other costs, after its password was right; one at a time."""
+        words, costs = [
+            b"upgrade",
+            *line.words[1:],
+        ], f"{self.options.upgrade}$".encode()
 
         def shown(record: bytes) -> None:
-            if record[:1] == b"$" and not record.startswith(
-                f"{self.options.upgrade}$".encode()
-            ):
-                self.book.ask([b"upgrade", *words[1:]], done)
+            if record[:1] == b"$" and not record.startswith(costs):
+                self.book.ask(words, done)
             else:
                 self.is_upgrading = False
 
         def done(said: bytes) -> None:
-            self.counts[said.decode()] += 1
+            self.tally.counts["upgrades"] += said == b"upgraded"
             self.is_upgrading = False
+            self.note(
+                Line(line.client, b"", words, line.operation, line.turns, 0.0, 0.0),
+                said,
+            )
 
         if not self.is_upgrading:
             self.is_upgrading = True
@@ -217,10 +218,8 @@ class Service:
             return
         loop = asyncio.get_running_loop()
         for guests in self.guests:
-            client = partial(Client, self, guests)
-            made = loop.create_unix_server(
-                client, sock=guests.listening(), backlog=doors.BACKLOG
-            )
+            client, it = partial(Client, self, guests), guests.listening()
+            made = loop.create_unix_server(client, sock=it, backlog=doors.BACKLOG)
             self.listeners.append(
                 await made
             )  # its end leaves the path, which may be systemd's
@@ -229,8 +228,7 @@ class Service:
         self.book.ask(PROBE, partial(self.measure, time.monotonic()))
         while await self.book.answer(b"show", b"-") != UNAVAILABLE:
             notify("WATCHDOG=1")
-            self.names.drop_expired()
-            self.users.drop_expired()
+            self.tally.sweep()
             await asyncio.sleep(int(os.environ.get("WATCHDOG_USEC", 60_000_000)) / 2e6)
 
     def measure(self, began: float, said: bytes) -> None:
@@ -279,7 +277,7 @@ class Service:
         if self.book.ended.done():
             for line in self.hashes.rest() + self.others.rest():
                 line.client.answer(line.tag, UNAVAILABLE)
-        while self.clients() and time.monotonic() < until:
+        while (self.clients() or self.is_noting()) and time.monotonic() < until:
             for client in self.clients():
                 client.end()
             await asyncio.sleep(0.01)
@@ -295,5 +293,8 @@ class Service:
             self.book.kill()
             await self.book.ended
             status = 0
-        log.info("end: status %d, %s", status, dict(self.counts))
+        log.info("end: status %d, %s", status, self.tally.stats())
         return status
+
+    def is_noting(self) -> bool:
+        return self.audit is not None and self.audit.is_writing
