@@ -22,9 +22,9 @@ import tempfile
 import time
 
 TOP = pathlib.Path(__file__).resolve().parent.parent.parent
-sys.path.insert(0, str(TOP / "tools/server_tests"))
-from common import PYTHON, field_of  # noqa: E402
-from programs import RUN, Server, on_page, prepared, shell  # noqa: E402
+sys.path.insert(0, str(TOP / "tests/server"))
+from machine import RUN, Server, on_page, prepared, shell  # noqa: E402
+from served import PYTHON, field_of  # noqa: E402
 
 WORD = "secret word"
 

@@ -1,9 +1,7 @@
 """The packages' units under systemd itself, which is the first process of a Debian in namespaces.
 
-    /usr/bin/python3 tools/server_tests/booted.py
-
 It needs root, the built programs, and debootstrap with Debian's mirror, or the base of an earlier one in
-BOOT (tools/server_tests/units.py names what is in it). The machine's own files, processes, network and
+BOOT (test_units.py names what is in it). The machine's own files, processes, network and
 settings stay as they are.
 """
 
@@ -19,7 +17,7 @@ import tempfile
 import unittest
 
 from served import CHEAP, Case, holds, need, need_root, real_book, same
-from units import base, debs
+from test_units import base, debs
 
 CGROUPS = pathlib.Path("/sys/fs/cgroup")
 
@@ -140,7 +138,7 @@ systemctl stop 0
 by its socket active
 ended success
 1 accounts, 0 changes in the log
-credkeep-server: end: status 137, {'answers': 3}
+credkeep-server: end: status 137, stats yes=1 no=0 absent=0 noaccount=0 later=0 changes=0 denied=0 refused=0 clients=0 waits=0 waited=0.000
 credkeep-server: denied at login to uid 0: enrol
 done"""
 

@@ -1,17 +1,14 @@
 """64 clients on 8 accounts through the server's sockets, while the server and the book are killed.
 
-    /usr/bin/python3 tools/server_tests/torture.py [--seconds N] [--kills N] [--book fast|real] [--seed N]
-
 Every new password is another one, so an answer that lets a password in names the record that stood.
 rigzumal.accounts.history judges these, and those without an answer as made once or never. An answer
 that doesn't let a password in is judged apart: it must not lie within the time in which that password
-surely stood. What was answered before a kill has to be there after it. Last it shows that a book that
-loses changes is refused.
+surely stood. What was answered before a kill has to be there after it. TORTURE_SECONDS in the
+environment is how long it goes on (60, with a kill every three), TORTURE_SEED its seed.
 """
 
 from __future__ import annotations
 
-import argparse
 import asyncio
 import itertools
 import os
@@ -22,11 +19,24 @@ import subprocess
 import sys
 import tempfile
 import time
+import unittest
 from collections.abc import Callable
 from dataclasses import dataclass, field
 from typing import Optional, TypeVar
 
-from common import CHEAP, FAST_BOOK, TOP, Client, Given, chosen_book, command, field_of, same, until
+from served import (
+    CHEAP,
+    FAST_BOOK,
+    TOP,
+    Case,
+    Client,
+    Given,
+    chosen_book,
+    command,
+    field_of,
+    same,
+    until,
+)
 
 # The checker alone: its package needs the built library.
 sys.path.insert(0, str(TOP / "python/rigzumal/accounts"))
@@ -337,36 +347,27 @@ def run(given: Given, seconds: float, kills: int, seed: int) -> str:
         return asyncio.run(tortured(given, folder, seconds, kills, seed))
 
 
-def main() -> int:
-    words = argparse.ArgumentParser()
-    words.add_argument("--seconds", type=float, default=60)
-    words.add_argument("--kills", type=int, default=20)
-    words.add_argument(
-        "--book", choices=("fast", "real"), help="credkeep where it is built, if not given"
-    )
-    words.add_argument("--seed", type=int, default=1)
-    given = words.parse_args()
-    os.environ["BOOK"] = given.book or os.environ.get("BOOK", "")
-    program = chosen_book()
-    real = program != FAST_BOOK
-    options = ("--tries", "0", "--at-once", "8", *(("--setting", CHEAP) if real else ()))
-    print(
-        run(
-            Given(options, "" if real else "late", program), given.seconds, given.kills, given.seed
-        ),
-        flush=True,
-    )
-    for faults in ("loses=5", "answers=yes"):
-        try:
-            print(
-                f"1 failed: a book with {faults} was let through: {run(Given(options, faults), 5, 2, given.seed)}"
-            )
-            return 1
-        except Illegal as refused:
-            print(f"a book with {faults} is refused: {str(refused).splitlines()[0]}")
-    print("1 passed, 0 failed")
-    return 0
+class Torture(Case):
+    seconds = 30 * int(os.environ.get("TORTURE_SECONDS", "60"))
+
+    def test_killed(self) -> None:
+        """What was answered has one legal history, whatever is killed."""
+        seconds, seed = int(os.environ.get("TORTURE_SECONDS", "60")), int(
+            os.environ.get("TORTURE_SEED", "1")
+        )
+        program = chosen_book()
+        options = ("--tries", "0", "--at-once", "8")
+        if program == FAST_BOOK:
+            run(Given(options, "late", program), seconds, seconds // 3, seed)
+        else:
+            run(Given((*options, "--setting", CHEAP), "", program), seconds, seconds // 3, seed)
+
+    def test_books_that_lie(self) -> None:
+        """A book that loses changes, or lets everybody in, is found out."""
+        for faults in ("loses=5", "answers=yes"):
+            with self.assertRaises(Illegal, msg=faults):
+                run(Given(("--tries", "0", "--at-once", "8"), faults), 5, 2, 1)
 
 
 if __name__ == "__main__":
-    sys.exit(main())
+    unittest.main()

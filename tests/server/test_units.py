@@ -1,7 +1,7 @@
 """Tests of the units and of Debian's packages.
 
 The units are looked at by systemd-analyze, and what they forbid is compared with what strace sees of a
-server; booted.py runs them. The packages need `make programs`, lintian and, to be installed,
+server; test_booted.py runs them. The packages need `make programs`, lintian and, to be installed,
 debootstrap, root and Debian's mirror, or the base of an earlier debootstrap in BOOT (minbase with
 python3, libpam-runtime, pamtester, adduser, systemd, systemd-sysv, dbus), which is copied. What isn't
 there is skipped by name.
