@@ -4,9 +4,10 @@
 
 from __future__ import annotations
 
-from django.apps import AppConfig
+from django.apps import AppConfig, apps
 from django.conf import settings
-from django.contrib.admin import apps
+from django.contrib.admin import apps as djangos
+from django.core.exceptions import ImproperlyConfigured
 
 
 class RigzumalConfig(AppConfig):
@@ -28,8 +29,28 @@ class RigzumalConfig(AppConfig):
         checks.register()
 
 
-class AdminConfig(apps.AdminConfig):
+class AdminConfig(djangos.AdminConfig):
     """`django.contrib.admin` with a site whose own change of the password compares."""
 
     default_site = "rigzumal.django.site.AdminSite"
     default = False
+
+    def ready(self) -> None:
+        """Called by Django when all models are there."""
+        require_app()
+        super().ready()
+
+
+def require_app() -> None:
+    """Refuses a project of users whose INSTALLED_APPS lacks the app: nobody would tell
+    what its settings leave unprotected.
+
+    Raises:
+        ImproperlyConfigured: it lacks it.
+    """
+    has_users = apps.apps_ready and apps.is_installed("django.contrib.auth")
+    if has_users and not apps.is_installed(RigzumalConfig.name):
+        raise ImproperlyConfigured(
+            f"put {RigzumalConfig.name!r} into INSTALLED_APPS, before"
+            " 'django.contrib.auth': RIGZUMAL_USER_COMPARES and the checks need it"
+        )

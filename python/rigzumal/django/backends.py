@@ -15,6 +15,7 @@ from django.contrib.auth.backends import ModelBackend
 from django.db import router
 
 from rigzumal.django import passwords, records
+from rigzumal.django.apps import require_app
 from rigzumal.django.records import hidden
 
 
@@ -27,6 +28,9 @@ class CompareAndSetBackend(ModelBackend):
     - A name that isn't there and an inactive user cost one hash and two queries, as a
       wrong password does; an inactive user's record isn't made anew.
     """
+
+    def __init__(self) -> None:
+        require_app()
 
     @hidden
     def authenticate(

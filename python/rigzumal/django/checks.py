@@ -30,6 +30,8 @@ Messages = list[checks.CheckMessage]
 WIDTH = 128
 """Letters that a record of Django's may have."""
 
+OURS = (hashers.Argon2PasswordHasher, hashers.ScryptPasswordHasher)
+
 _SNAPSHOTS = {"repeatable read", "serializable"}
 _PSYCOPG2_SNAPSHOTS = {2, 3}  # psycopg2's numbers of the same
 _LEVEL = re.compile(r"isolation(?:[ _-]level)?[ =']+(repeatable|serializable)")
@@ -38,7 +40,8 @@ _LEVEL = re.compile(r"isolation(?:[ _-]level)?[ =']+(repeatable|serializable)")
 
 def register() -> None:
     """Registers the checks; called once, by the app."""
-    settings_checks = (backends, column, first_hasher, isolation, own_methods)
+    hashers_checks = (first_hasher, shadowed_hashers)
+    settings_checks = (backends, column, *hashers_checks, isolation, own_methods)
     for check in (*settings_checks, user_model, admin_sites, url_views, command):
         checks.register(check, checks.Tags.security)
     checks.register(unlisted_hashers, checks.Tags.database)
@@ -61,13 +64,20 @@ def _password_field() -> Optional[Any]:
 
 def backends(**_: Any) -> Messages:
     """W001: the backend isn't used. W002: one that doesn't compare is used too.
+    E012: one can't be imported.
 
     A model that compares does so under any backend which calls its check_password.
     """
-    if _compares():
-        return []
-    found = [import_string(path) for path in settings.AUTHENTICATION_BACKENDS]
     amiss: Messages = []
+    found = []
+    for path in settings.AUTHENTICATION_BACKENDS:
+        try:
+            found.append(import_string(path))
+        except ImportError as fault:
+            text = f"AUTHENTICATION_BACKENDS has {path!r}, which can't be imported."
+            amiss.append(checks.Error(text, hint=str(fault), id="rigzumal.E012"))
+    if _compares():
+        return amiss
     if not any(issubclass(it, CompareAndSetBackend) for it in found):
         text = "No backend is a CompareAndSetBackend: a login may undo a change."
         hint = "Put 'rigzumal.django.backends.CompareAndSetBackend' for ModelBackend."
@@ -95,12 +105,30 @@ def column(**_: Any) -> Messages:
 
 def first_hasher(**_: Any) -> Messages:
     """W004: new records are made by another library."""
-    ours = (hashers.Argon2PasswordHasher, hashers.ScryptPasswordHasher)
-    if issubclass(import_string(settings.PASSWORD_HASHERS[0]), ours):
+    if issubclass(import_string(settings.PASSWORD_HASHERS[0]), OURS):
         return []
     text = "The first of PASSWORD_HASHERS, which makes new records, isn't Rigzumal's."
     hint = "Put 'rigzumal.django.hashers.Argon2PasswordHasher' before the others."
     return [_warning(4, text, hint)]
+
+
+def shadowed_hashers(**_: Any) -> Messages:
+    """E013: another hasher has the name of ours, and judges its records.
+
+    Of two hashers of one algorithm Django asks the later.
+    """
+    listed = [import_string(path) for path in settings.PASSWORD_HASHERS]
+    amiss: Messages = []
+    for path, ours in zip(settings.PASSWORD_HASHERS, listed):
+        if not issubclass(ours, OURS):
+            continue
+        judge = [it for it in listed if it.algorithm == ours.algorithm][-1]
+        if not issubclass(judge, OURS):
+            name = f"{judge.__module__}.{judge.__qualname__}"
+            text = f"{name} stands behind {path}, so Django asks it in its place."
+            hint = f"Take {name} out: Rigzumal's reads its records."
+            amiss.append(checks.Error(text, hint=hint, id="rigzumal.E013"))
+    return amiss
 
 
 def isolation(**_: Any) -> Messages:

@@ -2,7 +2,8 @@
 
 They read what Django's own hashers of the same names have written, and write what those
 read. The numbers are class attributes, as there: a service that wants others makes a
-subclass.
+subclass. A subclass may wrap old hashes as Django's page "Password management" has it: an
+`algorithm` and an `encode` of its own are enough.
 """
 
 # mypy: allow-subclassing-any
@@ -11,6 +12,7 @@ from __future__ import annotations
 
 import base64
 import binascii
+import copy
 import hmac
 import math
 import re
@@ -20,24 +22,28 @@ from django.contrib.auth import hashers
 from django.contrib.auth.hashers import BasePasswordHasher
 
 import rigzumal
+from rigzumal.django.apps import require_app
 from rigzumal.django.records import hidden
 
 Password = Union[str, bytes]
 
 _DJANGOS_SCRYPT = getattr(hashers, "ScryptPasswordHasher", None)
 _SALT_LETTERS = 62  # of how many Django draws a salt
+_KEY_SIZE = 64
+"""Bytes of a key of scrypt, as Django's own writes it."""
+
 _TAG_OF_CFFI = 16
 """Bytes of a tag of argon2-cffi before 21.2. It isn't old: beside a server with Django's
 own hasher each would make the other's record anew, by turns."""
 
 _ARGON2 = re.compile(
-    r"argon2\$(argon2(?:id|i|d))\$(?:v=(16|19)\$)?"
+    r"(argon2(?:id|i|d))\$(?:v=(16|19)\$)?"
     r"m=([1-9]\d{0,9}),t=([1-9]\d{0,9}),p=([1-9]\d{0,9})"
     r"\$([A-Za-z0-9+/]+)\$([A-Za-z0-9+/]+)",
     re.ASCII,
 )
 _SCRYPT = re.compile(
-    r"scrypt\$([1-9]\d{0,9})\$([^$]+)\$([1-9]\d{0,9})\$([1-9]\d{0,9})"
+    r"([1-9]\d{0,9})\$([^$]+)\$([1-9]\d{0,9})\$([1-9]\d{0,9})"
     r"\$([A-Za-z0-9+/]+={0,2})",
     re.ASCII | re.DOTALL,
 )
@@ -57,6 +63,14 @@ def _unbase64(text: str) -> bytes:
 
 class _RecordHasher(BasePasswordHasher):
     """What both hashers share: how a string is compared, shown and seen to be old."""
+
+    def __init__(self) -> None:
+        require_app()
+
+    def _behind_name(self, encoded: str) -> str:
+        """What stands behind this hasher's own name; "" of another's record."""
+        name, _, rest = encoded.partition("$")
+        return rest if name == self.algorithm else ""
 
     def _made(self, password: Password, parts: dict[str, Any]) -> bytes:
         """The tag of the password under a record's own numbers and salt."""
@@ -142,7 +156,7 @@ class Argon2PasswordHasher(_RecordHasher):
 
     def decode(self, encoded: str) -> dict[str, Any]:
         """The parts of a record; ValueError, which shows none of it, if it is none."""
-        found = _ARGON2.fullmatch(encoded)
+        found = _ARGON2.fullmatch(self._behind_name(encoded))
         if not found:
             raise ValueError("the text is not a record of Argon2")
         variety, version, memory, passes, lanes, salt, tag = found.groups()
@@ -159,6 +173,15 @@ class Argon2PasswordHasher(_RecordHasher):
         }
 
     def _made(self, password: Password, parts: dict[str, Any]) -> bytes:
+        is_new = (parts["variety"], parts["version"]) == ("argon2id", 19)
+        if is_new and parts["salt"].isascii() and "$" not in parts["salt"]:
+            # By `encode`, since a subclass may wrap an old hash there.
+            of_record = copy.copy(self)
+            for name in ("memory_cost", "time_cost", "parallelism"):
+                setattr(of_record, name, parts[name])
+            of_record.hash_len = len(_unbase64(parts["hash"]))
+            made = of_record.encode(password, parts["salt"])
+            return _unbase64(made.rpartition("$")[2])
         return rigzumal.argon2(
             password,
             parts["salt"].encode("latin1"),
@@ -205,16 +228,16 @@ class ScryptPasswordHasher(_RecordHasher):
         r: Optional[int] = None,
         p: Optional[int] = None,
     ) -> str:
-        """A new record of the password, with a key of 64 bytes."""
+        """A new record of the password."""
         _check_salt(salt)
         n, r, p = n or self.work_factor, r or self.block_size, p or self.parallelism
         parts = {"work_factor": n, "block_size": r, "parallelism": p, "salt": salt}
-        key = base64.b64encode(self._key(password, parts, 64)).decode()
+        key = base64.b64encode(self._key(password, parts, _KEY_SIZE)).decode()
         return f"{self.algorithm}${n}${salt}${r}${p}${key}"
 
     def decode(self, encoded: str) -> dict[str, Any]:
         """The parts of a record; ValueError, which shows none of it, if it is none."""
-        found = _SCRYPT.fullmatch(encoded)
+        found = _SCRYPT.fullmatch(self._behind_name(encoded))
         if not found:
             raise ValueError("the text is not a record of scrypt")
         work_factor, salt, block_size, parallelism, key = found.groups()
@@ -229,7 +252,13 @@ class ScryptPasswordHasher(_RecordHasher):
         }
 
     def _made(self, password: Password, parts: dict[str, Any]) -> bytes:
-        return self._key(password, parts, len(_unbase64(parts["hash"])))
+        length = len(_unbase64(parts["hash"]))
+        if length != _KEY_SIZE:
+            return self._key(password, parts, length)
+        # By `encode`, since a subclass may wrap an old hash there.
+        numbers = (parts["work_factor"], parts["block_size"], parts["parallelism"])
+        made = self.encode(password, parts["salt"], *numbers)
+        return _unbase64(made.rpartition("$")[2])
 
     def _key(self, password: Password, parts: dict[str, Any], length: int) -> bytes:
         work_factor = parts["work_factor"]

@@ -124,6 +124,68 @@ class Checks(unittest.TestCase):
             with override_settings(PASSWORD_HASHERS=[first]):
                 self.assertEqual(self.found(), warned)
 
+    def test_another_hasher_of_our_name(self):
+        """Django asks the later of two, so its own would judge our records."""
+        ours = "rigzumal.django.hashers."
+        theirs = "django.contrib.auth.hashers."
+        argon2 = "Argon2PasswordHasher"
+        own = f"{__name__}.ScryptLike"
+        for listed, found in (
+            ([ours + argon2, theirs + "PBKDF2PasswordHasher"], []),
+            ([ours + argon2, theirs + argon2], ["rigzumal.E013"]),
+            ([theirs + argon2, ours + argon2], ["rigzumal.W004"]),
+            ([ours + argon2, theirs + argon2, "cheap.Argon2"], []),
+            ([ours + "ScryptPasswordHasher", own], ["rigzumal.E013"]),
+            (["cheap.Argon2", theirs + argon2], ["rigzumal.E013"]),
+        ):
+            with override_settings(PASSWORD_HASHERS=listed):
+                self.assertEqual(self.found(), found, listed)
+        with override_settings(PASSWORD_HASHERS=[ours + argon2, theirs + argon2]):
+            (error,) = checks.shadowed_hashers()
+            self.assertTrue(error.is_serious())
+            self.assertIn(theirs + argon2, error.msg)
+
+    def test_a_backend_that_cannot_be_imported(self):
+        for comparing in (False, True):
+            with users.comparing(User) if comparing else contextlib.nullcontext():
+                with override_settings(AUTHENTICATION_BACKENDS=[OURS, "nowhere.Backend"]):
+                    (error,) = checks.backends()
+                    self.assertEqual(error.id, "rigzumal.E012")
+                    self.assertIn("'nowhere.Backend'", error.msg)
+
+    def test_a_project_without_the_app(self):
+        """Hashers, backends and the admin's app refuse it: its settings would be idle."""
+        code = (
+            "from django.conf import settings\n"
+            "settings.configure(INSTALLED_APPS={apps}, SECRET_KEY='x', USE_TZ=True,\n"
+            "    PASSWORD_HASHERS=['rigzumal.django.hashers.Argon2PasswordHasher'])\n"
+            "import django; django.setup()\n"
+            "{act}\nprint('went on')"
+        )
+        theirs = ["django.contrib.auth", "django.contrib.contenttypes"]
+        admins = [*theirs, "django.contrib.sessions", "django.contrib.messages"]
+        hashes = "from django.contrib.auth import hashers; hashers.get_hasher()"
+        logs_in = f"from django.contrib.auth import load_backend; load_backend({OURS!r})"
+        for apps, act, is_refused in (
+            (theirs, hashes, True),
+            (theirs, logs_in, True),
+            (["rigzumal.django.apps.AdminConfig", *admins], "", True),
+            (["rigzumal.django", *theirs], f"{hashes}; {logs_in}", False),
+            (["rigzumal.django", "rigzumal.django.apps.AdminConfig", *admins], hashes, False),
+            ([], hashes, False),  # a script that has no users
+        ):
+            done = subprocess.run(
+                [sys.executable, "-c", code.format(apps=apps, act=act)],
+                capture_output=True,
+                text=True,
+                env={it: value for it, value in os.environ.items() if it[:6] != "DJANGO"},
+            )
+            with self.subTest(apps=apps, act=act):
+                if is_refused:
+                    self.assertIn("ImproperlyConfigured: put 'rigzumal.django'", done.stderr)
+                else:
+                    self.assertEqual((done.stdout, done.stderr), ("went on\n", ""))
+
     def test_methods_that_would_be_passed_over(self):
         for model, names in (
             ("Unmixed", ["Methods.check_password", "Methods.set_password"]),
@@ -210,6 +272,10 @@ class Checks(unittest.TestCase):
         for level in psycopg.IsolationLevel:
             warned = level.name in ("REPEATABLE_READ", "SERIALIZABLE")
             self.assertEqual(self.warned("postgresql", isolation_level=level), warned, level)
+
+
+class ScryptLike(hashers.MD5PasswordHasher):
+    algorithm = "scrypt"
 
 
 class EmailBackend(ModelBackend):

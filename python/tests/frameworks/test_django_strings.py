@@ -72,6 +72,56 @@ class Strings(unittest.TestCase):
         )
         self.assertTrue(ScryptPasswordHasher().verify("lètmein", record))
 
+    def test_a_subclass_that_wraps_old_hashes(self):
+        """As Django's page "Password management" has it: its algorithm, and its encode."""
+
+        def wrapped(base, **numbers):
+            class Wrapped(base):
+                algorithm = f"{base.algorithm}_of_md5"
+
+                def encode_md5(self, digest, salt, *more):
+                    return super().encode(digest, salt, *more)
+
+                def encode(self, password, salt, *more):
+                    made = hashers.MD5PasswordHasher().encode(password, salt)
+                    return self.encode_md5(made.rpartition("$")[2], salt, *more)
+
+            return type("Named", (Wrapped,), numbers)()
+
+        for hasher in (
+            wrapped(Argon2PasswordHasher, memory_cost=64, time_cost=1, parallelism=1),
+            wrapped(ScryptPasswordHasher, work_factor=4),
+        ):
+            digest = hashers.MD5PasswordHasher().encode("secret", "seasalt").rpartition("$")[2]
+            for record in (
+                hasher.encode_md5(digest, "seasalt"),  # of the data migration
+                hasher.encode("secret", "seasalt"),  # of a new user
+            ):
+                self.assertTrue(record.startswith(f"{hasher.algorithm}$"))
+                self.assertIs(hasher.verify("secret", record), True)
+                self.assertIs(hasher.verify(digest, record), False)
+                self.assertEqual(hasher.decode(record)["algorithm"], hasher.algorithm)
+                self.assertEqual(hasher.safe_summary(record)["salt"], "seasal*")
+            for base in (Argon2PasswordHasher, ScryptPasswordHasher):
+                self.assertRaises(ValueError, base().decode, record)
+            for name, value in (("time_cost", 2), ("work_factor", 8)):
+                if hasattr(hasher, name):
+                    setattr(hasher, name, value)
+            self.assertIs(hasher.verify("secret", record), True)  # by the record's numbers
+            self.assertIs(hasher.must_update(record), True)
+
+    def test_a_subclass_of_another_name(self):
+        """What it writes it reads, and it reads no other's."""
+        for base, cheaper in (
+            (Argon2PasswordHasher, {"memory_cost": 64}),
+            (ScryptPasswordHasher, {"work_factor": 4}),
+        ):
+            hasher = type("Own", (base,), {"algorithm": "own", **cheaper})()
+            record = hasher.encode("secret", "seasalt")
+            self.assertIs(hasher.verify("secret", record), True)
+            self.assertIs(hasher.verify("other", record), False)
+            self.assertRaises(ValueError, base().decode, record)
+
     def test_broken(self):
         argon2, scrypt = Argon2PasswordHasher(), ScryptPasswordHasher()
         with cheap(), mock.patch.object(scrypt, "work_factor", 2):
