@@ -22,7 +22,6 @@ from flask import Blueprint, Flask, Response, abort, current_app, g, redirect, r
 from flask import request
 from passwords import faults, name_of, password_of
 from rigzumal import PasswordHasher
-from rigzumal.accounts import Kind, Request
 from store import Store
 from werkzeug.exceptions import HTTPException
 
@@ -110,7 +109,7 @@ def sign_up() -> Any:
         return form(errors)
     g.store.count(signup=request.remote_addr)
     ticket = g.store.count(address=request.remote_addr)
-    if not enter(Request(Kind.ENROL, name, password_of(request.form, "new"))):
+    if not entered(g.store.sign_up(name, password_of(request.form, "new"), g.token)):
         return form({"name": "This name is taken."})
     g.store.forgive(ticket)
     return redirect("/", 303)
@@ -122,7 +121,8 @@ def login() -> Any:
     # What is no name has its tries, and is looked up and hashed for, like any other.
     account = name or request.form.get("name", "")
     ticket = g.store.count(account=account, address=request.remote_addr)
-    if not enter(Request(Kind.UPGRADE, name or NOBODY, password_of(request.form, "password"))):
+    password = password_of(request.form, "password")
+    if not entered(g.store.log_in(name or NOBODY, password, g.token)):
         return form({"password": NO})
     g.store.forgive(ticket, account=account)
     return redirect("/", 303)
@@ -136,7 +136,7 @@ def change() -> Any:
     # Of this session alone: whoever guesses elsewhere doesn't shut its owner out.
     ticket = g.store.count(session=g.token)
     old, new = password_of(request.form, "old"), password_of(request.form, "new")
-    if not enter(Request(Kind.CHANGE, g.name, old, new)):
+    if not entered(g.store.change(g.name, old, new, g.token)):
         return form({"old": "The old password is wrong."})
     g.store.forgive(ticket, account=g.name)
     return redirect("/", 303)
@@ -150,9 +150,8 @@ def log_out() -> Any:
     return redirect("/", 303)
 
 
-def enter(asked: Request) -> bool:
-    """Does the operation; after a good reply the browser has a new session."""
-    session = g.store.enter(asked, g.token)
+def entered(session: Optional[str]) -> bool:
+    """Whether there is a new session, which the browser has then."""
     g.token = session or g.token
     return session is not None
 

@@ -13,19 +13,22 @@ from collections.abc import Iterator
 from typing import Any, Optional
 
 from rigzumal import PasswordHasher
-from rigzumal.accounts import Accounts, Dialect, Kind, PerThread, Postgres, Reply, Request
-from rigzumal.accounts import Sqlite, Ticket
+from rigzumal.accounts import Accounts, PerThread, Postgres, Reply, Sqlite
+from rigzumal.accounts.dialects import Dialect
 from werkzeug.exceptions import TooManyRequests
 
 TABLES = pathlib.Path(__file__).with_name("tables.sql")
 LASTS = 12 * 3600  # a session, in seconds
 WINDOW = 15 * 60  # in which tries are counted, in seconds
 TRIES = {"account": 10, "session": 10, "address": 50, "signup": 50}
-GOOD = {Reply.ENROLLED, Reply.KEPT, Reply.UPGRADED, Reply.REPLACED}
 
 
 class Store:
-    """The tables, and what is done with them."""
+    """The tables, and what is done with them.
+
+    `sign_up`, `log_in` and `change` answer with a new session's token, or None. Its row is
+    committed with the reply: both stand, or neither.
+    """
 
     def __init__(self, database: str, hasher: PasswordHasher) -> None:
         self._lost: Any = ()  # what says that the server has closed a connection
@@ -43,33 +46,50 @@ class Store:
                 conn.execute(statement)
         self._accounts = Accounts(self._pool, self._dialect, hasher)
         for fault in self._accounts.examine():
-            raise SystemExit(f"the database won't do: {fault}")
+            if fault.is_error:
+                raise SystemExit(f"the database won't do: {fault}")
 
-    def enter(self, request: Request, old: str) -> Optional[str]:
-        """Does the operation. After a good reply a new session stands in the place of the old
-        one, put in the same transaction: both stand, or neither. The answer is its token."""
-        if request.kind is Kind.ENROL:
-            insert = "INSERT INTO account (name) VALUES (?) ON CONFLICT DO NOTHING"
-            self._do(insert, request.key)
-        ticket = self._accounts.begin(request)
-        while True:
-            worked = self._accounts.work(ticket)
-            with self._transaction() as conn:
-                answer = self._accounts.commit_in(conn, worked)
-                if answer.reply in GOOD:
-                    return self._begin_session(conn, request, old)
-            if answer.reply is not Reply.CHANGED:
+    def sign_up(self, name: str, password: str, old: str) -> Optional[str]:
+        """Adds an account with its record, if the name is free."""
+        record, token = self._accounts.new_record(password), secrets.token_urlsafe()
+        add = "INSERT INTO account VALUES (?, ?) ON CONFLICT DO NOTHING RETURNING name"
+        with self._transaction() as conn:
+            if not self._in(conn, add, name, record):
                 return None
-            ticket = Ticket(request, answer.after)
-
-    def _begin_session(self, conn: Any, request: Request, old: str) -> str:
-        token, now, changes = secrets.token_urlsafe(), time.time(), request.kind is Kind.CHANGE
-        self._in(conn, "DELETE FROM session WHERE token = ? OR until <= ?", _hash(old), now)
-        if changes:
-            self._in(conn, "DELETE FROM session WHERE name = ?", request.key)
-        values = (_hash(token), request.key, now + LASTS, int(changes))
-        self._in(conn, "INSERT INTO session VALUES (?, ?, ?, ?)", *values)
+            self._begin_session(conn, name, token, old)
         return token
+
+    def log_in(self, name: str, password: str, old: str) -> Optional[str]:
+        """Begins a session, if the password is right."""
+        token = secrets.token_urlsafe()
+
+        def also(conn: Any, reply: Reply) -> None:
+            if reply is Reply.YES:
+                self._begin_session(conn, name, token, old)
+
+        reply = self._accounts.login(name, password, also=also)
+        return token if reply is Reply.YES else None
+
+    def change(self, name: str, password: str, new: str, old: str) -> Optional[str]:
+        """Puts a new password and ends all sessions of the old one, if that is right."""
+        token = secrets.token_urlsafe()
+
+        def also(conn: Any, reply: Reply) -> None:
+            if reply is Reply.REPLACED:
+                self._in(conn, "DELETE FROM session WHERE name = ?", name)
+                self._begin_session(conn, name, token, old, has_note=True)
+
+        reply = self._accounts.change(name, password, new, also=also)
+        return token if reply is Reply.REPLACED else None
+
+    def _begin_session(
+        self, conn: Any, name: str, token: str, old: str, has_note: bool = False
+    ) -> None:
+        """A new session in the place of the old one, within the transaction that is open."""
+        now = time.time()
+        self._in(conn, "DELETE FROM session WHERE token = ? OR until <= ?", _hash(old), now)
+        values = (_hash(token), name, now + LASTS, int(has_note))
+        self._in(conn, "INSERT INTO session VALUES (?, ?, ?, ?)", *values)
 
     def who(self, token: str) -> Optional[str]:
         """The name whose session this is."""
@@ -94,6 +114,7 @@ class Store:
         """
         ticket, now = secrets.token_urlsafe(), time.time()
         limits = {_hash(f"{kind} {what}"): TRIES[kind] for kind, what in tried.items()}
+        free_at = now
         with self._transaction() as conn:
             if isinstance(self._dialect, Postgres):
                 conn.execute("LOCK TABLE try IN EXCLUSIVE MODE")
@@ -102,9 +123,11 @@ class Store:
                 query = "SELECT count(*), min(at) FROM try WHERE what = ?"
                 ((tries, first),) = self._in(conn, query, what)
                 if tries >= limit:
-                    raise TooManyRequests(retry_after=math.ceil(first + WINDOW - now))
-            for what in limits:
+                    free_at = max(free_at, first + WINDOW)
+            for what in limits if free_at == now else ():
                 self._in(conn, "INSERT INTO try VALUES (?, ?, ?)", what, now, ticket)
+        if free_at > now:
+            raise TooManyRequests(retry_after=math.ceil(free_at - now))
         return ticket
 
     def forgive(self, ticket: str, account: Optional[str] = None) -> None:

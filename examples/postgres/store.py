@@ -9,7 +9,7 @@ from rigzumal import PasswordHasher
 from rigzumal.accounts import Accounts, Postgres, Reply
 
 TABLE = 'CREATE TABLE users (email text COLLATE "C" PRIMARY KEY, record varchar(512))'
-ADD = "INSERT INTO users (email) VALUES (%s) ON CONFLICT DO NOTHING"
+ADD = "INSERT INTO users VALUES (%s, %s) ON CONFLICT DO NOTHING"
 
 
 def make_table(dsn: str) -> None:
@@ -21,17 +21,19 @@ class Store:
     """Raises what Accounts raises, Unavailable above all if no server answers in time."""
 
     def __init__(self, dsn: str) -> None:
-        self.pool = ConnectionPool(dsn, kwargs={"autocommit": True}, open=True)
+        given = {"autocommit": True, "connect_timeout": 5, "tcp_user_timeout": 10_000}
+        self.pool = ConnectionPool(dsn, kwargs=given, open=True)
         columns = Postgres("users", "email", "record")
         self.accounts = Accounts(self.pool.connection, columns, PasswordHasher())
         for fault in self.accounts.examine():
-            raise SystemExit(fault)
+            if fault.is_error:
+                raise SystemExit(fault)
 
     def sign_up(self, email: str, password: str) -> bool:
-        """False if the address is taken."""
+        """False if the address is taken: nobody else's row is touched."""
+        record = self.accounts.new_record(password)
         with self.pool.connection() as conn:
-            conn.execute(ADD, [email])
-        return self.accounts.enrol(email, password) is Reply.ENROLLED
+            return conn.execute(ADD, [email, record]).rowcount == 1
 
     def log_in(self, email: str, password: str) -> bool:
         """A record of old costs is replaced by the same comparison."""

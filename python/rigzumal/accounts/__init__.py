@@ -11,51 +11,37 @@ An operation reads the account's record, hashes with nothing held, and is commit
 an UPDATE that asks whether that record still stands. Otherwise it is done again at the
 one that does. So whatever overlaps, the replies are those of one legal history.
 
-It runs on SQLite (sqlite3), PostgreSQL (psycopg 3) and MariaDB or MySQL (PyMySQL), and
-imports no driver. `rigzumal.accounts.aio` is the same for asyncio,
-`rigzumal.accounts.history` judges logs, and `python3 -m rigzumal accounts` is the
-command.
+It runs on SQLite (sqlite3), PostgreSQL (psycopg 3), MariaDB and MySQL (PyMySQL), and
+imports no driver. `AsyncAccounts` is the same for asyncio; `rigzumal.accounts.parts` has
+what an operation in three parts takes, `rigzumal.accounts.dialects` what an engine of
+your own has to tell. `python3 -m rigzumal accounts` is the command; its `torture` tries
+a database, and judges what it answered.
 """
 
 from rigzumal.accounts._accounts import Accounts
+from rigzumal.accounts._async_accounts import AsyncAccounts
 from rigzumal.accounts._values import (
-    NO_ROW,
     AccountsError,
-    Answer,
-    Copy,
-    Key,
-    Kind,
-    NoRow,
     OutcomeUnknown,
     Reply,
-    Request,
     StoreFault,
-    Ticket,
     Unavailable,
-    Worked,
 )
-from rigzumal.accounts.dialects import Dialect, MariaDB, Postgres, Sqlite
-from rigzumal.accounts.pools import PerThread
+from rigzumal.accounts.dialects import MariaDB, MySQL, Postgres, Sqlite
+from rigzumal.accounts.pools import PerThread, of_engine
 
 __all__ = [
-    "NO_ROW",
     "Accounts",
     "AccountsError",
-    "Answer",
-    "Copy",
-    "Dialect",
-    "Key",
-    "Kind",
+    "AsyncAccounts",
     "MariaDB",
-    "NoRow",
+    "MySQL",
     "OutcomeUnknown",
     "PerThread",
     "Postgres",
     "Reply",
-    "Request",
     "Sqlite",
     "StoreFault",
-    "Ticket",
     "Unavailable",
-    "Worked",
+    "of_engine",
 ]

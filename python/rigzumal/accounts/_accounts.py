@@ -1,21 +1,23 @@
-"""The operations over a blocking driver."""
+"""Accounts over blocking drivers: each operation runs its coroutine, which never waits."""
 
 from __future__ import annotations
 
-import time
-from collections.abc import Callable, Iterable, Mapping
-from typing import Any, Optional, TypeVar
+from collections.abc import Callable, Iterable
+from typing import Any, ClassVar, Optional
 
 from rigzumal._library import Secret
-from rigzumal.accounts._judgement import Foreign, Hasher, Judge
-from rigzumal.accounts._method import Method
-from rigzumal.accounts._plans import Pause, Plan, Source, Step, Work
+from rigzumal.accounts._async_accounts import AsyncAccounts
+from rigzumal.accounts._judgement import Foreign, Hasher
+from rigzumal.accounts._session import Blocking, run
 from rigzumal.accounts._values import Answer, Key, Kind, Reply, Request, Ticket, Worked
-from rigzumal.accounts._jobs import Ending, Job, Result, Statement
-from rigzumal.accounts.dialects import Dialect
+from rigzumal.accounts.dialects._dialect import Dialect, Fault
 from rigzumal.accounts.pools import Pool
 
-T = TypeVar("T")
+Also = Optional[Callable[[Any, Reply], Any]]
+
+
+class BlockingOperations(AsyncAccounts):
+    _runtime = Blocking()
 
 
 class Accounts:
@@ -26,8 +28,7 @@ class Accounts:
     open: a caller's transaction may read what stood long ago, and holds locks while one
     hashes.
 
-    Any number of threads may use one object. Whoever wants a change and rows of its own
-    to stand or fall together takes the three parts: `begin`, `work` and `commit_in`.
+    Any number of threads may use one object.
 
     Args:
         pool: called for a context manager of a connection to the primary. After any
@@ -38,14 +39,16 @@ class Accounts:
         hasher: PasswordHasher or ScryptHasher: the costs of new records. Its tags have
             32 bytes, and it has no secret. An operation hashes on its own thread alone,
             whatever the hasher's threads.
-        replica: a pool for the copies; it may lag, since the commit compares.
+        replica: a pool for the copies; it may lag, since the primary is looked at
+            before an answer, and it may be down, since the primary is asked then.
         foreign: judges texts of other schemes, as (text, password) -> bool or None.
         upgrade_from: costs as "$argon2i$v=19$m=65536,t=3,p=4" that an upgrade replaces
             even if its own aren't higher.
         tries: how often an operation is done that finds another record at its commit;
             1 or more.
         patience: for how many seconds a lost connection is made anew, a busy server
-            asked again, and a lost answer looked for; 0 or more.
+            asked again, and a lost answer looked for; 0 or more. It ends no statement
+            that hangs: connections need time limits of their own (docs/SCALE.md).
         confirm: an answer that makes no change, such as a verify's, is confirmed by
             writing the record over itself: its COMMIT comes after what was read, to
             the disk and to a standby. It is for servers that show a change before it is
@@ -56,17 +59,27 @@ class Accounts:
         InvalidRecordError: the hasher's costs are out of range, or no costs stand in
             `upgrade_from`.
 
+    Each operation takes `also`, a function of the driver's connection and the reply. It
+    is called in the operation's transaction before COMMIT, so that rows of one's own,
+    such as a session, are committed with the reply or not at all. If the transaction is
+    undone it is called again in the next. It isn't called for CHANGED. What it raises
+    undoes all, and comes through, but for errors that mean "again".
+
     Every operation may raise:
         TypeError: the key is of another type than its column, or a password is neither
             bytes nor text; nothing was read.
-        ValueError: a password has over 256 bytes, or no UTF-8; nothing was read.
+        ValueError: a new password has over 256 bytes, or no UTF-8; nothing was read.
+            Such a password that is tried is a wrong one, after one hash.
         StoreFault: the table, the server or the connection isn't as it has to be.
         InvalidRecordError: the account's record is none of ours, and no hook judges it.
         Unavailable: no server took it; nothing was done.
-        OutcomeUnknown: of a change: COMMIT had no answer, and what stands doesn't tell.
+        OutcomeUnknown: of a change, or with `also`: COMMIT had no answer, and what
+            stands doesn't tell.
         OutOfMemoryError: there was too little memory for the costs.
-        Exception: what the pool raises of its own, or the hook.
+        Exception: what the pool raises of its own, or the hooks.
     """
+
+    _kind: ClassVar[type[AsyncAccounts]] = BlockingOperations
 
     def __init__(
         self,
@@ -81,64 +94,102 @@ class Accounts:
         patience: float = 10.0,
         confirm: bool = False,
     ) -> None:
-        self._pools = {Source.PRIMARY: pool, Source.COPIES: replica or pool}
-        self._judge = Judge(hasher, foreign, upgrade_from)
-        self._method = Method(dialect, tries, patience, confirm)
+        self._operations = self._kind(
+            pool,
+            dialect,
+            hasher,
+            replica=replica,
+            foreign=foreign,
+            upgrade_from=upgrade_from,
+            tries=tries,
+            patience=patience,
+            confirm=confirm,
+        )
 
-    def enrol(self, key: Key, password: Secret) -> Reply:
-        """ENROLLED; EXISTS if the account has a record; NO_ACCOUNT."""
-        return self.perform(Request(Kind.ENROL, key, password)).reply
+    def enrol(self, key: Key, password: Secret, *, also: Also = None) -> Reply:
+        """ENROLLED; EXISTS if the account has a record; NO_ACCOUNT.
 
-    def verify(self, key: Key, password: Secret) -> Reply:
+        It is for rows that somebody is known to own: `new_record` is for a sign-up.
+        """
+        return self.perform(Request(Kind.ENROL, key, password), also=also).reply
+
+    def verify(self, key: Key, password: Secret, *, also: Also = None) -> Reply:
         """YES or NO; ABSENT if the account has no record; NO_ACCOUNT."""
-        return self.perform(Request(Kind.VERIFY, key, password)).reply
+        return self.perform(Request(Kind.VERIFY, key, password), also=also).reply
 
-    def login(self, key: Key, password: Secret) -> Reply:
-        """A verify that makes a record of lower costs anew, answered as a verify.
+    def login(self, key: Key, password: Secret, *, also: Also = None) -> Reply:
+        """A verify that replaces a record of lower costs, answered as a verify.
 
         If the new record can't be put (a full disk, an unknown outcome), the answer is
         that of a verify all the same.
         """
-        return self._run(self._method.login(key, password))
+        return run(self._operations.login(key, password, also=also))
 
-    def change(self, key: Key, password: Secret, new_password: Secret) -> Reply:
+    def change(
+        self, key: Key, password: Secret, new_password: Secret, *, also: Also = None
+    ) -> Reply:
         """REPLACED; WRONG if the password is; ABSENT; NO_ACCOUNT; CHANGED as below.
 
         CHANGED, of any operation: `tries` times another record stood at its commit.
         """
-        return self.perform(Request(Kind.CHANGE, key, password, new_password)).reply
+        request = Request(Kind.CHANGE, key, password, new_password)
+        return self.perform(request, also=also).reply
 
-    def reset(self, key: Key, new_password: Secret) -> Reply:
+    def reset(self, key: Key, new_password: Secret, *, also: Also = None) -> Reply:
         """An administrator's: REPLACED, or ENROLLED if no record stood; NO_ACCOUNT."""
-        return self.perform(Request(Kind.RESET, key, b"", new_password)).reply
+        request = Request(Kind.RESET, key, b"", new_password)
+        return self.perform(request, also=also).reply
 
-    def upgrade(self, key: Key, password: Secret) -> Reply:
+    def upgrade(self, key: Key, password: Secret, *, also: Also = None) -> Reply:
         """UPGRADED if the record is of lower costs, otherwise KEPT; WRONG; ABSENT;
         NO_ACCOUNT."""
-        return self.perform(Request(Kind.UPGRADE, key, password)).reply
+        return self.perform(Request(Kind.UPGRADE, key, password), also=also).reply
 
-    def remove(self, key: Key, password: Secret) -> Reply:
+    def remove(self, key: Key, password: Secret, *, also: Also = None) -> Reply:
         """REMOVED; the account stays, with no record. WRONG; ABSENT; NO_ACCOUNT."""
-        return self.perform(Request(Kind.REMOVE, key, password)).reply
+        return self.perform(Request(Kind.REMOVE, key, password), also=also).reply
 
-    def perform(self, request: Request) -> Answer:
+    def new_record(self, password: Secret) -> str:
+        """A record for an INSERT of one's own, which makes an account with its password.
+
+        Raises:
+            TypeError: the password is neither bytes nor text.
+            ValueError: it has over 256 bytes, or no UTF-8.
+        """
+        return run(self._operations.new_record(password))
+
+    def examine(self) -> list[Fault]:
+        """What is wrong with the table and the server; empty if nothing.
+
+        It puts a record into a row of its own, or if there can be none into one of the
+        table's, in a transaction that it rolls back.
+
+        Raises:
+            StoreFault: the connection isn't in autocommit, or has a transaction open.
+            Exception: whatever the driver raises.
+        """
+        return run(self._operations.examine())
+
+    # ---- in parts: see rigzumal.accounts.parts
+
+    def perform(self, request: Request, *, also: Also = None) -> Answer:
         """The whole operation, with the records before and after it."""
-        return self._run(self._method.perform(request))
+        return run(self._operations.perform(request, also=also))
 
     def begin(self, request: Request) -> Ticket:
         """The first part: reads the record."""
-        return self._run(self._method.begin(request))
+        return run(self._operations.begin(request))
 
     def work(self, ticket: Ticket) -> Worked:
         """The second part: hashes, and uses no connection."""
-        return self._judge.work(ticket)
+        return run(self._operations.work(ticket))
 
     def commit(self, worked: Worked) -> Answer:
         """The third part: puts the record after, if the copy still stands.
 
         The reply is CHANGED if another stands; its record is `after`.
         """
-        return self._run(self._method.commit(worked))
+        return run(self._operations.commit(worked))
 
     def commit_in(self, conn: Any, worked: Worked) -> Answer:
         """The third part within a transaction that the caller has begun, and ends.
@@ -158,89 +209,4 @@ class Accounts:
                 REPEATABLE READ, or the table won't do.
             Exception: whatever the driver raises.
         """
-        return on_connection(conn, self._method.commit_in(conn, worked))
-
-    def examine(self) -> list[str]:
-        """What is wrong with the table and the server, in words; empty if nothing.
-
-        It puts a record into a row of its own, or if there can be none into one of the
-        table's, in a transaction that it rolls back.
-
-        Raises:
-            StoreFault: the connection isn't in autocommit, or has a transaction open.
-            Exception: whatever the driver raises.
-        """
-        return self._on(
-            Source.PRIMARY,
-            lambda conn: self._method.examine(conn, self._judge.sample),
-        )
-
-    def _run(self, plan: Plan[T]) -> T:
-        value: Any = None
-        error: Optional[Exception] = None
-        while True:
-            try:
-                step = plan.send(value) if error is None else plan.throw(error)
-            except StopIteration as end:
-                result: T = end.value
-                return result
-            value, error = None, None
-            try:
-                value = self._take(step)
-            except Exception as raised:
-                error = raised
-
-    def _take(self, step: Step) -> Any:
-        if isinstance(step, Pause):
-            return time.sleep(step.seconds)
-        if isinstance(step, Work):
-            return self._judge.work(step.ticket)
-        return self._on(step.source, step.job)
-
-    def _on(self, source: Source, job: Callable[[Any], Job[T]]) -> T:
-        ending: Ending[T] = Ending()
-        try:
-            with self._pools[source]() as conn, ending:
-                ending.value = on_connection(conn, job(conn))
-        except Exception:
-            # What a pool raises after a job has ended changes nothing of how it ended.
-            if not ending.has_begun:
-                raise
-        return ending.answer()
-
-
-def on_connection(conn: Any, job: Job[T]) -> T:
-    """Does a job's statements on a connection."""
-    value: Any = None
-    error: Optional[Exception] = None
-    while True:
-        try:
-            statement = job.send(value) if error is None else job.throw(error)
-        except StopIteration as end:
-            result: T = end.value
-            return result
-        value, error = None, None
-        try:
-            value = _execute(conn, statement)
-        except Exception as raised:
-            error = raised
-
-
-def _execute(conn: Any, statement: Statement) -> Result:
-    cursor = conn.cursor()
-    try:
-        if statement.values:
-            cursor.execute(statement.sql, statement.values)
-        else:
-            cursor.execute(statement.sql)
-        # To the end: a cursor that isn't keeps SQLite's snapshot.
-        rows = list(map(row_values, cursor.fetchall())) if cursor.description else []
-        status = getattr(cursor, "statusmessage", None)
-        return Result(rows, cursor.rowcount, status)
-    finally:
-        cursor.close()
-
-
-def row_values(row: Any) -> tuple[Any, ...]:
-    """A row's values, whether the driver makes tuples of rows or dictionaries."""
-    return tuple(row.values() if isinstance(row, Mapping) else row)
+        return run(self._operations.commit_in(conn, worked))

@@ -8,10 +8,11 @@ from collections.abc import Callable, Iterable
 from typing import Final, Optional, Union
 
 from rigzumal._hashers import PasswordHasher, ScryptHasher
-from rigzumal._library import InvalidRecordError
+from rigzumal._library import InvalidRecordError, Secret
 from rigzumal._parts import Parts, parts
 from rigzumal.accounts._step import is_right, step
-from rigzumal.accounts._values import Copy, Kind, Reply, Ticket, Worked
+from rigzumal.accounts._values import Copy, Kind, Reply, Request, Ticket, Worked
+from rigzumal.accounts._values import bytes_of_password
 
 Hasher = Union[PasswordHasher, ScryptHasher]
 
@@ -68,6 +69,10 @@ class Judge:
         """A record of the hasher's costs that no password is right for."""
         return self._dummy
 
+    def new_record(self, password: Secret) -> str:
+        """A new record of a password that an account may have."""
+        return self._made(bytes_of_password(password))
+
     def work(self, ticket: Ticket) -> Worked:
         """What the whole operation does at the ticket's copy.
 
@@ -89,8 +94,8 @@ class Judge:
             return Reply.NO_ACCOUNT, copy
         password, new = request.password, request.new_password
         if request.kind is Kind.RESET:
-            _, made = step(Kind.ENROL, None, new, b"", self._setting())
-            return (Reply.ENROLLED if copy is None else Reply.REPLACED), made
+            reply = Reply.ENROLLED if copy is None else Reply.REPLACED
+            return reply, self._made(new)
         if copy is not None and request.kind is Kind.ENROL:
             # Whatever text stands: an enrolment doesn't read it, and a step would.
             return Reply.EXISTS, copy
@@ -102,6 +107,9 @@ class Judge:
                 if self._foreign is None:
                     raise
                 return self._judged_by_hook(self._foreign, ticket, copy)
+            if not request.can_be_right:
+                is_right(copy, b"")  # whoever was wrong waits for a hash
+                return _wrong(request), copy
             if request.kind is Kind.UPGRADE and not self._goes_up(found):
                 reply, _ = step(Kind.VERIFY, copy, password, b"", setting)
                 return (Reply.KEPT if reply is Reply.YES else Reply.WRONG), copy
@@ -113,19 +121,23 @@ class Judge:
         """The same at a text of another scheme, which any upgrade replaces."""
         request = ticket.request
         assert isinstance(request.password, bytes)
-        right = foreign(copy, request.password)
+        right = foreign(copy, request.password) if request.can_be_right else None
         if right is None:
             is_right(self._dummy, request.password)
-        if request.kind is Kind.VERIFY:
-            return (Reply.YES if right else Reply.NO), copy
         if not right:
-            return Reply.WRONG, copy
+            return _wrong(request), copy
+        if request.kind is Kind.VERIFY:
+            return Reply.YES, copy
         if request.kind is Kind.REMOVE:
             return Reply.REMOVED, None
         changed = request.kind is Kind.CHANGE
         new = request.new_password if changed else request.password
-        _, made = step(Kind.ENROL, None, new, b"", self._setting())
-        return (Reply.REPLACED if changed else Reply.UPGRADED), made
+        return (Reply.REPLACED if changed else Reply.UPGRADED), self._made(new)
+
+    def _made(self, password: Secret) -> str:
+        _, made = step(Kind.ENROL, None, password, b"", self._setting())
+        assert made is not None
+        return made
 
     def _setting(self) -> str:
         salt = os.urandom(self._hasher.salt_len)
@@ -146,6 +158,10 @@ class Judge:
             and old != new
             and all(one <= two for one, two in zip(old, new))
         )
+
+
+def _wrong(request: Request) -> Reply:
+    return Reply.NO if request.kind is Kind.VERIFY else Reply.WRONG
 
 
 def _dearness(found: Parts) -> tuple[int, int, int]:

@@ -7,13 +7,11 @@ was put, COMMIT.
 
 from __future__ import annotations
 
-from collections.abc import Callable
+from collections.abc import Awaitable, Callable
 from dataclasses import dataclass
 from typing import Any, NoReturn, Optional, Union
 
-from rigzumal.accounts import _trial
-from rigzumal.accounts._jobs import Job, Statement, Verdict
-from rigzumal.accounts._plans import OnConnection, Source
+from rigzumal.accounts._session import Session
 from rigzumal.accounts._values import (
     NO_ROW,
     Answer,
@@ -23,11 +21,14 @@ from rigzumal.accounts._values import (
     StoreFault,
     Worked,
 )
-from rigzumal.accounts.dialects import Dialect
+from rigzumal.accounts.dialects._dialect import Dialect, Verdict, is_of_driver
+
+Also = Callable[[Session, Reply], Awaitable[None]]
+"""Does a caller's own statements before COMMIT."""
 
 
 class Lost(Exception):
-    """The connection broke before COMMIT was sent: nothing was done."""
+    """The connection is of no use any more, and nothing was done; its cause says why."""
 
 
 class Broken(Exception):
@@ -38,7 +39,7 @@ class Broken(Exception):
 class Undone:
     """The server undid the transaction, and the connection is as good as before."""
 
-    cause: BaseException
+    cause: Optional[BaseException]
 
 
 class Table:
@@ -47,52 +48,126 @@ class Table:
     Attributes:
         dialect: of the database, with the names of the table and its columns.
         confirm: what makes no change is confirmed by a COMMIT that writes.
-        before_commit: called before each COMMIT of a change is sent; for tests.
+        before_commit: called before each COMMIT of a change is sent.
     """
 
-    def __init__(self, dialect: Dialect, confirm: bool) -> None:
+    def __init__(
+        self, dialect: Dialect, confirm: bool, before_commit: Callable[[Worked], None]
+    ) -> None:
         self.dialect, self.confirm = dialect, confirm
-        self.before_commit: Callable[[Worked], None] = lambda worked: None
+        self.before_commit = before_commit
 
-    def examine(self, conn: Any, record: str) -> Job[list[str]]:
-        """What is wrong with the table and the server; the record is put for a trial."""
-        self.dialect.fresh(conn)
-        findings = yield from self.dialect.examine()
-        faults = findings.faults
-        if not self.confirm:
-            faults += findings.unless_confirmed
-        if findings.is_usable:
-            faults += yield from _trial.trial(self, conn, record)
-        return faults
+    def writes(self, worked: Worked) -> bool:
+        """Whether it is committed by an UPDATE, if only of the copy by itself."""
+        is_there = worked.ticket.copy is not NO_ROW
+        return worked.reply.makes_change or (self.confirm and is_there)
 
-    def commit_in(self, conn: Any, worked: Worked) -> Job[Answer]:
+    async def look(self, session: Session, key: Key) -> Copy:
+        """The record that stands."""
+        self.dialect.fresh(session.conn)
+        try:
+            await self.dialect.prepare(session)
+            return await self.one(session, self.dialect.select, key)
+        except Exception as error:
+            caught = error
+        self._raise(caught)
+
+    async def one(self, session: Session, sql: str, key: Key) -> Copy:
+        """The record that a statement reads."""
+        return _record((await session.execute(sql, key)).rows)
+
+    async def change_at_once(
+        self, session: Session, worked: Worked
+    ) -> Union[Answer, Undone, None]:
+        """A change by one statement; None if a transaction has to say what stands."""
+        dialect, request = self.dialect, worked.ticket.request
+        put = (worked.after, request.key, worked.ticket.copy)
+        is_sent = False
+        dialect.fresh(session.conn)
+        try:
+            await dialect.prepare(session)
+            self.before_commit(worked)
+            is_sent = True
+            touched = await dialect.put_at_once(session, *put)
+        except Exception as error:
+            caught = error
+        else:
+            done = Answer(worked.reply, worked.ticket.copy, worked.after)
+            return done if touched == 1 else None
+        if is_sent and dialect.refuses_at_once(caught):
+            return None
+        if is_sent and is_of_driver(caught) and not dialect.gave_up(caught):
+            raise Broken() from caught
+        return await self._undone(session, caught)
+
+    async def change(
+        self, session: Session, worked: Worked, also: Optional[Also] = None
+    ) -> Union[Answer, Undone]:
+        """A transaction of its own, with a caller's own statements in it."""
+        dialect, is_theirs = self.dialect, False
+        caught: Optional[Exception] = None
+        dialect.fresh(session.conn)
+        try:
+            await dialect.prepare(session)
+            await dialect.start(session)
+            answer = await self._answer(session, worked)
+            if also is not None and answer.reply is not Reply.CHANGED:
+                is_theirs = True
+                await also(session, answer.reply)
+                is_theirs = False
+            if answer.reply.makes_change:
+                self.before_commit(worked)
+        except Exception as error:
+            caught = error
+        if caught is not None:
+            return await self._undone(session, caught, is_theirs)
+        try:
+            await dialect.commit(session)
+        except Exception as error:
+            caught = error
+        if caught is None:
+            return answer
+        if not is_of_driver(caught):
+            raise caught
+        # Known to be undone is what the server itself gave up; all else may stand.
+        if dialect.gave_up(caught):
+            return await self._undone(session, caught)
+        wrote = answer.reply.makes_change or also is not None
+        raise (Broken if wrote else Lost)() from caught
+
+    async def commit_in(self, session: Session, worked: Worked) -> Answer:
         """The same within a transaction that another has begun, and ends."""
-        key = worked.ticket.request.key
-        self.dialect.check_key(key)
-        if not self.dialect.can_stand(key):
-            return Answer(Reply.NO_ACCOUNT, NO_ROW, NO_ROW)
-        yield from self.dialect.within(conn)
-        return (yield from self.compare(worked))
+        self.dialect.check_key(worked.ticket.request.key)
+        if self.dialect.can_stand(worked.ticket.request.key):
+            await self.dialect.within(session)
+        return await self._answer(session, worked)
 
-    def compare(self, worked: Worked) -> Job[Answer]:
+    async def _answer(self, session: Session, worked: Worked) -> Answer:
+        if not self.dialect.can_stand(worked.ticket.request.key):
+            return Answer(Reply.NO_ACCOUNT, NO_ROW, NO_ROW)
+        return await self.compare(session, worked)
+
+    async def compare(self, session: Session, worked: Worked) -> Answer:
         """Compares and puts, within a transaction that is open."""
         key, copy = worked.ticket.request.key, worked.ticket.copy
+        dialect = self.dialect
         if not self.writes(worked):
-            return judged(worked, (yield from self.one(self.dialect.share, key)))
-        rows, count, _ = yield from self.dialect.put(worked.after, key, copy)
+            return judged(worked, await self.one(session, dialect.share, key))
+        rows, count, _ = await dialect.put(session, worked.after, key, copy)
         if count == 1:
             # A trigger, a short column or a character set may have made another of it.
-            if self.dialect.returns:
-                now = _record(rows)
-            else:
-                now = yield from self.one(self.dialect.select, key)
+            now = (
+                _record(rows)
+                if dialect.returns
+                else await self.one(session, dialect.select, key)
+            )
             if now != worked.after:
                 raise StoreFault("the record that stands isn't the one that was put")
             return Answer(worked.reply, copy, now)
         if count != 0:
             raise StoreFault(f"the UPDATE says {count} rows, and one is wanted")
         # With a lock: a plain SELECT may read an old snapshot where the UPDATE didn't.
-        answer = judged(worked, (yield from self.one(self.dialect.share, key)))
+        answer = judged(worked, await self.one(session, dialect.share, key))
         if answer.reply is worked.reply:
             # NULL may have come back since the UPDATE; a record that was replaced
             # doesn't.
@@ -101,90 +176,21 @@ class Table:
             return Answer(Reply.CHANGED, None, None)
         return answer
 
-    def writes(self, worked: Worked) -> bool:
-        """Whether it is committed by an UPDATE, if only of the copy by itself."""
-        is_there = worked.ticket.copy is not NO_ROW
-        return worked.reply.makes_change or (self.confirm and is_there)
-
-    def look(self, conn: Any, key: Key) -> Job[Copy]:
-        self.dialect.fresh(conn)
-        try:
-            yield from self.dialect.prepare(conn)
-            return (yield from self.one(self.dialect.select, key))
-        except Exception as error:
-            caught = error
-        self._raise(caught)
-
-    def one(self, sql: str, key: Key) -> Job[Copy]:
-        """The record that a statement reads."""
-        return _record((yield Statement(sql, (key,))).rows)
-
-    def change_at_once(self, worked: Worked) -> OnConnection:
-        """A change by one statement; None if a transaction has to say what stands."""
-        put = (worked.after, worked.ticket.request.key, worked.ticket.copy)
-
-        def job(conn: Any) -> Job[Union[Answer, Undone, None]]:
-            dialect, is_sent = self.dialect, False
-            dialect.fresh(conn)
-            try:
-                yield from dialect.prepare(conn)
-                self.before_commit(worked)
-                is_sent = True
-                touched = yield from dialect.put_at_once(conn, *put)
-            except Exception as error:
-                caught = error
-            else:
-                done = Answer(worked.reply, worked.ticket.copy, worked.after)
-                return done if touched == 1 else None
-            if is_sent and dialect.refuses_at_once(caught):
-                return None
-            if is_sent and not dialect.gave_up(caught):
-                raise Broken() from caught
-            return (yield from self._undone(conn, caught))
-
-        return OnConnection(Source.PRIMARY, job)
-
-    def change(self, worked: Worked) -> OnConnection:
-        def job(conn: Any) -> Job[Union[Answer, Undone]]:
-            dialect = self.dialect
-            dialect.fresh(conn)
-            caught: Optional[Exception] = None
-            try:
-                yield from dialect.prepare(conn)
-                yield Statement(dialect.begin)
-                answer = yield from self.compare(worked)
-                if answer.reply.makes_change:
-                    self.before_commit(worked)
-            except Exception as error:
-                caught = error
-            if caught is not None:
-                return (yield from self._undone(conn, caught))
-            try:
-                yield from dialect.commit(conn)
-            except StoreFault:
-                raise
-            except Exception as error:
-                caught = error
-            if caught is None:
-                return answer
-            # Known to be undone is what the server itself gave up; all else may stand.
-            if dialect.gave_up(caught):
-                return (yield from self._undone(conn, caught))
-            raise (Broken if answer.reply.makes_change else Lost)() from caught
-
-        return OnConnection(Source.PRIMARY, job)
-
-    def _undone(self, conn: Any, error: Exception) -> Job[Undone]:
+    async def _undone(
+        self, session: Session, error: Exception, is_theirs: bool = False
+    ) -> Undone:
         """Rolls back after an error: it is to be tried again, or raises."""
-        verdict = self.dialect.verdict(error)
-        if verdict is not Verdict.LOST:
+        verdict = self.dialect.verdict(error) if is_of_driver(error) else None
+        is_kept = verdict is not Verdict.LOST
+        if is_kept:
             try:
-                yield from self.dialect.undo(conn)
+                await self.dialect.undo(session)
             except Exception:
-                # The pool gives up a connection that a job has raised on.
-                verdict = verdict and Verdict.LOST
-        if verdict is Verdict.AGAIN:
+                is_kept = False  # the pool gives up a connection that a job raised on
+        if verdict is Verdict.AGAIN and is_kept:
             return Undone(error)
+        if is_theirs and verdict in (None, Verdict.REFUSED):
+            raise error
         self._raise(error)
 
     def _raise(self, error: Exception) -> NoReturn:
@@ -193,9 +199,9 @@ class Table:
         With its number alone, and outside of its handler: a driver's text may have the
         row that was refused, with the record.
         """
-        if isinstance(error, (StoreFault, TypeError, AttributeError)):
+        if not is_of_driver(error):
             raise error
-        if self.dialect.verdict(error) is not None:
+        if self.dialect.verdict(error) is not Verdict.REFUSED:
             raise Lost() from error
         raise StoreFault(f"the server refused a statement: {self.name(error)}")
 

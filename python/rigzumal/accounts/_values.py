@@ -5,7 +5,7 @@ from __future__ import annotations
 import enum
 import uuid
 from dataclasses import dataclass, field
-from typing import Final, Optional, Union
+from typing import Final, NoReturn, Union
 
 from rigzumal._library import Secret, bytes_of
 
@@ -32,6 +32,10 @@ class Reply(enum.Enum):
     REMOVED = "removed"
     CHANGED = "changed"
     NO_ACCOUNT = "noaccount"
+
+    def __bool__(self) -> NoReturn:
+        """Refuses `if accounts.login(..)`, which would let everybody in."""
+        raise TypeError("a Reply is no truth value: compare with Reply.YES or the like")
 
     @property
     def makes_change(self) -> bool:
@@ -67,6 +71,19 @@ Copy = Union[str, None, NoRow]
 """An account's record as it was read; None for no record, NO_ROW for no account."""
 
 
+def bytes_of_password(password: Secret) -> bytes:
+    """The bytes of a password that an account may have.
+
+    Raises:
+        TypeError: it is neither bytes nor text.
+        ValueError: it has over 256 bytes, or is text that has no UTF-8.
+    """
+    given = bytes_of(password)
+    if len(given) > LONGEST_PASSWORD:
+        raise ValueError(f"a password has up to {LONGEST_PASSWORD} bytes")
+    return given
+
+
 @dataclass(frozen=True)
 class Request:
     """An operation to be done on an account.
@@ -74,28 +91,37 @@ class Request:
     Attributes:
         kind: which.
         key: the account's name, of its column's type, or a subclass of str.
-        password: bytes or text, up to 256 bytes; not of a reset.
-        new_password: of a change and of a reset.
+        password: bytes or text; not of a reset.
+        new_password: bytes or text, of a change and of a reset.
+        can_be_right: False if no account can have the password, which is empty then:
+            it was over 256 bytes, or text that has no UTF-8. It is a wrong password.
 
     Raises:
         TypeError: a password is neither bytes nor text.
-        ValueError: a password has over 256 bytes, or is text that has no UTF-8.
+        ValueError: a password that is to be stored has over 256 bytes, or is text that
+            has no UTF-8.
     """
 
     kind: Kind
     key: Key
     password: Secret = field(default=b"", repr=False)
     new_password: Secret = field(default=b"", repr=False)
+    can_be_right: bool = field(default=True, init=False, repr=False)
 
     def __post_init__(self) -> None:
         if isinstance(self.key, str):
             # As a driver knows it, whatever the subclass makes of itself.
             object.__setattr__(self, "key", str.__str__(self.key))
-        for name in ("password", "new_password"):
-            password = bytes_of(getattr(self, name))
-            if len(password) > LONGEST_PASSWORD:
-                raise ValueError(f"a password has up to {LONGEST_PASSWORD} bytes")
-            object.__setattr__(self, name, password)
+        object.__setattr__(self, "new_password", bytes_of_password(self.new_password))
+        password = b""
+        try:
+            password = bytes_of_password(self.password)
+        except ValueError:
+            # Who tries a password may be anybody, and gets an answer.
+            if self.kind is Kind.ENROL:
+                raise
+            object.__setattr__(self, "can_be_right", False)
+        object.__setattr__(self, "password", password)
 
 
 @dataclass(frozen=True)

@@ -12,9 +12,10 @@
     history LOG..  judges logs
 
 A password is asked for at a terminal, and otherwise is what standard input gives,
-without one newline at its end; `python3 -m rigzumal hash` takes that newline too. An
-empty input is no password. The URL may stand in RIGZUMAL_DATABASE instead, where no
-list of processes shows it.
+without one newline at its end. An empty input is no password. The URL may stand in
+RIGZUMAL_DATABASE instead, where no list of processes shows it.
+
+The status is 0, or 1 for a no or for errors that were found, or 2 for a refusal.
 """
 
 from __future__ import annotations
@@ -23,38 +24,24 @@ import argparse
 import getpass
 import os
 import pathlib
-import re
 import shutil
 import sys
-import time
-from collections.abc import Callable, Iterable, Iterator, Sequence
+from collections.abc import Callable, Sequence
 from typing import Any, Optional, Union
 
 from rigzumal import PasswordHasher, RigzumalError, ScryptHasher
 from rigzumal._library import InvalidRecordError, bytes_of
 from rigzumal._newline import hint
 from rigzumal._parts import none_of_ours, parts
-from rigzumal.accounts import logs, torture
-from rigzumal.accounts._accounts import Accounts, on_connection
-from rigzumal.accounts._values import LONGEST_PASSWORD, AccountsError, Answer, Key
-from rigzumal.accounts._values import Kind, Reply, Request, Ticket, Worked
+from rigzumal.accounts._accounts import Accounts
+from rigzumal.accounts._import import Import, Refusal, shown
+from rigzumal.accounts._session import BlockingSession, run
+from rigzumal.accounts._values import LONGEST_PASSWORD, AccountsError, Key, Reply
 from rigzumal.accounts.database import Database
-from rigzumal.accounts._jobs import Job, Result, Statement
-from rigzumal.accounts.dialects import Dialect
+from rigzumal.accounts.parts import Kind, Request
 from rigzumal.accounts.pools import PerThread
 
-BATCH = 500
-"""Lines of an import that are committed together."""
-
-FOREIGN = re.compile("[!-~]{1,512}")
-"""A record of another scheme that a column of ours holds."""
-
-
 DRIVERS = ("sqlite3", "psycopg", "pymysql")
-
-
-class Refusal(Exception):
-    """What is said on standard error, with status 2."""
 
 
 def main(words: Optional[Sequence[str]] = None) -> int:
@@ -62,6 +49,8 @@ def main(words: Optional[Sequence[str]] = None) -> int:
     given = _words().parse_args(words)
     try:
         if given.command == "history":
+            from rigzumal.accounts.torture import logs
+
             return logs.main(given.logs)
         if not given.database:
             raise Refusal("no database: --database URL, or RIGZUMAL_DATABASE")
@@ -150,10 +139,11 @@ class _Command:
     def __init__(self, given: argparse.Namespace) -> None:
         self.given = given
         self.database = Database(given.database)
-        kind = int if given.numbers else str
-        names = (given.table, given.key, given.record, kind)
-        self.dialect: Dialect = self.database.dialect(*names)
         self.pool = PerThread(self.database.connect)
+        if given.command != "torture":
+            names = (given.table, given.key, given.record)
+            kind = int if given.numbers else str
+            self.dialect = self.database.dialect_kind()(*names, kind)
 
     def accounts(self) -> Accounts:
         given = self.given
@@ -174,7 +164,7 @@ class _Command:
 
     def execute(self, sql: str, *values: object) -> list[tuple[Any, ...]]:
         with self.pool() as conn:
-            return on_connection(conn, _one(Statement(sql, values))).rows
+            return run(BlockingSession(conn).execute(sql, *values)).rows
 
     def init(self) -> int:
         if self.database.kind == "sqlite":
@@ -187,15 +177,14 @@ class _Command:
         accounts, key = self.accounts(), self.key(self.given.name)
         if not self.dialect.can_stand(key):
             raise Refusal("no column holds this name")
-        request = Request(Kind.ENROL, key, _password(twice=True))
-        if isinstance(accounts.begin(request).copy, str):
+        password = _password(twice=True)
+        if isinstance(accounts.begin(Request(Kind.ENROL, key)).copy, str):
             return _said(Reply.EXISTS)
-        worked = accounts.work(Ticket(request, None))
-        with self.pool() as conn:
-            on_connection(conn, _one(Statement(self.dialect.begin)))
-            answer = self._put(conn, accounts, worked)
-            on_connection(conn, self.dialect.commit(conn))
-        return _said(answer.reply, Reply.ENROLLED)
+        record = accounts.new_record(password)
+        ((word, _),) = self.importing(accounts).put([(key, record)])
+        return _said(
+            Reply.ENROLLED if word == "added" else Reply.EXISTS, Reply.ENROLLED
+        )
 
     def check(self) -> int:
         accounts, password = self.accounts(), _password()
@@ -219,10 +208,11 @@ class _Command:
         return _said(reply, Reply.REPLACED, Reply.ENROLLED)
 
     def examine(self) -> int:
+        """Writes all faults; the status tells of errors."""
         faults = self.accounts().examine()
         for fault in faults:
-            print(fault)
-        return 1 if faults else 0
+            print(f"{fault.severity.value}: {fault}")
+        return 1 if any(fault.is_error for fault in faults) else 0
 
     def show(self) -> int:
         with self.pool() as conn:
@@ -232,73 +222,32 @@ class _Command:
                 row = cursor.fetchone()
                 if row is None:
                     break
-                print(_shown(row[0]), _made_by(row[1]))
+                print(shown(row[0]), _made_by(row[1]))
             cursor.close()
         return 0
 
+    def importing(self, accounts: Accounts) -> Import:
+        return Import(accounts, self.dialect, self.pool)
+
     def take(self) -> int:
         """The import: whole batches are committed, and what stands already stays."""
-        accounts, counts = self.accounts(), {"added": 0, "there": 0, "another": 0}
-        with open(self.given.file, encoding="utf-8") as file:
-            lines = list(self._records(file))
-        begun, done = time.monotonic(), 0
-        for start in range(0, len(lines), BATCH):
-            batch = lines[start : start + BATCH]
-            for word in self._batch(accounts, batch):
-                counts[word] += 1
-            done += len(batch)
-            _progress(done, len(lines), begun)
-        if counts["another"]:
-            print(f"{counts['another']} accounts have another record, which stays")
-        print(f"{counts['added']} added, {counts['there']} there already")
-        return 1 if counts["another"] else 0
+        return self.importing(self.accounts()).take(
+            self.given.file, self.key, lambda text: self._check_record(text)
+        )
 
-    def _records(self, lines: Iterable[str]) -> Iterator[tuple[Key, str]]:
-        """The names and records of an import, all read before anything is put."""
-        for number, line in enumerate(lines, 1):
-            name, _, record = line.rstrip("\r\n").rpartition(" ")
-            if not name:
-                raise Refusal(f'line {number} is no "NAME RECORD"')
-            key = self.key(name)
-            if not self.dialect.can_stand(key):
-                raise Refusal(f"line {number}: no column holds this name")
-            try:
-                parts(record)
-            except InvalidRecordError as fault:
-                if not (self.given.foreign and FOREIGN.fullmatch(record)):
-                    raise Refusal(f"line {number}: {_why(record, fault)}") from None
-            yield key, record
-
-    def _batch(self, accounts: Accounts, batch: Sequence[tuple[Key, str]]) -> list[str]:
-        with self.pool() as conn:
-            on_connection(conn, _one(Statement(self.dialect.begin)))
-            words = [self._imported(conn, accounts, *line) for line in batch]
-            on_connection(conn, self.dialect.commit(conn))
-        return words
-
-    def _imported(self, conn: Any, accounts: Accounts, key: Key, record: str) -> str:
-        ticket = Ticket(Request(Kind.ENROL, key), None)
-        answer = self._put(conn, accounts, Worked(ticket, Reply.ENROLLED, record))
-        if answer.reply is Reply.ENROLLED:
-            return "added"
-        return "there" if answer.after == record else "another"
-
-    def _put(self, conn: Any, accounts: Accounts, worked: Worked) -> Answer:
-        """An enrolment in the open transaction, of an account that may not be there."""
-        key = worked.ticket.request.key
-        rows = on_connection(conn, _one(Statement(self.dialect.select, (key,)))).rows
-        if not rows:
-            on_connection(conn, _one(Statement(self.dialect.insert, (key,))))
-        answer = accounts.commit_in(conn, worked)
-        if answer.reply is Reply.NO_ACCOUNT:
-            raise Refusal(f"the server keeps another name than {_shown(key)}")
-        if answer.reply is Reply.CHANGED:
-            if answer.after is None:
-                raise Refusal("the account's row takes no record")
-            return Answer(Reply.EXISTS, answer.after, answer.after)
-        return answer
+    def _check_record(self, record: str) -> Optional[str]:
+        """What is wrong with a line's record."""
+        try:
+            parts(record)
+        except InvalidRecordError as fault:
+            if not (self.given.foreign and _is_foreign(record)):
+                return _why(record, fault)
+        return None
 
     def torture(self) -> int:
+        from rigzumal.accounts import torture
+        from rigzumal.accounts.torture import logs
+
         given = self.given
         table = "rigzumal_torture" if given.table == "accounts" else given.table
         run = torture.Torture(given.database, table, kill=given.kill)
@@ -323,14 +272,9 @@ class _Command:
         return 0
 
 
-def _one(statement: Statement) -> Job[Result]:
-    return (yield statement)
-
-
-def _shown(name: object) -> str:
-    """A name as it may stand on a terminal: who chose it may have meant to write there."""
-    text = str(name)
-    return text if text.isprintable() else ascii(text)
+def _is_foreign(record: str) -> bool:
+    """Whether a column of ours holds it: 1 to 512 letters of ASCII without blanks."""
+    return 0 < len(record) <= 512 and all("!" <= it <= "~" for it in record)
 
 
 def _said(reply: Reply, *good: Reply) -> int:
@@ -357,18 +301,6 @@ def _why(record: object, fault: InvalidRecordError) -> str:
     """What is wrong with a record, with the scheme of another program's."""
     scheme = none_of_ours(record) if isinstance(record, str) else ""
     return f"{scheme}, and {fault}" if scheme else str(fault)
-
-
-def _progress(done: int, total: int, begun: float) -> None:
-    """A bar on standard error, if it is a terminal and the import is long."""
-    if not sys.stderr.isatty() or total <= BATCH:
-        return
-    took = time.monotonic() - begun
-    left = took / done * (total - done)
-    bar = "#" * (40 * done // total)
-    end = "\n" if done == total else ""
-    text = f"\r[{bar:40}] {done} of {total}, {left:.0f} s left "
-    print(text, end=end, file=sys.stderr, flush=True)
 
 
 def _password(twice: bool = False) -> bytes:

@@ -18,7 +18,7 @@ from dataclasses import dataclass, field
 from typing import Any
 from urllib.parse import unquote
 
-from rigzumal.accounts.dialects import Dialect, MariaDB, Postgres, Sqlite
+from rigzumal.accounts.dialects import Dialect, MariaDB, MySQL, Postgres, Sqlite
 
 _MYSQL = re.compile(r"(?:([^:@/]*)(?::([^@/]*))?@)?([^/]*)/(.*)")
 
@@ -50,10 +50,14 @@ class Database:
             # SQLite would make a database that goes with the connection.
             raise ValueError("a database of SQLite is a file: sqlite:///path")
 
-    def dialect(self, table: str, key: str, record: str, key_type: type) -> Dialect:
-        """The dialect for one table of it."""
-        dialects = {"sqlite": Sqlite, "postgresql": Postgres, "mysql": MariaDB}
-        return dialects[self.kind](table, key, record, key_type)
+    def dialect_kind(self) -> type[Dialect]:
+        """The dialect of its engine: of MariaDB and MySQL the server says which it is."""
+        if self.kind == "mysql":
+            conn = self.connect()
+            name = conn.get_server_info()
+            conn.close()
+            return MariaDB if "MariaDB" in name else MySQL
+        return Sqlite if self.kind == "sqlite" else Postgres
 
     def connect(self) -> Any:
         """A connection in autocommit.
@@ -94,7 +98,7 @@ class Database:
                     host=host,
                     port=int(port or 3306),
                     user=unquote(user or ""),
-                    password=unquote(password or os.environ.get("MYSQL_PWD", "")),
+                    password=unquote(password or "") or os.environ.get("MYSQL_PWD", ""),
                     database=unquote(name),
                     autocommit=True,
                     connect_timeout=5,

@@ -1,7 +1,8 @@
-"""The smallest pool. psycopg_pool's `connection` is one too, in autocommit.
+"""The smallest pools, and SQLAlchemy's. psycopg_pool's `connection` is one as it is.
 
-A pool of your own closes a connection, or rolls it back, after any exception: after
-BaseException too, by which threads are interrupted and tasks cancelled.
+A pool is called for a context manager of a connection in autocommit. A pool of your own
+closes a connection, or rolls it back, after any exception: after BaseException too, by
+which threads are interrupted and tasks cancelled.
 
     @contextmanager
     def pool():
@@ -20,11 +21,17 @@ from __future__ import annotations
 
 import os
 import threading
-from collections.abc import Callable, Iterator
-from contextlib import AbstractContextManager, contextmanager
+from collections.abc import AsyncIterator, Awaitable, Callable, Iterator
+from contextlib import (
+    AbstractAsyncContextManager,
+    AbstractContextManager,
+    asynccontextmanager,
+    contextmanager,
+)
 from typing import Any, Optional
 
 Pool = Callable[[], AbstractContextManager[Any]]
+AsyncPool = Callable[[], AbstractAsyncContextManager[Any]]
 
 
 class _Held:
@@ -93,3 +100,68 @@ class PerThread:
         if held is None:
             held = self._local.held = _Held(self._connect())
         return held
+
+
+class PerUse:
+    """A connection for each use, for AsyncAccounts.
+
+    Args:
+        connect: makes an asynchronous connection in autocommit.
+    """
+
+    def __init__(self, connect: Callable[[], Awaitable[Any]]) -> None:
+        self._connect = connect
+
+    @asynccontextmanager
+    async def __call__(self) -> AsyncIterator[Any]:
+        conn = await self._connect()
+        try:
+            yield conn
+        finally:
+            await conn.close()
+
+
+def of_engine(engine: Any) -> Any:
+    """The pool of an engine of SQLAlchemy, 1.4 or 2.0.
+
+    Of an Engine it is one for Accounts, of an AsyncEngine one for AsyncAccounts. The
+    engine is made with isolation_level="AUTOCOMMIT", or is
+    `engine.execution_options(isolation_level="AUTOCOMMIT")`.
+    """
+
+    @contextmanager
+    def pool() -> Iterator[Any]:
+        with _connected(engine.connect) as conn:
+            try:
+                yield conn.connection.driver_connection
+            except BaseException:
+                conn.invalidate()
+                raise
+
+    @asynccontextmanager
+    async def awaited() -> AsyncIterator[Any]:
+        try:
+            conn = await engine.connect()
+        except Exception as error:
+            raise _drivers(error)
+        try:
+            yield (await conn.get_raw_connection()).driver_connection
+        except BaseException:
+            await conn.invalidate()
+            raise
+        finally:
+            await conn.close()
+
+    return awaited if hasattr(engine, "sync_engine") else pool
+
+
+def _connected(connect: Callable[[], Any]) -> Any:
+    try:
+        return connect()
+    except Exception as error:
+        raise _drivers(error)
+
+
+def _drivers(error: Exception) -> BaseException:
+    """The driver's own error within SQLAlchemy's, by which one knows what it means."""
+    return getattr(error, "orig", None) or error

@@ -19,9 +19,11 @@ import statistics
 import sys
 import time
 
+import support  # noqa: F401: finds the package
 import servers
 from rigzumal import PasswordHasher
-from rigzumal.accounts import Accounts, PerThread, _accounts
+from rigzumal.accounts import Accounts, PerThread
+from rigzumal.accounts._session import BlockingSession
 from rigzumal.accounts.database import Database
 
 COUNT = 1000
@@ -29,7 +31,8 @@ CHEAP = PasswordHasher(time_cost=1, memory_cost=64, parallelism=1)
 DEAR = PasswordHasher(time_cost=3, memory_cost=65536, parallelism=1)
 CHANGE, PLAIN, BRACED = "change", "plain UPDATE", "plain UPDATE in BEGIN, COMMIT"
 SEVERAL = "change in a transaction"
-ROWS = ("hash", "verify", "login 95, change 5", CHANGE, SEVERAL, PLAIN, BRACED)
+LOGIN, LOOK = "login", "plain login"
+ROWS = ("hash", LOOK, LOGIN, "login 95, change 5", CHANGE, SEVERAL, PLAIN, BRACED)
 
 
 def connect(url, number=0):
@@ -47,9 +50,10 @@ class Load:
     def __init__(self, url, number=0):
         self.rng = random.Random(number)
         self.pool = PerThread(lambda: connect(url, number))
-        self.dialect = Database(url).dialect("bench", "name", "record", str)
+        kind = Database(url).dialect_kind()
+        self.dialect = kind("bench", "name", "record", str)
         self.accounts = Accounts(self.pool, self.dialect, CHEAP, patience=30, tries=50)
-        several = Database(url).dialect("bench", "name", "record", str)
+        several = kind("bench", "name", "record", str)
         several.at_once = ""
         self.several = Accounts(self.pool, several, CHEAP, patience=30, tries=50)
         self.record = CHEAP.hash("pw")
@@ -61,8 +65,10 @@ class Load:
     def act(self, row):
         if row == "hash":
             CHEAP.verify(self.record, "pw")
-        elif row == "verify":
-            self.accounts.verify(self.name(), "pw")
+        elif row == LOGIN:
+            self.accounts.login(self.name(), "pw")
+        elif row == LOOK:
+            self.look(self.name())
         elif row in (PLAIN, BRACED):
             self.update(self.name(), row == BRACED)
         elif row == SEVERAL:
@@ -71,6 +77,15 @@ class Load:
             self.accounts.change(self.name(), "pw", "pw")
         else:
             self.accounts.login(self.name(), "pw")
+
+    def look(self, name):
+        """As services do it: a SELECT and a hash."""
+        with self.pool() as conn:
+            cursor = conn.cursor()
+            cursor.execute(self.dialect.select, (name,))
+            ((record,),) = cursor.fetchall()
+            cursor.close()
+        CHEAP.verify(record, "pw")
 
     def update(self, name, is_braced, hasher=CHEAP):
         """As services do it: read, verify, hash, and update with no comparison."""
@@ -138,22 +153,23 @@ def table(engine, url, counts, seconds, turns):
     for row in (PLAIN, BRACED):
         parts = (f"{middle[CHANGE, it] / middle[row, it]:.2f}" for it in counts)
         print(f"| change of a {row} | {' | '.join(parts)} |", flush=True)
+    parts = (f"{middle[LOGIN, it] / middle[LOOK, it]:.2f}" for it in counts)
+    print(f"| login of a {LOOK} | {' | '.join(parts)} |", flush=True)
 
 
 def statements(url):
     """What each operation sends, with the medians of the times that it takes, in ms."""
-    load, execute = Load(url), _accounts._execute
+    load, execute = Load(url), BlockingSession.execute
     lines = []
 
-    def timed(conn, statement):
+    async def timed(session, sql, *values):
         begun = time.perf_counter()
-        result = execute(conn, statement)
-        word = statement.sql.split()[0]
-        found.append((word, 1000 * (time.perf_counter() - begun)))
+        result = await execute(session, sql, *values)
+        found.append((sql.split()[0], 1000 * (time.perf_counter() - begun)))
         return result
 
-    _accounts._execute = timed
-    for row in ("verify", CHANGE):
+    BlockingSession.execute = timed
+    for row in (LOGIN, CHANGE):
         took = collections.defaultdict(list)
         for _ in range(300):
             found = []
@@ -167,7 +183,7 @@ def statements(url):
             if len(it) > 150
         )
         lines.append(f"{row}: {', '.join(said)}")
-    _accounts._execute = execute
+    BlockingSession.execute = execute
     load.pool.close()
     return "; ".join(lines)
 
@@ -177,7 +193,7 @@ def share(url):
     load = Load(url)
     accounts = Accounts(load.pool, load.dialect, DEAR)
     accounts.reset("user0", "pw")
-    work, said = accounts._judge.work, {}
+    work, said = accounts._operations._judge.work, {}
 
     def timed(ticket):
         begun = time.perf_counter()
@@ -185,7 +201,7 @@ def share(url):
         hashed.append(time.perf_counter() - begun)
         return worked
 
-    accounts._judge.work = timed
+    accounts._operations._judge.work = timed
     for name, act in (
         ("verify", lambda: accounts.verify("user0", "pw")),
         ("change", lambda: accounts.change("user0", "pw", "pw")),
@@ -208,7 +224,7 @@ def times():
     url = f"sqlite:///{servers.ROOM}/times.db"
     fill(url)
     pool = PerThread(lambda: connect(url))
-    dialect = Database(url).dialect("bench", "name", "record", str)
+    dialect = Database(url).dialect_kind()("bench", "name", "record", str)
     accounts = Accounts(pool, dialect, hasher)
     accounts.reset("user0", "pw")
     with pool() as conn:
@@ -234,7 +250,7 @@ def fill(url):
     conn = database.connect()
     if database.kind == "sqlite":
         conn.execute("PRAGMA journal_mode = WAL")
-    dialect = database.dialect("bench", "name", "record", str)
+    dialect = database.dialect_kind()("bench", "name", "record", str)
     cursor = conn.cursor()
     cursor.execute(dialect.create())
     record = CHEAP.hash("pw")

@@ -1,5 +1,6 @@
 """What is altered in the accounts of a torture, to see that it is legal or refused."""
 
+import dataclasses
 import os
 import random
 import threading
@@ -7,15 +8,23 @@ import time
 from contextlib import asynccontextmanager, contextmanager, suppress
 
 from rigzumal.accounts import OutcomeUnknown, PerThread, Postgres, Sqlite
-from rigzumal.accounts._accounts import on_connection
-from rigzumal.accounts._jobs import Statement
-from rigzumal.accounts._plans import Pause, Source
-from rigzumal.accounts._values import Answer
+from rigzumal.accounts._session import BlockingSession, run
+from rigzumal.accounts.parts import Answer
+
+
+def core(accounts):
+    """The coroutines of accounts, blocking or asyncio's."""
+    return getattr(accounts, "_operations", accounts)
+
+
+def take_pool(operations, pool):
+    """Gives accounts another pool."""
+    operations._connections = dataclasses.replace(operations._connections, primary=pool)
 
 
 def uncompared(accounts):
     """The UPDATE puts the record whatever stands."""
-    dialect = accounts._method.dialect
+    dialect = core(accounts)._dialect
     mark = "%s::text" if isinstance(dialect, Postgres) else dialect.mark
     dialect.at_once = ""
     front, _, back = dialect.update.partition(" AND ")
@@ -25,51 +34,51 @@ def uncompared(accounts):
 
 def uncounted(accounts):
     """Nobody asks how many rows were updated."""
-    method = accounts._method
-    method.dialect.at_once = ""
-    compare = method.compare
+    table = core(accounts)._table
+    table.dialect.at_once = ""
+    compare = table.compare
 
-    def careless(worked):
+    async def careless(session, worked):
         if not worked.reply.makes_change:
-            return (yield from compare(worked))
+            return await compare(session, worked)
         put = (worked.after, worked.ticket.request.key, worked.ticket.copy)
-        yield Statement(method.dialect.update, put)
+        await session.execute(table.dialect.update, *put)
         return Answer(worked.reply, worked.ticket.copy, worked.after)
 
-    method.compare = careless
+    table.compare = careless
 
 
 def snapshots(accounts):
     """All is read in a transaction of REPEATABLE READ that lasts for twenty reads."""
-    method, pool, seen = accounts._method, accounts._pools[Source.PRIMARY], [0, None]
+    operations, seen = core(accounts), [0, None]
+    table, pool = operations._table, operations._connections.primary
 
-    def look(conn, key):
+    async def look(session, key):
         if seen[0] % 20 == 0:
             if seen[1]:
                 seen[1].rollback()
             seen[1] = seen[1] or pool._connect()
-            if isinstance(method.dialect, Postgres):
+            if isinstance(table.dialect, Postgres):
                 seen[1].execute("BEGIN ISOLATION LEVEL REPEATABLE READ")
             else:
                 seen[1].begin()
         seen[0] += 1
-        return on_connection(seen[1], method.one(method.dialect.select, key))
-        yield
+        return await table.one(BlockingSession(seen[1]), table.dialect.select, key)
 
-    method.look = look
+    table.look = look
 
 
 def unlooked(accounts):
     """What makes no change is answered at the copy, with no look at the primary."""
-    method = accounts._method
-    commit = method.commit
+    operations = core(accounts)
+    commit = operations._commit
 
-    def blind(worked, patience=None):
+    async def blind(worked, *given):
         if worked.reply.makes_change:
-            return (yield from commit(worked, patience))
+            return await commit(worked, *given)
         return Answer(worked.reply, worked.ticket.copy, worked.ticket.copy)
 
-    method.commit = blind
+    operations._commit = blind
 
 
 class LeavesOpen(PerThread):
@@ -133,15 +142,19 @@ WAYS = ("raises", "swallows", "interrupted", "rolls back")
 def queued(accounts):
     """Answers of COMMITs are lost, and each process has a pool of another way."""
     lossy(accounts, lambda connect: Queue(connect, random.choice(WAYS)))
-    run = accounts._run
+    operations = core(accounts)
+    for name in ("_perform", "_commit"):
+        setattr(operations, name, unknown_if_left(getattr(operations, name)))
 
-    def ran(plan):
+
+def unknown_if_left(act):
+    async def acted(*given):
         try:
-            return run(plan)
+            return await act(*given)
         except Left:
             raise OutcomeUnknown from None
 
-    accounts._run = ran
+    return acted
 
 
 def lossy(accounts, pool=LeavesOpen):
@@ -149,8 +162,8 @@ def lossy(accounts, pool=LeavesOpen):
 
     A pool that rolls back leaves none of them to come: there the connection breaks.
     """
-    dialect = accounts._method.dialect
-    connect = accounts._pools[Source.PRIMARY]._connect
+    operations = core(accounts)
+    dialect, connect = operations._dialect, operations._connections.primary._connect
     if isinstance(dialect, Sqlite):
         import sqlite3
 
@@ -160,7 +173,7 @@ def lossy(accounts, pool=LeavesOpen):
             given = {"isolation_level": None, "check_same_thread": False}
             return sqlite3.connect(path, timeout=20, **given)
 
-    accounts._pools = dict.fromkeys(Source, pool(connect))
+    take_pool(operations, pool(connect))
     for name in ("commit", "put_at_once"):
         setattr(dialect, name, sometimes(getattr(dialect, name), pool is LeavesOpen))
 
@@ -169,27 +182,27 @@ def sometimes(commit, leaves_open):
     """What commits, with an answer that is lost at times."""
     rng = random.Random(os.urandom(8))
 
-    def late(conn, *given):
+    def late(session, *given):
         time.sleep(rng.uniform(0, 0.1))
         try:
-            on_connection(conn, commit(conn, *given))
-            conn.close()
+            run(commit(session, *given))
+            session.conn.close()
         except Exception:
             pass
 
-    def committed(conn, *given):
+    async def committed(session, *given):
         fate = rng.random()
         if fate < 0.1:
-            conn.close()
+            session.conn.close()
         elif fate < 0.3 and not leaves_open:
-            yield from commit(conn, *given)
-            conn.close()
+            await commit(session, *given)
+            session.conn.close()
         elif fate < 0.2:
-            yield from commit(conn, *given)
+            await commit(session, *given)
         elif fate < 0.3:
-            threading.Thread(target=late, args=(conn, *given)).start()
+            threading.Thread(target=late, args=(session, *given)).start()
         else:
-            return (yield from commit(conn, *given))
+            return await commit(session, *given)
         raise ConnectionError("planted")
 
     return committed
@@ -197,7 +210,7 @@ def sometimes(commit, leaves_open):
 
 def queued_tasks(accounts):
     """The same for a task: COMMITs lose their answers, in a pool of some way."""
-    connect = accounts._pools[Source.PRIMARY]._connect
+    connect = accounts._connections.primary._connect
     idle, way = [], random.choice(("closes", "raises", "swallows"))
 
     @asynccontextmanager
@@ -215,16 +228,16 @@ def queued_tasks(accounts):
             if way != "swallows":
                 raise
 
-    accounts._pools = dict.fromkeys(Source, pool)
-    dialect = accounts._method.dialect
+    take_pool(accounts, pool)
+    dialect = accounts._dialect
 
     def losing(commit):
-        def committed(conn, *given):
+        async def committed(session, *given):
             fate, done = random.random(), None
             if 0.1 < fate:
-                done = yield from commit(conn, *given)
+                done = await commit(session, *given)
             if fate < 0.2:
-                conn.pgconn.finish()
+                session.conn.pgconn.finish()
                 raise ConnectionError("planted")
             return done
 
@@ -237,33 +250,34 @@ def queued_tasks(accounts):
 def resent(accounts):
     """COMMITs are lost, and what was lost is done again from its beginning."""
     lossy(accounts)
-    method = accounts._method
+    operations = core(accounts)
 
-    def again(worked):
-        return (yield from method.perform(worked.ticket.request))
+    async def again(worked, also):
+        return await operations._perform(worked.ticket.request, also)
 
-    method._settled = again
+    operations._settled = again
 
 
 def resent_at_none(accounts):
     """An enrolment whose COMMIT was lost is sent again if no record stands."""
     lossy(accounts)
-    method, settled = accounts._method, accounts._method._settled
+    operations = core(accounts)
+    settled = operations._settled
 
-    def again(worked):
+    async def again(worked, also):
         if worked.ticket.copy is not None:
-            return (yield from settled(worked))
+            return await settled(worked, also)
         # Long enough for another to remove what was put.
-        yield Pause(0.05)
+        time.sleep(0.05)
         while True:
-            now = (yield from method.begin(worked.ticket.request)).copy
+            now = (await operations.begin(worked.ticket.request)).copy
             if now is not None and now != worked.after:
-                return (yield from settled(worked))
+                return await settled(worked, also)
             if now == worked.after:
                 return Answer(worked.reply, None, worked.after)
             try:
-                yield from method._patiently(method.change(worked), None)
+                await operations._change(worked, also)
             except Exception:
                 pass
 
-    method._settled = again
+    operations._settled = again

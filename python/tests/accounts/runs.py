@@ -8,7 +8,8 @@ import time
 import traceback
 
 import servers
-from rigzumal.accounts import logs, torture
+from rigzumal.accounts import torture
+from rigzumal.accounts.torture import logs
 
 SECONDS = float(os.environ.get("RIGZUMAL_SECONDS", "8"))
 

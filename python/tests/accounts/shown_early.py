@@ -6,10 +6,11 @@ import random
 import signal
 import time
 
-from rigzumal.accounts import Accounts, MariaDB, PerThread, Reply, torture
+from rigzumal.accounts import Accounts, MariaDB, PerThread, Reply
+from rigzumal.accounts.torture._worker import LOW, hasher
 
 DIALECT = MariaDB("shown_early", "name", "record")
-CHEAP = torture.hasher(torture.LOW)
+CHEAP = hasher(LOW)
 
 
 class Crashes:

@@ -2,14 +2,24 @@
 
 import contextlib
 import os
+import pathlib
 import sqlite3
+import sys
 import tempfile
 import unittest
+import warnings
 from unittest import mock
+
+PACKAGE = pathlib.Path(__file__).resolve().parents[2]
+sys.path.insert(0, str(PACKAGE))
+_PATHS = (str(PACKAGE), os.environ.get("PYTHONPATH"))
+os.environ["PYTHONPATH"] = os.pathsep.join(filter(None, _PATHS))
 
 import rigzumal
 from rigzumal import PasswordHasher
-from rigzumal.accounts import Accounts, Kind, PerThread, Sqlite, _judgement
+from rigzumal.accounts import Accounts, PerThread, Sqlite, _judgement
+from rigzumal.accounts._session import BlockingSession
+from rigzumal.accounts.parts import Kind
 
 
 LOW = PasswordHasher(time_cost=1, memory_cost=64, parallelism=1)
@@ -21,6 +31,10 @@ READS = (Kind.VERIFY, Kind.CHANGE, Kind.UPGRADE, Kind.REMOVE)
 
 class Base(unittest.TestCase):
     def setUp(self):
+        caught = warnings.catch_warnings()
+        caught.__enter__()
+        self.addCleanup(caught.__exit__, None, None, None)
+        warnings.simplefilter("error")
         folder = tempfile.TemporaryDirectory()
         self.addCleanup(folder.cleanup)
         self.path = os.path.join(folder.name, "accounts.db")
@@ -41,9 +55,7 @@ class Base(unittest.TestCase):
 
     def losing(self, before, times=1, kind=sqlite3.OperationalError, **more):
         """Accounts whose first COMMITs break: before they are done, or after."""
-        accounts = self.accounts(patience=0.5, **more)
-        accounts._method.dialect = losing(before, times, kind)
-        return accounts
+        return self.accounts(patience=0.5, dialect=losing(before, times, kind), **more)
 
     def put(self, name, record):
         self.conn.execute("DELETE FROM users WHERE name = ?", (name,))
@@ -65,16 +77,45 @@ def losing(before, times=1, kind=sqlite3.OperationalError):
     dialect = Sqlite("users", "name", "record")
     commit, left = dialect.commit, [times]
 
-    def breaks(conn):
+    async def breaks(session):
         left[0] -= 1
         if left[0] < 0:
-            return (yield from commit(conn))
+            return await commit(session)
         if not before:
-            yield from commit(conn)
+            await commit(session)
         raise kind("disk I/O error")
 
     dialect.commit = breaks
     return dialect
+
+
+@contextlib.contextmanager
+def sent(kind=BlockingSession):
+    """The first words of the statements that are sent within."""
+    found, execute = [], kind.execute
+
+    async def noted(session, sql, *values):
+        found.append(sql.split()[0])
+        return await execute(session, sql, *values)
+
+    with mock.patch.object(kind, "execute", noted):
+        yield found
+
+
+class Scripted:
+    """A session that answers what it is told, one statement after another."""
+
+    conn = None
+
+    def __init__(self, *answers):
+        self.answers, self.statements = list(answers), []
+
+    async def execute(self, sql, *values):
+        self.statements.append((sql, values))
+        answer = self.answers.pop(0)
+        if isinstance(answer, Exception):
+            raise answer
+        return answer
 
 
 @contextlib.contextmanager

@@ -7,7 +7,9 @@ import threading
 import unittest
 
 from support import LOW, Awaiting, Base
-from rigzumal.accounts import Kind, Reply, Request, StoreFault, aio
+from rigzumal.accounts import AsyncAccounts, Reply, StoreFault
+from rigzumal.accounts.parts import Kind, Request
+from rigzumal.accounts.pools import PerUse
 
 
 class Awaited(Base):
@@ -24,7 +26,7 @@ class Awaited(Base):
         yield Awaiting(self.conn)
 
     def awaiting(self, pool=None, **more):
-        return aio.Accounts(pool or self.used, self.dialect, LOW, **more)
+        return AsyncAccounts(pool or self.used, self.dialect, LOW, **more)
 
     def test_operations(self):
         async def act():
@@ -97,12 +99,12 @@ class Awaited(Base):
             made.append(self.connect())
             return Awaiting(made[-1])
 
-        accounts = self.awaiting(aio.PerUse(connect))
+        accounts = self.awaiting(PerUse(connect))
         self.assertIs(asyncio.run(accounts.verify("ann", "one")), Reply.YES)
         self.conn.execute("DROP TABLE users")
         with self.assertRaises(StoreFault):
             asyncio.run(accounts.verify("ann", "one"))
-        self.assertEqual(len(made), 3)
+        self.assertEqual(len(made), 2)
         for conn in made:
             with self.assertRaises(sqlite3.ProgrammingError):
                 conn.execute("SELECT 1")

@@ -8,9 +8,10 @@ from unittest import mock
 
 import engines
 import servers
+import support
 from engines import HIGH, LOW
-from rigzumal.accounts import Accounts, Kind, MariaDB, OutcomeUnknown, Postgres, Reply
-from rigzumal.accounts import StoreFault, _accounts
+from rigzumal.accounts import Accounts, MariaDB, OutcomeUnknown, Postgres, Reply, StoreFault
+from rigzumal.accounts.parts import Kind
 
 
 class AtOnce:
@@ -23,13 +24,7 @@ class AtOnce:
 
     def sent(self, act):
         """What an operation sends after its first look."""
-        found, execute = [], _accounts._execute
-
-        def noted(conn, statement):
-            found.append(statement.sql.split()[0])
-            return execute(conn, statement)
-
-        with mock.patch.object(_accounts, "_execute", noted):
+        with support.sent() as found:
             reply = act()
         return reply, " ".join(found[1:])
 
@@ -76,7 +71,7 @@ class AtOnce:
         def told(worked):
             seen.append((worked.reply, LOW.verify(self.stands(), "one")))
 
-        accounts._method.before_commit = told
+        accounts._operations._table.before_commit = told
         self.assertIs(accounts.change("ann", "one", "two"), Reply.REPLACED)
         self.assertEqual(seen, [(Reply.REPLACED, True)])
 
@@ -102,12 +97,12 @@ class AtOnce:
         """The statement's answer is lost, before it was done or after."""
         put, left = self.dialect.put_at_once, [times]
 
-        def breaks(conn, *given):
+        async def breaks(session, *given):
             left[0] -= 1
             if left[0] < 0:
-                return (yield from put(conn, *given))
+                return await put(session, *given)
             if is_done:
-                yield from put(conn, *given)
+                await put(session, *given)
             raise ConnectionError("planted")
 
         return mock.patch.object(self.dialect, "put_at_once", breaks)
@@ -126,13 +121,13 @@ class AtOnce:
         for is_done in (False, True):
             self.put(LOW.hash("one"))
             accounts = self.accounts()
-            settled = accounts._method._settled
+            settled = accounts._operations._settled
 
-            def later(worked):
+            def later(*given):
                 self.put(LOW.hash("another"))
-                return settled(worked)
+                return settled(*given)
 
-            accounts._method._settled = later
+            accounts._operations._settled = later
             with self.lost(is_done), self.assertRaises(OutcomeUnknown):
                 accounts.change("ann", "one", "two")
             self.assertTrue(LOW.verify(self.stands(), "another"))
@@ -199,7 +194,7 @@ class AtOnce:
         self.assertIs(accounts.change("ann", "one", "one"), Reply.REPLACED)
         self.assertIs(accounts.commit(worked).reply, Reply.CHANGED)
         self.execute("ALTER TABLE users ADD CHECK (record LIKE '%%m=64,%%')")
-        dearer = Accounts(accounts._pools.popitem()[1], self.dialect, HIGH)
+        dearer = Accounts(accounts._operations._connections.primary, self.dialect, HIGH)
         for _ in range(2):
             with self.assertRaisesRegex(StoreFault, self.check_number):
                 dearer.change("ann", "one", "two")

@@ -12,8 +12,7 @@ import unittest
 from unittest import mock
 
 from support import LOW, Base
-from rigzumal.accounts import Answer, cli
-from rigzumal.accounts._method import Method
+from rigzumal.accounts import cli
 from rigzumal.accounts.database import Database
 
 

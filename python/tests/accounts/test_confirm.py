@@ -9,9 +9,18 @@ from unittest import mock
 import engines
 import servers
 import support
-from rigzumal.accounts import Accounts, Kind, MariaDB, Postgres, Reply, Request
-from rigzumal.accounts import StoreFault, Unavailable, _accounts, aio
-from rigzumal.accounts._jobs import Result
+from rigzumal.accounts import (
+    Accounts,
+    AsyncAccounts,
+    MariaDB,
+    Postgres,
+    Reply,
+    StoreFault,
+    Unavailable,
+)
+from rigzumal.accounts.parts import Kind, Request
+from rigzumal.accounts._session import Result, run
+from rigzumal.accounts.dialects import mariadb
 
 # The transaction of an answer at a record, and at none.
 SENT = {
@@ -28,13 +37,7 @@ class Confirmed:
 
     def sent(self, conn, act):
         """What an operation sends after its first look."""
-        found, execute = [], _accounts._execute
-
-        def noted(conn, statement):
-            found.append(statement.sql.split()[0])
-            return execute(conn, statement)
-
-        with mock.patch.object(_accounts, "_execute", noted):
+        with support.sent() as found:
             reply = act()
         self.assertEqual(found[0], "SELECT")
         return reply, " ".join(found[1:])
@@ -63,12 +66,7 @@ class Confirmed:
             (record, lambda: accounts.enrol("ann", "x"), Reply.EXISTS, at_record),
             (None, lambda: accounts.verify("ann", "one"), Reply.ABSENT, at_none),
             (None, lambda: accounts.login("ann", "one"), Reply.ABSENT, at_none),
-            (
-                record,
-                lambda: accounts.verify("bob", "one"),
-                Reply.NO_ACCOUNT,
-                "SELECT",
-            ),
+            (record, lambda: accounts.verify("bob", "one"), Reply.NO_ACCOUNT, ""),
         ):
             self.place(stands)
             with self.subTest(reply=reply, stands=stands):
@@ -91,15 +89,15 @@ class Confirmed:
                 self.assertEqual(answer.after, other)
                 self.assertEqual(self.stands(), other)
                 self.place(stands)
-                work = accounts._judge.work
+                work = accounts._operations._judge.work
 
                 def slowly(ticket):
                     worked = work(ticket)
-                    accounts._judge.work = work
+                    accounts._operations._judge.work = work
                     self.place(other)
                     return worked
 
-                accounts._judge.work = slowly
+                accounts._operations._judge.work = slowly
                 wanted = Reply.ABSENT if other is None else Reply.NO
                 self.assertIs(accounts.verify("ann", "one"), wanted)
                 self.assertEqual(self.stands(), other)
@@ -107,7 +105,7 @@ class Confirmed:
     def test_a_commit_without_an_answer(self):
         """Nothing was changed, so it is sent again; the answer is no unknown one."""
         accounts = self.confirming()
-        dialect = accounts._method.dialect
+        dialect = self.dialect
         commit = dialect.commit
         for stands, reply in (
             (support.LOW.hash("one"), Reply.YES),
@@ -116,11 +114,11 @@ class Confirmed:
             self.place(stands)
             left = [2]
 
-            def breaks(conn):
+            async def breaks(session):
                 left[0] -= 1
                 if left[0] >= 0:
                     raise self.lost
-                return (yield from commit(conn))
+                return await commit(session)
 
             with mock.patch.object(dialect, "commit", breaks):
                 self.assertIs(accounts.verify("ann", "one"), reply)
@@ -151,10 +149,10 @@ class OnSqlite(Confirmed, support.Base):
         async def pool():
             yield conn
 
-        accounts = aio.Accounts(pool, self.dialect, support.LOW, confirm=True)
-        self.assertTrue(accounts._method.confirm)
-        plain = aio.Accounts(pool, self.dialect, support.LOW)
-        self.assertFalse(plain._method.confirm)
+        accounts = AsyncAccounts(pool, self.dialect, support.LOW, confirm=True)
+        self.assertTrue(accounts._table.confirm)
+        plain = AsyncAccounts(pool, self.dialect, support.LOW)
+        self.assertFalse(plain._table.confirm)
 
 
 class OnServer(Confirmed):
@@ -181,8 +179,7 @@ class OnPostgres(OnServer, engines.Base):
     def test_it_waits_for_the_standby(self):
         """A look answers by what may not be there; a confirmed one never does."""
         self.put(support.LOW.hash("one"))
-        plain, confirming = self.accounts(), self.confirming()
-        confirming._method.patience = 0.5
+        plain, confirming = self.accounts(), self.accounts(confirm=True, patience=0.5)
         self.server.set(synchronous_standby_names="nobody")
         try:
             self.assertIs(plain.verify("ann", "one"), Reply.YES)
@@ -242,8 +239,6 @@ class OnMariaDB(OnServer, engines.Base):
 
     def test_what_examine_says_without_a_binary_log(self):
         """It is a fault where looks aren't confirmed."""
-        from rigzumal.accounts import _examine
-
         said = "log_bin is OFF: a crash may take a change by which a login was answered"
         for seen, words in (
             ({"log_bin": "OFF"}, (said,)),
@@ -251,26 +246,27 @@ class OnMariaDB(OnServer, engines.Base):
             ({"log_bin": "ON"}, ()),
             ({"log_bin": "OFF", "wsrep_on": "ON"}, ()),
         ):
-            self.assertEqual(_examine._shown_early(seen), words)
-        with mock.patch.object(_examine, "_shown_early", return_value=(said,)):
-            self.assertEqual(self.accounts().examine(), [said])
+            self.assertEqual(tuple(map(str, mariadb.shown_early(seen))), words)
+        early = mariadb.shown_early({})
+        with mock.patch.object(mariadb, "shown_early", return_value=early):
+            self.assertEqual(self.accounts().examine(), [*early])
             self.assertEqual(self.confirming().examine(), [])
 
     def test_the_command(self):
         """--confirm is for examine, check and torture."""
-        from rigzumal.accounts import _examine, cli, torture
+        from rigzumal.accounts import cli, torture
 
         given = ["--database", self.server.url, "--table", "users"]
-        said = io.StringIO()
-        with mock.patch.object(_examine, "_shown_early", return_value=("early",)):
+        said, early = io.StringIO(), (mariadb.error("shown-early", "early"),)
+        with mock.patch.object(mariadb, "shown_early", return_value=early):
             with contextlib.redirect_stdout(said):
                 self.assertEqual(cli.main([*given, "examine"]), 1)
                 self.assertEqual(cli.main([*given, "--confirm", "examine"]), 0)
-        self.assertEqual(said.getvalue(), "early\n")
+        self.assertEqual(said.getvalue(), "error: early\n")
         for confirm in (False, True):
-            run = torture.Torture(self.server.url, confirm=confirm)
-            for made in (run.blocking, run.awaited):
-                self.assertEqual(made(None, 64)._method.confirm, confirm)
+            tortured = torture.Torture(self.server.url, confirm=confirm)
+            made = tortured.made(AsyncAccounts, None, 64)
+            self.assertEqual(made._table.confirm, confirm)
 
     def test_a_trigger_between(self):
         """What it makes of the record is rolled back."""
@@ -290,11 +286,11 @@ class OnMariaDB(OnServer, engines.Base):
         """What stands may not be on the disk, so it is put over itself."""
         self.put(support.LOW.hash("one"))
         accounts = self.accounts()
-        dialect, left = accounts._method.dialect, [1]
+        dialect, left = self.dialect, [1]
         commit = dialect.put_at_once
 
-        def breaks(conn, *given):
-            done = yield from commit(conn, *given)
+        async def breaks(session, *given):
+            done = await commit(session, *given)
             if left:
                 left.pop()
                 raise ConnectionError("planted")
@@ -303,9 +299,9 @@ class OnMariaDB(OnServer, engines.Base):
         puts = []
         put = dialect.put
 
-        def noted(after, key, copy):
+        def noted(session, after, key, copy):
             puts.append(after == copy)
-            return put(after, key, copy)
+            return put(session, after, key, copy)
 
         with mock.patch.object(dialect, "put_at_once", breaks):
             with mock.patch.object(dialect, "put", noted):
@@ -316,22 +312,20 @@ class OnMariaDB(OnServer, engines.Base):
     def test_the_two_updates(self):
         """What stands between them is never committed."""
         for first, second, wanted in ((0, None, 0), (2, None, 2), (1, 1, 1)):
-            job = self.dialect.put("r", "ann", "r")
-            self.assertEqual(next(job).values, (None, "ann", "r"))
-            with self.assertRaises(StopIteration) as end:
-                job.send(Result([], first))
-                job.send(Result([], second))
-            self.assertEqual(end.exception.value.affected, wanted)
+            session = support.Scripted(Result([], first), Result([], second))
+            result = run(self.dialect.put(session, "r", "ann", "r"))
+            self.assertEqual(session.statements[0][1], (None, "ann", "r"))
+            self.assertEqual(result.affected, wanted)
+            self.assertEqual(len(session.statements), 1 if second is None else 2)
         for second in (0, 2):
-            job = self.dialect.put("r", "ann", "r")
-            next(job)
-            job.send(Result([], 1))
+            session = support.Scripted(Result([], 1), Result([], second))
             with self.assertRaises(StoreFault):
-                job.send(Result([], second))
-        job = self.dialect.put(None, "ann", None)
-        (other, _, copy) = next(job).values
+                run(self.dialect.put(session, "r", "ann", "r"))
+        session = support.Scripted(Result([], 1), Result([], 1))
+        run(self.dialect.put(session, None, "ann", None))
+        (_, (other, _, copy)), (_, values) = session.statements
         self.assertEqual((other[:9], copy), ("$argon2id", None))
-        self.assertEqual(job.send(Result([], 1)).values, (None, "ann", other))
+        self.assertEqual(values, (None, "ann", other))
 
 
 if __name__ == "__main__":

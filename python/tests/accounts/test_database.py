@@ -8,6 +8,7 @@ import types
 import unittest
 from unittest import mock
 
+import support  # noqa: F401: finds the package
 from rigzumal.accounts.database import Database
 
 

@@ -6,8 +6,7 @@ import unittest
 import engines
 import servers
 import support
-from rigzumal.accounts import Accounts, MariaDB, PerThread, Postgres, Reply, Sqlite
-from rigzumal.accounts import StoreFault
+from rigzumal.accounts import MariaDB, Postgres, Reply, Sqlite, StoreFault
 
 CASE, BLANKS = "differ in case", "differ by blanks at the end"
 ACCENTS, CUT = "differ by accents", "a record has up to 512 bytes"
@@ -21,7 +20,7 @@ class Said:
         faults = (accounts or self.accounts()).examine()
         self.assertEqual(len(faults), len(words), faults)
         for word in words:
-            self.assertIn(word, "; ".join(faults))
+            self.assertIn(word, "; ".join(map(str, faults)))
 
     def each_table(self, cases):
         for sql, *words in cases:
@@ -94,7 +93,7 @@ class OnSqlite(Said, support.Base):
         self.execute("DROP TABLE users")
         self.execute(ignored[0])
         self.conn.execute(f"{ignored[1]}; END")
-        self.assert_faults(["the trigger tr", "a row takes no update"])
+        self.assert_faults(["a row takes no update"])
         self.execute("DROP TRIGGER tr")
         self.conn.execute(
             "CREATE TRIGGER tr AFTER UPDATE ON users BEGIN UPDATE users SET"
@@ -130,7 +129,7 @@ class OnSqlite(Said, support.Base):
             with self.subTest(mode=mode):
                 accounts = self.with_pragma(f"journal_mode = {mode}")
                 self.assert_faults(["it isn't in WAL"], accounts)
-                accounts._pools.popitem()[1].close()
+                accounts._operations._connections.primary.close()
 
     def test_reads_of_what_is_not_committed(self):
         shared = f"file:{self.path}?cache=shared"

@@ -6,19 +6,19 @@ import time
 import unittest
 from unittest import mock
 
+from support import HIGH, LOW, Base, counted, losing
 import rigzumal
-from support import HIGH, LOW, Base, counted
 from rigzumal.accounts import (
     Accounts,
-    Kind,
     MariaDB,
     OutcomeUnknown,
+    PerThread,
     Reply,
-    Sqlite,
     StoreFault,
     Unavailable,
 )
-from rigzumal.accounts._plans import Source
+from rigzumal.accounts.dialects import Verdict
+from rigzumal.accounts.parts import Kind
 
 
 class Faulty(Base):
@@ -86,14 +86,14 @@ class Faulty(Base):
         for before in (True, False):
             self.put("ann", LOW.hash("one"))
             accounts = self.losing(before)
-            method, compare = accounts._method, accounts._method.compare
+            table, compare = accounts._operations._table, accounts._operations._table.compare
             fault = sqlite3.OperationalError("database or disk is full")
 
-            def once(worked):
-                method.compare = mock.Mock(side_effect=fault)
-                return compare(worked)
+            def once(*given):
+                table.compare = mock.Mock(side_effect=fault)
+                return compare(*given)
 
-            method.compare = once
+            table.compare = once
             with self.assertRaises(OutcomeUnknown) as raised:
                 accounts.change("ann", "one", "two")
             self.assertIsNone(raised.exception.__context__)
@@ -103,17 +103,17 @@ class Faulty(Base):
         """The copy stood as one looked, and no more as the change was sent."""
         self.put("ann", LOW.hash("one"))
         accounts = self.losing(before=True)
-        method, look = accounts._method, accounts._method.look
+        table, look = accounts._operations._table, accounts._operations._table.look
         looks = []
 
-        def slow(conn, key):
-            found = yield from look(conn, key)
+        async def slow(session, key):
+            found = await look(session, key)
             looks.append(found)
             if len(looks) == 2:
                 self.put("ann", LOW.hash("another"))
             return found
 
-        method.look = slow
+        table.look = slow
         with self.assertRaises(OutcomeUnknown):
             accounts.change("ann", "one", "two")
         self.assertTrue(self.is_right("another"))
@@ -138,27 +138,27 @@ class Faulty(Base):
             return made[-1]
 
         accounts = self.accounts(connect=connect)
-        method, compare = accounts._method, accounts._method.compare
+        table, compare = accounts._operations._table, accounts._operations._table.compare
         busy = [sqlite3.OperationalError("database is locked")]
 
-        def once(worked):
+        async def once(*given):
             if busy:
-                method.dialect.undo = fails
+                self.dialect.undo = fails
                 raise busy.pop()
-            method.dialect.undo = undo
-            return (yield from compare(worked))
+            self.dialect.undo = undo
+            return await compare(*given)
 
-        def fails(conn):
+        async def fails(session):
             raise sqlite3.OperationalError("no")
 
-        undo, method.compare = method.dialect.undo, once
+        undo, table.compare = self.dialect.undo, once
         self.assertIs(accounts.change("ann", "one", "two"), Reply.REPLACED)
         self.assertEqual(len(made), 2)
 
     def test_a_pool_that_fails_after_a_lost_answer(self):
         self.put("ann", LOW.hash("one"))
-        accounts = self.losing(before=False)
-        pool, uses = accounts._pools[Source.PRIMARY], []
+        pool, uses = PerThread(self.connect), []
+        self.addCleanup(pool.close)
 
         def broken():
             uses.append(1)
@@ -166,7 +166,7 @@ class Faulty(Base):
                 raise RuntimeError("the pool is shut")
             return pool()
 
-        accounts._pools = dict.fromkeys(Source, broken)
+        accounts = Accounts(broken, losing(before=False), LOW, patience=0.5)
         with self.assertRaises(OutcomeUnknown):
             accounts.change("ann", "one", "two")
 
@@ -196,16 +196,15 @@ class Faulty(Base):
         """The new record may have stood and been replaced: nobody knows."""
         self.put("ann", LOW.hash("one"))
         accounts = self.losing(before=False)
-        read = accounts._method.begin
-        reads = []
+        look, reads = accounts._operations._look, []
 
-        def begin(*given, **more):
+        def looked(*given):
             if reads:
                 self.put("ann", LOW.hash("another"))
             reads.append(1)
-            return read(*given, **more)
+            return look(*given)
 
-        accounts._method.begin = begin
+        accounts._operations._look = looked
         with self.assertRaises(OutcomeUnknown):
             accounts.change("ann", "one", "two")
 
@@ -218,22 +217,21 @@ class Faulty(Base):
         self.assertIn("m=64,", self.stands())
         full = self.accounts(HIGH)
 
-        def refuses(worked):
+        async def refuses(*given):
             raise sqlite3.OperationalError("database or disk is full")
-            yield
 
-        compare = full._method.compare
-        full._method.compare = refuses
+        compare = full._operations._table.compare
+        full._operations._table.compare = refuses
         self.assertIs(full.login("ann", "one"), Reply.YES)
-        full._method.compare = compare
+        full._operations._table.compare = compare
 
         def no_memory(ticket):
             if ticket.request.kind is Kind.UPGRADE:
                 raise rigzumal.OutOfMemoryError(8)
             return work(ticket)
 
-        work = full._judge.work
-        full._judge.work = no_memory
+        work = full._operations._judge.work
+        full._operations._judge.work = no_memory
         self.assertIs(full.login("ann", "one"), Reply.YES)
 
     def test_busy(self):
@@ -250,9 +248,9 @@ class Faulty(Base):
 
     def test_busy_before_python_3_11(self):
         error = sqlite3.OperationalError("database is locked")
-        self.assertIsNotNone(self.dialect.verdict(error))
+        self.assertIs(self.dialect.verdict(error), Verdict.AGAIN)
         other = sqlite3.OperationalError("no such table: users")
-        self.assertIsNone(self.dialect.verdict(other))
+        self.assertIs(self.dialect.verdict(other), Verdict.REFUSED)
 
     def test_a_pool_that_fails_after_the_work(self):
         """What was done is done: it isn't done once more."""

@@ -12,8 +12,10 @@ import time
 import unittest
 from collections import Counter
 
-from rigzumal.accounts import history, logs
-from rigzumal.accounts.history import Account, Attempt, Illegal, Operation
+import support  # noqa: F401: finds the package
+from rigzumal.accounts.torture import _order, history, logs
+from rigzumal.accounts.torture._order import Attempt, Operation
+from rigzumal.accounts.torture.history import Account, Illegal
 
 HISTORIES = int(os.environ.get("RIGZUMAL_HISTORIES", "4000"))
 KINDS = ("enrol", "enrol", "verify", "change", "upgrade", "remove", "remove", "reset")
@@ -234,11 +236,11 @@ class Small(unittest.TestCase):
             shown = [str(it) for it in (kept.seed, *kept.operations, kept.end)]
             self.assertEqual(verdict, wanted, f"history {number}: {shown}")
             found[verdict] += 1
-            if part and history.conflict(part):
+            if part and _order.conflict(part):
                 found["part"] += 1
                 for it in part:
                     rest = [other for other in part if other is not it]
-                    self.assertIsNone(history.conflict(rest), f"history {number}: {shown}")
+                    self.assertIsNone(_order.conflict(rest), f"history {number}: {shown}")
         self.assertGreater(found[True], HISTORIES // 4)
         self.assertGreater(found[False], HISTORIES // 5)
         self.assertGreater(found["part"], HISTORIES // 10)
@@ -252,7 +254,7 @@ class Small(unittest.TestCase):
             events = [it for it in events if it.reply and rng.random() < 0.7]
             if any(it.kind not in ("seed", "end") and not shaped(it, events) for it in events):
                 continue
-            verdict = history.conflict(events) is None
+            verdict = _order.conflict(events) is None
             shown = [str(it) for it in events]
             self.assertEqual(verdict, some_order_of_part(events), f"part {number}: {shown}")
             found[verdict] += 1

@@ -5,10 +5,11 @@ import threading
 import unittest
 from unittest import mock
 
-import rigzumal
 from support import HIGH, LOW, OLDER, READS, Base, counted
+import rigzumal
 from rigzumal import PasswordHasher, ScryptHasher
-from rigzumal.accounts import NO_ROW, Kind, Reply, Request, Ticket, _judgement, _step
+from rigzumal.accounts import Reply, _judgement, _step
+from rigzumal.accounts.parts import Kind, NO_ROW, Request, Ticket
 
 
 class Upgrades(Base):

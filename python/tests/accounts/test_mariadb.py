@@ -6,37 +6,18 @@ import subprocess
 import sys
 import tempfile
 import unittest
-from unittest import mock
 
 import servers
+import support
 from engines import LOW, Base
-from rigzumal.accounts import Accounts, Kind, MariaDB, Reply, StoreFault, _accounts
+from rigzumal.accounts import Accounts, MariaDB, Reply, StoreFault
+from rigzumal.accounts.dialects import mariadb
+from rigzumal.accounts.parts import Kind
 
 
 class OnMariaDB(Base):
     kind = servers.MariaServer
     dialect = MariaDB("users", "name", "record")
-
-    def test_operations(self):
-        self.tried_operations()
-
-    def test_a_slow_login(self):
-        self.tried_slow_login()
-
-    def test_nulls(self):
-        self.tried_nulls()
-
-    def test_modes(self):
-        self.tried_modes("BEGIN")
-
-    def test_a_session_beside_a_verify(self):
-        self.tried_session("BEGIN")
-
-    def test_restart(self):
-        self.tried_restart()
-
-    def test_waits_for_a_lock(self):
-        self.tried_lock_waits("SET innodb_lock_wait_timeout = 1")
 
     def test_bytes_are_compared(self):
         self.table(more="CHARACTER SET utf8mb4 COLLATE utf8mb4_general_ci")
@@ -116,18 +97,12 @@ class OnMariaDB(Base):
         self.addCleanup(kept.close)
         accounts = Accounts(lambda: contextlib.nullcontext(kept), self.dialect, LOW)
         accounts.verify("ann", "one")
-        sent, execute = [], _accounts._execute
-
-        def noted(conn, statement):
-            sent.append(statement.sql.split()[0])
-            return execute(conn, statement)
-
-        with mock.patch.object(_accounts, "_execute", noted):
+        with support.sent() as found:
             accounts.verify("ann", "one")
             accounts.change("ann", "one", "two")
             accounts.remove("ann", "two")
         removal = ["SELECT", "START", "UPDATE", "SELECT", "COMMIT"]
-        self.assertEqual(sent, ["SELECT"] * 3 + ["BEGIN", *removal])
+        self.assertEqual(found, ["SELECT"] * 2 + ["BEGIN", *removal])
 
     def test_found_rows(self):
         from pymysql.constants import CLIENT
@@ -195,28 +170,23 @@ class OnMariaDB(Base):
             with self.server.root() as conn, conn.cursor() as cursor:
                 cursor.execute("SET GLOBAL sql_mode = %s", (mode,))
 
-    def test_each_change_compares(self):
-        self.tried_comparison()
-
     def test_a_binary_log(self):
         """What isn't in it after a power cut is rolled back, so it is synced."""
-        from rigzumal.accounts import _examine
-
         fine = {"sql_mode": "STRICT_ALL_TABLES", "log_bin": "ON", "sync_binlog": "1"}
-        self.assertEqual(_examine._server_faults(fine), [])
-        (said,) = _examine._server_faults({**fine, "sync_binlog": "0"})
-        self.assertIn("sync_binlog is 0", said)
+        self.assertEqual(mariadb.of_server(fine), [])
+        (said,) = mariadb.of_server({**fine, "sync_binlog": "0"})
+        self.assertIn("sync_binlog is 0", str(said))
         careless = {**fine, "sync_binlog": "0", "log_bin": "OFF"}
-        self.assertEqual(_examine._server_faults(careless), [])
+        self.assertEqual(mariadb.of_server(careless), [])
         seen = dict(self.execute("SHOW SESSION VARIABLES"))
         self.assertTrue({"log_bin", "sync_binlog"} <= set(seen))
         for value, words in (("0", "wsrep_sync_wait"), ("6", "wsrep_sync_wait")):
             galera = {**fine, "wsrep_on": "ON", "wsrep_sync_wait": value}
-            (said,) = _examine._server_faults(galera)
-            self.assertIn(words, said)
+            (said,) = mariadb.of_server(galera)
+            self.assertIn(words, str(said))
         for value in ("1", "7"):
             galera = {**fine, "wsrep_on": "ON", "wsrep_sync_wait": value}
-            self.assertEqual(_examine._server_faults(galera), [])
+            self.assertEqual(mariadb.of_server(galera), [])
 
     def test_a_trigger_that_rewrites(self):
         self.table()
@@ -229,7 +199,7 @@ class OnMariaDB(Base):
         with self.assertRaises(StoreFault):
             accounts.change("ann", "one", "two")
         self.assertTrue(LOW.verify(self.stands(), "one"))
-        self.assertIn("trigger tr", self.said(accounts))
+        self.assertIn("isn't the one that was put", self.said(accounts))
 
     def test_dictionaries(self):
         from pymysql.cursors import DictCursor

@@ -7,22 +7,11 @@ import threading
 import unittest
 from unittest import mock
 
-from rigzumal.accounts import _accounts
-from support import HIGH, LOW, READS, Base
+from support import HIGH, LOW, READS, Base, Scripted, sent
+from rigzumal.accounts import Accounts, Reply, Sqlite, StoreFault
+from rigzumal.accounts.parts import Kind, NO_ROW, Request, Ticket, Worked
 from rigzumal import ScryptHasher
-from rigzumal.accounts import (
-    NO_ROW,
-    Accounts,
-    Kind,
-    Reply,
-    Request,
-    Sqlite,
-    StoreFault,
-    Ticket,
-    Worked,
-)
-from rigzumal.accounts._jobs import Result
-from rigzumal.accounts._plans import Source
+from rigzumal.accounts._session import Result, run
 
 
 class Operations(Base):
@@ -109,7 +98,7 @@ class Operations(Base):
         """The race: a login with the stolen password, begun before the change."""
         self.put("ann", LOW.hash("stolen"))
         accounts, owner = self.accounts(HIGH), self.accounts(HIGH)
-        work, once = accounts._judge.work, []
+        work, once = accounts._operations._judge.work, []
 
         def slowly(ticket):
             worked = work(ticket)
@@ -117,7 +106,7 @@ class Operations(Base):
                 once.append(owner.change("ann", "stolen", "new"))
             return worked
 
-        accounts._judge.work = slowly
+        accounts._operations._judge.work = slowly
         self.assertIs(accounts.login("ann", "stolen"), Reply.NO)
         self.assertEqual(once, [Reply.REPLACED])
         self.assertFalse(self.is_right("stolen"))
@@ -156,35 +145,32 @@ class Operations(Base):
             self.assertTrue(self.is_right("another"))
 
     def test_a_login_whose_record_changes_again_and_again(self):
-        """It is no yes: which password is right was never seen to stand."""
-        for password in ("one", "two"):
+        """An upgrade that never stood is no yes; a wrong password was wrong as it was read."""
+        for password, reply in (("one", Reply.CHANGED), ("two", Reply.NO)):
             self.put("ann", LOW.hash("one"))
             accounts = self.accounts(HIGH, tries=3)
-            work = accounts._judge.work
+            work = accounts._operations._judge.work
 
             def slowly(ticket):
                 worked = work(ticket)
                 self.put("ann", LOW.hash("one"))
                 return worked
 
-            accounts._judge.work = slowly
-            self.assertIs(accounts.login("ann", password), Reply.CHANGED)
+            accounts._operations._judge.work = slowly
+            self.assertIs(accounts.login("ann", password), reply)
             self.assertIn("m=64,", self.stands())
 
     def test_what_is_sent(self):
         """No statement too many: docs/SCALE.md has these lists."""
         self.put("ann", LOW.hash("one"))
-        accounts, sent, execute = self.accounts(), [], _accounts._execute
-
-        def noted(conn, statement):
-            sent.append(statement.sql.split()[0])
-            return execute(conn, statement)
-
+        accounts = self.accounts()
         for act, words in (
-            (lambda: accounts.verify("ann", "one"), "SELECT SELECT"),
-            (lambda: accounts.verify("ann", "two"), "SELECT SELECT"),
-            (lambda: accounts.login("ann", "one"), "SELECT SELECT"),
-            (lambda: accounts.enrol("ann", "one"), "SELECT SELECT"),
+            (lambda: accounts.verify("ann", "one"), "SELECT"),
+            (lambda: accounts.verify("ann", "two"), "SELECT"),
+            (lambda: accounts.login("ann", "one"), "SELECT"),
+            (lambda: accounts.login("bob", "one"), "SELECT"),
+            (lambda: accounts.enrol("ann", "one"), "SELECT"),
+            (lambda: accounts.change("ann", "two", "x"), "SELECT"),
             (
                 lambda: accounts.change("ann", "one", "two"),
                 "SELECT BEGIN UPDATE SELECT COMMIT",
@@ -198,10 +184,9 @@ class Operations(Base):
                 "SELECT BEGIN UPDATE SELECT COMMIT",
             ),
         ):
-            sent.clear()
-            with mock.patch.object(_accounts, "_execute", noted):
+            with sent() as found:
                 act()
-            self.assertEqual(" ".join(sent), words)
+            self.assertEqual(" ".join(found), words)
 
     def test_passwords_are_their_bytes(self):
         """Two spellings of one letter are two passwords; blanks and case count."""
@@ -226,7 +211,7 @@ class Operations(Base):
     def test_changed_after_so_many_tries(self):
         self.put("ann", LOW.hash("one"))
         accounts = self.accounts(tries=3)
-        work, turns = accounts._judge.work, []
+        work, turns = accounts._operations._judge.work, []
 
         def slowly(ticket):
             worked = work(ticket)
@@ -234,17 +219,21 @@ class Operations(Base):
             self.put("ann", LOW.hash("one"))
             return worked
 
-        accounts._judge.work = slowly
-        for kind in (Kind.VERIFY, Kind.CHANGE):
+        accounts._operations._judge.work = slowly
+        for kind in (Kind.REMOVE, Kind.CHANGE):
             turns.clear()
             answer = accounts.perform(Request(kind, "ann", "one", "two"))
             self.assertIs(answer.reply, Reply.CHANGED)
             self.assertEqual(len(set(turns)), 3)
             self.assertEqual(answer.after, self.stands())
+        # What changes nothing is answered by the record that stood as it was read.
+        turns.clear()
+        self.assertIs(accounts.verify("ann", "one"), Reply.YES)
+        self.assertEqual(len(turns), 1)
 
     def test_no_record_that_came_back(self):
         """The UPDATE found a record, and it was removed before the row was read."""
-        method = self.accounts()._method
+        table = self.accounts()._operations._table
         for copy, stands, reply in (
             (None, None, Reply.CHANGED),
             (None, "other", Reply.CHANGED),
@@ -253,17 +242,15 @@ class Operations(Base):
             ("copy", "copy", StoreFault),
         ):
             ticket = Ticket(Request(Kind.RESET, "ann", "", "x"), copy)
-            job = method.compare(Worked(ticket, Reply.REPLACED, "new"))
-            next(job)
-            job.send(Result([], 0))
+            session = Scripted(Result([], 0), Result([(stands,)], 1))
+            job = table.compare(session, Worked(ticket, Reply.REPLACED, "new"))
             if reply is StoreFault:
                 with self.assertRaises(StoreFault):
-                    job.send(Result([(stands,)], 1))
+                    run(job)
                 continue
-            with self.assertRaises(StopIteration) as end:
-                job.send(Result([(stands,)], 1))
-            self.assertIs(end.exception.value.reply, reply)
-            self.assertEqual(end.exception.value.after, stands)
+            answer = run(job)
+            self.assertIs(answer.reply, reply)
+            self.assertEqual(answer.after, stands)
 
     def test_an_account_that_is_gone(self):
         accounts = self.accounts()
@@ -277,13 +264,12 @@ class Operations(Base):
 
     def test_one_row_is_updated(self):
         """A driver that doesn't count, or a key of more than one row."""
-        method = self.accounts()._method
+        table = self.accounts()._operations._table
         ticket = Ticket(Request(Kind.RESET, "ann", "", "x"), "copy")
         for count in (-1, 2):
-            job = method.compare(Worked(ticket, Reply.REPLACED, "new"))
-            next(job)
+            session = Scripted(Result([], count))
             with self.assertRaises(StoreFault):
-                job.send(Result([], count))
+                run(table.compare(session, Worked(ticket, Reply.REPLACED, "new")))
 
     def test_threads(self):
         accounts = self.accounts(HIGH)
@@ -316,7 +302,6 @@ class Operations(Base):
         stale.execute("INSERT INTO old.users VALUES ('ann', ?)", (LOW.hash("old"),))
         self.put("ann", LOW.hash("new"))
         dialect = Sqlite("users", "name", "record")
-        accounts = self.accounts(dialect=dialect)
 
         @contextlib.contextmanager
         def replica():
@@ -325,7 +310,7 @@ class Operations(Base):
             ):
                 yield stale
 
-        accounts._pools[Source.COPIES] = replica
+        accounts = self.accounts(dialect=dialect, replica=replica)
         self.assertIs(accounts.verify("ann", "old"), Reply.NO)
         self.assertIs(accounts.verify("ann", "new"), Reply.YES)
         self.assertIs(accounts.change("ann", "old", "x"), Reply.WRONG)

@@ -6,9 +6,9 @@ import os
 import sqlite3
 import unittest
 
-from rigzumal.accounts import Accounts, OutcomeUnknown, PerThread, Reply, StoreFault
-from rigzumal.accounts import _accounts, aio
-from support import LOW, Awaiting, Base, losing
+from support import LOW, Awaiting, Base, losing, sent
+from rigzumal.accounts import Accounts, AsyncAccounts, OutcomeUnknown, PerThread, Reply, StoreFault
+from rigzumal.accounts._session import AsyncSession
 
 BUSY = sqlite3.OperationalError("database is locked")
 
@@ -87,20 +87,12 @@ class Blocking:
     def awaited(self, said):
         return said
 
-    @contextlib.contextmanager
+    def core(self, accounts):
+        return accounts._operations
+
     def statements(self):
         """The first words of what is sent within."""
-        sent, execute = [], _accounts._execute
-
-        def noted(conn, statement):
-            sent.append(statement.sql.split()[0])
-            return execute(conn, statement)
-
-        _accounts._execute = noted
-        try:
-            yield sent
-        finally:
-            _accounts._execute = execute
+        return sent()
 
 
 class Asynchronous:
@@ -108,24 +100,16 @@ class Asynchronous:
 
     def made(self, name, dialect):
         self.pool = AwaitedPool(name, self.conn)
-        return aio.Accounts(self.pool, dialect, LOW, patience=0.5)
+        return AsyncAccounts(self.pool, dialect, LOW, patience=0.5)
 
     def awaited(self, said):
         return asyncio.run(said)
 
-    @contextlib.contextmanager
+    def core(self, accounts):
+        return accounts
+
     def statements(self):
-        sent, execute = [], aio._execute
-
-        async def noted(conn, statement):
-            sent.append(statement.sql.split()[0])
-            return await execute(conn, statement)
-
-        aio._execute = noted
-        try:
-            yield sent
-        finally:
-            aio._execute = execute
+        return sent(AsyncSession)
 
 
 class LostAnswers:
@@ -140,12 +124,12 @@ class LostAnswers:
         for name, accounts in self.each(before=False):
             self.put("ann", LOW.hash("old"))
             change = lambda: self.awaited(accounts.change("ann", "old", "new"))
-            with self.statements() as sent:
+            with self.statements() as found:
                 if name == "raises_a_base_exception":
                     self.assertRaises(Alarm, change)
                 else:
                     self.assertIs(change(), Reply.REPLACED)
-            self.assertEqual(sent.count("UPDATE"), 2 - (name[-9:] == "exception"))
+            self.assertEqual(found.count("UPDATE"), 2 - (name[-9:] == "exception"))
             self.assertTrue(self.is_right("new"))
 
     def test_a_change_that_was_not_made(self):
@@ -166,9 +150,9 @@ class LostAnswers:
             dialect = losing(before=False)
             commit = dialect.commit
 
-            def removed(conn):
+            async def removed(session):
                 try:
-                    yield from commit(conn)
+                    await commit(session)
                 finally:
                     dialect.commit = commit
                     self.conn.execute("UPDATE users SET record = NULL")
@@ -209,7 +193,7 @@ class LostAnswers:
             def interrupted(worked):
                 raise Alarm
 
-            accounts._method.before_commit = interrupted
+            self.core(accounts)._table.before_commit = interrupted
             with self.subTest(pool=name), self.assertRaises(Alarm):
                 self.awaited(accounts.change("ann", "old", "new"))
             self.assertEqual(self.pool.uses, 2)
@@ -228,16 +212,17 @@ class LostAnswers:
             async def __aexit__(self, *given):
                 raise AssertionError("it never was entered")
 
-        accounts = self.made("rolls_back", self.dialect)
-        accounts._pools = dict.fromkeys(accounts._pools, Shut("rolls_back", None))
+        accounts = type(self.made("rolls_back", self.dialect))(
+            Shut("rolls_back", None), self.dialect, LOW
+        )
         with self.assertRaisesRegex(RuntimeError, "the pool is shut"):
             self.awaited(accounts.verify("ann", "old"))
 
     def test_what_examine_says_is_not_swallowed(self):
         accounts = self.made("swallows", self.dialect)
         self.assertEqual(self.awaited(accounts.examine()), [])
-        accounts._method.dialect.examine = lambda: iter(())
-        with self.assertRaises(AttributeError):
+        self.dialect.examine = None
+        with self.assertRaises(TypeError):
             self.awaited(accounts.examine())
 
 
@@ -260,7 +245,7 @@ class LostAnswersOfTasks(Asynchronous, LostAnswers, Base):
                     waiting.set()
                     await asyncio.Event().wait()
 
-            accounts = aio.Accounts(pool, self.dialect, LOW)
+            accounts = AsyncAccounts(pool, self.dialect, LOW)
             task = asyncio.create_task(accounts.change("ann", "old", "new"))
             await asyncio.wait_for(waiting.wait(), 60)
             task.cancel()
@@ -294,7 +279,7 @@ class LostAnswersOfTasks(Asynchronous, LostAnswers, Base):
                 except BaseException:
                     raise BUSY from None
 
-            accounts = aio.Accounts(pool, self.dialect, LOW, patience=0.5)
+            accounts = AsyncAccounts(pool, self.dialect, LOW, patience=0.5)
             task = asyncio.create_task(accounts.change("ann", "old", "new"))
             await asyncio.wait_for(waiting.wait(), 60)
             task.cancel()
@@ -332,15 +317,15 @@ class OpenTransactions(Base):
     def test_after_another_record_was_found(self):
         self.put("ann", LOW.hash("one"))
         accounts = self.kept()
-        work = accounts._judge.work
+        work = accounts._operations._judge.work
 
         def slowly(ticket):
             worked = work(ticket)
-            accounts._judge.work = work
+            accounts._operations._judge.work = work
             self.put("ann", LOW.hash("another"))
             return worked
 
-        accounts._judge.work = slowly
+        accounts._operations._judge.work = slowly
         self.assertIs(accounts.change("ann", "one", "two"), Reply.WRONG)
         self.assertFalse(self.conn.in_transaction)
 
@@ -352,7 +337,7 @@ class OpenTransactions(Base):
         def interrupted(worked):
             raise Alarm
 
-        accounts._method.before_commit = interrupted
+        accounts._operations._table.before_commit = interrupted
         with self.assertRaises(Alarm):
             accounts.change("ann", "one", "two")
         self.assertTrue(self.conn.in_transaction)
@@ -436,7 +421,7 @@ class OnePerThread(Base):
             if alarms:
                 raise alarms.pop()
 
-        accounts._method.before_commit = interrupted
+        accounts._operations._table.before_commit = interrupted
         with self.assertRaises(Alarm):
             accounts.change("ann", "one", "two")
         self.assertIs(accounts.change("ann", "one", "two"), Reply.REPLACED)

@@ -14,45 +14,28 @@ import uuid
 from unittest import mock
 
 import servers
+import support
 from engines import HIGH, LOW, Base
 from rigzumal import InvalidRecordError
 from rigzumal.accounts import (
     Accounts,
-    Kind,
+    AsyncAccounts,
     OutcomeUnknown,
     Postgres,
     Reply,
-    Request,
     StoreFault,
     Unavailable,
-    _accounts,
-    aio,
+    torture,
 )
-from rigzumal.accounts import _worker, torture
-from rigzumal.accounts._accounts import on_connection
+from rigzumal.accounts.parts import Kind, Request
+from rigzumal.accounts.pools import PerUse
+from rigzumal.accounts._session import BlockingSession, run
+from rigzumal.accounts.torture import _worker
 
 
 class OnPostgres(Base):
     kind = servers.PostgresServer
     dialect = Postgres("users", "name", "record")
-
-    def test_operations(self):
-        self.tried_operations()
-
-    def test_a_slow_login(self):
-        self.tried_slow_login()
-
-    def test_nulls(self):
-        self.tried_nulls()
-
-    def test_modes(self):
-        self.tried_modes("BEGIN")
-
-    def test_a_session_beside_a_verify(self):
-        self.tried_session("BEGIN")
-
-    def test_each_change_compares(self):
-        self.tried_comparison()
 
     def test_a_database_that_is_not_there(self):
         """The server's reason is told."""
@@ -62,17 +45,10 @@ class OnPostgres(Base):
             url = self.server.url.rpartition("/")[0] + "/nowhere"
             return psycopg.connect(url, autocommit=True)
 
-        accounts = self.accounts(connect=connect)
-        accounts._method.patience = 0.0
+        accounts = self.accounts(connect=connect, patience=0.0)
         with self.assertRaises(Unavailable) as raised:
             accounts.verify("ann", "x")
         self.assertIn('database "nowhere" does not exist', str(raised.exception))
-
-    def test_restart(self):
-        self.tried_restart()
-
-    def test_waits_for_a_lock(self):
-        self.tried_lock_waits("SET lock_timeout = '300ms'")
 
     def test_bytes_are_compared(self):
         self.execute(
@@ -283,7 +259,7 @@ class OnPostgres(Base):
         with self.assertRaises(psycopg.errors.UndefinedTable):
             caller.execute("SELECT 1 FROM nowhere")
         with self.assertRaisesRegex(StoreFault, "ROLLBACK"):
-            on_connection(caller, self.dialect.commit(caller))
+            run(self.dialect.commit(BlockingSession(caller)))
 
     def test_a_trigger_that_swallows(self):
         self.table()
@@ -298,7 +274,7 @@ class OnPostgres(Base):
         accounts = self.accounts()
         with self.assertRaises(StoreFault):
             accounts.change("ann", "one", "two")
-        self.assertIn("trigger tr", self.said(accounts))
+        self.assertIn("a row takes no update", self.said(accounts))
 
     def test_keys_of_other_types(self):
         number = uuid.uuid4()
@@ -352,18 +328,12 @@ class OnPostgres(Base):
         kept = self.server.connect()
         self.addCleanup(kept.close)
         accounts = Accounts(lambda: contextlib.nullcontext(kept), self.dialect, LOW)
-        sent, execute = [], _accounts._execute
-
-        def noted(conn, statement):
-            sent.append(statement.sql.split()[0])
-            return execute(conn, statement)
-
-        with mock.patch.object(_accounts, "_execute", noted):
+        with support.sent() as found:
             accounts.verify("ann", "one")
             accounts.change("ann", "one", "two")
             accounts.remove("ann", "two")
         removal = ["SELECT", "BEGIN", "UPDATE", "COMMIT"]
-        self.assertEqual(sent, ["SELECT"] * 3 + ["UPDATE", *removal])
+        self.assertEqual(found, ["SELECT"] * 2 + ["UPDATE", *removal])
         self.assertEqual(list(kept._notice_handlers), [])
 
     def test_a_backend_that_is_ended_as_it_waits(self):
@@ -394,8 +364,7 @@ class OnPostgres(Base):
         """COMMIT answers with a warning: what was put isn't safe, and never passes."""
         self.table()
         self.put(LOW.hash("one"))
-        accounts = self.accounts()
-        accounts._method.patience = 2.0
+        accounts = self.accounts(patience=2.0)
         self.server.set(synchronous_standby_names="nobody")
         stop, cancelled = threading.Event(), []
         killer = self.server.connect()
@@ -475,7 +444,7 @@ class OnPostgres(Base):
         async def awaited():
             pool = AsyncConnectionPool(self.server.url, open=False, **given)
             await pool.open()
-            accounts = aio.Accounts(pool.connection, self.dialect, LOW)
+            accounts = AsyncAccounts(pool.connection, self.dialect, LOW)
             replies = [accounts.login("ann", "two") for _ in range(20)]
             self.assertEqual(set(await asyncio.gather(*replies)), {Reply.YES})
             await pool.close()
@@ -486,7 +455,7 @@ class OnPostgres(Base):
         """In every fourth process; some of them are cancelled."""
 
         def broken(accounts):
-            if isinstance(accounts, aio.Accounts):
+            if isinstance(accounts, AsyncAccounts):
                 accounts.perform = mock.Mock(side_effect=RuntimeError)
 
         given = {"processes": 4, "seconds": 2.0}
@@ -525,7 +494,7 @@ class OnPostgres(Base):
             return psycopg.AsyncConnection.connect(self.server.url, **given)
 
         def accounts(hasher=LOW, connect=connect):
-            return aio.Accounts(aio.PerUse(connect), self.dialect, hasher, patience=3.0)
+            return AsyncAccounts(PerUse(connect), self.dialect, hasher, patience=3.0)
 
         low, high = accounts(), accounts(HIGH)
         self.assertEqual(await low.examine(), [])

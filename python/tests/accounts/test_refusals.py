@@ -7,20 +7,21 @@ import traceback
 import unittest
 from unittest import mock
 
-from support import LOW, Base, counted
+from support import HIGH, LOW, Base, counted
 from rigzumal.accounts import (
     Accounts,
-    Kind,
     MariaDB,
     OutcomeUnknown,
     Postgres,
     Reply,
-    Request,
     Sqlite,
     StoreFault,
     Unavailable,
 )
-from rigzumal.accounts._jobs import Result, Verdict
+from rigzumal.accounts.parts import Kind, Request
+from rigzumal.accounts._session import Result, run
+from rigzumal.accounts.dialects import MySQL, Verdict
+from rigzumal.accounts.dialects._dialect import is_of_driver
 
 
 class Refusals(Base):
@@ -70,28 +71,81 @@ class Refusals(Base):
         class Error(Exception):
             sqlstate = None
 
-        postgres, maria = Postgres("t", "k", "r"), MariaDB("t", "k", "r")
-        for state in ("08006", "57P01", "57P05", "25P03", "25006", "53300"):
-            Error.sqlstate = state
-            self.assertIs(postgres.verdict(Error()), Verdict.LOST, state)
-            self.assertFalse(postgres.gave_up(Error()), state)
-        for state, verdict, gave_up in (
-            ("40001", Verdict.AGAIN, True),
-            ("40P01", Verdict.AGAIN, True),
-            ("23503", None, True),
-            ("40003", None, False),
-            ("XX000", None, False),
-            (None, None, False),
+        postgres = Postgres("t", "k", "r")
+        again, elsewhere = Verdict.AGAIN, Verdict.ELSEWHERE
+        lost, refused = Verdict.LOST, Verdict.REFUSED
+        for states, verdict, gave_up in (
+            ("40001 40P01 55P03 57014", again, True),
+            ("25006 53300", elsewhere, True),
+            ("08000 08003 08006 57P01 57P02 57P03 57P04 57P05 25P03", lost, False),
+            ("40003", refused, False),
+            ("23503 23514 P0001 22001 42P01 XX000 53100 0A000 57000", refused, True),
         ):
-            Error.sqlstate = state
-            self.assertIs(postgres.verdict(Error()), verdict, state)
-            self.assertEqual(postgres.gave_up(Error()), gave_up, state)
-        for number in (0, 2006, 2013, 4031, 1047, 1203, 1040, 1290):
-            self.assertIs(maria.verdict(Error(number, "")), Verdict.LOST, number)
-            self.assertFalse(maria.gave_up(Error(number, "")), number)
-        self.assertIs(maria.verdict(Error(1213, "")), Verdict.AGAIN)
-        self.assertIsNone(maria.verdict(Error(1062, "")))
-        self.assertIsNone(maria.verdict(Error()))
+            for state in states.split():
+                Error.sqlstate = state
+                self.assertIs(postgres.verdict(Error()), verdict, state)
+                self.assertEqual(postgres.gave_up(Error()), gave_up, state)
+        for severity, gave_up in (("ERROR", True), ("FATAL", False), ("PANIC", False)):
+            Error.sqlstate, Error.diag = "58030", mock.Mock(severity_nonlocalized=severity)
+            self.assertEqual(postgres.gave_up(Error()), gave_up, severity)
+        Error.sqlstate = Error.diag = None
+        self.assertIs(postgres.verdict(Error()), refused)
+        self.assertFalse(postgres.gave_up(Error()))
+        broken = type("OperationalError", (Error,), {})()
+        self.assertIs(postgres.verdict(broken), lost)
+        self.assertFalse(postgres.gave_up(broken))
+
+    def test_what_numbers_of_mariadb_and_mysql_mean(self):
+        """Each number of the lists by itself: before a COMMIT, and of one."""
+
+        class Error(Exception):
+            pass
+
+        again, elsewhere = Verdict.AGAIN, Verdict.ELSEWHERE
+        lost, refused = Verdict.LOST, Verdict.REFUSED
+        for kind in (MariaDB, MySQL):
+            dialect = kind("t", "k", "r")
+            for numbers, verdict, gave_up in (
+                ((1213, 1205, 1020, 3024), again, True),
+                ((1969,), again, False),
+                ((1290, 1836, 1040, 1203), elsewhere, True),
+                ((0, 2002, 2003, 2006, 2013, 2055, 4031), lost, False),
+                ((1047, 1053, 1317, 1927), lost, False),
+                ((1021, 1026, 1030, 1180, 1181), refused, False),
+                ((1048, 1062, 1142, 1143, 1172, 1265, 1292, 1364), refused, True),
+                ((1366, 1406, 1451, 1452, 1644, 3819, 4025, 1146), refused, True),
+            ):
+                for number in numbers:
+                    error = Error(number, "in words")
+                    self.assertIs(dialect.verdict(error), verdict, number)
+                    self.assertEqual(dialect.gave_up(error), gave_up, number)
+            self.assertIs(dialect.verdict(Error()), refused)
+            self.assertFalse(dialect.gave_up(Error()))
+            self.assertIs(dialect.verdict(ConnectionResetError()), lost)
+            self.assertFalse(dialect.gave_up(ConnectionResetError()))
+
+    def test_what_a_transaction_does_better(self):
+        """Of one statement's errors: those that say nothing of what another server does."""
+        maria = MariaDB("t", "k", "r")
+        self.assertTrue(maria.at_once)
+        for number, better in ((4025, True), (1644, True), (1213, False), (1290, False)):
+            self.assertEqual(maria.refuses_at_once(Exception(number, "")), better, number)
+        self.assertTrue(maria.refuses_at_once(Exception(1064, "")))
+        self.assertEqual(maria.at_once, "")
+        self.assertEqual(MySQL("t", "k", "r").at_once, "")
+
+    def test_what_is_of_a_driver(self):
+        """All else is a fault of a program, and comes through as it is."""
+        for error, is_drivers in (
+            (sqlite3.OperationalError(), True),
+            (ConnectionResetError(), True),
+            (TimeoutError(), True),
+            (AttributeError(), False),
+            (TypeError(), False),
+            (KeyError(), False),
+            (StoreFault(), False),
+        ):
+            self.assertEqual(is_of_driver(error), is_drivers, error)
 
     def test_what_errors_of_sqlite_mean(self):
         """Whatever its text says, an error with a number means what the number does."""
@@ -111,7 +165,8 @@ class Refusals(Base):
                 error = sqlite3.OperationalError(text)
                 error.sqlite_errorcode = code
                 verdict = self.dialect.verdict(error)
-                self.assertIs(verdict, Verdict.AGAIN if again else None, code)
+                wanted = Verdict.AGAIN if again else Verdict.REFUSED
+                self.assertIs(verdict, wanted, code)
                 self.assertEqual(self.dialect.gave_up(error), again, code)
 
     def test_a_warning_in_the_servers_language(self):
@@ -125,14 +180,22 @@ class Refusals(Base):
             severity, severity_nonlocalized = "HINWEIS", "NOTICE"
 
         for notice, raised in ((Notice, True), (Hint, False)):
-            conn = mock.Mock()
-            job = dialect.commit(conn)
-            self.assertEqual(next(job).sql, "COMMIT")
-            ((handler,), _) = conn.add_notice_handler.call_args
-            handler(notice())
-            with self.assertRaises(ConnectionError if raised else StopIteration):
-                job.send(Result([], 0, "COMMIT"))
-            conn.remove_notice_handler.assert_called_once_with(handler)
+            session = mock.Mock()
+
+            async def execute(sql, *values):
+                self.assertEqual(sql, "COMMIT")
+                ((handler,), _) = session.conn.add_notice_handler.call_args
+                handler(notice())
+                return Result([], 0, "COMMIT")
+
+            session.execute = execute
+            if raised:
+                with self.assertRaises(ConnectionError):
+                    run(dialect.commit(session))
+            else:
+                run(dialect.commit(session))
+            ((handler,), _) = session.conn.add_notice_handler.call_args
+            session.conn.remove_notice_handler.assert_called_once_with(handler)
 
     def test_unavailable_says_why(self):
         """In the server's words, and without a password of the DSN."""
@@ -166,7 +229,7 @@ class Refusals(Base):
         self.put("ann", LOW.hash("one"))
         error = sqlite3.OperationalError("database is locked: (ann, $argon2id$x)")
         accounts = self.accounts(patience=0.0)
-        accounts._method.compare = mock.Mock(side_effect=error)
+        accounts._operations._table.compare = mock.Mock(side_effect=error)
         for verdict in (Verdict.AGAIN, Verdict.LOST):
             with mock.patch.object(self.dialect, "verdict", return_value=verdict):
                 with self.assertRaises(Unavailable) as raised:
@@ -202,14 +265,59 @@ class Refusals(Base):
                 accounts.verify("ann", wrong)
             with self.assertRaises(TypeError):
                 accounts.change("ann", "x", wrong)
-        for call in (accounts.verify, accounts.enrol, accounts.reset, accounts.login):
-            with self.assertRaises(ValueError):
-                call("ann", "x" * 257)
-        with self.assertRaises(ValueError):
-            accounts.change("ann", "x", "\u00e9" * 129)
-        with self.assertRaises(ValueError) as raised:
-            accounts.verify("ann", "secret\ud800")
-        self.assertNotIn("secret", str(raised.exception))
+        for new in ("x" * 257, "\u00e9" * 129, "secret\ud800"):
+            for call in (
+                lambda: accounts.enrol("ann", new),
+                lambda: accounts.reset("ann", new),
+                lambda: accounts.change("ann", "x", new),
+                lambda: accounts.new_record(new),
+            ):
+                with counted() as hashes, self.assertRaises(ValueError) as raised:
+                    call()
+                self.assertNotIn("secret", str(raised.exception))
+                self.assertEqual(hashes, [])
+
+    def test_a_password_that_nobody_can_have_is_a_wrong_one(self):
+        """Whoever tries it may be anybody: it is answered after one hash, and not raised."""
+        hook = mock.Mock(side_effect=AssertionError("it was asked"))
+        accounts = self.accounts(HIGH, foreign=hook)
+        for stands in (LOW.hash("one"), LOW.hash(""), "$2b$of another scheme", None):
+            self.put("ann", stands)
+            for tried in ("x" * 257, "one" + "\0" * 254, "\u00e9" * 129, "one\ud800", b"x" * 300):
+                for act, wrong in (
+                    (lambda: accounts.verify("ann", tried), Reply.NO),
+                    (lambda: accounts.login("ann", tried), Reply.NO),
+                    (lambda: accounts.change("ann", tried, "new"), Reply.WRONG),
+                    (lambda: accounts.upgrade("ann", tried), Reply.WRONG),
+                    (lambda: accounts.remove("ann", tried), Reply.WRONG),
+                ):
+                    with counted() as hashes:
+                        self.assertIs(act(), Reply.ABSENT if stands is None else wrong)
+                    self.assertEqual(len(hashes), 1)
+                    self.assertEqual(self.stands(), stands)
+        self.assertIs(accounts.login("bob", "x" * 257), Reply.NO_ACCOUNT)
+
+    def test_a_reply_is_no_truth_value(self):
+        """`if accounts.login(..)` would let everybody in."""
+        self.put("ann", LOW.hash("one"))
+        for password in ("one", "two"):
+            with self.assertRaisesRegex(TypeError, "compare with Reply.YES"):
+                if self.accounts().login("ann", password):
+                    self.fail("it was let in")
+        for reply in Reply:
+            self.assertRaises(TypeError, bool, reply)
+            self.assertRaises(TypeError, lambda: not reply)
+
+    def test_a_new_record(self):
+        """For an INSERT of one's own; each has a salt of its own."""
+        accounts = self.accounts(HIGH)
+        records = {accounts.new_record("one") for _ in range(3)}
+        self.assertEqual(len(records), 3)
+        for record in records:
+            self.put("ann", record)
+            self.assertIn("m=128,", record)
+            self.assertIs(accounts.login("ann", "one"), Reply.YES)
+            self.assertEqual(self.stands(), record)
 
     def test_connections_in_the_wrong_mode(self):
         self.put("ann", LOW.hash("one"))
@@ -288,7 +396,7 @@ class Refusals(Base):
         ):
             self.put("ann", LOW.hash("secret one"))
             accounts = self.losing(before=False)
-            accounts._method._put_again = mock.Mock(side_effect=RuntimeError("x"))
+            accounts._operations._put_again = mock.Mock(side_effect=RuntimeError("x"))
             with self.assertRaises(OutcomeUnknown) as raised:
                 act(accounts)
             self.assertIn("'ann'", str(raised.exception))
@@ -314,7 +422,7 @@ class Refusals(Base):
         def refuses(*given):
             raise Refused("Failing row contains (ann, $argon2id$secret)")
 
-        with mock.patch.object(accounts._method, "compare", refuses):
+        with mock.patch.object(accounts._operations._table, "compare", refuses):
             with self.assertRaises(StoreFault) as raised:
                 accounts.change("ann", "one", "two")
         said = "".join(traceback.format_exception(raised.exception))

@@ -3,7 +3,8 @@
 import unittest
 
 from support import LOW, Base
-from rigzumal.accounts import Kind, Reply, Request, Sqlite, StoreFault, Ticket
+from rigzumal.accounts import Reply, Sqlite, StoreFault
+from rigzumal.accounts.parts import Kind, Request, Ticket
 
 
 class Tables(Base):
@@ -38,11 +39,11 @@ class Tables(Base):
             ),
         ):
             self.table(sql)
-            self.assertIn(words, "; ".join(accounts.examine()), sql)
+            self.assertIn(words, "; ".join(map(str, accounts.examine())), sql)
         self.table("CREATE TABLE users (id INTEGER PRIMARY KEY, name TEXT UNIQUE, record TEXT)")
         self.assertEqual(accounts.examine(), [])
         self.conn.execute("CREATE TRIGGER tr AFTER UPDATE ON users BEGIN SELECT 1; END")
-        self.assertIn("trigger tr", "; ".join(accounts.examine()))
+        self.assertIn("trigger tr", "; ".join(map(str, accounts.examine())))
         self.conn.execute("DROP TRIGGER tr")
 
         def careless():
@@ -50,7 +51,7 @@ class Tables(Base):
             conn.execute("PRAGMA synchronous = NORMAL")
             return conn
 
-        said = "; ".join(self.accounts(connect=careless).examine())
+        said = "; ".join(map(str, self.accounts(connect=careless).examine()))
         self.assertIn("synchronous", said)
         self.assertIn("busy timeout", said)
 
@@ -63,7 +64,7 @@ class Tables(Base):
         ):
             accounts = self.accounts(dialect=Sqlite(*names))
             (said,) = accounts.examine()
-            self.assertIn("trigger tr", said)
+            self.assertIn("trigger tr", str(said))
             self.put("ann", LOW.hash("one"))
             self.assertIs(accounts.verify("ann", "one"), Reply.YES)
 
@@ -84,7 +85,7 @@ class Tables(Base):
         ):
             self.table(f"CREATE TABLE users (name {column} PRIMARY KEY, record TEXT)")
             dialect = Sqlite("users", "name", "record", kind)
-            said = "; ".join(self.accounts(dialect=dialect).examine())
+            said = "; ".join(map(str, self.accounts(dialect=dialect).examine()))
             self.assertEqual(said[: len(words)] if words else said, words, column)
 
     def test_bytes_are_compared(self):

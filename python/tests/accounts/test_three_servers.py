@@ -87,6 +87,26 @@ class ThreeServers(unittest.TestCase):
         self.assertFalse(first.ask("log_in", "nobody@example.org", "two"))
         self.assertEqual([it.end() for it in (first, second, third)], [0, 0, 0])
 
+    def test_nobody_signs_up_for_a_row_that_is_there(self):
+        """One whose record was removed, or that was invited, is no stranger's to take."""
+        shop = self.web_server()
+        self.assertTrue(shop.ask("sign_up", "ada@example.org", "one"))
+        with self.server.connect() as conn:
+            conn.execute("UPDATE users SET record = NULL")
+            conn.execute("INSERT INTO users VALUES ('invited@example.org', NULL)")
+        for name in ("ada@example.org", "invited@example.org"):
+            self.assertFalse(shop.ask("sign_up", name, "evil"))
+            self.assertFalse(shop.ask("log_in", name, "evil"))
+
+    def test_strangers_get_an_answer(self):
+        """Whatever they type for a password."""
+        shop = self.web_server()
+        self.assertTrue(shop.ask("sign_up", "ada@example.org", "one"))
+        for typed in ("x" * 257, "\ud800", "one\0", ""):
+            self.assertFalse(shop.ask("log_in", "ada@example.org", typed))
+            self.assertFalse(shop.ask("change", "ada@example.org", typed, "two"))
+        self.assertTrue(shop.ask("log_in", "ada@example.org", "one"))
+
     def test_logins_never_undo_a_change(self):
         """Two servers ask for higher costs, so each of their logins is an upgrade, while the
         third changes the password: after each round the new one stands alone."""

@@ -7,14 +7,17 @@ import math
 import os
 import pathlib
 import re
+import sqlite3
 import unittest
 from unittest import mock
 
-from rigzumal.accounts import Answer, Kind, Reply, StoreFault, cli
-from rigzumal.accounts import _worker, history, torture
-from rigzumal.accounts._method import Method
-from rigzumal.accounts.history import Account, Operation
 from support import Base
+from rigzumal.accounts import Reply, StoreFault, cli, torture
+from rigzumal.accounts._table import Table
+from rigzumal.accounts.parts import Answer, Kind
+from rigzumal.accounts.torture import _torture, _worker
+from rigzumal.accounts.torture._order import Operation
+from rigzumal.accounts.torture.history import Account
 
 
 class Tortures(Base):
@@ -59,19 +62,19 @@ class Tortures(Base):
         self.assertEqual(found.fetchall(), [("users",)])
 
     def test_a_kill_that_kills_nobody(self):
-        with mock.patch.object(torture.os, "kill"):
-            with mock.patch.object(torture, "RISK", 0):
-                with mock.patch.object(_worker.Worker, "_risk"):
+        with mock.patch.object(_torture.os, "kill"):
+            with mock.patch.object(_torture, "RISK", 0):
+                with mock.patch.object(_worker.Log, "_dare"):
                     said = self.command("--processes=2", "--kill", status=2)
         self.assertIn("no process was killed", said)
 
     def test_kills_before_a_commit(self):
         """Each process ends between its first UPDATE and COMMIT: nothing was done."""
-        for way in torture.WAYS[1:]:
+        for way in _torture.WAYS:
             given = {"kill": True, "ways": (way,), "table": way, "mix": {"reset": 1}}
             self.logs = pathlib.Path(self.path).parent / way
-            with mock.patch.object(torture, "RISK", 1.0):
-                with mock.patch.object(torture.random, "random", return_value=0.9):
+            with mock.patch.object(_torture, "RISK", 1.0):
+                with mock.patch.object(_torture.random, "random", return_value=0.9):
                     accounts = self.run_one(folder=self.logs, **given)
             self.assertGreater(self.torture.killed, 0)
             ends = [it[-1]["event"] for it in self.lines() if it]
@@ -83,14 +86,14 @@ class Tortures(Base):
     def test_kills_after_a_commit(self):
         """Each ends between its first COMMIT and the answer: it was done, unseen."""
 
-        def tried(worker, worked):
-            worker.risk = 0.0
-            told(worker, worked)
-            worker.risk = 1.0
+        def tried(log, *given):
+            log.risk = 0.0
+            told(log, *given)
+            log.risk = 1.0
 
-        told = _worker.Worker._tried
-        with mock.patch.object(_worker.Worker, "_tried", tried):
-            with mock.patch.object(torture, "RISK", 1.0):
+        told = _worker.Log.tried
+        with mock.patch.object(_worker.Log, "tried", tried):
+            with mock.patch.object(_torture, "RISK", 1.0):
                 accounts = self.run_one(kill=True)
         self.assertGreater(self.torture.killed, 0)
         self.assertIsNone(torture.verdict(accounts))
@@ -107,11 +110,13 @@ class Tortures(Base):
             self.run_one(alter=broken)
 
     def test_everything_is_called(self):
-        """The whole, the parts, a caller's transaction and the login."""
-        self.assertEqual(set(torture.WAYS), {"whole", "parts", "within"})
-        self.assertEqual(set(torture.MIX), {"login", *(it.value for it in Kind)})
+        """The whole, one with a statement of its own, the parts, a caller's transaction
+        and the login."""
+        self.assertEqual(set(_torture.WAYS), {"whole", "also", "parts", "within"})
+        self.assertEqual(set(_torture.MIX), {"login", *(it.value for it in Kind)})
         for name, way, mix in (
             ("perform", "whole", {"change": 1}),
+            ("perform", "also", {"change": 1}),
             ("login", "whole", {"login": 1}),
             ("begin", "parts", {"change": 1}),
             ("work", "parts", {"change": 1}),
@@ -122,17 +127,18 @@ class Tortures(Base):
             def broken(accounts):
                 setattr(accounts, name, mock.Mock(side_effect=RuntimeError))
 
-            with self.subTest(name=name), self.assertRaises(StoreFault):
-                self.run_one(alter=broken, table=f"t{name}", seconds=10, ways=(way,), mix=mix)
+            given = {"table": f"t{name}{way}", "seconds": 10, "ways": (way,), "mix": mix}
+            with self.subTest(name=name, way=way), self.assertRaises(StoreFault):
+                self.run_one(alter=broken, **given)
 
     def test_an_unknown_outcome_is_no_failure(self):
         def unknown(accounts):
-            def commit(conn):
-                yield from plain(conn)
-                raise ConnectionError
+            async def commit(session):
+                await plain(session)
+                raise sqlite3.OperationalError("disk I/O error")
 
-            plain = accounts._method.dialect.commit
-            accounts._method.dialect.commit = commit
+            dialect = accounts._operations._dialect
+            plain, dialect.commit = dialect.commit, commit
 
         mix = {"enrol": 1, "remove": 2, "reset": 1}
         accounts = self.run_one(alter=unknown, mix=mix, patience=0.0)
@@ -159,7 +165,12 @@ class Tortures(Base):
     def test_a_login_that_says_yes_is_refused(self):
         def careless(accounts):
             login = accounts.login
-            accounts.login = lambda *given: login(*given) and Reply.YES
+
+            def yes(*given):
+                login(*given)
+                return Reply.YES
+
+            accounts.login = yes
 
         accounts = self.run_one(alter=careless, mix={"login": 1, "reset": 1})
         self.assertIn("was answered yes", str(torture.verdict(accounts)))
@@ -179,7 +190,7 @@ class Tortures(Base):
                 f"{number} {name}": account("x" if name == "good" else "y")
                 for number, name in enumerate(names)
             }
-            self.assertIn(f"bad'", str(torture.verdict(accounts).reason))
+            self.assertIn("bad'", str(torture.verdict(accounts).reason))
         self.assertIsNone(torture.verdict({"good": account("x")}))
 
     def test_one_that_shows_nothing(self):
@@ -193,15 +204,15 @@ class Tortures(Base):
 
     def test_one_that_is_refused(self):
         """Status 1, what contradicts what, and the table and the logs stay."""
-        compare = Method.compare
+        compare = Table.compare
 
-        def lies(method, worked):
+        async def lies(table, session, worked):
             """Says that it was put, and puts nothing."""
             if not worked.reply.makes_change:
-                return (yield from compare(method, worked))
+                return await compare(table, session, worked)
             return Answer(worked.reply, worked.ticket.copy, worked.after)
 
-        with mock.patch.object(Method, "compare", lies):
+        with mock.patch.object(Table, "compare", lies):
             said = self.command("--processes=2", f"--logs={self.logs}", status=1)
         self.assertTrue(said.startswith("illegal: account"))
         self.conn.execute("SELECT * FROM rigzumal_torture")

@@ -1,4 +1,4 @@
-"""The logs of what was asked and answered, as `rigzumal.accounts.history` takes them.
+"""The logs of what was asked and answered, as `history` takes them.
 
     python3 -m rigzumal accounts history LOG..
 
@@ -23,7 +23,8 @@ import math
 from collections.abc import Iterable, Sequence
 from typing import Any
 
-from rigzumal.accounts.history import Account, Attempt, Illegal, Operation, check
+from rigzumal.accounts.torture._order import Attempt, Operation
+from rigzumal.accounts.torture.history import Account, Illegal, check
 
 
 def read(paths: Iterable[str]) -> dict[Any, Account]:

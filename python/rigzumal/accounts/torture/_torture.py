@@ -1,11 +1,4 @@
-"""Many processes at once on one database, whose answers `history` judges.
-
-    python3 -m rigzumal accounts --database URL torture --processes 8 --kill
-
-They do operations on a few accounts of a table made for it, under costs that are next
-to nothing, and write down what they asked and were answered. So whoever runs another
-engine that speaks PostgreSQL's or MySQL's protocol can try it there.
-"""
+"""What is done to a database, and by how many."""
 
 from __future__ import annotations
 
@@ -19,30 +12,24 @@ import sys
 import tempfile
 import time
 import traceback
-from collections.abc import Awaitable, Callable, Mapping
+from collections.abc import Callable, Mapping
 from typing import Any, Optional
 
-from rigzumal._hashers import PasswordHasher
-from rigzumal.accounts import aio, history, logs
-from rigzumal.accounts._accounts import Accounts
-from rigzumal.accounts._values import Kind, Request, StoreFault
-from rigzumal.accounts._worker import LOW, Worker
+from rigzumal.accounts._values import StoreFault
 from rigzumal.accounts.database import Database
 from rigzumal.accounts.dialects import Dialect
-from rigzumal.accounts.pools import PerThread, Pool
+from rigzumal.accounts.parts import Kind, Request
+from rigzumal.accounts.pools import PerThread
+from rigzumal.accounts.torture import history, logs
+from rigzumal.accounts.torture._worker import LOW, LoggedAccounts, Worker, hasher
 
 MIX = {
     **{"enrol": 2, "verify": 6, "login": 4, "change": 4},
     **{"upgrade": 2, "remove": 1, "reset": 1},
 }
-WAYS = ("whole", "whole", "parts", "within")
+WAYS = ("whole", "also", "parts", "within")
 KEY, RECORD = "name", "record"
 RISK = 0.01
-
-
-def hasher(memory: int) -> PasswordHasher:
-    """A hasher that costs next to nothing; memory is in KiB."""
-    return PasswordHasher(time_cost=1, memory_cost=memory, parallelism=1)
 
 
 @dataclasses.dataclass
@@ -63,8 +50,8 @@ class Torture:
         replica: another database for the copies, which may lag.
         end_url: the database at which one reads what stands at the end.
         mix: how often each operation is done; a login is one too.
-        ways: how it is done: as a whole, in its three parts, or within a transaction of
-            the caller's.
+        ways: how it is done: as a whole, with a statement of its own, in its three
+            parts, or within a transaction of the caller's.
         tasks: on PostgreSQL, how many of asyncio every fourth process has; they are
             cancelled now and then.
         patience: for how many seconds a lost connection is made anew.
@@ -91,6 +78,7 @@ class Torture:
     alter: Callable[[Any], None] = lambda accounts: None
     settings: tuple[str, ...] = ()
     killed: int = 0
+    _kind: Optional[type[Dialect]] = None
 
     def run(self) -> dict[Any, history.Account]:
         """Runs it, and returns what was logged.
@@ -112,29 +100,47 @@ class Torture:
     def drop(self) -> None:
         """Drops the table."""
         conn = Database(self.end_url or self.url).connect()
-        conn.cursor().execute(f"DROP TABLE {self._dialect().table}")
+        conn.cursor().execute(f"DROP TABLE {self.dialect().table}")
         conn.close()
+
+    def dialect(self) -> Dialect:
+        """A dialect for the table, of whatever engine is there."""
+        if self._kind is None:
+            self._kind = Database(self.url).dialect_kind()
+        return self._kind(self.table, KEY, RECORD, str)
+
+    def made(self, kind: Any, pool: Any, memory: int, replica: Any = None) -> Any:
+        """Accounts of a process or of a task."""
+        given = {"patience": self.patience, "confirm": self.confirm, "tries": 50}
+        cheap = hasher(memory)
+        return kind(pool, self.dialect(), cheap, replica=replica, **given)
+
+    def is_awaited(self, number: int) -> bool:
+        """Whether a process is one of asyncio: every fourth one, on PostgreSQL."""
+        is_postgres = self.url.startswith("postgres")
+        return is_postgres and self.tasks > 0 and number % 4 == 3
 
     def _fill(self, names: list[str], top: Any) -> None:
         conn = Database(self.url).connect()
         if self.url.startswith("sqlite"):
             conn.execute("PRAGMA journal_mode = WAL")
-        accounts, dialect = self.blocking(lambda: conn, LOW), self._dialect()
+        dialect = self.dialect()
         cursor = conn.cursor()
         cursor.execute(dialect.create())
         for number, name in enumerate(names):
             cursor.execute(dialect.insert, (name,))
+            record = None
             if number % 2:
-                accounts.enrol(name, "one")
-            record = accounts.begin(Request(Kind.VERIFY, name)).copy
+                record = hasher(LOW).hash("one")
+                cursor.execute(dialect.update, (record, name, None))
             seed = {"event": "seed", "key": name, "record": record}
             print(json.dumps({**seed, "password": "one", "costs": LOW}), file=top)
         cursor.close()
         conn.close()
 
     def _read_ends(self, names: list[str], top: Any) -> None:
-        database = Database(self.end_url or self.url)
-        accounts = self.blocking(database.connect, LOW)
+        pool = PerThread(Database(self.end_url or self.url).connect)
+        accounts = self.made(LoggedAccounts, pool, LOW)
         for name in names:
             record = accounts.begin(Request(Kind.VERIFY, name)).copy
             end = {"event": "end", "key": name, "time": time.monotonic_ns()}
@@ -183,31 +189,6 @@ class Torture:
         finally:
             sys.stderr.flush()
             os._exit(status)
-
-    def is_awaited(self, number: int) -> bool:
-        """Whether a process is one of asyncio: every fourth one, on PostgreSQL."""
-        is_postgres = self.url.startswith("postgres")
-        return is_postgres and self.tasks > 0 and number % 4 == 3
-
-    def blocking(
-        self, connect: Callable[[], Any], memory: int, replica: Optional[Pool] = None
-    ) -> Accounts:
-        """Accounts of a process or of this one."""
-        pool, cheap = PerThread(connect), hasher(memory)
-        return Accounts(pool, self._dialect(), cheap, replica=replica, **self._given())
-
-    def awaited(
-        self, connect: Callable[[], Awaitable[Any]], memory: int
-    ) -> aio.Accounts:
-        """Accounts of a task."""
-        pool, cheap = aio.PerUse(connect), hasher(memory)
-        return aio.Accounts(pool, self._dialect(), cheap, **self._given())
-
-    def _given(self) -> dict[str, Any]:
-        return {"tries": 50, "patience": self.patience, "confirm": self.confirm}
-
-    def _dialect(self) -> Dialect:
-        return Database(self.url).dialect(self.table, KEY, RECORD, str)
 
 
 def verdict(accounts: Mapping[Any, history.Account]) -> Optional[history.Illegal]:

@@ -1,0 +1,210 @@
+"""Where blocking drivers and asyncio differ.
+
+All that stands above is coroutines. Over a blocking driver they never wait for anything
+but the driver itself, so `run` has what they answer at once.
+"""
+
+from __future__ import annotations
+
+import asyncio
+import time
+from collections.abc import Awaitable, Callable, Coroutine, Mapping
+from types import TracebackType
+from typing import Any, Generic, NamedTuple, Optional, Protocol, TypeVar
+
+T = TypeVar("T")
+
+
+class Result(NamedTuple):
+    """What a statement answered: rows, how many it touched, and the server's word."""
+
+    rows: list[tuple[Any, ...]]
+    affected: int
+    status: Optional[str] = None
+
+
+class Session(Protocol):
+    """A connection of a driver, and how a statement is done on it."""
+
+    conn: Any
+
+    async def execute(self, sql: str, *values: object) -> Result:
+        """Does a statement to its end."""
+
+
+Job = Callable[[Session], Coroutine[Any, Any, T]]
+"""What is done on one connection."""
+
+
+class Runtime(Protocol):
+    """How one waits: for a connection, a time, a hash, and a caller's statements."""
+
+    def session(self, conn: Any) -> Session:
+        """A driver's connection."""
+
+    async def use(self, pool: Any, job: Job[T]) -> T:
+        """Does a job on a connection of a pool."""
+
+    async def pause(self, seconds: float) -> None:
+        """Waits."""
+
+    async def call(self, work: Callable[..., T], *given: Any) -> T:
+        """Does what takes a processor a while."""
+
+    async def told(self, said: Any) -> None:
+        """Waits for a caller's own function, which answered so."""
+
+
+class Ending(Generic[T]):
+    """How a job ended, whatever its pool does afterwards.
+
+    A pool that rolls back a broken connection raises in place of what the job raised,
+    and "COMMIT had no answer" would be taken for "nothing was done". So what a job ended
+    by is kept here, and what its pool raises is dropped.
+
+    Attributes:
+        value: what the job answered.
+        has_begun: the pool gave a connection.
+    """
+
+    value: T
+
+    def __init__(self) -> None:
+        self.has_begun = False
+        self._error: Optional[BaseException] = None
+
+    def __enter__(self) -> Ending[T]:
+        self.has_begun = True
+        return self
+
+    def __exit__(
+        self,
+        kind: Optional[type[BaseException]],
+        error: Optional[BaseException],
+        traceback: Optional[TracebackType],
+    ) -> None:
+        self._error = error
+
+    def answer(self) -> T:
+        """What the job answered; raises what it raised."""
+        if self._error is not None:
+            raise self._error
+        return self.value
+
+
+def run(coroutine: Coroutine[Any, Any, T]) -> T:
+    """What a coroutine over a blocking driver answers."""
+    try:
+        coroutine.send(None)
+    except StopIteration as end:
+        answer: T = end.value
+        return answer
+    coroutine.close()
+    raise TypeError("a blocking operation has awaited something: take AsyncAccounts")
+
+
+class BlockingSession:
+    """A connection of the DB-API (PEP 249)."""
+
+    def __init__(self, conn: Any) -> None:
+        self.conn = conn
+
+    async def execute(self, sql: str, *values: object) -> Result:
+        """Does a statement to its end: a cursor that isn't keeps SQLite's snapshot."""
+        cursor = self.conn.cursor()
+        try:
+            if values:
+                cursor.execute(sql, values)
+            else:
+                cursor.execute(sql)
+            fetched = cursor.fetchall() if cursor.description else ()
+            return _result(cursor, fetched)
+        finally:
+            cursor.close()
+
+
+class AsyncSession:
+    """A connection of psycopg's AsyncConnection, or of a driver with cursors like it."""
+
+    def __init__(self, conn: Any) -> None:
+        self.conn = conn
+
+    async def execute(self, sql: str, *values: object) -> Result:
+        """Does a statement to its end."""
+        async with self.conn.cursor() as cursor:
+            if values:
+                await cursor.execute(sql, values)
+            else:
+                await cursor.execute(sql)
+            fetched = await cursor.fetchall() if cursor.description else ()
+            return _result(cursor, fetched)
+
+
+def _result(cursor: Any, fetched: Any) -> Result:
+    status = getattr(cursor, "statusmessage", None)
+    return Result([row_values(row) for row in fetched], cursor.rowcount, status)
+
+
+def row_values(row: Any) -> tuple[Any, ...]:
+    """A row's values, whether the driver makes tuples of rows or dictionaries."""
+    if type(row) is tuple:
+        return row
+    return tuple(row.values() if isinstance(row, Mapping) else row)
+
+
+class Blocking:
+    """Waits as a thread does."""
+
+    def session(self, conn: Any) -> Session:
+        return BlockingSession(conn)
+
+    async def use(self, pool: Any, job: Job[T]) -> T:
+        ending: Ending[T] = Ending()
+        try:
+            with pool() as conn, ending:
+                ending.value = await job(BlockingSession(conn))
+        except Exception:
+            # What a pool raises after a job has ended changes nothing of how it ended.
+            if not ending.has_begun:
+                raise
+        return ending.answer()
+
+    async def pause(self, seconds: float) -> None:
+        time.sleep(seconds)
+
+    async def call(self, work: Callable[..., T], *given: Any) -> T:
+        return work(*given)
+
+    async def told(self, said: Any) -> None:
+        if isinstance(said, Coroutine):
+            said.close()
+        if isinstance(said, Awaitable):
+            raise TypeError("`also` has answered a coroutine: take AsyncAccounts")
+
+
+class Asynchronous:
+    """Waits as a task of asyncio does, and hashes in a thread."""
+
+    def session(self, conn: Any) -> Session:
+        return AsyncSession(conn)
+
+    async def use(self, pool: Any, job: Job[T]) -> T:
+        ending: Ending[T] = Ending()
+        try:
+            async with pool() as conn:
+                with ending:
+                    ending.value = await job(AsyncSession(conn))
+        except Exception:
+            if not ending.has_begun:
+                raise
+        return ending.answer()
+
+    async def pause(self, seconds: float) -> None:
+        await asyncio.sleep(seconds)
+
+    async def call(self, work: Callable[..., T], *given: Any) -> T:
+        return await asyncio.to_thread(work, *given)
+
+    async def told(self, said: Any) -> None:
+        if isinstance(said, Awaitable):
+            await said

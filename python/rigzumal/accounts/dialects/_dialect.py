@@ -1,0 +1,267 @@
+"""What an engine has to tell: its statements, its transactions, what its errors mean."""
+
+from __future__ import annotations
+
+import enum
+from dataclasses import dataclass
+from typing import Any, ClassVar, Final
+
+from rigzumal.accounts._session import Result, Session
+from rigzumal.accounts._values import Copy, Key, StoreFault
+
+LONGEST_RECORD: Final = 512
+"""Bytes of the longest record."""
+
+NOT_AUTOCOMMIT: Final = "the connections of the pool have to be in autocommit"
+TRANSACTION_OPEN: Final = (
+    "a transaction is open on the connection: after any exception, a pool closes what it"
+    " gave out, or rolls it back"
+)
+NO_TRANSACTION: Final = "no transaction is open on the connection"
+_BIGINT: Final = 2**63
+
+
+class Severity(enum.Enum):
+    """How much a fault matters."""
+
+    ERROR = "error"
+    WARNING = "warning"
+
+
+@dataclass(frozen=True)
+class Fault:
+    """What `examine` has found.
+
+    Attributes:
+        severity: an error takes acknowledged changes, answers wrongly or refuses what
+            should be done; a warning is to be known.
+        code: its name in a word or two, such as "key-not-unique".
+        text: for people.
+    """
+
+    severity: Severity
+    code: str
+    text: str
+
+    @property
+    def is_error(self) -> bool:
+        return self.severity is Severity.ERROR
+
+    def __str__(self) -> str:
+        return self.text
+
+
+def error(code: str, text: str) -> Fault:
+    return Fault(Severity.ERROR, code, text)
+
+
+def warning(code: str, text: str) -> Fault:
+    return Fault(Severity.WARNING, code, text)
+
+
+@dataclass(frozen=True)
+class Findings:
+    """What an engine's catalogue and settings show.
+
+    Attributes:
+        faults: what is wrong.
+        is_usable: something can be tried there, and undone.
+        unless_confirmed: no fault if looks are confirmed by a COMMIT that writes.
+    """
+
+    faults: list[Fault]
+    is_usable: bool = True
+    unless_confirmed: tuple[Fault, ...] = ()
+
+
+class Verdict(enum.Enum):
+    """What an error of a driver means where no COMMIT was sent."""
+
+    AGAIN = "the server undid the transaction and wants it to be tried again"
+    ELSEWHERE = "the server undid it and takes none for now; another, or later, may"
+    LOST = "the connection is of no use any more; another may be"
+    REFUSED = "the server refuses it, and would again"
+
+
+def is_of_driver(raised: BaseException) -> bool:
+    """Whether a driver or the network raised it: all else is a fault of a program."""
+    if isinstance(raised, OSError):
+        return True
+    return any(kind.__name__ == "Error" for kind in type(raised).__mro__)
+
+
+def other_driver(conn: Any, wanted: str) -> StoreFault:
+    """What is said of a connection of another driver."""
+    found = type(conn).__module__.partition(".")[0]
+    return StoreFault(f"the driver is {found}, and {wanted} is wanted")
+
+
+class Dialect:
+    """The statements for one table, and what is particular about an engine.
+
+    A dialect holds the names of the service's own table and columns, and no connection.
+    In each statement the record is compared byte by byte, where NULL is equal to NULL.
+
+    Args:
+        table: its name, with its schema in front if it isn't on the search path.
+        key: the column that names an account; it is unique.
+        record: the column of the records; it may be NULL.
+        key_type: what Python's type of the key column is: str, int, bytes or uuid.UUID.
+
+    Attributes:
+        select: the statement that reads a record; takes a key.
+        share: the same, so that the record stands until the transaction ends.
+        update: puts a record if its copy stands; takes record, key and copy.
+        at_once: does a whole change and commits it, or undoes it; empty if the engine
+            has no such statement.
+        insert: adds an account without a record; takes a key.
+        every: reads all keys and records.
+        returns: the UPDATE answers with the record that it put.
+    """
+
+    mark: ClassVar[str] = "%s"
+    quote: ClassVar[str] = '"'
+    begin: ClassVar[str] = "START TRANSACTION"
+    commit_sql: ClassVar[str] = "COMMIT"
+    key_types: ClassVar[tuple[type, ...]] = (str, int, bytes)
+    key_sql: ClassVar[str] = "VARCHAR(255)"
+    bytes_sql: ClassVar[str] = "VARBINARY(255)"
+    returns: ClassVar[bool] = False
+    # How a record is read that has to stand until the transaction's end.
+    _share: ClassVar[str] = ""
+    _same: ClassVar[str] = ""
+
+    def __init__(self, table: str, key: str, record: str, key_type: type = str) -> None:
+        if key_type not in self.key_types:
+            names = ", ".join(it.__name__ for it in self.key_types)
+            raise TypeError(f"keys here are of {names}, not {key_type.__name__}")
+        self.table_name, self.key_name, self.record_name = table, key, record
+        self.key_type = key_type
+        self.table = t = ".".join(map(self.quoted, table.split(".")))
+        k, r, m = self.quoted(key), self.quoted(record), self.mark
+        same = self._same.format(r=r, m=m)
+        self.select = f"SELECT {r} FROM {t} WHERE {k} = {m}"
+        self.share = self.select + self._share
+        self.update = f"UPDATE {t} SET {r} = {m} WHERE {k} = {m} AND {same}"
+        if self.returns:
+            self.update += f" RETURNING {r}"
+        self.at_once = self._at_once(t, k, r)
+        self.insert = f"INSERT INTO {t} ({k}) VALUES ({m})"
+        self.every = self.alone(f"SELECT {k}, {r} FROM {t} ORDER BY {k}")
+
+    def _at_once(self, t: str, k: str, r: str) -> str:
+        return ""
+
+    def quoted(self, name: str) -> str:
+        """A name of a table or a column, as it stands in a statement."""
+        doubled = name.replace(self.quote, self.quote * 2)
+        if self.mark == "%s":
+            doubled = doubled.replace("%", "%%")
+        return f"{self.quote}{doubled}{self.quote}"
+
+    def alone(self, sql: str) -> str:
+        """A statement without values, in which no driver looks for marks."""
+        return sql.replace("%%", "%") if self.mark == "%s" else sql
+
+    def check_key(self, key: object) -> None:
+        """Refuses a key of another type, since a database may compare it as another's.
+
+        MariaDB's `name = 0` finds every name that begins with no digit.
+
+        Raises:
+            TypeError: the key isn't of the column's type.
+        """
+        if type(key) is not self.key_type:
+            wanted = self.key_type.__name__
+            raise TypeError(f"the key is of {type(key).__name__}, not {wanted}")
+
+    def can_stand(self, key: object) -> bool:
+        """Whether a column can hold the key; otherwise there is no such account."""
+        if isinstance(key, str):
+            return "\0" not in key and (
+                key.isascii() or not any("\ud800" <= it <= "\udfff" for it in key)
+            )
+        return not isinstance(key, int) or -_BIGINT <= key < _BIGINT
+
+    # ---- connections
+
+    def fresh(self, conn: Any) -> None:
+        """Refuses a connection that isn't in autocommit or has a transaction open.
+
+        Raises:
+            StoreFault: it is one, or of another driver. Nothing is done about it:
+                switching to autocommit would commit what is open.
+            ConnectionError: it is closed.
+        """
+        raise NotImplementedError
+
+    async def within(self, session: Session) -> None:
+        """Refuses a caller's connection on which each statement would be by itself.
+
+        Raises:
+            StoreFault: it is in autocommit, and no transaction is open on it; or the
+                transaction is of a level that won't do.
+        """
+        raise NotImplementedError
+
+    async def prepare(self, session: Session) -> None:
+        """What has to be asked of a session before it is used."""
+
+    # ---- statements
+
+    async def start(self, session: Session) -> None:
+        """Begins a transaction."""
+        await session.execute(self.begin)
+
+    async def put(self, session: Session, after: Copy, key: Key, copy: Copy) -> Result:
+        """Puts a record if its copy stands; what stays the same is written too."""
+        return await session.execute(self.update, after, key, copy)
+
+    async def put_at_once(
+        self, session: Session, after: Copy, key: Key, copy: Copy
+    ) -> int:
+        """Puts a record by one statement that commits; how many rows it touched."""
+        raise NotImplementedError
+
+    async def commit(self, session: Session) -> None:
+        """Commits, and raises unless what was done surely stands."""
+        await session.execute(self.commit_sql)
+
+    async def undo(self, session: Session) -> None:
+        """Rolls back what is open."""
+        await session.execute("ROLLBACK")
+
+    # ---- errors
+
+    def verdict(self, raised: BaseException) -> Verdict:
+        """What an error of the driver means where no COMMIT was sent."""
+        raise NotImplementedError
+
+    def gave_up(self, raised: BaseException) -> bool:
+        """Whether an answer to what commits says that the server undid it.
+
+        Of any other error nobody knows what was done.
+        """
+        return self.verdict(raised) is Verdict.AGAIN
+
+    def refuses_at_once(self, raised: BaseException) -> bool:
+        """Whether the statement was undone, and a transaction does better or says why."""
+        return False
+
+    def number(self, raised: BaseException) -> str:
+        """The server's number of an error; its text may have the refused row."""
+        return ""
+
+    # ---- tables
+
+    def create(self) -> str:
+        """The statement that creates a table as it should be."""
+        k, r = self.quoted(self.key_name), self.quoted(self.record_name)
+        kinds = {str: self.key_sql, int: "BIGINT", bytes: self.bytes_sql}
+        kind = kinds.get(self.key_type, "UUID")
+        columns = f"{k} {kind} NOT NULL PRIMARY KEY, {r} VARCHAR({LONGEST_RECORD})"
+        return self.alone(f"CREATE TABLE {self.table} ({columns})")
+
+    async def examine(self, session: Session) -> Findings:
+        """What the catalogue and the settings show to be wrong."""
+        raise NotImplementedError

@@ -1,0 +1,260 @@
+"""MariaDB and MySQL, by PyMySQL."""
+
+from __future__ import annotations
+
+import weakref
+from typing import Any, Final, Optional
+
+from rigzumal.accounts._session import Result, Session
+from rigzumal.accounts._values import Copy, Key, StoreFault
+from rigzumal.accounts.dialects import _faults
+from rigzumal.accounts.dialects._dialect import (
+    LONGEST_RECORD,
+    NO_TRANSACTION,
+    NOT_AUTOCOMMIT,
+    TRANSACTION_OPEN,
+    Dialect,
+    Fault,
+    Findings,
+    Verdict,
+    error,
+    other_driver,
+    warning,
+)
+
+NOBODYS_RECORD: Final = (
+    "$argon2id$v=19$m=8,t=1,p=1$bm9ib2R5J3M$"
+    "AAAAAAAAAAAAAAAAAAAAAAAAAAAAAAAAAAAAAAAAAAA"
+)
+"""Stands within a transaction alone, in the place of no record."""
+
+# 1213: a deadlock, or of Galera a certification that failed; 1205: a lock was waited
+# for in vain; 1020: changed since it was read; 3024: MySQL's max_execution_time.
+_AGAIN: Final = frozenset({1213, 1205, 1020, 3024})
+# max_statement_time is over. At a COMMIT it tells nothing of what was done.
+_TIME_IS_OVER: Final = 1969
+_NOTHING_DONE: Final = 1205
+# 1290, 1836: it is read only; 1040, 1203: too many clients, or too many of this user.
+_ELSEWHERE: Final = frozenset({1290, 1836, 1040, 1203})
+# 0 and 2xxx: the connection; 4031: it was idle for too long; 1047: a Galera node outside
+# of the majority; 1053, 1317, 1927: the server stops, or the thread was killed.
+_LOST: Final = frozenset(
+    {0, 2002, 2003, 2006, 2013, 2055, 4031, 1047, 1053, 1317, 1927}
+)
+# What a COMMIT may answer though it is in the log: 1180, 1181: an error during COMMIT or
+# ROLLBACK; 1021, 1026, 1030: a full disk, an error of writing, an error of the engine.
+_UNKNOWN: Final = frozenset({1021, 1026, 1030, 1180, 1181, _TIME_IS_OVER})
+
+
+class StatementTimeout(OSError):
+    """max_statement_time is over, and nothing was done: as after a lock's."""
+
+
+class MariaDB(Dialect):
+    """MariaDB by PyMySQL.
+
+    A column's collation may hold 'a' = 'A' and 'a' = 'a ', so bytes are compared. An
+    UPDATE that changes nothing counts no row, unless the client asks for FOUND_ROWS:
+    fresh salts make both right. Others read a change before it is on the disk, unless
+    there is a binary log: `confirm` of Accounts is against that.
+    """
+
+    quote = "`"
+    key_sql = "VARCHAR(255) CHARACTER SET utf8mb4 COLLATE utf8mb4_nopad_bin"
+    # A plain SELECT under REPEATABLE READ, the default, reads what stood when the
+    # caller's transaction first read anything.
+    _share = " LOCK IN SHARE MODE"
+    _same = "CAST({r} AS BINARY) <=> CAST({m} AS BINARY)"
+
+    def __init__(self, table: str, key: str, record: str, key_type: type = str) -> None:
+        super().__init__(table, key, record, key_type)
+        self._prepared: weakref.WeakSet[Any] = weakref.WeakSet()
+
+    def fresh(self, conn: Any) -> None:
+        if not hasattr(conn, "server_status"):
+            raise other_driver(conn, "PyMySQL")
+        if not conn.open:
+            raise ConnectionError("the connection is closed")
+        if not conn.get_autocommit():
+            raise StoreFault(NOT_AUTOCOMMIT)
+        if conn.server_status & 1:  # SERVER_STATUS_IN_TRANS
+            raise StoreFault(TRANSACTION_OPEN)
+
+    async def within(self, session: Session) -> None:
+        conn = session.conn
+        if not hasattr(conn, "server_status"):
+            raise other_driver(conn, "PyMySQL")
+        if conn.get_autocommit() and not conn.server_status & 1:
+            raise StoreFault(NO_TRANSACTION)
+
+    async def prepare(self, session: Session) -> None:
+        if session.conn in self._prepared:
+            return
+        found = await session.execute("SHOW SESSION VARIABLES LIKE 't%isolation'")
+        if any(level.upper().startswith("READ-UNC") for _, level in found.rows):
+            raise StoreFault("READ UNCOMMITTED: records are read that never stood")
+        self._prepared.add(session.conn)
+
+    def _at_once(self, t: str, k: str, r: str) -> str:
+        # The same transaction as of several statements, within the server.
+        look = f"SELECT {r} INTO stands FROM {t} WHERE {k} = %s"
+        is_put = "CAST(stands AS BINARY) <=> CAST(%s AS BINARY)"
+        return (
+            "BEGIN NOT ATOMIC DECLARE touched INT; DECLARE stands LONGTEXT;"
+            " DECLARE EXIT HANDLER FOR SQLEXCEPTION BEGIN ROLLBACK; RESIGNAL; END;"
+            f" START TRANSACTION; {self.update}; SET touched = ROW_COUNT();"
+            f" IF touched = 1 THEN {look};"
+            f" IF NOT {is_put} THEN SET touched = -1; END IF; END IF;"
+            " IF touched = 1 THEN COMMIT; ELSE ROLLBACK; END IF;"
+            " SELECT touched; END"
+        )
+
+    async def put_at_once(
+        self, session: Session, after: Copy, key: Key, copy: Copy
+    ) -> int:
+        values = (after, key, copy, key, after)
+        try:
+            ((touched,),) = (await session.execute(self.at_once, *values)).rows
+            return int(touched)
+        except Exception as raised:
+            if _number(raised) != _TIME_IS_OVER:
+                raise
+        # It may have ended before the COMMIT, within it, or just after it.
+        await self.undo(session)
+        stands = (await session.execute(self.select, key)).rows
+        if stands == [(copy,)]:
+            raise StatementTimeout(_NOTHING_DONE, "max_statement_time is over")
+        if stands == [(after,)]:
+            return 1
+        raise ConnectionError("max_statement_time was over, and another record stands")
+
+    def refuses_at_once(self, raised: BaseException) -> bool:
+        if _number(raised) == 1064:
+            self.at_once = ""  # MySQL has no such statement
+            return True
+        return self.gave_up(raised) and self.verdict(raised) is Verdict.REFUSED
+
+    async def put(self, session: Session, after: Copy, key: Key, copy: Copy) -> Result:
+        if after != copy:
+            return await super().put(session, after, key, copy)
+        # An UPDATE to what stands writes nothing, and its COMMIT waits for no disk.
+        other = None if copy is not None else NOBODYS_RECORD
+        result = await session.execute(self.update, other, key, copy)
+        if result.affected != 1:
+            return result
+        result = await session.execute(self.update, copy, key, other)
+        if result.affected != 1:
+            # Never committed: what stands by now is no record of anybody's.
+            raise StoreFault("the record that stands isn't the one that was put")
+        return result
+
+    def verdict(self, raised: BaseException) -> Verdict:
+        number = _number(raised)
+        if number in _AGAIN or number == _TIME_IS_OVER:
+            return Verdict.AGAIN
+        if number in _ELSEWHERE:
+            return Verdict.ELSEWHERE
+        if number in _LOST or isinstance(raised, OSError):
+            return Verdict.LOST
+        return Verdict.REFUSED
+
+    def gave_up(self, raised: BaseException) -> bool:
+        # What the server answers to a COMMIT it has rolled back, but for these.
+        number = _number(raised)
+        if number is None or number in _UNKNOWN:
+            return False
+        return self.verdict(raised) is not Verdict.LOST
+
+    def number(self, raised: BaseException) -> str:
+        return str(_number(raised) or "")
+
+    async def examine(self, session: Session) -> Findings:
+        schema, _, t = self.table_name.rpartition(".")
+        k, r = self.key_name, self.record_name
+        of = "table_schema = COALESCE(NULLIF(%s, ''), DATABASE()) AND table_name = %s"
+        found = await session.execute(
+            "SELECT column_name, data_type, character_maximum_length,"
+            " character_set_name, is_nullable"
+            f" FROM information_schema.columns WHERE {of}",
+            schema,
+            t,
+        )
+        columns = {row[0]: row for row in found.rows}
+        missing = _faults.missing(self, columns)
+        if missing:
+            return Findings(missing, is_usable=False)
+        unique = await session.execute(
+            "SELECT index_name FROM information_schema.statistics"
+            f" WHERE {of} AND non_unique = 0 GROUP BY index_name HAVING COUNT(*) = 1"
+            " AND MAX(column_name) = %s AND MAX(sub_part) IS NULL",
+            schema,
+            t,
+            k,
+        )
+        nullable = columns[r][4] == "YES"
+        faults = _faults.of_table(self, nullable, bool(unique.rows))
+        faults += self._type_faults(columns[k][1], *columns[r][1:4])
+        sql = f"SELECT engine FROM information_schema.tables WHERE {of}"
+        ((engine,),) = (await session.execute(sql, schema, t)).rows
+        if engine != "InnoDB":
+            text = f"{t} is of {engine}, which has no transactions"
+            faults.append(error("no-transactions", text))
+        rows = (await session.execute("SHOW SESSION VARIABLES")).rows
+        seen = {name: value for name, value in rows}
+        faults += of_server(seen) + await _faults.folded_names(self, session)
+        return Findings(faults, engine == "InnoDB", shown_early(seen))
+
+    def _type_faults(
+        self, key: str, kind: str, length: Optional[int], charset: Optional[str]
+    ) -> list[Fault]:
+        faults, r = [], self.record_name
+        texts = ("varchar", "text", "mediumtext", "longtext")
+        if kind not in texts or (length or 0) < LONGEST_RECORD:
+            text = f"{r} is {kind}({length}): a record has up to 512 bytes"
+            faults.append(error("record-type", text))
+        if charset not in ("ascii", "latin1", "utf8mb3", "utf8mb4", "utf8"):
+            text = f"{r} is in {charset}, whose bytes aren't those of ASCII"
+            faults.append(error("record-type", text))
+        kinds = {
+            str: ("char", "varchar", "text"),
+            int: ("tinyint", "smallint", "mediumint", "int", "bigint"),
+            bytes: ("binary", "varbinary", "blob"),
+        }
+        return faults + _faults.key_type(self, key, key in kinds[self.key_type])
+
+
+def shown_early(seen: dict[str, str]) -> tuple[Fault, ...]:
+    """Without a binary log InnoDB shows a commit before its own log is on the disk."""
+    if seen.get("log_bin") == "ON" or seen.get("wsrep_on") == "ON":
+        return ()
+    text = "log_bin is OFF: a crash may take a change by which a login was answered"
+    return (warning("shown-early", text),)
+
+
+def of_server(seen: dict[str, str]) -> list[Fault]:
+    """What is wrong with a session of MariaDB."""
+    faults = []
+    if "STRICT_" not in seen["sql_mode"]:
+        text = "sql_mode isn't strict: what is too long is cut off"
+        faults.append(warning("not-strict", text))
+    level = seen.get("tx_isolation") or seen.get("transaction_isolation", "")
+    if level == "READ-UNCOMMITTED":
+        text = "READ UNCOMMITTED: records are read that never stood"
+        faults.append(error("read-uncommitted", text))
+    for name in ("innodb_flush_log_at_trx_commit", "innodb_doublewrite"):
+        if seen.get(name, "1") not in ("1", "ON"):
+            text = f"{name} is {seen[name]}: a crash takes acknowledged changes"
+            faults.append(_faults.not_durable(text))
+    # With a binary log, what isn't in it after a power cut is rolled back.
+    if seen.get("log_bin") == "ON" and seen.get("sync_binlog") != "1":
+        text = f"sync_binlog is {seen.get('sync_binlog')}: a power cut takes"
+        faults.append(_faults.not_durable(f"{text} acknowledged changes"))
+    if seen.get("wsrep_on") == "ON" and not int(seen["wsrep_sync_wait"]) & 1:
+        text = "wsrep_sync_wait has no 1: a node may read what was replaced"
+        faults.append(error("no-sync-wait", text))
+    return faults
+
+
+def _number(raised: BaseException) -> Optional[int]:
+    first = raised.args[0] if raised.args else None
+    return first if isinstance(first, int) else None

@@ -1,0 +1,251 @@
+"""PostgreSQL, and what speaks its protocol, by psycopg 3."""
+
+from __future__ import annotations
+
+import uuid
+from typing import Any, Final
+
+from rigzumal.accounts._session import Result, Session
+from rigzumal.accounts._values import Copy, Key, StoreFault
+from rigzumal.accounts.dialects import _faults
+from rigzumal.accounts.dialects._dialect import (
+    LONGEST_RECORD,
+    NO_TRANSACTION,
+    NOT_AUTOCOMMIT,
+    TRANSACTION_OPEN,
+    Dialect,
+    Fault,
+    Findings,
+    Verdict,
+    error,
+    other_driver,
+    warning,
+)
+
+SNAPSHOT: Final = (
+    "the transaction is of REPEATABLE READ: begin by READ COMMITTED or SERIALIZABLE"
+)
+
+# 40001: serialization; 40P01: a deadlock; 55P03: lock_timeout; 57014: statement_timeout.
+_AGAIN: Final = frozenset({"40001", "40P01", "55P03", "57014"})
+# 25006: a standby, or a session that only reads; 53300: it has too many clients.
+_ELSEWHERE: Final = frozenset({"25006", "53300"})
+# 08: the connection; 57P0x: the server stops, has crashed or starts; 25P03: the
+# transaction was idle for too long. Whatever was sent then may have been done.
+_LOST: Final = ("08", "57P0", "25P03")
+# The server doesn't know whether what was sent was done.
+_UNKNOWN: Final = "40003"
+
+
+class Postgres(Dialect):
+    """PostgreSQL by psycopg 3, blocking or asynchronous.
+
+    Bytes are compared as text under "C", whatever the column's collation or type. The
+    UPDATE answers with the record that it put, which spares the reading back; what an
+    AFTER trigger makes of it isn't seen so.
+    """
+
+    # Its own level, whatever the session's default is: under READ COMMITTED an UPDATE
+    # that waited for a row looks at its condition again.
+    begin = "BEGIN ISOLATION LEVEL READ COMMITTED READ WRITE"
+    key_types = (str, int, bytes, uuid.UUID)
+    key_sql = "TEXT"
+    bytes_sql = "BYTEA"
+    returns = True
+    _share = " FOR SHARE"
+    _same = '{r}::text COLLATE "C" IS NOT DISTINCT FROM {m}::text'
+
+    def fresh(self, conn: Any) -> None:
+        self._check_driver(conn)
+        status = conn.info.transaction_status
+        if status == 4:  # UNKNOWN: it is closed
+            raise ConnectionError("the connection is closed")
+        if status != 0:  # IDLE
+            raise StoreFault(TRANSACTION_OPEN)
+        if not conn.autocommit:
+            raise StoreFault(NOT_AUTOCOMMIT)
+
+    def _check_driver(self, conn: Any) -> None:
+        if not hasattr(conn, "prepare_threshold"):
+            raise other_driver(conn, "psycopg 3")
+        # PgBouncer may give the next statement to a session that hasn't prepared it.
+        conn.prepare_threshold = None
+
+    async def within(self, session: Session) -> None:
+        self._check_driver(session.conn)
+        if session.conn.autocommit and session.conn.info.transaction_status == 0:
+            raise StoreFault(NO_TRANSACTION)
+        # A change whose snapshot is older than a session's row doesn't see it to end it.
+        found = await session.execute("SHOW transaction_isolation")
+        if found.rows == [("repeatable read",)]:
+            raise StoreFault(SNAPSHOT)
+
+    async def start(self, session: Session) -> None:
+        try:
+            await super().start(session)
+        except Exception as raised:
+            if _state(raised) != "0A000":
+                raise
+            caught = raised
+        else:
+            return
+        # A standby never writes, and says so in its own way; it may be promoted.
+        raise ConnectionError("the server is a standby") from caught
+
+    def _at_once(self, t: str, k: str, r: str) -> str:
+        # If what stands isn't what was put, it divides by zero, and is undone.
+        same = f'{r}::text COLLATE "C" = %s::text'
+        size = f"octet_length({r}) = octet_length(%s::text)"
+        update = self.update.rpartition(" RETURNING ")[0]
+        one = f"(SELECT count(*) FROM {t} WHERE {k} = %s) = 1"
+        return f"{update} AND {one} RETURNING 1 / ({same} AND {size})::int"
+
+    async def put_at_once(
+        self, session: Session, after: Copy, key: Key, copy: Copy
+    ) -> int:
+        values = (after, key, copy, key, after, after)
+        return (await self._committed(session, self.at_once, *values)).affected
+
+    def refuses_at_once(self, raised: BaseException) -> bool:
+        # 25: the session only reads, and a transaction of ours doesn't; 42 and 0A: the
+        # server doesn't take the statement; 22012: what stands isn't what was put.
+        state = _state(raised)
+        return state[:2] in ("25", "42", "0A") or state == "22012"
+
+    async def commit(self, session: Session) -> None:
+        done = await self._committed(session, self.commit_sql)
+        # A transaction that has failed answers ROLLBACK and raises nothing.
+        if done.status != "COMMIT":
+            raise StoreFault(f"the server answered {done.status} to COMMIT")
+
+    async def _committed(self, session: Session, sql: str, *values: object) -> Result:
+        """A statement that commits, and that raises if the standby may lack it."""
+        warnings: list[str] = []
+
+        def handler(notice: Any) -> None:
+            # Outside of its handler a notice is empty.
+            if notice.severity_nonlocalized == "WARNING":
+                warnings.append(notice.sqlstate or "")
+
+        session.conn.add_notice_handler(handler)
+        try:
+            done = await session.execute(sql, *values)
+        finally:
+            session.conn.remove_notice_handler(handler)
+        # A wait for the standby that was cancelled answers COMMIT, with a warning.
+        if warnings:
+            raise ConnectionError("committed here, and perhaps not at the standby")
+        return done
+
+    def verdict(self, raised: BaseException) -> Verdict:
+        state = _state(raised)
+        if state in _AGAIN:
+            return Verdict.AGAIN
+        if state in _ELSEWHERE:
+            return Verdict.ELSEWHERE
+        if state.startswith(_LOST) or isinstance(raised, ConnectionError):
+            return Verdict.LOST
+        names = {kind.__name__ for kind in type(raised).__mro__}
+        is_broken = not state and names & {"OperationalError", "InterfaceError"}
+        return Verdict.LOST if is_broken else Verdict.REFUSED
+
+    def gave_up(self, raised: BaseException) -> bool:
+        # What the server answers as an ERROR it has rolled back. After FATAL and PANIC
+        # it answers no more, and a commit may be in its log.
+        state = _state(raised)
+        severity = getattr(getattr(raised, "diag", None), "severity_nonlocalized", None)
+        if not state or state == _UNKNOWN or severity not in (None, "ERROR"):
+            return False
+        return self.verdict(raised) is not Verdict.LOST
+
+    def number(self, raised: BaseException) -> str:
+        return _state(raised)
+
+    async def examine(self, session: Session) -> Findings:
+        t = self.table.replace("%%", "%")
+        of = "attrelid = to_regclass(%s) AND attnum > 0 AND NOT attisdropped"
+        found = await session.execute(
+            "SELECT attname, format_type(atttypid, atttypmod), attnotnull"
+            f" FROM pg_attribute WHERE {of}",
+            t,
+        )
+        columns = {name: more for name, *more in found.rows}
+        missing = _faults.missing(self, columns)
+        if missing:
+            return Findings(missing, is_usable=False)
+        unique = await session.execute(_UNIQUE, t, self.key_name)
+        kind, bound = columns[self.record_name]
+        faults = _faults.of_table(self, not bound, bool(unique.rows))
+        faults += self._type_faults(columns[self.key_name][0], kind)
+        # An AFTER trigger for each row: bit 0 is ROW, 1 BEFORE, 6 INSTEAD OF.
+        triggers = await session.execute(
+            "SELECT tgname FROM pg_trigger WHERE tgrelid = to_regclass(%s)"
+            " AND NOT tgisinternal AND tgtype::int & 66 = 0",
+            t,
+        )
+        faults += _faults.after_triggers(name for (name,) in triggers.rows)
+        wrong, is_table = await self._relation_faults(session, t)
+        faults += wrong
+        for name, good in _DURABLE:
+            ((value,),) = (await session.execute(f"SHOW {name}")).rows
+            if value not in good:
+                text = f"{name} is {value}: a crash takes acknowledged changes"
+                faults.append(_faults.not_durable(text))
+        faults += await _faults.folded_names(self, session)
+        return Findings(faults, is_usable=is_table)
+
+    async def _relation_faults(
+        self, session: Session, table: str
+    ) -> tuple[list[Fault], bool]:
+        """What is wrong with the table as such, and whether it is one."""
+        found = await session.execute(
+            "SELECT relkind::text, relrowsecurity, relpersistence::text FROM pg_class"
+            " WHERE oid = to_regclass(%s)",
+            table,
+        )
+        ((relation, secured, persistence),) = found.rows
+        faults, is_table = [], relation in ("r", "p")
+        if not is_table:
+            faults.append(error("not-a-table", f"{self.table_name} is no table"))
+        if persistence != "p":
+            text = f"{self.table_name} is unlogged: a crash empties it"
+            faults.append(_faults.not_durable(text))
+        if secured:
+            text = "row security may show an UPDATE less than a SELECT"
+            faults.append(warning("row-security", text))
+        return faults, is_table
+
+    def _type_faults(self, key: str, record: str) -> list[Fault]:
+        faults = []
+        if record.startswith("character varying("):
+            if int(record[18:-1]) < LONGEST_RECORD:
+                text = f"{self.record_name} is {record}: a record has up to 512 bytes"
+                faults.append(error("record-type", text))
+        elif record not in ("text", "character varying"):
+            text = f"{self.record_name} is {record}, not text"
+            faults.append(error("record-type", text))
+        kinds = {
+            str: ("text", "character", "citext", "name"),
+            int: ("bigint", "integer", "smallint"),
+            bytes: ("bytea",),
+            uuid.UUID: ("uuid",),
+        }
+        is_fit = key.startswith(kinds[self.key_type])
+        return faults + _faults.key_type(self, key, is_fit)
+
+
+def _state(raised: BaseException) -> str:
+    return getattr(raised, "sqlstate", None) or ""
+
+
+_UNIQUE: Final = (
+    "SELECT 1 FROM pg_index i JOIN pg_attribute a ON a.attrelid = i.indrelid"
+    " AND a.attnum = i.indkey[0] WHERE i.indrelid = to_regclass(%s)"
+    " AND i.indisunique AND i.indisvalid AND i.indpred IS NULL"
+    " AND i.indnkeyatts = 1 AND a.attname = %s"
+)
+_DURABLE: Final = (
+    ("synchronous_commit", ("on", "remote_apply")),
+    ("fsync", ("on",)),
+    ("full_page_writes", ("on",)),
+)

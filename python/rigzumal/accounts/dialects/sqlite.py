@@ -1,0 +1,159 @@
+"""SQLite, by sqlite3 (or for asyncio by aiosqlite)."""
+
+from __future__ import annotations
+
+import sqlite3
+from collections.abc import Container
+from typing import Any, Final
+
+from rigzumal.accounts._session import Session
+from rigzumal.accounts._values import StoreFault
+from rigzumal.accounts.dialects import _faults
+from rigzumal.accounts.dialects._dialect import (
+    NO_TRANSACTION,
+    NOT_AUTOCOMMIT,
+    TRANSACTION_OPEN,
+    Dialect,
+    Fault,
+    Findings,
+    Verdict,
+    error,
+    other_driver,
+    warning,
+)
+
+
+class Sqlite(Dialect):
+    """SQLite by sqlite3. The connections need a busy timeout of some seconds."""
+
+    mark = "?"
+    # Not deferred: a transaction that has read and then writes is refused at once, with
+    # no waiting, if another has written since.
+    begin = "BEGIN IMMEDIATE"
+    key_sql = "TEXT"
+    _same = "{r} COLLATE BINARY IS {m}"
+
+    def fresh(self, conn: Any) -> None:
+        if not hasattr(conn, "in_transaction"):
+            raise other_driver(conn, "sqlite3")
+        if conn.in_transaction:
+            raise StoreFault(TRANSACTION_OPEN)
+        # From Python 3.12 on there is an attribute; -1 stands for the older way.
+        mode = getattr(conn, "autocommit", -1)
+        if mode is not True and (mode != -1 or conn.isolation_level is not None):
+            raise StoreFault(NOT_AUTOCOMMIT)
+
+    async def within(self, session: Session) -> None:
+        if not session.conn.in_transaction:
+            raise StoreFault(NO_TRANSACTION)
+
+    async def undo(self, session: Session) -> None:
+        if session.conn.in_transaction:
+            await session.execute("ROLLBACK")
+
+    def verdict(self, raised: BaseException) -> Verdict:
+        if not isinstance(raised, sqlite3.OperationalError):
+            return Verdict.REFUSED
+        # SQLITE_BUSY and SQLITE_LOCKED; before Python 3.11 the text alone tells.
+        code = getattr(raised, "sqlite_errorcode", None)
+        busy = "locked" in str(raised) if code is None else code & 0xFF in (5, 6)
+        return Verdict.AGAIN if busy else Verdict.REFUSED
+
+    def gave_up(self, raised: BaseException) -> bool:
+        # A constraint that is deferred is judged at COMMIT.
+        return super().gave_up(raised) or isinstance(raised, sqlite3.IntegrityError)
+
+    def number(self, raised: BaseException) -> str:
+        return str(getattr(raised, "sqlite_errorname", ""))
+
+    async def examine(self, session: Session) -> Findings:
+        schema, _, t = self.table_name.rpartition(".")
+        of = (t, schema) if schema else (t,)
+        marks = ", ".join("?" * len(of))
+        found = await session.execute(
+            f'SELECT lower(name), type, "notnull", pk FROM pragma_table_info({marks})',
+            *of,
+        )
+        # Names of columns are the same in any case.
+        columns = {row[0]: row for row in found.rows}
+        missing = _faults.missing(self, columns, str.lower)
+        if missing:
+            return Findings(missing, is_usable=False)
+        k = self.key_name.lower()
+        nullable = not columns[self.record_name.lower()][2]
+        unique = [name for name, row in columns.items() if row[3]] == [k]
+        faults = self._key_faults(columns[k][1])
+        faults += _faults.of_table(
+            self, nullable, unique or await self._has_index(session, k, *of)
+        )
+        master = self.quoted(schema or "main")
+        triggers = await session.execute(
+            f"SELECT name FROM {master}.sqlite_master WHERE type = 'trigger'"
+            " AND lower(tbl_name) = lower(?) AND upper(sql) LIKE '%AFTER%'",
+            t,
+        )
+        faults += _faults.after_triggers(name for (name,) in triggers.rows)
+        for name, good, fault in _PRAGMAS:
+            ((value,),) = (await session.execute(f"PRAGMA {name}")).rows
+            if value not in good:
+                faults.append(fault)
+        return Findings(faults + await _faults.folded_names(self, session))
+
+    async def _has_index(self, session: Session, key: str, *of: str) -> bool:
+        """Whether a unique index is of the key alone, and of all rows."""
+        marks = ", ".join("?" * len(of))
+        indexes = await session.execute(
+            f'SELECT name, "unique", partial FROM pragma_index_list({marks})', *of
+        )
+        for index, is_unique, partial in indexes.rows:
+            sql = f"SELECT lower(name) FROM pragma_index_xinfo({marks}) WHERE key = 1"
+            columns = await session.execute(sql, index, *of[1:])
+            if is_unique and not partial and columns.rows == [(key,)]:
+                return True
+        return False
+
+    def _key_faults(self, declared: str) -> list[Fault]:
+        """SQLite takes '07' for 7, or 7 for '7', as the column's type has it."""
+        words = declared.upper()
+        holds: type
+        if "INT" in words:
+            holds = int
+        elif any(it in words for it in ("CHAR", "CLOB", "TEXT")):
+            holds = str
+        else:
+            holds = bytes if not words or "BLOB" in words else float
+        fits: dict[type, tuple[type, ...]] = {
+            str: (str, bytes),
+            int: (int, float, bytes),
+        }
+        is_fit = holds in fits.get(self.key_type, (holds,))
+        return _faults.key_type(self, declared, is_fit)
+
+
+_PRAGMAS: Final[tuple[tuple[str, Container[object], Fault], ...]] = (
+    (
+        "synchronous",
+        (2, 3),
+        _faults.not_durable(
+            "synchronous is below FULL: a power cut takes acknowledged changes"
+        ),
+    ),
+    (
+        "busy_timeout",
+        range(1000, 2**31),
+        warning("busy-timeout", "the busy timeout is below a second"),
+    ),
+    (
+        "journal_mode",
+        ("wal",),
+        warning("no-wal", "it isn't in WAL: logins fail while another writes"),
+    ),
+    (
+        "read_uncommitted",
+        (0,),
+        error(
+            "read-uncommitted",
+            "read_uncommitted is on: records are read that never stood",
+        ),
+    ),
+)

@@ -1,0 +1,225 @@
+"""Whether operations can be put into one legal order: `history` says how that is known."""
+
+from __future__ import annotations
+
+import collections
+import math
+from collections.abc import Iterable, Sequence
+from dataclasses import dataclass, field
+from typing import NamedTuple, Optional
+
+Record = Optional[str]
+
+CHANGES = frozenset({"enrolled", "replaced", "upgraded", "removed"})
+
+
+class Attempt(NamedTuple):
+    """A change that was about to be committed."""
+
+    before: Record
+    after: Record
+    reply: str
+
+
+@dataclass(eq=False)
+class Operation:
+    """An operation with the times of its call and its answer, in any unit.
+
+    What stands at first and at the end are two more, of the kinds "seed" and "end".
+    """
+
+    id: str
+    kind: str
+    password: Optional[str]
+    called: float
+    new_password: Optional[str] = None
+    costs: float = 0
+    answered: float = math.inf
+    reply: Optional[str] = None
+    before: Record = None
+    after: Record = None
+    attempts: list[Attempt] = field(default_factory=list)
+    found_out: bool = False
+
+    @property
+    def makes_change(self) -> bool:
+        return self.reply in CHANGES or (self.kind == "seed" and self.after is not None)
+
+    @property
+    def password_after(self) -> Optional[str]:
+        """The password of the record that this operation put."""
+        return self.new_password if self.kind in ("change", "reset") else self.password
+
+    def took_place(self, attempt: Attempt, end: float) -> None:
+        """Notes an attempt that was made before the end, though its answer was lost."""
+        self.before, self.after, self.reply = attempt
+        self.answered, self.found_out = end, True
+
+    def __str__(self) -> str:
+        if self.kind in ("seed", "end"):
+            return f"{self.kind}: {self.before or self.after or 'no record'}"
+        span = f"{self.called:.0f} to {self.answered:.0f}"
+        said = f"{self.reply} at {self.before or 'no record'}"
+        if self.makes_change:
+            said += f", after it {self.after or 'no record'}"
+        given = "/".join(it for it in (self.password, self.new_password) if it)
+        return f"{self.id} {self.kind}({given}), {span}: {said}"
+
+
+class _Conflict(Exception):
+    """Operations that contradict each other."""
+
+
+def conflict(events: Sequence[Operation]) -> Optional[str]:
+    """Why these operations have no legal order, or None if they have one."""
+    try:
+        chains, others = _Records(events).chains()
+        _side_by_side(chains, others)
+    except _Conflict as found:
+        return str(found)
+    return None
+
+
+def possible(
+    it: Operation, record: Record, maker: Optional[Operation]
+) -> frozenset[str]:
+    """The replies that an operation may have at a record that the maker put."""
+    if record is None:
+        return frozenset({"enrolled" if it.kind in ("enrol", "reset") else "absent"})
+    if it.kind == "enrol":
+        return frozenset({"exists"})
+    if it.kind == "reset":
+        return frozenset({"replaced"})
+    rights = {"verify": {"yes"}, "change": {"replaced"}, "remove": {"removed"}}
+    right = rights.get(it.kind, {"kept", "upgraded"})
+    wrong = {"no"} if it.kind == "verify" else {"wrong"}
+    if maker is None:
+        return frozenset(right | wrong)
+    if maker.password_after != it.password:
+        return frozenset(wrong)
+    if it.kind == "upgrade":
+        right = {"upgraded"} if it.costs > maker.costs else {"kept"}
+    return frozenset(right)
+
+
+class _Span(NamedTuple):
+    """From the first answer of a chain to its last call, or the other way round."""
+
+    first: float
+    last: float
+    name: str
+
+
+class _Records:
+    """What was done at each record, and who put and replaced it."""
+
+    def __init__(self, events: Iterable[Operation]) -> None:
+        self.maker: dict[str, Operation] = {}
+        self.replacer: dict[str, Operation] = {}
+        self.looks: dict[str, list[Operation]] = collections.defaultdict(list)
+        self.at_none: list[Operation] = []
+        events = list(events)
+        for it in events:
+            if it.makes_change:
+                self._note_change(it)
+            elif it.before is None:
+                self.at_none.append(it)
+            else:
+                self.looks[it.before].append(it)
+        for it in events:
+            self._judge(it)
+            by = (
+                self.replacer.get(it.before) if it.before and it.kind == "end" else None
+            )
+            if by is not None:
+                raise _Conflict(
+                    f"{by.id} replaced {it.before}, which stands at the end"
+                )
+
+    def _note_change(self, it: Operation) -> None:
+        if it.after is not None:
+            other = self.maker.setdefault(it.after, it)
+            if other is not it:
+                raise _Conflict(f"{other.id} and {it.id} both put {it.after}")
+        if it.before is not None:
+            other = self.replacer.setdefault(it.before, it)
+            if other is not it:
+                raise _Conflict(f"{other.id} and {it.id} both replaced {it.before}")
+
+    def _judge(self, it: Operation) -> None:
+        """Refuses a reply that isn't that of the whole operation at the record."""
+        if it.kind in ("seed", "end"):
+            return
+        maker = self.maker.get(it.before) if it.before is not None else None
+        if it.reply not in possible(it, it.before, maker):
+            raise _Conflict(
+                f"{it.id} ({it.kind}) was answered {it.reply}"
+                f" at {it.before or 'no record'}"
+            )
+        ends_with = it.after is not None if it.reply != "removed" else it.after is None
+        if it.makes_change and (not ends_with or it.after == it.before):
+            raise _Conflict(
+                f"{it.id} was answered {it.reply}, and put {it.after or 'no record'}"
+            )
+
+    def chains(self) -> tuple[list[_Span], list[_Span]]:
+        """The spans of the chains, and of what was done where no record stood."""
+        records = self.maker.keys() | self.replacer.keys() | self.looks.keys()
+        chains, walked = [], 0
+        for record in records:
+            maker = self.maker.get(record)
+            if maker is None or maker.before is None:
+                span, length = self._walk(record, maker)
+                chains.append(span)
+                walked += length
+        if walked < len(records):
+            raise _Conflict("records replaced each other in a ring")
+        return chains, [_Span(it.answered, it.called, it.id) for it in self.at_none]
+
+    def _walk(self, record: str, maker: Optional[Operation]) -> tuple[_Span, int]:
+        """A chain's span and number of records, if the earliest moments are in time."""
+        moment = latest = -math.inf if maker is None else maker.called
+        first = math.inf if maker is None else maker.answered
+        late = maker
+        start, length = record, 0
+        current: Record = record
+        while current is not None:
+            length += 1
+            looks, by = self.looks.get(current, ()), self.replacer.get(current)
+            for it in looks:
+                if it.answered < moment:
+                    raise _Conflict(_too_early(it, late))
+            for it in (*looks, *([by] if by else ())):
+                first, latest = min(first, it.answered), max(latest, it.called)
+                if it.called > moment:
+                    moment, late = it.called, it
+            if by is not None and by.answered < moment:
+                raise _Conflict(_too_early(by, late))
+            current = by.after if by else None
+        return _Span(first, latest, f"the chain from {start}"), length
+
+
+def _too_early(it: Operation, late: Optional[Operation]) -> str:
+    name = late.id if late else "another"
+    return f"{it.id} was answered before {name} was called, and can come after it alone"
+
+
+def _side_by_side(chains: Iterable[_Span], others: Iterable[_Span]) -> None:
+    """Refuses two chains at a time, and what lies within a chain that isn't its own."""
+    chains = list(chains)
+    firm = sorted(it for it in chains if it.first < it.last)
+    for one, two in zip(firm, firm[1:]):
+        if two.first < one.last:
+            raise _Conflict(f"{one.name} and {two.name} stand at a time")
+    loose = [*(it for it in chains if it.first >= it.last), *others]
+    loose.sort(key=lambda it: it.last)
+    place = 0
+    for it in loose:
+        while place < len(firm) and firm[place].last <= it.last:
+            place += 1
+        if (
+            place < len(firm)
+            and firm[place].first < it.last
+            and it.first < firm[place].last
+        ):
+            raise _Conflict(f"{it.name} lies within {firm[place].name}")

@@ -1,0 +1,313 @@
+"""One process of a torture: what it asks of its accounts, and the log of it."""
+
+from __future__ import annotations
+
+import asyncio
+import importlib
+import inspect
+import json
+import os
+import random
+import signal
+import sys
+import time
+from collections.abc import Iterator
+from contextlib import contextmanager
+from typing import TYPE_CHECKING, Any, Optional, Union
+
+from rigzumal._hashers import PasswordHasher
+from rigzumal.accounts._accounts import Accounts, BlockingOperations
+from rigzumal.accounts._async_accounts import AsyncAccounts
+from rigzumal.accounts._session import AsyncSession, BlockingSession, Session, run
+from rigzumal.accounts._table import Also
+from rigzumal.accounts._values import (
+    NO_ROW,
+    AccountsError,
+    Answer,
+    Kind,
+    OutcomeUnknown,
+    Reply,
+    Request,
+    Unavailable,
+    Worked,
+)
+from rigzumal.accounts.database import Database
+from rigzumal.accounts.dialects._dialect import Verdict, is_of_driver
+from rigzumal.accounts.pools import PerThread, PerUse
+
+if TYPE_CHECKING:
+    from rigzumal.accounts.torture._torture import Torture
+
+LOW, HIGH = 64, 72
+"""KiB of the two costs between which upgrades go."""
+
+PASSWORDS = ("one", "two")
+PATIENT, HASTY = 60.0, 0.02
+"""Seconds after which a task of asyncio is cancelled."""
+
+
+def hasher(memory: int) -> PasswordHasher:
+    """A hasher that costs next to nothing; memory is in KiB."""
+    return PasswordHasher(time_cost=1, memory_cost=memory, parallelism=1)
+
+
+class Log:
+    """What one process writes down.
+
+    Attributes:
+        risk: how often it kills itself at its own worst moments, between an UPDATE and
+            its COMMIT, and between a COMMIT and its answer.
+    """
+
+    def __init__(self, path: Any, name: str, risk: float) -> None:
+        self._file = os.open(path, os.O_WRONLY | os.O_CREAT | os.O_APPEND, 0o600)
+        self._name, self._count, self.risk = name, 0, risk
+
+    def begin(self, request: Request, memory: int) -> str:
+        """Writes a call; the answer is its name."""
+        self._count += 1
+        name = f"{self._name}-{self._count}"
+        words = {"kind": request.kind.value, "key": request.key, "costs": memory}
+        for word in ("password", "new_password"):
+            words[word] = getattr(request, word).decode()
+        self._write(event="call", id=name, time=time.monotonic_ns(), **words)
+        return name
+
+    def tried(self, name: str, worked: Worked) -> None:
+        """Writes that a change is about to be committed."""
+        before, after = worked.ticket.copy, worked.after
+        if before != after:
+            said = {"before": before, "after": after, "reply": worked.reply.value}
+            self._write(event="try", id=name, **said)
+            self._dare()
+
+    def answered(self, name: str, answer: Answer) -> None:
+        if answer.reply.makes_change:
+            self._dare()
+        before, after = answer.before, answer.after
+        if NO_ROW in (before, after):
+            before = after = None
+        self.end(name, answer.reply.value, before=before, after=after)
+
+    def end(self, name: str, reply: str, **said: object) -> None:
+        moment = time.monotonic_ns()
+        self._write(event="answer", id=name, time=moment, reply=reply, **said)
+
+    def _dare(self) -> None:
+        if random.random() < self.risk:
+            os.kill(os.getpid(), signal.SIGKILL)
+
+    def _write(self, **event: object) -> None:
+        os.write(self._file, (json.dumps(event) + "\n").encode())
+
+
+class Logged(AsyncAccounts):
+    """Operations that are written down.
+
+    Attributes:
+        log: where; nothing is written without one.
+        memory: the costs of new records.
+        last: what was answered last.
+    """
+
+    log: Optional[Log] = None
+    memory = LOW
+    last: Answer
+    _name = ""
+
+    def _before_commit(self, worked: Worked) -> None:
+        if self.log is not None:
+            self.log.tried(self._name, worked)
+
+    @contextmanager
+    def call(self, request: Request) -> Iterator[list[Answer]]:
+        """Logs a call, and what is put into the list within as its answer."""
+        said: list[Answer] = []
+        log = self.log
+        if log is None:
+            yield said
+            return
+        name = self._name = log.begin(request, self.memory)
+        try:
+            yield said
+        except AccountsError as fault:
+            is_unknown = isinstance(fault, OutcomeUnknown)
+            log.end(name, "unknown" if is_unknown else "failed")
+            raise
+        log.answered(name, said[0])
+
+    async def _perform(
+        self,
+        request: Request,
+        also: Optional[Also] = None,
+        patience: Optional[float] = None,
+    ) -> Answer:
+        with self.call(request) as said:
+            said.append(await super()._perform(request, also, patience))
+        self.last = said[0]
+        return said[0]
+
+
+class LoggedOperations(Logged, BlockingOperations):
+    """The same, blocking."""
+
+
+class LoggedAccounts(Accounts):
+    _kind = LoggedOperations
+
+
+AnyAccounts = Union[LoggedAccounts, Logged]
+
+
+async def done(said: Any) -> Any:
+    """What was said, or is once it was awaited."""
+    return await said if inspect.isawaitable(said) else said
+
+
+class Worker:
+    """One process of it."""
+
+    def __init__(self, torture: Torture, number: int, risk: float) -> None:
+        self.torture = torture
+        assert torture.folder is not None
+        name = f"{number}-{os.getpid()}"
+        self.log = Log(torture.folder / f"log-{name}", name, risk)
+        self.database = Database(torture.url, number)
+        self.is_awaited = torture.is_awaited(number)
+        self.replica = None
+        if torture.replica:
+            self.replica = PerThread(Database(torture.replica, number).connect)
+
+    def work(self, names: list[str], end: float) -> None:
+        asyncio.run(self._tasks(names, end))
+
+    async def _tasks(self, names: list[str], end: float) -> None:
+        count = self.torture.tasks if self.is_awaited else 1
+        await asyncio.gather(*(self._task(names, end) for _ in range(count)))
+
+    async def _task(self, names: list[str], end: float) -> None:
+        rng = random.Random(os.urandom(8))
+        accounts = {memory: self._accounts(memory) for memory in (LOW, HIGH)}
+        kinds, weights = zip(*self.torture.mix.items())
+        while time.monotonic() < end:
+            kind, key = rng.choices(kinds, weights)[0], rng.choice(names)
+            dearer = kind in ("upgrade", "login")
+            asked = accounts[rng.choice((LOW, HIGH)) if dearer else LOW]
+            # A task that is cancelled is one more whose answer never comes.
+            seconds = HASTY if self.is_awaited and rng.random() < 0.1 else PATIENT
+            one, two = rng.choice(PASSWORDS), rng.choice(PASSWORDS)
+            way = "login" if kind == "login" else rng.choice(self.torture.ways)
+            of_kind = Kind.VERIFY if way == "login" else Kind(kind)
+            request = Request(of_kind, key, one, two)
+            doing = getattr(self, f"_{way}")(asked, request)
+            try:
+                await asyncio.wait_for(doing, seconds)
+            except AccountsError as fault:
+                print(f"{type(fault).__name__}: {fault}", file=sys.stderr, flush=True)
+            except asyncio.TimeoutError:
+                pass
+
+    # ---- the ways of doing an operation
+
+    async def _login(self, accounts: AnyAccounts, request: Request) -> None:
+        """Logged as an upgrade, perhaps a verify after it, and what its caller is told.
+
+        That is what a verify answers, at the record which it leaves.
+        """
+        operations = _operations(accounts)
+        with operations.call(request) as said:
+            reply = await done(accounts.login(request.key, request.password))
+            stands = operations.last.after
+            said.append(Answer(reply, stands, stands))
+
+    async def _whole(self, accounts: AnyAccounts, request: Request) -> None:
+        await done(accounts.perform(request))
+
+    async def _also(self, accounts: AnyAccounts, request: Request) -> None:
+        """With a statement of its own in the transaction."""
+        await done(accounts.perform(request, also=_looks))
+
+    async def _parts(self, accounts: AnyAccounts, request: Request) -> None:
+        with _operations(accounts).call(request) as said:
+            worked = await self._worked(accounts, request)
+            said.append(await done(accounts.commit(worked)))
+
+    async def _within(self, accounts: AnyAccounts, request: Request) -> None:
+        """In a transaction of the caller's."""
+        operations = _operations(accounts)
+        dialect, name = operations._dialect, operations._table.name
+
+        async def job(session: Session) -> Answer:
+            await dialect.start(session)
+            answer: Answer = await done(accounts.commit_in(session.conn, worked))
+            if answer.reply is Reply.CHANGED:
+                await dialect.undo(session)
+                return answer
+            if worked.reply.makes_change:
+                operations._before_commit(worked)
+            try:
+                await dialect.commit(session)
+            except Exception as error:
+                raise OutcomeUnknown(name(error)) from error
+            return answer
+
+        with operations.call(request) as said:
+            worked = await self._worked(accounts, request)
+            try:
+                pool = operations._connections.primary
+                said.append(await operations._runtime.use(pool, job))
+            except Exception as error:
+                # What fails before COMMIT was sent is known to be undone.
+                if not is_of_driver(error) or dialect.verdict(error) is Verdict.REFUSED:
+                    raise
+                raise Unavailable(name(error)) from error
+
+    async def _worked(self, accounts: AnyAccounts, request: Request) -> Worked:
+        ticket = await done(accounts.begin(request))
+        worked: Worked = await done(accounts.work(ticket))
+        return worked
+
+    # ---- what it asks
+
+    def _accounts(self, memory: int) -> AnyAccounts:
+        made: AnyAccounts
+        if self.is_awaited:
+            pool = PerUse(self._connect_awaited)
+            made = self.torture.made(Logged, pool, memory)
+        else:
+            replica, threads = self.replica, PerThread(self._connect)
+            made = self.torture.made(LoggedAccounts, threads, memory, replica)
+        operations = _operations(made)
+        operations.log, operations.memory = self.log, memory
+        self.torture.alter(made)
+        return made
+
+    def _connect(self) -> Any:
+        conn = self.database.connect()
+        for sql in self.torture.settings:
+            run(BlockingSession(conn).execute(sql))
+        return conn
+
+    async def _connect_awaited(self) -> Any:
+        psycopg = importlib.import_module("psycopg")
+        conn = await psycopg.AsyncConnection.connect(self.torture.url, autocommit=True)
+        for sql in self.torture.settings:
+            await AsyncSession(conn).execute(sql)
+        return conn
+
+
+def _looks(conn: Any, reply: Reply) -> Any:
+    """A statement of a caller's own: over asyncio it is awaited."""
+    cursor = conn.cursor()
+    said = cursor.execute("SELECT 1")
+    if inspect.isawaitable(said):
+        return said
+    return cursor.fetchall()
+
+
+def _operations(accounts: AnyAccounts) -> Logged:
+    if isinstance(accounts, Logged):
+        return accounts
+    operations = accounts._operations
+    assert isinstance(operations, Logged)
+    return operations

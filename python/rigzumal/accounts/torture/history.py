@@ -1,0 +1,196 @@
+"""Decides whether what was answered is one legal history of each account.
+
+A history is legal if each operation can be given one moment between its call and its
+answer, so that every reply, and the record after it, is what the whole operation does
+at the record that stands at its moment. An operation without an answer has one moment
+after its call, or took no place. The law `updates_are_one_history` of the crate
+cred_book proves this of any store whose update is one comparison and one writing, in
+the order of those updates; the times of call and answer say which orders are possible
+from outside. An operation there is any function from the row that stands, or from there
+being none, to a reply and the row after. So the law covers resets, new rows, texts of
+other schemes, and an upgrade that keeps dearer costs, as it covers the five operations.
+
+Why the check is exact. Each record has a fresh salt, so it stands during one period,
+and each change names the record that it replaces. So the changes of an account fall
+into chains, and the order within a chain is given: it can be kept if and only if the
+earliest moments, taken one after another, are in time. From its first answer to its
+last call a chain surely stands (if that answer is the earlier of the two; otherwise the
+chain fits into one moment). There are moments for all if and only if no two such spans
+overlap and nothing else has to lie inside one. Sorting apart, this takes time in
+proportion to the history. The part that is shown of an illegal one is found by leaving
+out halves, quarters and so on for as long as the rest is refused.
+
+What an operation without an answer was about to commit is no evidence that it read what
+stood: a crash may take away what nobody was answered by. It took place exactly if what
+was answered wants it: a record that somebody was told of had been put, and one that is
+gone had been replaced.
+"""
+
+from __future__ import annotations
+
+import collections
+from collections.abc import Iterable, Sequence
+from dataclasses import dataclass, field
+from typing import NamedTuple
+
+from rigzumal.accounts.torture._order import (
+    Attempt,
+    Operation,
+    Record,
+    conflict,
+    possible,
+)
+
+NO_EFFECT = frozenset({"failed", "changed"})
+
+
+@dataclass
+class Account:
+    """The history of one account."""
+
+    seed: Operation
+    end: Operation
+    operations: list[Operation] = field(default_factory=list)
+
+
+class Illegal(Exception):
+    """There is no legal history.
+
+    Attributes:
+        reason: what contradicts what.
+        part: operations that have no legal order, whatever others were done beside
+            them; without any one of them the rest has one.
+    """
+
+    def __init__(self, reason: str, part: Sequence[Operation]) -> None:
+        self.reason, self.part = reason, tuple(part)
+        lines = [reason, *(f"  {operation}" for operation in self.part)]
+        super().__init__("\n".join(lines))
+
+
+def check(account: Account) -> None:
+    """Returns if the account's history is legal; notes which lost changes were made.
+
+    Raises:
+        Illegal: there is none; the exception has the smallest part that shows it.
+    """
+    account.operations.sort(key=lambda operation: operation.called)
+    _settle(account)
+    events = [account.seed, *_effective(account.operations), account.end]
+    reason = conflict(events)
+    if reason is None:
+        _complete(account, events)
+        return
+    one, two = _shrunk(events), _shrunk(events[::-1])
+    shorter = one if len(one) <= len(two) else two
+    part = sorted(shorter, key=lambda operation: operation.called)
+    raise Illegal(conflict(part) or reason, part)
+
+
+def _effective(operations: Iterable[Operation]) -> list[Operation]:
+    return [it for it in operations if it.reply and it.reply not in NO_EFFECT]
+
+
+def _settle(account: Account) -> None:
+    """Notes which operations without an answer took place.
+
+    Only the last attempt can have taken place unseen, since it was made when the one
+    before was known not to. A record that an answer names was put, and so was the one
+    that it replaced. A record that is gone, and that nothing so far replaced, was led
+    to a removal by others without an answer.
+    """
+    end, tries = account.end.called, _Tries(account.operations)
+    seen = {account.end.before, *(it.before for it in _effective(account.operations))}
+    todo = list(seen)
+    while todo:
+        lost = tries.putting.get(todo.pop())
+        if lost is not None and not lost.operation.reply:
+            lost.operation.took_place(lost.attempt, end)
+            if lost.attempt.before not in seen:
+                seen.add(lost.attempt.before)
+                todo.append(lost.attempt.before)
+    for record, maker in _unreplaced(account).items():
+        for lost in tries.way_out(record, maker):
+            lost.operation.took_place(lost.attempt, end)
+
+
+class _Lost(NamedTuple):
+    """An operation without an answer, and its last attempt."""
+
+    operation: Operation
+    attempt: Attempt
+
+
+class _Tries:
+    """What was tried last by operations that had no answer."""
+
+    def __init__(self, operations: Iterable[Operation]) -> None:
+        self.putting: dict[Record, _Lost] = {}
+        self._at: dict[Record, list[_Lost]] = collections.defaultdict(list)
+        for it in operations:
+            if not it.reply and it.attempts:
+                lost = _Lost(it, it.attempts[-1])
+                self._at[lost.attempt.before].append(lost)
+                if lost.attempt.after is not None:
+                    self.putting[lost.attempt.after] = lost
+
+    def way_out(self, record: Record, maker: Operation) -> list[_Lost]:
+        """What led from a record to none; of several ways the one that ends first.
+
+        Nobody was told of what stood between, so the moment of its last call is all by
+        which one way is better than another.
+        """
+        best: list[_Lost] = []
+        ways = [(record, maker, list[_Lost]())]
+        while ways:
+            at, maker, way = ways.pop()
+            for lost in self._at.get(at, ()):
+                if lost in way or lost.operation.reply:
+                    continue
+                if lost.attempt.reply not in possible(lost.operation, at, maker):
+                    continue
+                longer = [*way, lost]
+                if lost.attempt.after is not None:
+                    ways.append((lost.attempt.after, lost.operation, longer))
+                elif not best or _last_call(longer) < _last_call(best):
+                    best = longer
+        return best
+
+
+def _last_call(way: Iterable[_Lost]) -> float:
+    return max(lost.operation.called for lost in way)
+
+
+def _unreplaced(account: Account) -> dict[Record, Operation]:
+    """The records that are gone though nothing replaced them, with their makers."""
+    changes = [it for it in (account.seed, *account.operations) if it.makes_change]
+    replaced = {it.before for it in changes} | {account.end.before}
+    return {it.after: it for it in changes if it.after and it.after not in replaced}
+
+
+def _complete(account: Account, events: Sequence[Operation]) -> None:
+    """Nothing is missing: each record was put, and each that is gone was replaced."""
+    put = {it.after for it in events if it.makes_change}
+    for it in events:
+        if it.before is not None and it.before not in put:
+            raise Illegal(f"nobody put the record {it.before}", [it])
+    for record, maker in _unreplaced(account).items():
+        raise Illegal(
+            f"the record {record} is gone, and nothing replaced it",
+            [maker, account.end],
+        )
+
+
+def _shrunk(events: Sequence[Operation]) -> list[Operation]:
+    """A part that has no legal order, and has one without any one of its operations."""
+    part, size = list(events), max(len(events) // 2, 1)
+    while size:
+        start = 0
+        while start < len(part):
+            rest = part[:start] + part[start + size :]
+            if conflict(rest):
+                part = rest
+            else:
+                start += size
+        size //= 2
+    return part
