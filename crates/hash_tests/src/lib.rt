@@ -1,8 +1,8 @@
-//! Tests of the hashes and of the threads that work them: what no clause of `cred_pool`,
-//! `cred_blake`, `cred_argon` and `cred_scrypt` says.
+//! Tests of the hashes, of the threads that work them and of the strings: what no clause of
+//! `cred_pool`, `cred_blake`, `cred_argon`, `cred_scrypt`, `cred_base64` and `cred_phc` says.
 //!
-//! Each has a module of its name below `tests`: `pool`, `blake`, `argon` and `scrypt`. Where their
-//! large tables come from stands in `vectors/`.
+//! The modules below `tests` are `pool`, `blake`, `argon`, `scrypt` and `strings`. Where their large
+//! tables come from stands in `vectors/`.
 #![tactic(auto)]
 
 #[cfg(test)]

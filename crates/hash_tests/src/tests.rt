@@ -9,6 +9,7 @@ mod argon;
 mod blake;
 mod pool;
 mod scrypt;
+mod strings;
 
 use std::alloc::Global;
 use std::fmt::Display;

@@ -1,11 +1,10 @@
 #!/usr/bin/env python3
-"""Makes tags.txt with the reference library (Debian: libargon2-1), and the Rust table of the tests out of it.
+"""Makes the table of tags in src/tests/argon/tags.rt with the reference library (Debian: libargon2-1). `rt fmt` lays it out.
 
-    python3 vectors/argon/make.py      writes tags.txt beside it, and src/tests/argon/tags.rt, which `rt fmt` lays out
+    python3 vectors/argon/make.py
 
-Each line of tags.txt has the kind, the version, memory, passes, lanes and tag length, the lengths of password, salt,
-secret and associated data, a seed, and the tag. Byte i of an input is (7 * i + seed) mod 256, where the seed of the salt
-is 1 more than that of the password, that of the secret 2 more and that of the associated data 3 more.
+Byte i of an input is (7 * i + seed) mod 256, where the seed of the salt is 1 more than that of the password, that of the
+secret 2 more and that of the associated data 3 more.
 """
 import ctypes
 import os
@@ -60,7 +59,7 @@ def literal(digits):
     return '"' + "\\\n            ".join(pieces) + '"'
 
 
-def cases():
+def drawn():
     chance = random.Random(9106)
     for n in range(72):
         lanes = [1, 1, 2, 3, 4, 5, 6, 7, 8][chance.randrange(9)]
@@ -72,18 +71,27 @@ def cases():
             chance.randrange(256))
 
 
+def cases():
+    """Of those drawn each that has something new: a kind with a version and one pass, one lane or more, a number of lanes, or
+    a length of the password, the secret or the associated data."""
+    met = set()
+    for case in drawn():
+        kind, version, _, passes, lanes, _, (pw, _, secret, assoc), _ = case
+        edges = {(kind, version, passes > 1, lanes > 1), ("lanes", lanes), ("pw", pw), ("secret", secret), ("assoc", assoc)}
+        if edges - met:
+            met |= edges
+            yield case
+
+
 def main():
     lib = ctypes.CDLL("libargon2.so.1")
-    lines, rows = [], []
+    rows = []
     for kind, version, memory, passes, lanes, tag_len, lengths, seed in cases():
         inputs = [filled(length, seed + k) for k, length in enumerate(lengths)]
         tag = reference(lib, kind, version, memory, passes, lanes, tag_len, inputs)
         numbers = [memory, passes, lanes, tag_len] + lengths + [seed]
-        lines.append(" ".join([kind, version] + [str(n) for n in numbers] + [tag]))
         call = ", ".join([kind, version] + [str(n) for n in numbers[:4]] + [str(lengths), str(seed)])
         rows.append(f"    (Case({call}), {literal(tag)}),")
-    with open(os.path.join(HERE, "tags.txt"), "w") as out:
-        out.write("\n".join(lines) + "\n")
     with open(os.path.join(HERE, "..", "..", "src", "tests", "argon", "tags.rt"), "w") as out:
         out.write(
             "//! Tags of the reference library. This file is made by vectors/argon/make.py, which says how.\n"

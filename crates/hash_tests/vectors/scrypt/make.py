@@ -1,6 +1,6 @@
 #!/usr/bin/env python3
-"""Makes keys.txt, a table of keys by Python's hashlib and hmac (OpenSSL's scrypt, PBKDF2 and SHA-256), and from it
-src/tests/scrypt/keys.rt, the same table as the tests read it, since a test can't read a file.
+"""Makes the tables of keys in src/tests/scrypt/keys.rt by Python's hashlib and hmac (OpenSSL's scrypt, PBKDF2 and SHA-256).
+`rt fmt` lays them out.
 
 Byte i of an input with seed s is (7 * i + s) mod 256. A salt and a message have the seed of their row plus 128.
 """
@@ -18,16 +18,10 @@ def filled(size, seed):
 
 # ln, r, p, length of the key, of the password and of the salt; the seed is the row's number from 1
 SCRYPT = [
-    (1, 1, 1, 4, 0, 0), (1, 1, 2, 16, 1, 1), (1, 2, 1, 32, 8, 16), (1, 9, 5, 64, 300, 300),
-    (2, 1, 1, 5, 0, 16), (2, 3, 3, 16, 55, 16), (2, 5, 1, 20, 56, 17), (2, 8, 4, 32, 63, 32),
-    (3, 1, 5, 16, 64, 0), (3, 2, 2, 24, 65, 33), (3, 4, 1, 63, 66, 48), (3, 7, 2, 16, 119, 51),
-    (4, 1, 1, 32, 120, 52), (4, 1, 2, 33, 121, 53), (4, 3, 1, 16, 127, 63), (4, 6, 3, 8, 128, 64),
-    (5, 1, 4, 16, 129, 65), (5, 2, 1, 31, 130, 100), (5, 5, 5, 16, 200, 119), (5, 9, 1, 32, 255, 120),
-    (6, 1, 1, 64, 256, 121), (6, 2, 3, 16, 257, 128), (6, 4, 2, 12, 299, 200), (6, 8, 1, 32, 300, 255),
-    (7, 1, 3, 16, 2, 256), (7, 3, 1, 17, 3, 257), (7, 6, 2, 16, 4, 299), (7, 9, 1, 6, 5, 300),
-    (8, 1, 2, 16, 12, 8), (8, 2, 1, 32, 13, 9), (8, 5, 1, 40, 20, 12), (8, 8, 2, 16, 31, 15),
-    (9, 1, 1, 16, 32, 16), (9, 3, 2, 48, 33, 24), (9, 7, 1, 16, 40, 31), (9, 8, 1, 32, 48, 32),
-    (10, 1, 1, 64, 50, 40), (10, 2, 2, 16, 51, 47), (10, 8, 1, 32, 52, 48), (10, 9, 5, 16, 100, 100),
+    (1, 1, 1, 4, 0, 0), (1, 2, 1, 32, 8, 16), (1, 9, 5, 64, 300, 300), (2, 5, 1, 20, 56, 17), (2, 8, 4, 32, 63, 32),
+    (3, 1, 5, 16, 64, 0), (3, 4, 1, 63, 65, 48), (3, 7, 2, 16, 119, 51), (4, 1, 2, 33, 121, 53), (4, 6, 3, 8, 128, 64),
+    (5, 1, 4, 31, 129, 65), (6, 2, 3, 16, 257, 128), (7, 3, 1, 17, 3, 257), (8, 8, 2, 16, 31, 15), (9, 3, 2, 48, 33, 24),
+    (10, 9, 5, 16, 100, 100),
 ]
 
 # lengths of key and message
@@ -61,11 +55,11 @@ def pbkdf2_rows():
 
 
 TABLES = [
-    ("scrypt", "SCRYPT", "ln, r and p; lengths of the key, of the password and of the salt, and the seed; the key",
+    ("SCRYPT", "Ln, r and p; lengths of the key, of the password and of the salt, and the\n/// seed; the key",
      "((u8, u8, u8), (u32, usize, usize, u8), &str)", scrypt_rows, 3),
-    ("hmac", "HMAC", "lengths of key and message, and the seed; the digest",
+    ("HMAC", "Lengths of key and message, and the seed; the digest",
      "((usize, usize, u8), &str)", hmac_rows, None),
-    ("pbkdf2", "PBKDF2", "turns; lengths of the key, of the password and of the salt, and the seed; the key",
+    ("PBKDF2", "Turns; lengths of the key, of the password and of the salt, and the\n/// seed; the key",
      "(u32, (u32, usize, usize, u8), &str)", pbkdf2_rows, 1),
 ]
 
@@ -83,20 +77,16 @@ def literal(digits):
 
 
 def main():
-    text, source = [], [
-        "//! Keys that OpenSSL made, by vectors/scrypt/make.py, which writes this file. Byte i of an input with seed s is",
-        "//! (7 * i + s) mod 256, and a salt and a message have the seed plus 128.",
+    source = [
+        "//! Keys that OpenSSL made, by vectors/scrypt/make.py, which writes this file. Byte i of an input",
+        "//! with seed s is (7 * i + s) mod 256, and a salt and a message have the seed plus 128.",
         "",
     ]
-    for name, table, columns, shape, rows, cut in TABLES:
+    for table, columns, shape, rows, cut in TABLES:
         made = list(rows())
-        text += [f"# {name}: {columns}"]
-        text += [" ".join([name, *map(str, row), key.hex()]) for row, key in made]
-        source += [f"/// {columns[0].upper()}{columns[1:]} in hexadecimal.",
-                   f"pub(super) const {table}: [{shape}; {len(made)}] = ["]
+        source += [f"/// {columns} in hexadecimal.", f"pub(super) const {table}: [{shape}; {len(made)}] = ["]
         source += [f"    ({numbers(row, cut)}, {literal(key.hex())})," for row, key in made]
         source += ["];", ""]
-    (HERE / "keys.txt").write_text("\n".join(text) + "\n")
     (HERE.parent.parent / "src/tests/scrypt/keys.rt").write_text("\n".join(source[:-1]) + "\n")
 
 

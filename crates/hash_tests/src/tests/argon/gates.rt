@@ -3,7 +3,7 @@
 use super::standard_tag;
 use super::vectors::I_TAG;
 use crate::tests::is_hex;
-use cred_argon::{ArgonError, Kind, Params, argon2, argon2_alone};
+use cred_argon::{ArgonError, ArgonScratch, Kind, Params, argon2, argon2_in};
 use cred_pool::NoGate;
 use std::alloc::Global;
 use std::thread::Threads;
@@ -71,7 +71,16 @@ fn seen<R: Threads + Sync>(
 fn seen_alone(alloc: Global, lanes: u32) -> Result<Visits, ArgonError> {
     let params = params_of(lanes)?;
     let gate = Crowd::new(1);
-    match argon2_alone(alloc, &gate, &params, b"password", b"somesalt", &[], &[]) {
+    match argon2_in(
+        &mut ArgonScratch::new(alloc, 0),
+        alloc,
+        &gate,
+        &params,
+        b"password",
+        b"somesalt",
+        &[],
+        &[],
+    ) {
         Ok(_) => Ok(gate.visits()),
         Err(error) => Err(error),
     }

@@ -3,8 +3,7 @@ use cred_argon::Kind::{D, I, Id};
 use cred_argon::Version::{V10, V13};
 use cred_argon::{Kind, Version};
 
-/// Kind, version, memory, passes, lanes, tag length, the lengths of the four inputs, and their
-/// seed.
+/// Kind, version, memory, passes, lanes, tag length, the lengths of the four inputs, and their seed.
 pub(super) struct Case(
     pub(super) Kind,
     pub(super) Version,
@@ -16,7 +15,7 @@ pub(super) struct Case(
     pub(super) u8,
 );
 
-pub(super) static TAGS: [(Case, &str); 72] = [
+pub(super) static TAGS: [(Case, &str); 23] = [
     (
         Case(D, V13, 47, 1, 3, 53, [256, 41, 8, 1], 48),
         "19987db1f929d492240bb8a1eb1eea1cb30cf79407c556804adca589297d74b1\
@@ -58,11 +57,6 @@ pub(super) static TAGS: [(Case, &str); 72] = [
         "31d1369e914acb41981f35749883cac5c662fa6f6d9fcb",
     ),
     (
-        Case(D, V10, 66, 2, 8, 49, [63, 11, 0, 0], 239),
-        "996e39ce9dbba287a16dc2a5d6706eb37384378fe7746537734986bba2794156\
-            1ecdfccf4207df1a7ca02ab142076303bb",
-    ),
-    (
         Case(I, V10, 165, 3, 1, 36, [8, 42, 200, 100], 65),
         "2fd5ea41ce6525ae0a8d35c0be0c3b63bd56298ea14515c9ebaeb02b260f308a20511607",
     ),
@@ -80,10 +74,6 @@ pub(super) static TAGS: [(Case, &str); 72] = [
         "ddc2d8b575",
     ),
     (
-        Case(Id, V13, 153, 3, 8, 36, [129, 42, 8, 1], 86),
-        "d220ee07fff38c8d8027e50553dc89f54898daa25b0045ee55543b140ab121e6b50698cd",
-    ),
-    (
         Case(D, V10, 141, 4, 1, 63, [64, 28, 32, 0], 251),
         "e27586f2965984f2ca66a6882aab06b9c7451fe92d358b4d19905a9a2fdbd8fd\
             1e65f93cc6b974fc589434d0a70db04ad1735046c563e55a5e96f6dcc62652",
@@ -91,10 +81,6 @@ pub(super) static TAGS: [(Case, &str); 72] = [
     (
         Case(I, V10, 146, 1, 1, 22, [200, 30, 300, 12], 23),
         "ce2d44d1bab62fd72d577c80518c481e3019e0af6640",
-    ),
-    (
-        Case(Id, V10, 71, 2, 2, 28, [64, 9, 200, 0], 167),
-        "906d68c88701a6111ab8991ff5b846a6716d9d514ef43457ac87aab3",
     ),
     (
         Case(D, V13, 16, 3, 1, 54, [200, 21, 0, 0], 233),
@@ -111,18 +97,9 @@ pub(super) static TAGS: [(Case, &str); 72] = [
         "0f909c875e0cd353ba0f53f7cbe00e4a4d8629d23a270da0675a81cad1afd0d3a4caa7",
     ),
     (
-        Case(D, V10, 54, 2, 1, 23, [63, 46, 200, 1], 15),
-        "fad7ea85707c995251381a29835a62336d4b1d636b83c4",
-    ),
-    (
         Case(I, V10, 196, 3, 7, 58, [0, 22, 32, 300], 209),
         "53d07f1202af6fbdfbe1dae3f5bf50d62f8d97a7bc92368ae25daef6dee82dce\
             43d32c895dad06e2cd94568fea52a65f32f9208433e4734906fa",
-    ),
-    (
-        Case(Id, V10, 61, 4, 1, 55, [1, 39, 8, 0], 179),
-        "f2b9b80afe0d5d108169d85705147dfd1786e9c9b1841430b48b1772c938304b\
-            266384f3069303993a154a25b3e4f6eea63aae8e4948f1",
     ),
     (
         Case(D, V13, 64, 1, 1, 62, [256, 27, 300, 300], 156),
@@ -138,190 +115,7 @@ pub(super) static TAGS: [(Case, &str); 72] = [
         "59aecccf90c75fa4885d0e926e2457f5bfcc3b98c79eb5220b",
     ),
     (
-        Case(D, V10, 76, 4, 2, 28, [256, 38, 8, 0], 172),
-        "c08ef04486a114d947d8a4aa4e3ef97f79fd68bf81931daa530c2b4e",
-    ),
-    (
-        Case(I, V10, 56, 1, 1, 43, [200, 24, 0, 1], 184),
-        "19e36276691a61f7b52aa250b682c1403455fa695517c8f52118b3c2f1be006a2ec95eaade59655b140508",
-    ),
-    (
-        Case(Id, V10, 103, 2, 1, 18, [200, 8, 32, 0], 127),
-        "9108567dc273860e6376e18ca32771e0da2c",
-    ),
-    (
-        Case(D, V13, 57, 3, 1, 11, [129, 48, 200, 300], 29),
-        "7da3e32a32d8fde7b1b3c8",
-    ),
-    (
-        Case(I, V13, 144, 4, 2, 59, [127, 29, 200, 12], 168),
-        "136e97cd6f487fcb895ed0ae7c8821d872636e048c9bc60bd9e9ed6265281d05\
-            d11ccc4b1e234b2bee73d1a2671e8caee7fe040f67ba0565543bd5",
-    ),
-    (
-        Case(Id, V13, 75, 1, 7, 13, [1, 47, 8, 0], 111),
-        "de222b8de5fd831795ed7737f0",
-    ),
-    (
-        Case(D, V10, 156, 2, 2, 64, [300, 14, 32, 300], 3),
-        "dcbc94c652464bc5dcc174c83eda3f793f63ba87c2bc252dac479c9de0f5cd52\
-            19b0f8abab815b5a4bdc30b988f032636ed4da7af4cad9f9513d80c03b02b140",
-    ),
-    (
-        Case(I, V10, 157, 3, 2, 26, [1, 48, 200, 0], 156),
-        "f827d1987a95114e09a6ba92d6b2a019caca9c1c533d6c18972c",
-    ),
-    (
-        Case(Id, V10, 154, 4, 1, 58, [64, 10, 8, 0], 129),
-        "8f419dba5809df402d23a122f386fdd3cfecb109e8860e00959f5b335bc213d0\
-            f03344c2d7d5b32de2c11c08fedc8f769d39ab4fbd178f66de99",
-    ),
-    (
-        Case(D, V13, 153, 1, 8, 21, [127, 44, 8, 12], 0),
-        "aa34e67abaa907430655dbf47bda3239c7b9bc695e",
-    ),
-    (
-        Case(I, V13, 56, 2, 2, 23, [63, 48, 0, 1], 128),
-        "4e58901a8422654c43c1ac53cd0694c93af416b845feb8",
-    ),
-    (
-        Case(Id, V13, 111, 3, 8, 54, [200, 46, 0, 0], 242),
-        "af042dc58ac2a17df11d045c7d004c4c897b6830761e4388a7ff094a6ba18ff3\
-            9e77e59e97dab7a1c2d133fb2af0b52a153494d30860",
-    ),
-    (
-        Case(D, V10, 165, 4, 4, 10, [64, 10, 200, 100], 133),
-        "b36784e88425025e947c",
-    ),
-    (
         Case(I, V10, 127, 1, 6, 23, [0, 20, 1, 100], 152),
         "39263524bf1259533c403d04380c9498e9dee3fba66927",
-    ),
-    (Case(Id, V10, 165, 2, 6, 4, [1, 41, 32, 0], 196), "f3ed9c63"),
-    (
-        Case(D, V13, 210, 3, 7, 29, [1, 33, 32, 1], 148),
-        "e86d10e742c82909ac26b428ec6d5dd729053cabe8b583a85c5fa6e4db",
-    ),
-    (
-        Case(I, V13, 102, 4, 2, 18, [300, 9, 200, 0], 77),
-        "6ad6e6847f9870dd7ee4fd227458794fc0d8",
-    ),
-    (
-        Case(Id, V13, 172, 1, 4, 59, [256, 25, 300, 0], 187),
-        "31e7657999a6ba0c888356b6a7668653d018ab104e0bec1c13d6bb847eb6ccfd\
-            00c8e3b60ddd62f0639e9579b8f5c92ca96297f1f743cf3f030223",
-    ),
-    (
-        Case(D, V10, 71, 2, 7, 12, [256, 41, 1, 1], 210),
-        "c78a1f041e2ac11406cd9561",
-    ),
-    (
-        Case(I, V10, 14, 3, 1, 26, [256, 46, 32, 300], 219),
-        "9d9011c08a8dcc8c1989442cccac794b8b256b0ad0b43fdc24ae",
-    ),
-    (
-        Case(Id, V10, 138, 4, 1, 32, [0, 47, 0, 300], 149),
-        "5609a07d5aa03306d94c838300101a0e0152f364e23baad6aed30fd3f6d2b182",
-    ),
-    (
-        Case(D, V13, 64, 1, 6, 13, [63, 9, 32, 12], 254),
-        "5cb6747474ff51784e9fbebe46",
-    ),
-    (
-        Case(I, V13, 134, 2, 2, 40, [64, 12, 300, 300], 239),
-        "66a49354d143f3a00bf6852060d36ac519ccf4f0e2affa9d4da5a555ef5b16825390bb7482f92e5f",
-    ),
-    (
-        Case(Id, V13, 188, 3, 5, 33, [256, 39, 1, 1], 155),
-        "8276034881d933fa9d3863136e0fe8617b96085ebc48a59862ab812ada99fb7904",
-    ),
-    (
-        Case(D, V10, 129, 4, 8, 40, [129, 47, 8, 0], 232),
-        "e1500f2fe01be397a518145077d6ae62b86808d90ea2be57fcbf831d082cdf111e5c66724f0bcaee",
-    ),
-    (
-        Case(I, V10, 187, 1, 4, 39, [300, 34, 32, 0], 121),
-        "041e15381f9c797ec04e8a5afdbe1efef486a18e05af1682f0d67c8af2da7ece7018da72e56666",
-    ),
-    (
-        Case(Id, V10, 165, 2, 2, 10, [256, 40, 200, 12], 125),
-        "9ff4a3ef52c229f0a23f",
-    ),
-    (
-        Case(D, V13, 204, 3, 6, 22, [256, 45, 8, 0], 68),
-        "34913c6e1519dfefaada263fe4f328180aff0cd62881",
-    ),
-    (
-        Case(I, V13, 153, 4, 8, 22, [64, 27, 0, 300], 138),
-        "5fb37d77907888248be9966473895f0628253d167fbf",
-    ),
-    (
-        Case(Id, V13, 92, 1, 4, 37, [8, 39, 0, 300], 14),
-        "7147a5e195de4ae0d161f82abcd4b2b3b3ec6c471eead10cc99a380d934e74010cf65b8276",
-    ),
-    (
-        Case(D, V10, 47, 2, 2, 15, [0, 22, 200, 100], 142),
-        "71f83fd8e601b2781f833c8aa9aaec",
-    ),
-    (
-        Case(I, V10, 177, 3, 7, 17, [8, 25, 0, 1], 55),
-        "bfa5f295b15b054602c6fd6737ace9b918",
-    ),
-    (
-        Case(Id, V10, 64, 4, 1, 11, [129, 13, 1, 1], 244),
-        "9c741a4e5e3c9322b6a868",
-    ),
-    (
-        Case(D, V13, 100, 1, 2, 51, [256, 24, 200, 100], 200),
-        "5d42d22323b8f7f29ca175573e8c533758c7a0b926879f2eca8f5b73adff4678\
-            10602e320c3f2250e646420ac04d8f8d03472c",
-    ),
-    (
-        Case(I, V13, 204, 2, 7, 58, [64, 45, 200, 1], 95),
-        "346094414219e65a24e6c97658158334d0184ab912ec515413d311c77288e106\
-            75800a712a9e8a375a1cfc7f2c76e8cb8a50b6905d26a10d9d5a",
-    ),
-    (
-        Case(Id, V13, 116, 3, 2, 5, [129, 14, 32, 1], 198),
-        "b0354b4327",
-    ),
-    (
-        Case(D, V10, 144, 4, 7, 64, [128, 11, 0, 1], 45),
-        "67a420c9742c471be304412b5a215e80ebe2865c28f4570fc6f3dbdf4e09fd90\
-            dce29d813b450f7ed9d466d3ad57a5fc9ab2226fd63b6946c81d6cf88eddc6f0",
-    ),
-    (
-        Case(I, V10, 120, 1, 1, 48, [200, 40, 300, 100], 147),
-        "21a1506e9592f634ceb0827bd9511304773f51f21271ac2e306e5f33abd771d2\
-            4775f4eae4e136cf11c6ded7c0faebdc",
-    ),
-    (
-        Case(Id, V10, 161, 2, 7, 40, [200, 21, 8, 1], 196),
-        "dfbb895f02a0533c76d0c0e5fb93cc485ba49b2dc751d3ac60705ddface35b8dea40f776f341a211",
-    ),
-    (
-        Case(D, V13, 94, 3, 6, 61, [63, 24, 32, 100], 171),
-        "1bdc0629b240fceb1158469a33d1adceed2656360886daef12f7bd2ba6ca90ee\
-            22ae74784a42a72fe4e891973d01e97af5ab2ba629ef4ff01f65227d6f",
-    ),
-    (
-        Case(I, V13, 174, 4, 4, 35, [200, 42, 8, 0], 210),
-        "89551297e743382dba91c5bc528cbbbb040a2f244e891697e80bbc6685c3b95ed2eaa3",
-    ),
-    (
-        Case(Id, V13, 37, 1, 4, 32, [129, 12, 0, 12], 173),
-        "56b6f99029d959dba38e91c87fcd56b04a887ef0a63cd1566e835b52978b9a54",
-    ),
-    (
-        Case(D, V10, 130, 2, 8, 23, [1, 29, 32, 12], 112),
-        "b3f546d4f2482a4aacc7558aff1c66d17594cb30bd5712",
-    ),
-    (
-        Case(I, V10, 64, 3, 2, 39, [128, 23, 0, 300], 68),
-        "ef9eebde24b7de38bb5f4585fb3473bfa4c5c15ae3dfd0547ff0cf64ad789f1f5b36ac5aa0444d",
-    ),
-    (
-        Case(Id, V10, 67, 4, 6, 28, [63, 46, 200, 12], 233),
-        "db3997922b106605eed3ff50600172f4efc541126a11d3b73197e4f6",
     ),
 ];

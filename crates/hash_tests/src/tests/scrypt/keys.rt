@@ -1,189 +1,83 @@
 //! Keys that OpenSSL made, by vectors/scrypt/make.py, which writes this file. Byte i of an input
 //! with seed s is (7 * i + s) mod 256, and a salt and a message have the seed plus 128.
 
-/// Ln, r and p; lengths of the key, of the password and of the salt, and the seed; the key in
-/// hexadecimal.
-pub(super) const SCRYPT: [((u8, u8, u8), (u32, usize, usize, u8), &str); 40] = [
+/// Ln, r and p; lengths of the key, of the password and of the salt, and the
+/// seed; the key in hexadecimal.
+pub(super) const SCRYPT: [((u8, u8, u8), (u32, usize, usize, u8), &str); 16] = [
     ((1, 1, 1), (4, 0, 0, 1), "fa76e020"),
-    ((1, 1, 2), (16, 1, 1, 2), "c5abc79eb06248dcfb387015b0294c43"),
     (
         (1, 2, 1),
-        (32, 8, 16, 3),
-        "1ab7f6ad3c2dea800d260420a28f4ff7c9ccc2bf004adedff35486d6f80320a7",
+        (32, 8, 16, 2),
+        "4db4cbd81f171067154a447a7fd0aeac69dc4a4e8c18ffbf8178a00e9869ee72",
     ),
     (
         (1, 9, 5),
-        (64, 300, 300, 4),
-        "8f2dfba0d2e18a0ffbd37be21ad97d0e9929c7e48823335e3076a7dd56324817\
-            974cfce957dd22971cb5142829cd1230541cac1dcafc7e715e5c2579e9155ff9",
-    ),
-    ((2, 1, 1), (5, 0, 16, 5), "67047c9e01"),
-    (
-        (2, 3, 3),
-        (16, 55, 16, 6),
-        "0109a3de936bdd04cef81f48afd00baf",
+        (64, 300, 300, 3),
+        "71523aa7d1687acb1c9a342d2f70ebdb247668d764611edfbd2ec7bfcea80a94\
+            a9f799a1c04bc18d1500e1143d751e2336143cf69f552ad5f4b0f32b00fac801",
     ),
     (
         (2, 5, 1),
-        (20, 56, 17, 7),
-        "4eb0ba3497f288f8ca32e609cc53a8fb5bb802da",
+        (20, 56, 17, 4),
+        "145a79c6f8da50583625f23dcd6ae8474c310526",
     ),
     (
         (2, 8, 4),
-        (32, 63, 32, 8),
-        "e13e3281697f928361e7ab8ec666e0a3a9bf5d9c110846b59db8686b985c57fc",
+        (32, 63, 32, 5),
+        "438a72e350c4eabd3dd3519236e888e0ae2ef906e01a28be8df4a7590a576d9c",
     ),
     (
         (3, 1, 5),
-        (16, 64, 0, 9),
-        "a2ad914cefe3ee1bf64beb9ba4820f36",
-    ),
-    (
-        (3, 2, 2),
-        (24, 65, 33, 10),
-        "cb04eec296fd6ff4ad75e2c2fd3f5f179f59bb144bae04f5",
+        (16, 64, 0, 6),
+        "d6a905b6e2cb9d687cd471b278bdcaa6",
     ),
     (
         (3, 4, 1),
-        (63, 66, 48, 11),
-        "41704b08536bf079d6eec9770db99e1c7faf35fcf3b0ab956ada4493d347c427\
-            d7848696d2ca22c08ef5de519cd5368d81645fcd18a4e7e7aadcff119a93b5",
+        (63, 65, 48, 7),
+        "37a0192e42dd426e4573fdeb6607f50c4f94698d78d29b6f93461d334a41dfa3\
+            d17c473bf7f44a9cc05a4b44fc32e67ea2fed63db95e6bf6db856a02a733b3",
     ),
     (
         (3, 7, 2),
-        (16, 119, 51, 12),
-        "2dc543893efe12c236c3ee7224208b2b",
-    ),
-    (
-        (4, 1, 1),
-        (32, 120, 52, 13),
-        "fc0270f095eeb3fbbde2496d5292b92486a8e1466ca55b90e97bdc8906587198",
+        (16, 119, 51, 8),
+        "8f31fed06594c84765ee7574f6265440",
     ),
     (
         (4, 1, 2),
-        (33, 121, 53, 14),
-        "b127334b2675cccc25637e9d055a2c2f34ba9c9c5940c6db6a8bebc5d1695b8c65",
+        (33, 121, 53, 9),
+        "5d19dcbc104b5badf6e305c3c771f73b1f48967884fc0f49dcc023a3c8fa9eb9f3",
     ),
-    (
-        (4, 3, 1),
-        (16, 127, 63, 15),
-        "1152a7fd007af51d7a55f5f40f3b3846",
-    ),
-    ((4, 6, 3), (8, 128, 64, 16), "987d6368a8b14d1c"),
+    ((4, 6, 3), (8, 128, 64, 10), "e28244c8bd56d392"),
     (
         (5, 1, 4),
-        (16, 129, 65, 17),
-        "650ab223d6b8cf7c680a598017a9b54f",
-    ),
-    (
-        (5, 2, 1),
-        (31, 130, 100, 18),
-        "b73b9439d780ea255234aebe2f4f35f1396b71dfb5fa3dd16dfc597f6a241d",
-    ),
-    (
-        (5, 5, 5),
-        (16, 200, 119, 19),
-        "c83908c38b82761740cb46bc6d6f6082",
-    ),
-    (
-        (5, 9, 1),
-        (32, 255, 120, 20),
-        "e26d974460154929737a3cf7fb8746ec92948b89bd55ef4af3c837fd28263875",
-    ),
-    (
-        (6, 1, 1),
-        (64, 256, 121, 21),
-        "a7c2006293d7bc9536544677ee009d538b3acbd32d2810803ea24fefb261657a\
-            11b47adece203c86a646d9b648f4b26c33037ce0640bfbd4eaff9b94bc7fd67c",
+        (31, 129, 65, 11),
+        "3cc0fb4585a922beef443f9fabc9831610fc80c3b127b8bd268b8446afc5fd",
     ),
     (
         (6, 2, 3),
-        (16, 257, 128, 22),
-        "1da6035bdd07308b13be3c6efdfb6bf1",
-    ),
-    ((6, 4, 2), (12, 299, 200, 23), "a84560f71af757270527e2f3"),
-    (
-        (6, 8, 1),
-        (32, 300, 255, 24),
-        "07a6cdad1b9323b2e90e4421e8f86c2e7b935dcdfdd9f9edf5bfc4e3d11582de",
-    ),
-    (
-        (7, 1, 3),
-        (16, 2, 256, 25),
-        "77cf812cc96a89024cd9de37b4e88531",
+        (16, 257, 128, 12),
+        "90539098bb2b1ec1c42e9d3c8fad249e",
     ),
     (
         (7, 3, 1),
-        (17, 3, 257, 26),
-        "0ad1a8a8d1078ccf7871e4a0587c5734bd",
-    ),
-    (
-        (7, 6, 2),
-        (16, 4, 299, 27),
-        "78cec678b6dee0015a929bb9fcc9c7f6",
-    ),
-    ((7, 9, 1), (6, 5, 300, 28), "91cd7040be53"),
-    (
-        (8, 1, 2),
-        (16, 12, 8, 29),
-        "287f9581c3da3d1ad519b6d9a25f06b9",
-    ),
-    (
-        (8, 2, 1),
-        (32, 13, 9, 30),
-        "ad72be54285228ccce54b25b00228425c7f11124ad928b44c258c108d6d3fee5",
-    ),
-    (
-        (8, 5, 1),
-        (40, 20, 12, 31),
-        "50889e19c786089a2f67c090e295c39d3ba8beea10dd1f77b08c2f8117efad391963369a1623743c",
+        (17, 3, 257, 13),
+        "eff4ae0562ac5b359a1d6a2355df35fce9",
     ),
     (
         (8, 8, 2),
-        (16, 31, 15, 32),
-        "c201e3201a6caceaf66abc7ac6341c48",
-    ),
-    (
-        (9, 1, 1),
-        (16, 32, 16, 33),
-        "6cb2321c80e92368f006440e5f193eac",
+        (16, 31, 15, 14),
+        "673174150d48918071a8e969d0e65fd9",
     ),
     (
         (9, 3, 2),
-        (48, 33, 24, 34),
-        "7f56b6d57a7044122129bb8f46058eabc37fa57fd3ee8a8e8622638940f8bd85\
-            e3deeda0ed5d9813887ab5361b744018",
-    ),
-    (
-        (9, 7, 1),
-        (16, 40, 31, 35),
-        "72352430f421e60714f33d5019615022",
-    ),
-    (
-        (9, 8, 1),
-        (32, 48, 32, 36),
-        "9c4f70ee9b8a1b2d4824a69a868a1aff0fc59c2cbff5a1d3d84267bdd4c71dd8",
-    ),
-    (
-        (10, 1, 1),
-        (64, 50, 40, 37),
-        "0212de8b0b089f4c2ace805e9b20c50057884e7467c4f3859a868269438771ac\
-            5208b201be88598ffcdb0bc606cc7acc758d97efbcca0cd7b7b463b15104b056",
-    ),
-    (
-        (10, 2, 2),
-        (16, 51, 47, 38),
-        "7d8b278a307ef6ab3cf44a58d62b2961",
-    ),
-    (
-        (10, 8, 1),
-        (32, 52, 48, 39),
-        "5ff5ba9eda30646cc5434d7b96035db3646827be84af7ea9fcafbc4102236046",
+        (48, 33, 24, 15),
+        "a3e1ff682f13042aac5d44ab16f505015490b6f91e658883a4f06cea0ff1b3ea\
+            5bed4b8bd617e37e4ba33006429a48dd",
     ),
     (
         (10, 9, 5),
-        (16, 100, 100, 40),
-        "c4f3684c213491c099725a1442ae8c8a",
+        (16, 100, 100, 16),
+        "0d493d8e766276d86d3fe6525877b696",
     ),
 ];
 
@@ -243,8 +137,8 @@ pub(super) const HMAC: [((usize, usize, u8), &str); 13] = [
     ),
 ];
 
-/// Turns; lengths of the key, of the password and of the salt, and the seed; the key in
-/// hexadecimal.
+/// Turns; lengths of the key, of the password and of the salt, and the
+/// seed; the key in hexadecimal.
 pub(super) const PBKDF2: [(u32, (u32, usize, usize, u8), &str); 10] = [
     (1, (1, 0, 0, 1), "f7"),
     (

@@ -2,7 +2,7 @@
 //! the gate.
 
 use cred_pool::Gate;
-use cred_scrypt::{ScryptError, ScryptParams, scrypt, scrypt_alone};
+use cred_scrypt::{ScryptError, ScryptParams, ScryptScratch, scrypt, scrypt_in};
 use std::alloc::Global;
 use std::thread::Threads;
 use test_samples::{Crowd, Meetings, Visits};
@@ -53,7 +53,14 @@ fn seen<R: Threads + Sync>(
 fn seen_alone(alloc: Global, pieces: u8) -> Result<Visits, ScryptError> {
     let params = ScryptParams::new(4, 1, pieces, 32)?;
     let gate = Crowd::new(1);
-    match scrypt_alone(alloc, &gate, &params, b"password", b"NaCl") {
+    match scrypt_in(
+        &mut ScryptScratch::new(alloc, 0),
+        alloc,
+        &gate,
+        &params,
+        b"password",
+        b"NaCl",
+    ) {
         Ok(_) => Ok(gate.visits()),
         Err(error) => Err(error),
     }

@@ -2,7 +2,7 @@
 //! gate.
 
 use super::setting;
-use cred_phc::{Password, Setting, TagError, tag_alone, tag_of};
+use cred_phc::{Password, Scratch, Setting, TagError, tag_in, tag_of};
 use std::alloc::Global;
 use std::process::Abort;
 use std::thread::Threads;
@@ -33,7 +33,14 @@ fn seen<R: Threads + Sync + Abort>(
 /// The same of a tag that the caller's thread makes alone.
 fn seen_alone(alloc: Global, setting: &Setting) -> Result<Visits, TagError> {
     let gate = Crowd::new(1);
-    match tag_alone(alloc, &gate, setting, 32, b"password") {
+    match tag_in(
+        &mut Scratch::new(alloc, 0),
+        alloc,
+        &gate,
+        setting,
+        32,
+        b"password",
+    ) {
         Ok(_) => Ok(gate.visits()),
         Err(error) => Err(error),
     }
