@@ -200,13 +200,13 @@ class Steps(unittest.TestCase):
             password, new = rng.choice(words), rng.choice(words)
             maker, owner = rng.choice(hashers), rng.choice(words)
             copy = rng.choice([None, maker.hash(owner), maker.hash(owner)])
-            setting = rng.choice(hashers)._costs() + "$c29tZXNhbHRzb21lc2FsdA"
+            setting = rng.choice(hashers).costs + "$c29tZXNhbHRzb21lc2FsdA"
             found = _step.step(kind, copy, password, new, setting)
             expected = wanted(kind, copy, owner, password, new, setting)
             self.assertEqual(found, expected)
 
     def test_faults(self):
-        setting = LOW._costs() + "$c29tZXNhbHRzb21lc2FsdA"
+        setting = LOW.costs + "$c29tZXNhbHRzb21lc2FsdA"
         bad = rigzumal.InvalidRecordError
         for kind in READS:
             for copy in ("garbage", "", LOW.hash("x") + "="):
@@ -242,7 +242,7 @@ def wanted(kind, copy, owner, password, new, setting):
 def made(setting, password):
     """By the hasher of the setting's costs, which other programs' vectors try."""
     for hasher in (LOW, HIGH, ScryptHasher(log2_n=2)):
-        if setting.startswith(hasher._costs() + "$"):
+        if setting.startswith(hasher.costs + "$"):
             return hasher.hash(password, salt=b"somesaltsomesalt")
 
 
