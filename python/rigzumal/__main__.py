@@ -113,6 +113,9 @@ def _words() -> argparse.ArgumentParser:
         action="store_true",
         help="the costs may be below OWASP's least, m=19456 with t=2",
     )
+    commands.add_parser(
+        "accounts", help="accounts in a service's own database: accounts --help"
+    )
     return words
 
 
