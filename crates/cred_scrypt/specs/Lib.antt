@@ -1,6 +1,7 @@
 -- The definitions that the contracts of scrypt cite.
 pub mod Xor
 pub mod Salsa
+pub mod Diagonals
 pub mod Mixing
 pub mod Table
 pub mod Scratches

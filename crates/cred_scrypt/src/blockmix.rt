@@ -1,11 +1,13 @@
 //! BlockMix, which mixes 2r blocks by a chain of Salsa20/8 (RFC 7914, section 4).
 ghost use Rattle.std.specs.Prelude.{◌≡◌, ◌+◌, ◌*◌, ◌/◌, ◌%◌, ◌<◌, ◌≤◌, ◌++◌, length, take};
+ghost use Rattle.cred_scrypt.specs.Diagonals.{block_of};
 ghost use Rattle.cred_scrypt.specs.Mixing.{block_at, block_mix};
 ghost use Rattle.cred_scrypt.specs.Salsa.{salsa20_8};
 ghost use Rattle.cred_scrypt.specs.Xor.{xor_all};
 
-use crate::salsa::salsa20_8;
-use crate::xor::xor_words;
+use crate::diagonals::{block_of, diagonals_of, xored};
+use crate::salsa::mixed;
+use std::simd::u32x4;
 
 /// How many words a block of 64 bytes has.
 const BLOCK: usize = 16;
@@ -32,30 +34,29 @@ pub fn block_mix(from: &[u32], into: &mut [u32])
 
 /// Block `i` of sixteen words.
 #[inline(always)]
-fn block(from: &[u32], i: usize) -> [u32; 16]
+fn block(from: &[u32], i: usize) -> [u32x4; 4]
     requires { 16 * i + 16 ≤ length from.now }
-    ensures { result ≡ block_at from.now i }
+    ensures { block_of result ≡ block_at from.now i }
 {
     let mut x = [0; BLOCK];
     x.copy_from_slice(&from[BLOCK * i..BLOCK * i + BLOCK]);
-    x
+    diagonals_of(&x)
 }
 
 /// The next X of the chain, from block `i`.
 #[inline(always)]
-fn chain(x: &mut [u32; 16], from: &[u32], i: usize)
+fn chain(x: &mut [u32x4; 4], from: &[u32], i: usize)
     requires { 16 * i + 16 ≤ length from.now }
-    ensures { x.new ≡ salsa20_8 (xor_all x.old (block_at from.now i)) }
+    ensures { block_of x.new ≡ salsa20_8 (xor_all (block_of x.old) (block_at from.now i)) }
 {
-    xor_words(x, &from[BLOCK * i..BLOCK * i + BLOCK]);
-    salsa20_8(x);
+    *x = mixed(xored(*x, block(from, i)));
 }
 
 /// Writes a block at place `i`, after those already written.
 #[inline(always)]
-fn put(into: &mut [u32], i: usize, x: &[u32; 16])
+fn put(into: &mut [u32], i: usize, x: &[u32x4; 4])
     requires { 16 * i + 16 ≤ length into.old }
-    ensures { take (16 * (i + 1)) into.new ≡ take (16 * i) into.old ++ x.now }
+    ensures { take (16 * (i + 1)) into.new ≡ take (16 * i) into.old ++ block_of x.now }
 {
-    into[BLOCK * i..BLOCK * i + BLOCK].copy_from_slice(x);
+    into[BLOCK * i..BLOCK * i + BLOCK].copy_from_slice(&block_of(*x));
 }

@@ -7,6 +7,7 @@
 #![tactic(auto)]
 
 mod blockmix;
+mod diagonals;
 mod error;
 mod hmac;
 mod key_derivation;

@@ -64,7 +64,12 @@ impl Piece {
     }
 
     /// Cuts `bytes` into `p` pieces.
-    pub(crate) fn cut(alloc: Global, r: usize, p: usize, bytes: &[u8]) -> Result<Vec<Piece>, ScryptError>
+    pub(crate) fn cut(
+        alloc: Global,
+        r: usize,
+        p: usize,
+        bytes: &[u8],
+    ) -> Result<Vec<Piece>, ScryptError>
         requires small { 128 * r * p < 2 ^ 32 }
         requires size { length bytes.now ≡ 128 * r * p }
         ensures memory { (e : _) → result ≡ Err e → e ≡ ScryptError.Memory }
@@ -127,7 +132,11 @@ impl Piece {
     /// The bytes of all the pieces, in order.
     ///
     /// Errors: `Memory` if there was not enough for a piece's table, or is not for the bytes.
-    pub(crate) fn joined(alloc: Global, size: usize, pieces: &[Piece]) -> Result<Vec<u8>, ScryptError>
+    pub(crate) fn joined(
+        alloc: Global,
+        size: usize,
+        pieces: &[Piece],
+    ) -> Result<Vec<u8>, ScryptError>
         ensures memory { (e : _) → result ≡ Err e → e ≡ ScryptError.Memory }
         ensures ok { (ln r : ℕ) (b : List ℕ) → AreMixed ln r b pieces.now
             → IfOk result (λ bytes. bytes.items ≡ mixed_pieces ln r b (length pieces.now)) }

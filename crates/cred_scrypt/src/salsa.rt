@@ -1,21 +1,45 @@
 //! The Salsa20/8 core, from which BlockMix is built (RFC 7914, section 3).
-ghost use Rattle.std.specs.Prelude.{◌≡◌, ◌<◌};
+ghost use Rattle.std.specs.Prelude.{◌≡◌, ℕ, ◌<◌, slice_index};
+ghost use Rattle.std.specs.Int.{w32, rotate_left};
+ghost use Rattle.cred_scrypt.specs.Diagonals.{block_of};
 ghost use Rattle.cred_scrypt.specs.Salsa.{quarter_step, quarter_round, column_round, row_round};
 ghost use Rattle.cred_scrypt.specs.Salsa.{double_rounds, salsa20_8};
 
-/// A step of the quarter round: x ^ ((y + z) <<< n).
+use crate::diagonals::{added, block_of, diagonals_of, sum, transposed, xor};
+use std::simd::u32x4;
+
+/// Each word rotated to the left by `by` bits.
 #[inline(always)]
-fn quarter_step(x: u32, y: u32, z: u32, n: u32) -> u32
-    requires { n < 32 }
-    ensures { result ≡ quarter_step x y z n }
+fn rotate(x: u32x4, by: u32) -> u32x4
+    requires some { 0 < by }
+    requires few { by < 32 }
+    ensures { (j : ℕ) → j < 4 → slice_index result j ≡ rotate_left w32 (slice_index x j) by }
 {
-    x ^ y.wrapping_add(z).rotate_left(n)
+    (x << u32x4::splat(by)) | (x >> u32x4::splat(32 - by))
 }
 
-/// The quarter round of four words.
+/// A step of four quarter rounds: x ^ ((y + z) <<< n), word by word.
 #[inline(always)]
-fn quarter_round(a: u32, b: u32, c: u32, d: u32) -> (u32, u32, u32, u32)
-    ensures { result ≡ quarter_round a b c d }
+fn quarter_step(x: u32x4, y: u32x4, z: u32x4, n: u32) -> u32x4
+    requires some { 0 < n }
+    requires few { n < 32 }
+    ensures { (j : ℕ) → j < 4
+        → slice_index result j ≡ quarter_step (slice_index x j) (slice_index y j) (slice_index z j) n }
+{
+    xor(x, rotate(sum(y, z), n))
+}
+
+/// Four quarter rounds side by side.
+#[inline(always)]
+fn quarter_round(a: u32x4, b: u32x4, c: u32x4, d: u32x4) -> (u32x4, u32x4, u32x4, u32x4)
+    ensures { (j : ℕ) → j < 4
+        → (
+          slice_index result.0 j,
+          slice_index result.1 j,
+          slice_index result.2 j,
+          slice_index result.3 j,
+        )
+        ≡ quarter_round (slice_index a j) (slice_index b j) (slice_index c j) (slice_index d j) }
 {
     let b1 = quarter_step(b, a, d, 7);
     let c1 = quarter_step(c, b1, a, 9);
@@ -26,49 +50,46 @@ fn quarter_round(a: u32, b: u32, c: u32, d: u32) -> (u32, u32, u32, u32)
 
 /// Quarter rounds on the columns of the four by four words.
 #[inline(always)]
-fn column_round(x: [u32; 16]) -> [u32; 16]
-    ensures { result ≡ column_round x }
+fn column_round(x: [u32x4; 4]) -> [u32x4; 4]
+    ensures { block_of result ≡ column_round (block_of x) }
 {
-    let (x0, x4, x8, x12) = quarter_round(x[0], x[4], x[8], x[12]);
-    let (x5, x9, x13, x1) = quarter_round(x[5], x[9], x[13], x[1]);
-    let (x10, x14, x2, x6) = quarter_round(x[10], x[14], x[2], x[6]);
-    let (x15, x3, x7, x11) = quarter_round(x[15], x[3], x[7], x[11]);
-    [
-        x0, x1, x2, x3, x4, x5, x6, x7, x8, x9, x10, x11, x12, x13, x14, x15,
-    ]
+    let (a, b, c, d) = quarter_round(x[0], x[1], x[2], x[3]);
+    [a, b, c, d]
 }
 
 /// Quarter rounds on the rows.
 #[inline(always)]
-fn row_round(x: [u32; 16]) -> [u32; 16]
-    ensures { result ≡ row_round x }
+fn row_round(x: [u32x4; 4]) -> [u32x4; 4]
+    ensures { block_of result ≡ row_round (block_of x) }
 {
-    let (x0, x1, x2, x3) = quarter_round(x[0], x[1], x[2], x[3]);
-    let (x5, x6, x7, x4) = quarter_round(x[5], x[6], x[7], x[4]);
-    let (x10, x11, x8, x9) = quarter_round(x[10], x[11], x[8], x[9]);
-    let (x15, x12, x13, x14) = quarter_round(x[15], x[12], x[13], x[14]);
-    [
-        x0, x1, x2, x3, x4, x5, x6, x7, x8, x9, x10, x11, x12, x13, x14, x15,
-    ]
+    transposed(column_round(transposed(x)))
 }
 
 /// A column round and a row round.
 #[inline(always)]
-fn double_round(x: [u32; 16]) -> [u32; 16]
-    ensures { result ≡ row_round (column_round x) }
+fn double_round(x: [u32x4; 4]) -> [u32x4; 4]
+    ensures { block_of result ≡ row_round (column_round (block_of x)) }
 {
     row_round(column_round(x))
 }
 
 /// Four double rounds.
 #[inline(always)]
-fn eight_rounds(x: [u32; 16]) -> [u32; 16]
-    ensures { result ≡ double_rounds 4 x }
+fn eight_rounds(x: [u32x4; 4]) -> [u32x4; 4]
+    ensures { block_of result ≡ double_rounds 4 (block_of x) }
 {
     let x = double_round(x);
     let x = double_round(x);
     let x = double_round(x);
     double_round(x)
+}
+
+/// The core on the diagonals of a block.
+#[inline(always)]
+pub(crate) fn mixed(x: [u32x4; 4]) -> [u32x4; 4]
+    ensures { block_of result ≡ salsa20_8 (block_of x) }
+{
+    added(x, eight_rounds(x))
 }
 
 /// The Salsa20/8 core (RFC 7914, section 3), in place, on sixteen words: a block of 64 bytes, read
@@ -77,8 +98,5 @@ fn eight_rounds(x: [u32; 16]) -> [u32; 16]
 pub fn salsa20_8(x: &mut [u32; 16])
     ensures { x.new ≡ salsa20_8 x.old }
 {
-    let mixed = eight_rounds(*x);
-    'words: for i in 0..16 {
-        x[i] = x[i].wrapping_add(mixed[i]);
-    }
+    *x = block_of(mixed(diagonals_of(x)));
 }

@@ -1,10 +1,11 @@
 use Rattle.std.proofs.Common.{◌≡◌, ◌*◌, take}
+use Rattle.cred_scrypt.specs.Diagonals.{block_of}
 use Rattle.cred_scrypt.specs.Mixing.{chain, every_second}
 use Rattle.cred_scrypt.proofs.blockmix.block_mix.Given as goal
 
 abbrev pub invariant-pairs : goal.invariant-pairs
 invariant-pairs l = record {
-  chained : l.x ≡ chain l.r l.from (2 * l.i);
+  chained : block_of l.x ≡ chain l.r l.from (2 * l.i);
   evens : take (16 * l.i) l.even ≡ every_second l.r l.from 0 l.i;
   odds : take (16 * l.i) l.odd ≡ every_second l.r l.from 1 l.i;
 }

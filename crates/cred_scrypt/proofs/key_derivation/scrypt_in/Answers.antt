@@ -1,4 +1,4 @@
-use Rattle.std.proofs.Common.{◌≡◌, ◌*◌, ◌∙◌, ap, arith}
+use Rattle.std.proofs.Common.{◌≡◌, ◌*◌, ◌∙◌, arith}
 use Rattle.cred_scrypt.specs.Pbkdf2.{pbkdf2}
 use Rattle.cred_scrypt.specs.Pieces.{AreCut, AreMixed}
 use Rattle.cred_scrypt.specs.Scrypt.{scrypt}

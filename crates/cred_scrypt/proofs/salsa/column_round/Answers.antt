@@ -1,3 +1,4 @@
+use Rattle.std.proofs.Common.{arith}
 use Rattle.cred_scrypt.specs.Salsa.{column_round}
 use Rattle.cred_scrypt.proofs.salsa.column_round.Goals as goal
 
@@ -5,8 +6,8 @@ pub returns : goal.returns
 unfolding column_round
 returns c =
     rw (
-      ← c.quarter_round-x0.ensures,
-      ← c.quarter_round-x5.ensures,
-      ← c.quarter_round-x10.ensures,
-      ← c.quarter_round-x15.ensures,
+      ← c.quarter_round.ensures 0 (omega arith),
+      ← c.quarter_round.ensures 1 (omega arith),
+      ← c.quarter_round.ensures 2 (omega arith),
+      ← c.quarter_round.ensures 3 (omega arith),
     )

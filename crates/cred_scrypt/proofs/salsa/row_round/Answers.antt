@@ -1,12 +1,11 @@
-use Rattle.cred_scrypt.specs.Salsa.{row_round}
+use Rattle.std.proofs.Common.{◌∙◌, ap}
+use Rattle.cred_scrypt.specs.Diagonals.{transposed}
+use Rattle.cred_scrypt.specs.Salsa.{column_round}
+use Rattle.cred_scrypt.proofs.Lanes.{row_round_is}
 use Rattle.cred_scrypt.proofs.salsa.row_round.Goals as goal
 
 pub returns : goal.returns
-unfolding row_round
 returns c =
-    rw (
-      ← c.quarter_round-x0.ensures,
-      ← c.quarter_round-x5.ensures,
-      ← c.quarter_round-x10.ensures,
-      ← c.quarter_round-x15.ensures,
-    )
+    c.transposed-2.ensures
+    ∙ ap transposed (c.column_round.ensures ∙ ap column_round c.transposed.ensures)
+    ∙ row_round_is _
