@@ -158,16 +158,16 @@ static void give_area(area it) {
 
 /* Has the pages of a kept area be the first of a new one, which is larger. Where that fails the
  * system may have unmapped those that they were to replace, and another thread may have mapped
- * there since: so much is left as it is. */
+ * there since: so much is left as it is, and another area is mapped. */
 static area grown_area(area it, area kept_one) {
     unsigned char *start = start_of(it);
-    size_t moved = size_of(kept_one);
+    size_t size = size_of(it), moved = size_of(kept_one);
     if (mremap(start_of(kept_one), moved, moved, MREMAP_MAYMOVE | MREMAP_FIXED, start) !=
         MAP_FAILED)
         return it;
     unmap_area(kept_one);
-    munmap(start + moved, size_of(it) - moved);
-    return 0;
+    munmap(start + moved, size - moved);
+    return map_area(size);
 }
 
 static area new_area(size_t size) {
@@ -182,10 +182,9 @@ static area take_area(size_t size) {
     area it = take_kept(size);
     if (it == 0)
         it = new_area(size);
-    if (it != 0)
-        return it;
-    unmap_kept_areas();
-    return map_area(size);
+    if (it == 0 && unmap_kept_areas() > 0)
+        it = map_area(size);
+    return it;
 }
 
 size_t keep_at_most(size_t size) {
