@@ -45,6 +45,19 @@ class Crate(unittest.TestCase):
         if sum(counts) < 20 or "0 ignored" not in said:
             self.fail(said)
 
+    def test_the_library_that_is_named_is_linked(self):
+        """The folder that RIGZUMAL_LIB_DIR names comes first; it has the shared library alone here."""
+        need("cargo", "ldd")
+        folder, target = ROOM / "named", ROOM / "cargo-of-named"
+        folder.mkdir()
+        for name in ("librigzumal.so", "librigzumal.so.1"):
+            shutil.copy(LIBRARIES / name, folder)
+        env = {"RIGZUMAL_LIB_DIR": str(folder), "CARGO_TARGET_DIR": str(target)}
+        cargo("test", "--offline", "--locked", "--no-run", "--test", "vectors", env=env)
+        (program,) = [it for it in (target / "debug/deps").glob("vectors-*") if not it.suffix]
+        found = testing.run("ldd", program, env={"LD_LIBRARY_PATH": str(folder)})
+        self.assertIn(f"librigzumal.so.1 => {folder}", found)
+
     def test_rust_layout(self):
         """rustfmt leaves the crate as it is, clippy and rustdoc say nothing, and no line is long."""
         need("cargo", "cargo-clippy", "cargo-fmt")

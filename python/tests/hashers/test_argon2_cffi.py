@@ -143,6 +143,10 @@ class Hashers(unittest.TestCase):
             OLD[:-1],
             b"$argon2i$",
             OLD.replace("2i", "2x"),
+            f" {OLD}",
+            f"{OLD} ",
+            f"{OLD}\n",
+            OLD.replace("$c29", "$ c29"),
         ):
             self.assertEqual(
                 outcome(mine.verify, given, "password"),
@@ -168,6 +172,20 @@ class Hashers(unittest.TestCase):
         hasher = ours.PasswordHasher(**COSTS)
         salts = {hasher.hash("x").split("$")[4] for _ in range(20)}
         self.assertEqual(len(salts), 20)
+
+    def test_what_is_refused_here_alone(self):
+        """Numbers that libargon2 takes, and the proved code doesn't, and a version of neither."""
+        for named, said in (
+            ({"parallelism": 256, "memory_cost": 4096}, "Too many lanes"),
+            ({"memory_cost": 2**21 + 1}, "Memory cost is too large"),
+            ({"version": 17}, "There is no such version of Argon2"),
+        ):
+            given = {"secret": b"x", "salt": b"somesalt", "hash_len": 32, "type": ours.Type.ID}
+            given.update(time_cost=1, memory_cost=8, parallelism=1)
+            for call in (ours.low_level.hash_secret, ours.low_level.hash_secret_raw):
+                with self.assertRaises(ours.exceptions.HashingError) as raised:
+                    call(**{**given, **named})
+                self.assertEqual(str(raised.exception), said)
 
     def test_want_of_memory(self):
         script = (

@@ -74,7 +74,7 @@ class Threads(unittest.TestCase):
         self.assertEqual(len(tags), 1)
 
     def test_those_that_are_asked_for(self):
-        for threads in (1, 3):
+        for threads in (1, 3, 200):
             with Calls() as calls:
                 hasher = PasswordHasher(1, 64, 4, threads=threads)
                 hasher.verify(hasher.hash("x"), "x")
