@@ -8,17 +8,26 @@ or by BOOK=fast.
 from __future__ import annotations
 
 import base64
+import collections
+import contextlib
 import imaplib
 import os
 import pathlib
+import pty
+import re
+import select
 import smtplib
+import socket
 import subprocess
+import threading
 import time
 import unittest
 import urllib.error
 import urllib.request
+from collections.abc import Iterator
 
 from machine import (
+    PAGE,
     RUN,
     Server,
     commands_on_page,
@@ -30,7 +39,7 @@ from machine import (
     shell,
     started,
 )
-from served import Case, Client, field_of, holds, need, same, until
+from served import PYTHON, Case, Client, field_of, holds, need, same, until
 
 
 # Without it each wrong password costs its address some seconds more.
@@ -62,7 +71,9 @@ def run_dovecot(room: pathlib.Path, *changes: tuple[str, str]) -> None:
     local.write_text(local.read_text() + QUICK)
     files = "-keyout /etc/dovecot/private/dovecot.key -out /etc/dovecot/private/dovecot.pem"
     shell(f"openssl req -x509 -newkey rsa:2048 -nodes -subj /CN=localhost {files} 2>/dev/null")
-    shell("mount -t tmpfs none /srv && mkdir /srv/vmail && chown vmail: /srv/vmail")
+    shell("mount -t tmpfs none /srv")
+    (adduser,) = commands_on_page("adduser --system --group --home /srv/vmail")
+    shell(adduser)
     shell("dovecot -c /etc/dovecot/dovecot.conf > /var/log/dovecot-start 2>&1")
     until(lambda: is_open(143), "dovecot")
 
@@ -95,6 +106,58 @@ def web_logins(port: int, server: Server) -> None:
     same([got("ada", "secret"), got("ada", "fresh")], [401, 200])
     server.stop()
     holds(got("ada", "fresh") in (401, 403, 500, 503), "the server is down")
+
+
+def pictures() -> None:
+    for path in pathlib.Path("/etc/nginx/sites-enabled").glob("default"):
+        path.unlink()
+    pathlib.Path("/var/www/html").mkdir(exist_ok=True)
+    for number in range(1, 41):
+        pathlib.Path(f"/var/www/html/{number}.png").write_text("x")
+
+
+def fetched(user: str, port: int, count: int = 40) -> dict[int, int]:
+    """How often each status came for so many pictures, on one connection."""
+    url = f"http://127.0.0.1:{port}/[1-{count}].png"
+    text = shell(f"curl -s -o /dev/null -w '%{{http_code}}\\n' -u {user} '{url}'")
+    return dict(collections.Counter(map(int, text.split())))
+
+
+@contextlib.contextmanager
+def logged() -> Iterator[list[str]]:
+    """What programs log by syslog meanwhile."""
+    lines: list[str] = []
+    with socket.socket(socket.AF_UNIX, socket.SOCK_DGRAM) as it:
+        it.bind("/dev/log")
+
+        def read() -> None:
+            while line := it.recv(4096):
+                lines.append(line.decode().rstrip("\0\n"))
+
+        reading = threading.Thread(target=read)
+        reading.start()
+        yield lines
+        with socket.socket(socket.AF_UNIX, socket.SOCK_DGRAM) as end:
+            end.sendto(b"", "/dev/log")
+        reading.join()
+
+
+def at_a_terminal(words: str, typed: list[str]) -> tuple[str, int]:
+    """What a program shows at a terminal at which these lines are typed at its prompts, and its status."""
+    pid, terminal = pty.fork()
+    if pid == 0:
+        os.execvp(words.split()[0], words.split())
+    shown, seen, rest, end = b"", 0, list(typed), time.monotonic() + 60
+    with contextlib.suppress(OSError):  # the terminal's end
+        while time.monotonic() < end:
+            if select.select([terminal], [], [], 0.3)[0]:
+                shown += os.read(terminal, 1000)
+            elif rest and shown[seen:].rstrip().endswith((b":", b"]")):
+                seen = len(shown)
+                os.write(terminal, rest.pop(0).encode() + b"\n")
+    status = os.waitstatus_to_exitcode(os.waitpid(pid, 0)[1])
+    os.close(terminal)
+    return shown.decode(errors="replace"), status
 
 
 class Programs(Case):
@@ -151,6 +214,100 @@ class Programs(Case):
         pamtester("both", "eve", both, "unixword\n", 0, "successfully authenticated")
 
     @in_namespaces
+    def test_local_users(self, room: pathlib.Path) -> None:
+        """Who isn't in the book and types the right password is let in each time, and logged as no failed try."""
+        need("pamtester")
+        started(room)
+        install("/etc/pam.d/common-auth", "/etc/pam.d/common-account")
+        pathlib.Path("/etc/pam.d/both").write_text(
+            "@include common-auth\n@include common-account\n"
+        )
+        with logged() as lines:
+            for _ in range(24):
+                pamtester("both", "eve", "authenticate acct_mgmt", "unixword\n", 0, "successfully")
+            for _ in range(12):
+                pamtester("both", "ada", "authenticate", "guess\n", 1, "")
+        ours = [it for it in lines if "pam_rigzumal" in it]
+        self.assertEqual(len(ours), 12, f"{ours}")
+        self.assertEqual(len([it for it in ours if it.endswith(" user=ada")]), 10)
+
+    @in_namespaces
+    def test_empty_and_long_passwords(self, room: pathlib.Path) -> None:
+        """A local user may have a password that no book takes."""
+        need("pamtester")
+        started(room)
+        install("/etc/pam.d/common-auth", "/etc/pam.d/common-account")
+        pathlib.Path("/etc/pam.d/both").write_text(
+            "@include common-auth\n@include common-account\n"
+        )
+        long = "x" * 300
+        crypted = f"import crypt; print(crypt.crypt('{long}', '$6$saltsalt'))"
+        shell(f'usermod -p "$({PYTHON} -W ignore -c "{crypted.replace("$", chr(92) + "$")}")" eve')
+        pamtester("both", "eve", "authenticate acct_mgmt", f"{long}\n", 0, "successfully")
+        pamtester("both", "eve", "authenticate", f"{long}y\n", 1, "Authentication failure")
+        shell("usermod -p '' eve")
+        pamtester("both", "eve", "authenticate acct_mgmt", "\n", 0, "successfully")
+        pamtester("both", "ada", "authenticate", "\n", 1, "Authentication failure")
+
+    @in_namespaces
+    def test_passwords_of_local_users(self, room: pathlib.Path) -> None:
+        """root's passwd, chpasswd and adduser set a local user's password; one in the book changes by the old one."""
+        need("passwd", "chpasswd", "adduser")
+        server = started(room)
+        install("/etc/pam.d/common-auth", "/etc/pam.d/common-account", "/etc/pam.d/common-password")
+        pathlib.Path("/etc/pam.d/both").write_text(
+            "@include common-auth\n@include common-account\n"
+        )
+        own = "setpriv --reuid eve --regid people --clear-groups passwd"
+        for words, typed, status in (
+            ("passwd eve", ["fresh word1"] * 2, 0),
+            (own, ["fresh word1", "fresh word2", "fresh word2"], 0),
+            (own, ["fresh word1", "fresh word3", "fresh word3"], 10),
+            ("adduser --gecos x zed", ["fresh word2"] * 2 + ["y"], 0),
+            (
+                "setpriv --reuid ada --regid people --clear-groups passwd",
+                ["secret", "wordy", "wordy"],
+                0,
+            ),
+            ("passwd ada", ["secret", "wordy", "wordy"], 10),
+        ):
+            said, ended = at_a_terminal(words, typed)
+            self.assertEqual(ended, status, f"{words}: {said}")
+        pamtester("both", "eve", "authenticate", "fresh word2\n", 0, "successfully")
+        pamtester("both", "zed", "authenticate", "fresh word2\n", 0, "successfully")
+        pamtester("both", "ada", "authenticate", "wordy\n", 0, "successfully")
+        shell("echo 'eve:fresh word4' | chpasswd")
+        pamtester("both", "eve", "authenticate", "fresh word4\n", 0, "successfully")
+        server.stop()
+        shell("echo 'eve:fresh word5' | chpasswd")
+        pamtester("both", "eve", "authenticate", "fresh word5\n", 0, "successfully")
+
+    @in_namespaces
+    def test_a_flooding_service(self, room: pathlib.Path) -> None:
+        """A service that holds all its connections, and floods, doesn't make the book unavailable to others."""
+        need("pamtester", "setpriv")
+        started(room)
+        install("/etc/pam.d/common-auth", "/etc/pam.d/common-account")
+        pathlib.Path("/etc/pam.d/both").write_text(
+            "@include common-auth\n@include common-account\n"
+        )
+        script = (
+            "import socket, sys, time\nheld = []\nfor _ in range(1100):\n"
+            "    it = socket.socket(socket.AF_UNIX)\n    it.connect(sys.argv[1])\n    held.append(it)\n"
+            "for it in held[:400]:\n    it.send(b'a verify ada -\\n' * 30)\n"
+            "print('held', flush=True)\ntime.sleep(200)\n"
+        )
+        words = ["setpriv", "--reuid", "33", "--regid", "33", "--groups", "64999"]
+        words += ["sh", "-c", 'ulimit -n 2000; exec "$@"', "sh", PYTHON, "-c", script]
+        shell("ulimit -Hn")
+        with subprocess.Popen([*words, str(RUN / "login.sock")], stdout=subprocess.PIPE) as holding:
+            assert holding.stdout
+            self.assertEqual(holding.stdout.readline(), b"held\n")
+            pamtester("both", "bob", "authenticate", "other word\n", 0, "successfully")
+            pamtester("both", "bob", "authenticate", "unixword\n", 1, "Authentication failure")
+            holding.kill()
+
+    @in_namespaces
     def test_su(self, room: pathlib.Path) -> None:
         """su, by a user who can't reach the socket: the book's password; /etc/shadow's while it is down."""
         need("su", "setpriv")
@@ -196,6 +353,68 @@ class Programs(Case):
         web_logins(8080, server)
 
     @in_namespaces
+    def test_fail2ban(self, room: pathlib.Path) -> None:
+        """fail2ban takes the page's jail, whose filter finds the address of each kind of failed try."""
+        need("fail2ban-client", "fail2ban-regex")
+        install("/etc/fail2ban/jail.d/book.conf")
+        done = subprocess.run(["fail2ban-client", "-d"], capture_output=True, text=True, timeout=60)
+        self.assertIn("pam_(?:unix|rigzumal)", done.stdout, done.stderr)
+        chosen = on_page("/etc/fail2ban/jail.d/book.conf").partition("filter  = ")[2].strip()
+        failure = "authentication failure; logname= uid=0 euid=0 tty=ssh ruser= rhost=192.0.2.7 "
+        for user in (" user=ada", ""):
+            line = f"Nov 27 04:55:01 mail sshd[4711]: pam_rigzumal(sshd:auth): {failure}{user}"
+            words = ["fail2ban-regex", "--out", "ip", line, chosen]
+            found = subprocess.run(words, capture_output=True, text=True, timeout=60)
+            self.assertEqual(found.stdout.split(), ["192.0.2.7"], found.stdout + found.stderr)
+
+    @in_namespaces
+    def test_nginx_cache(self, room: pathlib.Path) -> None:
+        """Forty pictures cost one hash; a wrong password isn't kept; what is kept is nginx's alone."""
+        need("nginx", "curl")
+        server = started(room)
+        install("/etc/pam.d/nginx", "/etc/nginx/sites-enabled/cached")
+        pictures()
+        shell("nginx")
+        until(lambda: is_open(8081), "nginx")
+        before = server.stats()
+        self.assertEqual(fetched("ada:secret", 8081), {200: 40})
+        self.assertEqual(fetched("ada:guess", 8081), {401: 40})
+        after = server.stats()
+        self.assertEqual(after["yes"] - before["yes"], 1)
+        self.assertTrue(after["no"] + after["later"] - before["no"] - before["later"] >= 40)
+        kept = [it for it in pathlib.Path("/run/nginx-logins").rglob("*") if it.is_file()]
+        self.assertEqual([it.stat().st_mode & 0o77 for it in kept], [0])
+        self.assertEqual(pathlib.Path("/run/nginx-logins").stat().st_mode & 0o77, 0)
+
+    @in_namespaces
+    def test_nginx_htpasswd(self, room: pathlib.Path) -> None:
+        """A user of an htpasswd file gets in by it until the name is taken out, and by the book from then on."""
+        need("nginx", "htpasswd", "curl")
+        server = started(room)
+        install("/etc/pam.d/nginx", "/etc/nginx/sites-enabled/both")
+        pictures()
+        for name, word, option in (
+            ("cid", "old", "-B"),
+            ("dan", "old", "-m"),
+            ("eli", "old", "-s"),
+        ):
+            create = "" if pathlib.Path("/etc/nginx/htpasswd").exists() else "-c"
+            shell(f"htpasswd -b {create} {option} /etc/nginx/htpasswd {name} {word}")
+        shell("nginx")
+        until(lambda: is_open(8082), "nginx")
+        for name in ("cid", "dan", "eli"):
+            self.assertEqual(fetched(f"{name}:old", 8082, 1), {200: 1}, name)
+            self.assertEqual(fetched(f"{name}:new", 8082, 1), {401: 1}, name)
+        self.assertEqual(fetched("ada:secret", 8082, 1), {200: 1})
+        server.enrol(cid="new")
+        self.assertEqual(fetched("cid:new", 8082, 1), {200: 1})
+        (taken,) = re.findall(r"`(htpasswd -D \S+) NAME`", PAGE.read_text())
+        shell(f"{taken} cid")
+        self.assertEqual(fetched("cid:new", 8082, 1), {200: 1})
+        self.assertEqual(fetched("cid:old", 8082, 1), {401: 1})
+        self.assertEqual(fetched("dan:old", 8082, 1), {200: 1})
+
+    @in_namespaces
     def test_apache(self, room: pathlib.Path) -> None:
         need("apache2")
         if not pathlib.Path("/usr/lib/apache2/modules/mod_authnz_pam.so").exists():
@@ -208,6 +427,23 @@ class Programs(Case):
         shell("apache2ctl start")
         until(lambda: is_open(80), "apache2")
         web_logins(80, server)
+
+    @in_namespaces
+    def test_apache_cache(self, room: pathlib.Path) -> None:
+        """Forty pictures cost one hash or so; who is disabled is out at once."""
+        need("apache2", "curl")
+        server = started(room)
+        install("/etc/pam.d/apache2", "/etc/apache2/conf-enabled/cached.conf")
+        shell("a2enmod authnz_pam authn_socache socache_shmcb")
+        pictures()
+        shell("apache2ctl start")
+        until(lambda: is_open(80), "apache2")
+        before = server.stats()
+        self.assertEqual(fetched("ada:secret", 80), {200: 40})
+        self.assertEqual(fetched("ada:guess", 80, 3), {401: 3})
+        self.assertEqual(server.stats()["yes"] - before["yes"], 1)
+        server.ask("disable ada", "disabled")
+        self.assertEqual(fetched("ada:secret", 80, 1), {401: 1})
 
     @in_namespaces
     def test_dovecot(self, room: pathlib.Path) -> None:
@@ -259,11 +495,10 @@ class Programs(Case):
         need("saslauthd", "testsaslauthd", "postfix", "postconf")
         server = started(room)
         install("/etc/pam.d/smtp", "/etc/postfix/sasl/smtpd.conf")
-        shell("adduser -q postfix sasl && mkdir -p /var/spool/postfix/var/run/saslauthd")
-        shell(
-            "chgrp sasl /var/spool/postfix/var/run/saslauthd && chmod 710 /var/spool/postfix/var/run/saslauthd"
-        )
-        shell("saslauthd -a pam -m /var/spool/postfix/var/run/saslauthd")
+        install("/etc/default/saslauthd")
+        (adduser,) = re.findall(r"`(adduser postfix sasl)`", PAGE.read_text())
+        shell(adduser)
+        shell("/etc/init.d/saslauthd start")
         (tried,) = commands_on_page("testsaslauthd")
         self.assertTrue('0: OK "Success."' in shell(tried), "testsaslauthd")
         self.assertTrue(
