@@ -36,6 +36,7 @@ from machine import (
     is_open,
     on_page,
     pamtester,
+    prepared,
     shell,
     started,
 )
@@ -356,6 +357,7 @@ class Programs(Case):
     def test_fail2ban(self, room: pathlib.Path) -> None:
         """fail2ban takes the page's jail, whose filter finds the address of each kind of failed try."""
         need("fail2ban-client", "fail2ban-regex")
+        prepared(room)
         install("/etc/fail2ban/jail.d/book.conf")
         done = subprocess.run(["fail2ban-client", "-d"], capture_output=True, text=True, timeout=60)
         self.assertIn("pam_(?:unix|rigzumal)", done.stdout, done.stderr)
