@@ -11,7 +11,7 @@ from __future__ import annotations
 
 import contextlib
 from collections.abc import Iterator
-from typing import Any
+from typing import Any, Optional
 
 from django.contrib.auth import forms
 from django.core.exceptions import ValidationError
@@ -54,12 +54,15 @@ class _Hidden:
 class PasswordChangeForm(_Hidden, forms.PasswordChangeForm):
     """Changes the password of a user who types the old one."""
 
+    _judged: Optional[str] = None
+
     def clean_old_password(self) -> Any:
         """Judges the old password at what stands, and makes no record anew."""
         old_password = self.cleaned_data["old_password"]
         with lost_as_error():
             if not passwords.verify_password(self.user, old_password):
                 raise self._incorrect()
+        self._judged = self.user.password
         return old_password
 
     @hidden
@@ -68,7 +71,7 @@ class PasswordChangeForm(_Hidden, forms.PasswordChangeForm):
         _only_whole(commit)
         old, new = self.cleaned_data["old_password"], self.cleaned_data["new_password1"]
         with lost_as_error():
-            if not passwords.change_password(self.user, old, new):
+            if not passwords.change_judged(self.user, old, new, self._judged):
                 raise self._incorrect()
         return self.user
 

@@ -13,7 +13,7 @@ Each may raise:
 from __future__ import annotations
 
 from collections.abc import Awaitable
-from typing import Any
+from typing import Any, Optional
 
 from django.contrib.auth import hashers, password_validation
 
@@ -52,9 +52,20 @@ def change_password(user: Any, old_password: Any, new_password: Any) -> bool:
     validators is called. One column is written and no signal is sent, but for a model
     with a `set_password` of its own, which is saved whole.
     """
+    return change_judged(user, old_password, new_password, None)
+
+
+@hidden
+def change_judged(
+    user: Any, old_password: Any, new_password: Any, judged: Optional[str]
+) -> bool:
+    """`change_password`, where the old one was found right at a record already.
+
+    If that record still stands, it isn't judged once more.
+    """
     if users.has_own_methods(user):
         return _change_by_methods(user, old_password, new_password)
-    changed = records.judge_change(user, old_password, new_password).right
+    changed = records.judge_change(user, old_password, new_password, judged).right
     if changed:
         password_validation.password_changed(new_password, user)
     return changed

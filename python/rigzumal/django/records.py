@@ -209,11 +209,14 @@ def judge_login(user: Any, password: Any) -> Judged:
 
 
 @hidden
-def judge_change(user: Any, old_password: Any, new_password: Any) -> Judged:
-    """A change of the password, if the old one is right."""
+def judge_change(
+    user: Any, old_password: Any, new_password: Any, judged: Optional[str] = None
+) -> Judged:
+    """A change of the password, if the old one is right, as it is at the record that was
+    judged already."""
 
     def judge(copy: str) -> Judged:
-        right = hashers.check_password(old_password, copy)
+        right = copy == judged or hashers.check_password(old_password, copy)
         record = hashers.make_password(new_password) if right else copy
         return Judged(right, copy, record)
 

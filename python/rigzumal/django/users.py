@@ -6,6 +6,8 @@
 A project with Django's own User sets RIGZUMAL_USER_COMPARES = True: see `make_comparing`.
 """
 
+# mypy: allow-subclassing-any
+
 from __future__ import annotations
 
 import contextlib
@@ -15,13 +17,13 @@ from typing import Any, Optional
 from django.contrib.auth import hashers
 from django.contrib.auth.base_user import AbstractBaseUser
 from django.core.exceptions import ImproperlyConfigured
-from django.db import connections, transaction
+from django.db import connections, models, transaction
 
 from rigzumal.django import records
 from rigzumal.django.records import RecordChanged, hidden
 
 
-class CompareAndSetMixin:
+class CompareAndSetMixin(models.Model):
     """Stands in front of AbstractBaseUser or AbstractUser among a model's bases.
 
     - `check_password` compares before it makes a record anew.
@@ -32,15 +34,19 @@ class CompareAndSetMixin:
     All else is Model's. A method of your own that judges or sets passwords stands in
     front of the mixin and calls `super()`. Not compared are `update`, `bulk_create`,
     `bulk_update`, fixtures, and a save to another database than the router's.
+
+    It is an abstract model without fields, so that no migration names it.
     """
 
-    _state: Any
     password: str
+
+    class Meta:
+        abstract = True
 
     @classmethod
     def from_db(cls, db: Any, field_names: Any, values: Any, **more: Any) -> Any:
         """Called by Django for each row that is read."""
-        user = super().from_db(db, field_names, values, **more)  # type: ignore[misc]
+        user = super().from_db(db, field_names, values, **more)
         user._note_read()
         return user
 
@@ -51,10 +57,13 @@ class CompareAndSetMixin:
         **kwargs: Any,
     ) -> None:
         """Reads the fields anew, as Model's."""
-        read_from = super().refresh_from_db  # type: ignore[misc]
+        read_from = super().refresh_from_db
         read_from(using=using, fields=fields, **kwargs)
         if fields is None or "password" in fields:
             self._note_read()
+            self._password = (
+                None  # what was set and not saved is no password to tell of
+            )
 
     def _note_read(self) -> None:
         if "password" in self.__dict__:
@@ -77,12 +86,12 @@ class CompareAndSetMixin:
     def set_password(self, raw_password: Any) -> None:
         """Sets the password, which `save` writes, as AbstractBaseUser's."""
         _ = self.password  # One that was deferred is read, so that it is compared.
-        super().set_password(raw_password)  # type: ignore[misc]
+        super().set_password(raw_password)
 
     def set_unusable_password(self) -> None:
         """Sets that no password is right, which `save` writes."""
         _ = self.password
-        super().set_unusable_password()  # type: ignore[misc]
+        super().set_unusable_password()
 
     @hidden
     def save(
@@ -101,24 +110,41 @@ class CompareAndSetMixin:
         if update_fields is not None:
             update_fields = frozenset(update_fields)
         database = using or records.database_of(self)
-        may_lose = update_fields is None or "password" in update_fields
         savepoint: Any = contextlib.nullcontext()
-        if may_lose and connections[database].in_atomic_block:
+        if self._may_lose(database, update_fields):
             savepoint = transaction.atomic(database)
-        with savepoint:
-            super().save(  # type: ignore[misc]
-                force_insert=force_insert,
-                force_update=force_update,
-                using=using,
-                update_fields=update_fields,
-            )
+        try:
+            with savepoint:
+                super().save(
+                    force_insert=force_insert,
+                    force_update=force_update,
+                    using=using,
+                    update_fields=update_fields,
+                )
+        except RecordChanged:
+            self._password = None  # it was never put, so nobody is told of it
+            raise
+
+    def _may_lose(
+        self, database: str, update_fields: Optional[Collection[str]]
+    ) -> bool:
+        """Whether a save within a transaction writes a password over one that was read."""
+        if update_fields is not None and "password" not in update_fields:
+            return False
+        copy = records.known_copy(self, database)
+        return (
+            connections[database].in_atomic_block
+            and copy is not None
+            and "password" in self.__dict__
+            and (self.password != copy.newest or copy.is_in_doubt(database))
+        )
 
     @hidden
     def _do_update(
         self, rows: Any, using: str, pk: Any, values: Any, *rest: Any, **more: Any
     ) -> Any:
         """Model's UPDATE of one table, which compares if it writes the password."""
-        update = super()._do_update  # type: ignore[misc]
+        update = super()._do_update
         given = [it[2] for it in values if it[0].attname == "password"]
         copy = records.known_copy(self, using)
         if not given or copy is None:
@@ -142,13 +168,15 @@ class CompareAndSetMixin:
         self, manager: Any, using: str, fields: Any, *rest: Any, **more: Any
     ) -> Any:
         """Model's INSERT into one table."""
-        made = super()._do_insert(  # type: ignore[misc]
-            manager, using, fields, *rest, **more
-        )
+        made = super()._do_insert(manager, using, fields, *rest, **more)
         if any(it.attname == "password" for it in fields):
             # Before post_save is sent, whose handlers may save again.
             records.note_put(self, using, records.Copy(self.password))
         return made
+
+
+# Otherwise it would stand in front of AbstractUser's own.
+del CompareAndSetMixin.Meta
 
 
 def make_comparing(model: Any) -> None:

@@ -30,7 +30,8 @@ from django.db import connections
 from django.db.models import Model
 from users_app.models import Person
 
-from rigzumal.accounts.history import Account, Illegal, Operation, check
+from rigzumal.accounts.torture._order import Operation
+from rigzumal.accounts.torture.history import Account, Illegal, check
 from rigzumal.django import backends, passwords, records
 from rigzumal.django.hashers import Argon2PasswordHasher
 from rigzumal.django.users import CompareAndSetMixin

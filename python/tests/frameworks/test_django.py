@@ -117,6 +117,15 @@ class Operations(Cheap, TestCase):
         passwords.set_password(self.ann, None)
         self.assertFalse(User.objects.get().has_usable_password())
 
+    def test_no_validator_is_told_of_none(self):
+        """A password that is taken away is no new one."""
+        changed = "django.contrib.auth.password_validation.password_changed"
+        with mock.patch(changed) as told:
+            passwords.set_password(self.ann, None)
+            self.assertEqual(told.mock_calls, [])
+            passwords.set_password(self.ann, "new")
+        self.assertEqual([it.args for it in told.mock_calls], [("new", self.ann)])
+
     def test_a_login_at_what_stands(self):
         with cheap(memory=128):
             with meanwhile(lambda: reset_elsewhere(self.ann, "new")):

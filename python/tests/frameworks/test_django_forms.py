@@ -19,6 +19,7 @@ from django.utils.encoding import force_bytes
 from django.utils.http import urlsafe_base64_encode
 from meanwhile import before_update, is_right, meanwhile, reset_elsewhere, stands
 
+import rigzumal
 from rigzumal.django import forms, passwords, users
 from rigzumal.django.site import AdminSite
 
@@ -54,6 +55,21 @@ class Forms(Cheap, TestCase):
             found = form(User.objects.get(), given)
             self.assertTrue(found.is_valid(), found.errors)
             yield found
+
+    def test_a_change_costs_two_hashes(self):
+        """As Django's: the old password is judged once, where its record still stands."""
+        for is_reset, hashes in ((False, 2), (True, 4)):
+            reset_elsewhere(self.ann, "old")
+            with mock.patch.object(rigzumal, "argon2", side_effect=rigzumal.argon2) as hashed:
+                form = forms.PasswordChangeForm(User.objects.get(), GIVEN)
+                self.assertTrue(form.is_valid())
+                if is_reset:  # to the same password, by another record
+                    made = hashed.call_count
+                    reset_elsewhere(self.ann, "old")
+                    hashes += hashed.call_count - made
+                form.save()
+            self.assertEqual(hashed.call_count, hashes)
+            self.assertTrue(self.right(NEW))
 
     def test_each_sets_the_password(self):
         for form in self.each():

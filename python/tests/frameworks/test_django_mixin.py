@@ -10,6 +10,8 @@ from django.contrib.auth import authenticate, hashers
 from django.contrib.auth.models import AbstractUser, User
 from django.core import serializers
 from django.db import IntegrityError, OperationalError, transaction
+from django.db.migrations.state import ModelState
+from django.db.migrations.writer import MigrationWriter
 from django.db.models.signals import post_save, pre_save
 from django.test import TestCase, TransactionTestCase, override_settings
 from django.utils.functional import SimpleLazyObject
@@ -365,6 +367,49 @@ class Committed(Compared, TransactionTestCase):
             self.ann.save(using="default")
         self.assertTrue(self.right("reset"))
 
+    def test_a_lost_save_in_a_transaction_of_another_database(self):
+        """That transaction goes on, and so does one of the first database."""
+        there = Person.objects.db_manager("other")
+        there.create(pk=self.ann.pk, username="ann", password=self.ann.password)
+        with override_settings(DATABASE_ROUTERS=[OfOther()]):
+            ann = there.get()
+            there.update(password="another")
+            for first in ("default", "other"):
+                ann.set_password("new")
+                with transaction.atomic("other"), transaction.atomic(first):
+                    there.update(first_name="before")
+                    with self.assertRaises(passwords.RecordChanged):
+                        ann.save()
+                    there.update(last_name=first)
+                self.assertEqual(there.get().get_full_name(), f"before {first}")
+            self.assertEqual(there.get().password, "another")
+
+    def test_a_new_user_of_another_database_is_remembered_there(self):
+        """Under `using`, whatever the router says: a later save compares with that."""
+        ben = Person(username="ben", password="first")
+        ben.save(using="other")
+        with override_settings(DATABASE_ROUTERS=[OfOther()]):
+            Person.objects.using("other").update(password="reset")
+            ben.password = "mine"
+            with self.assertRaises(passwords.RecordChanged):
+                ben.save(using="other")
+        self.assertEqual(Person.objects.using("other").get().password, "reset")
+
+    def test_nobody_is_told_of_a_password_that_was_never_put(self):
+        """After a lost save, nor after the user was read anew."""
+        told = mock.patch("django.contrib.auth.password_validation.password_changed")
+        reset_elsewhere(self.ann, "reset")
+        with told as changed:
+            self.ann.set_password("new")
+            with self.assertRaises(passwords.RecordChanged):
+                self.ann.save()
+            self.assertIsNone(self.ann._password)
+            self.ann.save(update_fields=["email"])
+            self.ann.set_password("newer")
+            self.ann.refresh_from_db()
+            self.ann.save()
+        self.assertEqual(changed.mock_calls, [])
+
     def test_a_replica_that_lags(self):
         class Router:
             def db_for_read(self, model, **hints):
@@ -394,6 +439,15 @@ class Committed(Compared, TransactionTestCase):
             ann.save()
         now = Person.objects.using("default").get()
         self.assertTrue(hashers.check_password("new", now.password))
+
+
+class OfOther:
+    """A router that reads and writes the second database."""
+
+    def db_for_read(self, model, **hints):
+        return "other"
+
+    db_for_write = db_for_read
 
 
 class AsDjangos(Cheap, TransactionTestCase):
@@ -531,6 +585,28 @@ class AsDjangos(Cheap, TransactionTestCase):
 
         self.outcomes(scenario)
 
+    def test_a_save_of_another_field_in_a_transaction_is_one_statement(self):
+        """As under ATOMIC_REQUESTS, and in each TestCase; also of an unchanged password."""
+
+        def scenario(model, ann):
+            with transaction.atomic():
+                for fields in (None, ["email"], ["email", "password"]):
+                    ann.email = f"{fields}@new.org"
+                    with self.assertNumQueries(1):
+                        ann.save(update_fields=fields)
+
+        self.outcomes(scenario)
+
+    def test_a_migration_names_what_it_does_of_djangos(self):
+        """So the package can be taken out again, and no migration is to be edited."""
+
+        def scenario(model, ann):
+            state = ModelState.from_model(model)
+            text = MigrationWriter.serialize(state.bases)[0]
+            return text, state.options.get("verbose_name")
+
+        self.assertNotIn("rigzumal", self.outcomes(scenario)[0])
+
 
 class OwnMethods(Cheap, TransactionTestCase):
     """A model's own check_password and set_password."""
@@ -580,6 +656,15 @@ class OwnMethods(Cheap, TransactionTestCase):
         with before_update(lambda: reset_elsewhere(self.ann, "pepper reset")):
             self.assertTrue(passwords.change_password(self.ann, "reset", "new"))
         self.assertTrue(self.again().check_password("new"))
+
+    def test_a_set_that_failed_leaves_no_password(self):
+        """Neither in the user nor for the validators of the next save."""
+        before = self.ann.password
+        for error, save in ((passwords.RecordChanged(), "lost"), (OSError("no"), "broken")):
+            with mock.patch.object(AbstractUser, "save", side_effect=error):
+                with self.assertRaises(type(error)):
+                    passwords.set_password(self.ann, "new")
+            self.assertEqual((self.ann.password, self.ann._password), (before, None), save)
 
     def test_a_reset_compares(self):
         reset_elsewhere(self.ann, "pepper another")

@@ -4,6 +4,7 @@ import base64
 import hashlib
 import hmac
 import math
+import runpy
 import unittest
 from unittest import mock
 
@@ -12,6 +13,7 @@ from django.contrib.auth import hashers
 
 import rigzumal
 from rigzumal.django import checks, records
+from rigzumal.django import hashers as our_hashers
 from rigzumal.django.hashers import Argon2PasswordHasher, ScryptPasswordHasher
 
 try:
@@ -64,7 +66,8 @@ class Strings(unittest.TestCase):
                 self.assertTrue(hasher.verify(password, record))
                 self.assertFalse(hasher.verify(password + "x", record))
                 self.assertEqual(hasher.safe_summary(record)["work factor"], n)
-                self.assertTrue(hasher.must_update(record))
+                is_new = (n, r, p) == (hasher.work_factor, hasher.block_size, hasher.parallelism)
+                self.assertIs(hasher.must_update(record), not is_new)
         # from Django 4.0's tests
         record = (
             "scrypt$16384$seasalt$8$1$Qj3+9PPyRjSJIebHnG81TMjsqtaIGxNQG/aEB/NYafTJ7tibgfYz"
@@ -147,7 +150,7 @@ class Strings(unittest.TestCase):
                     argon2.decode(record)
                 self.assertIn("broken record", argon2.safe_summary(record))
                 self.assertNotIn(record, str(argon2.safe_summary(record)))
-            good = scrypt.encode("secret", "salt")
+            good = scrypt.encode("secret", "salt", 2, 8, 5)
             for record in [
                 good.replace("$2$", "$3$"),
                 good.replace("$8$", "$0$"),
@@ -272,6 +275,14 @@ class Strings(unittest.TestCase):
         self.assertEqual((ours.work_factor, ours.block_size), (2**14, 8))
         theirs = getattr(hashers, "ScryptPasswordHasher", None)
         self.assertEqual(ours.parallelism, theirs.parallelism if theirs else 5)
+
+    def test_scrypts_p_is_that_of_the_django_that_runs(self):
+        """Otherwise each server would replace the other's records, by turns."""
+        for theirs, p in ((None, 5), (1, 1), (3, 3)):
+            django = type("ScryptPasswordHasher", (), {"parallelism": theirs})
+            with mock.patch.object(hashers, "ScryptPasswordHasher", theirs and django, create=True):
+                ours = runpy.run_path(our_hashers.__file__)["ScryptPasswordHasher"]
+            self.assertEqual(ours.parallelism, p)
 
     def test_each_record_has_a_salt_of_its_own(self):
         for hasher in (Argon2PasswordHasher(), ScryptPasswordHasher()):
