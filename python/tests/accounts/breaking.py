@@ -7,6 +7,7 @@ import threading
 import time
 from contextlib import asynccontextmanager, contextmanager, suppress
 
+import support  # noqa: F401: finds the package
 from rigzumal.accounts import OutcomeUnknown, PerThread, Postgres, Sqlite
 from rigzumal.accounts._session import BlockingSession, run
 from rigzumal.accounts.parts import Answer
