@@ -253,6 +253,48 @@ class PostgresServer(Server):
         self.run(self.bin / "pg_ctl", "-D", self.folder, "-w", "promote")
 
 
+class PgBouncer(Server):
+    """A pooler before a PostgreSQL, which gives sessions out for a transaction each."""
+
+    user = "postgres"
+
+    def __init__(self, name, of):
+        self.program = shutil.which("pgbouncer", path="/usr/sbin:/usr/bin")
+        if self.program is None:
+            raise Missing("pgbouncer is not there")
+        super().__init__(name)
+        self.of, self.port = of, free_port()
+        self.file = ROOM / f"{name}.ini"
+
+    @property
+    def url(self):
+        return f"postgresql://store@127.0.0.1:{self.port}/store"
+
+    def words(self):
+        self.file.write_text(
+            f"[databases]\nstore = host=127.0.0.1 port={self.of.port} dbname=store user=store\n"
+            f"[pgbouncer]\nlisten_addr = 127.0.0.1\nlisten_port = {self.port}\n"
+            "auth_type = any\npool_mode = transaction\ndefault_pool_size = 3\n"
+            f"unix_socket_dir =\nlogfile = {self.folder}.bouncer.log\n"
+        )
+        self.file.chmod(0o644)
+        return [self.program, self.file]
+
+    def ready(self):
+        import psycopg
+
+        try:
+            self.connect().close()
+        except psycopg.OperationalError:
+            return False
+        return True
+
+    def connect(self, **more):
+        import psycopg
+
+        return psycopg.connect(self.url, **{"autocommit": True, "connect_timeout": 5, **more})
+
+
 class MariaServer(Server):
     """One server of MariaDB, or one node of a Galera cluster."""
 

@@ -31,17 +31,22 @@ sys.path.insert(0, str(TOP / "examples" / "login_page"))
 
 import login_page
 import store
-from selenium import webdriver
-from selenium.common.exceptions import WebDriverException
-from selenium.webdriver.chrome.service import Service
-from selenium.webdriver.common.by import By
-from selenium.webdriver.support.ui import WebDriverWait
+
+try:
+    from selenium import webdriver
+    from selenium.common.exceptions import WebDriverException
+    from selenium.webdriver.chrome.service import Service
+    from selenium.webdriver.common.by import By
+    from selenium.webdriver.support.ui import WebDriverWait
+except ImportError:
+    webdriver = None
 from waitress import wasyncore
+from werkzeug.exceptions import TooManyRequests
 from werkzeug.test import create_environ
 
 from rigzumal import PasswordHasher
-from rigzumal.accounts import Accounts, Kind
 from rigzumal.accounts._judgement import Judge
+from rigzumal.accounts.parts import Kind
 
 ROOM = pathlib.Path(tempfile.mkdtemp(prefix="rigzumal-"))
 atexit.register(shutil.rmtree, ROOM, True)
@@ -714,7 +719,7 @@ class Page(unittest.TestCase):
 
     def test_tries_count_before_the_hash(self):
         """Many at once are no more than one after another, and those too many cost nothing."""
-        said, worked, work = [], [], Accounts.work
+        said, worked, work = [], [], Judge.work
 
         def guess():
             said.append(Client(self.port).login(self.name, NEW))
@@ -724,7 +729,7 @@ class Page(unittest.TestCase):
             return work(accounts, ticket)
 
         threads = [threading.Thread(target=guess) for _ in range(20)]
-        with mock.patch.object(Accounts, "work", counted):
+        with mock.patch.object(Judge, "work", counted):
             for it in threads:
                 it.start()
             for it in threads:
@@ -774,7 +779,7 @@ class Page(unittest.TestCase):
     def test_a_login_with_the_stolen_password_during_the_change(self):
         """Both orders, and the change between the login's hash and its commit."""
         thief = Client(self.port)
-        worked = Accounts.work
+        worked = Judge.work
 
         def slow(accounts, ticket):
             done = worked(accounts, ticket)
@@ -783,7 +788,7 @@ class Page(unittest.TestCase):
             return done
 
         changes = [lambda: self.assertEqual(self.ann.change(), 303)]
-        with mock.patch.object(Accounts, "work", slow):
+        with mock.patch.object(Judge, "work", slow):
             self.assertEqual(thief.login(self.name, OLD), 200)
         self.assertFalse(thief.is_in())
         self.assertEqual(thief.login(self.name, OLD), 200)
@@ -825,6 +830,42 @@ class Page(unittest.TestCase):
                 )
             for _ in range(4):
                 self.assertTrue(act(self.ann))
+
+
+class Kept(unittest.TestCase):
+    """What the store does, without a page."""
+
+    def setUp(self):
+        self.store = store.Store(DATABASE, CHEAP)
+        self.store._do("DELETE FROM try")
+        self.made = []
+        connect = self.store._pool._connect
+        self.enterContext(
+            mock.patch.object(
+                self.store._pool, "_connect", lambda: self.made.append(1) or connect()
+            )
+        )
+
+    def test_a_refused_try_makes_no_connection_and_writes_nothing(self):
+        """So whoever guesses on costs less than the one who is let try."""
+        for _ in range(store.TRIES["account"]):
+            self.store.count(account="ann")
+        (before,) = self.store._do("SELECT count(*) FROM try")
+        for _ in range(20):
+            with self.assertRaises(TooManyRequests) as refused:
+                self.store.count(account="ann", address="192.0.2.1")
+            self.assertGreater(refused.exception.retry_after, 0)
+        self.assertEqual(self.store._do("SELECT count(*) FROM try"), [before])
+        self.assertEqual(self.made, [])
+
+    def test_nobody_signs_up_for_an_account_that_is_there(self):
+        """One without a record neither: it was removed, or invited."""
+        self.store._do("DELETE FROM account")
+        self.store._do("INSERT INTO account VALUES ('ann', NULL)")
+        self.assertIsNone(self.store.sign_up("ann", "evil password", "old"))
+        self.assertIsNone(self.store.log_in("ann", "evil password", "old"))
+        token = self.store.sign_up("ben", "a password", "old")
+        self.assertEqual(self.store.who(token), "ben")
 
 
 class Program(unittest.TestCase):
@@ -899,6 +940,8 @@ class Program(unittest.TestCase):
             self.assertEqual((said, process.wait(300)), ([303], 0))
 
 
+@unittest.skipIf(webdriver is None, "python3-selenium is not there")
+@unittest.skipUnless(shutil.which("chromedriver"), "chromium-driver is not there")
 class Browsers(unittest.TestCase):
     """In Chromium, with JavaScript off."""
 

@@ -71,8 +71,7 @@ class MariaDB(Dialect):
         self._prepared: weakref.WeakSet[Any] = weakref.WeakSet()
 
     def fresh(self, conn: Any) -> None:
-        if not hasattr(conn, "server_status"):
-            raise other_driver(conn, "PyMySQL")
+        self._check_driver(conn)
         if not conn.open:
             raise ConnectionError("the connection is closed")
         if not conn.get_autocommit():
@@ -80,10 +79,13 @@ class MariaDB(Dialect):
         if conn.server_status & 1:  # SERVER_STATUS_IN_TRANS
             raise StoreFault(TRANSACTION_OPEN)
 
-    async def within(self, session: Session) -> None:
-        conn = session.conn
+    def _check_driver(self, conn: Any) -> None:
         if not hasattr(conn, "server_status"):
             raise other_driver(conn, "PyMySQL")
+
+    async def within(self, session: Session) -> None:
+        conn = session.conn
+        self._check_driver(conn)
         if conn.get_autocommit() and not conn.server_status & 1:
             raise StoreFault(NO_TRANSACTION)
 

@@ -34,8 +34,7 @@ class Sqlite(Dialect):
     _same = "{r} COLLATE BINARY IS {m}"
 
     def fresh(self, conn: Any) -> None:
-        if not hasattr(conn, "in_transaction"):
-            raise other_driver(conn, "sqlite3")
+        self._check_driver(conn)
         if conn.in_transaction:
             raise StoreFault(TRANSACTION_OPEN)
         # From Python 3.12 on there is an attribute; -1 stands for the older way.
@@ -43,7 +42,12 @@ class Sqlite(Dialect):
         if mode is not True and (mode != -1 or conn.isolation_level is not None):
             raise StoreFault(NOT_AUTOCOMMIT)
 
+    def _check_driver(self, conn: Any) -> None:
+        if not hasattr(conn, "in_transaction"):
+            raise other_driver(conn, "sqlite3")
+
     async def within(self, session: Session) -> None:
+        self._check_driver(session.conn)
         if not session.conn.in_transaction:
             raise StoreFault(NO_TRANSACTION)
 

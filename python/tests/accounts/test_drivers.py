@@ -1,0 +1,299 @@
+"""Drivers and pools that people have: those that work, and those that are refused by name."""
+
+import asyncio
+import contextlib
+import threading
+import unittest
+from collections import Counter
+
+import engines
+import servers
+import support
+from support import LOW
+from rigzumal.accounts import (
+    Accounts,
+    AsyncAccounts,
+    MariaDB,
+    Postgres,
+    Reply,
+    Sqlite,
+    StoreFault,
+    of_engine,
+)
+from rigzumal.accounts.parts import Kind, Request
+
+
+def module(name):
+    """A module, or a skipped test."""
+    try:
+        return __import__(name)
+    except ImportError:
+        raise unittest.SkipTest(f"Python's {name} is not there") from None
+
+
+class Refused(unittest.TestCase):
+    """A connection of another driver is no table that won't do."""
+
+    def assert_refused(self, accounts, said):
+        worked = accounts.work(accounts.begin_with(LOW.hash("one")))
+        for act in (
+            lambda: accounts.verify("ann", "one"),
+            lambda: accounts.change("ann", "one", "two"),
+            lambda: accounts.examine(),
+            lambda: accounts.commit(worked),
+            lambda: accounts.commit_in(accounts.conn, worked),
+        ):
+            with self.assertRaisesRegex(StoreFault, said):
+                act()
+
+    def accounts(self, conn, dialect):
+        class Over(Accounts):
+            def begin_with(self, record):
+                from rigzumal.accounts.parts import Ticket
+
+                return Ticket(Request(Kind.CHANGE, "ann", "one", "two"), record)
+
+        made = Over(lambda: contextlib.nullcontext(conn), dialect, LOW, patience=0.0)
+        made.conn = conn
+        return made
+
+    def test_psycopg2(self):
+        psycopg2 = module("psycopg2")
+        conn = psycopg2.connect(engines.server(servers.PostgresServer).url)
+        self.addCleanup(conn.close)
+        conn.autocommit = True
+        accounts = self.accounts(conn, Postgres("users", "name", "record"))
+        self.assert_refused(accounts, "the driver is psycopg2, and psycopg 3 is wanted")
+
+    def test_mysqlclient(self):
+        mysql = module("MySQLdb")
+        server = engines.server(servers.MariaServer)
+        given = {"host": "127.0.0.1", "port": server.port, "user": "store", "passwd": "store"}
+        conn = mysql.connect(db="store", autocommit=True, **given)
+        self.addCleanup(conn.close)
+        accounts = self.accounts(conn, MariaDB("users", "name", "record"))
+        self.assert_refused(accounts, "the driver is MySQLdb, and PyMySQL is wanted")
+
+    def test_asyncpg(self):
+        asyncpg = module("asyncpg")
+        server = engines.server(servers.PostgresServer)
+
+        async def act():
+            conn = await asyncpg.connect(server.url)
+
+            @contextlib.asynccontextmanager
+            async def pool():
+                yield conn
+
+            accounts = AsyncAccounts(pool, Postgres("users", "name", "record"), LOW)
+            try:
+                with self.assertRaisesRegex(StoreFault, "the driver is asyncpg"):
+                    await accounts.verify("ann", "one")
+            finally:
+                await conn.close()
+
+        asyncio.run(act())
+
+    def test_others(self):
+        for dialect in (Sqlite, MariaDB, Postgres):
+            accounts = self.accounts(object(), dialect("users", "name", "record"))
+            self.assert_refused(accounts, "the driver is builtins")
+
+
+class Engines:
+    """SQLAlchemy's engine as the pool."""
+
+    def setUp(self):
+        super().setUp()
+        self.sqlalchemy = module("sqlalchemy")
+        self.execute("DROP TABLE IF EXISTS users")
+        self.execute(self.dialect.create())
+        self.execute(self.dialect.insert, "ann")
+
+    def engine(self, **given):
+        made = self.sqlalchemy.create_engine(self.sqlalchemy_url, **given)
+        self.addCleanup(made.dispose)
+        return made
+
+    def over(self, engine, **more):
+        return Accounts(of_engine(engine), self.dialect, LOW, **more)
+
+    def test_operations(self):
+        for engine in (
+            self.engine(isolation_level="AUTOCOMMIT", pool_size=2),
+            self.engine().execution_options(isolation_level="AUTOCOMMIT"),
+        ):
+            accounts = self.over(engine)
+            self.assertEqual(accounts.examine(), [])
+            for _ in range(3):
+                self.assertIn(accounts.reset("ann", "one"), (Reply.ENROLLED, Reply.REPLACED))
+                self.assertIs(accounts.change("ann", "one", "two"), Reply.REPLACED)
+                self.assertIs(accounts.login("ann", "two"), Reply.YES)
+                self.assertIs(accounts.login("ann", "one"), Reply.NO)
+            self.assertEqual(engine.pool.checkedout(), 0)
+
+    def test_an_engine_that_is_not_in_autocommit(self):
+        accounts = self.over(self.engine())
+        with self.assertRaisesRegex(StoreFault, "autocommit|transaction is open"):
+            accounts.verify("ann", "one")
+
+    def test_a_connection_is_given_up_after_an_exception(self):
+        engine = self.engine(isolation_level="AUTOCOMMIT", pool_size=1)
+        pool, made = of_engine(engine), []
+        for error in (KeyError, KeyboardInterrupt):
+            for _ in range(2):
+                with pool() as conn:
+                    made.append(conn)
+            self.assertIs(made[-1], made[-2])
+            with self.assertRaises(error), pool() as conn:
+                raise error
+            with pool() as conn:
+                self.assertIsNot(conn, made[-1])
+        self.assertEqual(engine.pool.checkedout(), 0)
+
+    def test_a_pool_that_is_empty_is_no_lost_connection(self):
+        engine = self.engine(
+            isolation_level="AUTOCOMMIT",
+            poolclass=self.sqlalchemy.pool.QueuePool,
+            pool_size=1,
+            max_overflow=0,
+            pool_timeout=0.01,
+        )
+        with of_engine(engine)():
+            with self.assertRaises(self.sqlalchemy.exc.TimeoutError):
+                self.over(engine).verify("ann", "one")
+
+
+class EnginesOfSqlite(Engines, engines.Base):
+    kind, dialect = engines.SqliteFile, Sqlite("users", "name", "record")
+
+    @property
+    def sqlalchemy_url(self):
+        return f"sqlite:///{self.server.path}"
+
+    def engine(self, **given):
+        given.setdefault("poolclass", self.sqlalchemy.pool.QueuePool)
+        arguments = {"check_same_thread": False, "timeout": 5}
+        return super().engine(connect_args=arguments, **given)
+
+    def test_asyncio(self):
+        module("aiosqlite")
+        from sqlalchemy.ext.asyncio import create_async_engine
+
+        url = f"sqlite+aiosqlite:///{self.server.path}"
+
+        async def act():
+            engine = create_async_engine(url, isolation_level="AUTOCOMMIT")
+            accounts = AsyncAccounts(of_engine(engine), self.dialect, LOW)
+            self.assertIs(await accounts.reset("ann", "one"), Reply.ENROLLED)
+            self.assertIs(await accounts.change("ann", "one", "two"), Reply.REPLACED)
+            said = await asyncio.gather(*(accounts.login("ann", it) for it in ("one", "two")))
+            self.assertEqual(said, [Reply.NO, Reply.YES])
+            pool = of_engine(engine)
+            with self.assertRaises(KeyError):
+                async with pool() as conn:
+                    raise KeyError
+            async with pool() as other:
+                self.assertIsNot(other, conn)
+            await engine.dispose()
+
+        asyncio.run(act())
+
+
+class EnginesOfMariaDB(Engines, engines.Base):
+    kind, dialect = servers.MariaServer, MariaDB("users", "name", "record")
+
+    @property
+    def sqlalchemy_url(self):
+        return self.server.url.replace("mysql:", "mysql+pymysql:")
+
+    def test_a_restart(self):
+        """The server is waited for: its refusals are the driver's, not SQLAlchemy's."""
+        accounts = self.over(self.engine(isolation_level="AUTOCOMMIT"), patience=20.0)
+        accounts.reset("ann", "one")
+        self.server.end()
+        timer = threading.Timer(1.0, self.server.start)
+        timer.start()
+        try:
+            self.assertIs(accounts.login("ann", "one"), Reply.YES)
+        finally:
+            timer.join()
+        self.conn = self.server.connect()
+        self.addCleanup(self.conn.close)
+
+
+class EnginesOfPostgres(Engines, engines.Base):
+    kind, dialect = servers.PostgresServer, Postgres("users", "name", "record")
+
+    @property
+    def sqlalchemy_url(self):
+        return self.server.url.replace("postgresql:", "postgresql+psycopg:")
+
+    def setUp(self):
+        super().setUp()
+        if self.sqlalchemy.__version__ < "2":
+            self.skipTest("SQLAlchemy 1.4 has no psycopg 3")
+
+    def test_asyncio(self):
+        from sqlalchemy.ext.asyncio import create_async_engine
+
+        async def act():
+            engine = create_async_engine(self.sqlalchemy_url, isolation_level="AUTOCOMMIT")
+            accounts = AsyncAccounts(of_engine(engine), self.dialect, LOW)
+            self.assertIs(await accounts.reset("ann", "one"), Reply.ENROLLED)
+            self.assertIs(await accounts.change("ann", "one", "two"), Reply.REPLACED)
+            await engine.dispose()
+
+        asyncio.run(act())
+
+
+class Pooler(unittest.TestCase):
+    """PgBouncer, whose sessions are another's from one transaction to the next."""
+
+    def setUp(self):
+        of = engines.server(servers.PostgresServer)
+        try:
+            self.bouncer = servers.PgBouncer("bouncer", of).start()
+        except servers.Missing as reason:
+            self.skipTest(str(reason))
+        self.addCleanup(self.bouncer.end)
+        self.dialect = Postgres("bounced", "name", "record")
+        with of.connect() as conn:
+            conn.execute("DROP TABLE IF EXISTS bounced")
+            conn.execute(self.dialect.create())
+            for number in range(4):
+                conn.execute("INSERT INTO bounced (name) VALUES (%s)", (f"user{number}",))
+
+    def test_no_statement_is_prepared(self):
+        """By psycopg's defaults, which prepare a statement at its sixth use."""
+        said, pool = Counter(), support.PerThread(self.bouncer.connect)
+        accounts = Accounts(pool, self.dialect, LOW, patience=5.0)
+
+        def act(number):
+            name = f"user{number}"
+            for _ in range(12):
+                said[accounts.reset(name, "a")] += 1
+                said[accounts.change(name, "a", "b")] += 1
+                said[accounts.login(name, "b")] += 1
+                said[accounts.remove(name, "b")] += 1
+                said[accounts.enrol(name, "a")] += 1
+            pool.close()
+
+        threads = [threading.Thread(target=act, args=(it,)) for it in range(4)]
+        for thread in threads:
+            thread.start()
+        for thread in threads:
+            thread.join()
+        self.assertEqual(
+            dict(said),
+            {
+                Reply.ENROLLED: 48 + 4,
+                Reply.REPLACED: 48 - 4 + 48,
+                Reply.YES: 48,
+                Reply.REMOVED: 48,
+            },
+        )
+
+
+if __name__ == "__main__":
+    unittest.main()
