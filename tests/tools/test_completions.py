@@ -1,0 +1,132 @@
+"""tools/completions.py: what the shells complete, over programs that show clap's help.
+
+    python3 -m unittest tests/tools/test_completions.py
+"""
+
+import os
+import pathlib
+import shlex
+import shutil
+import subprocess
+import sys
+import tempfile
+import unittest
+
+TOP = pathlib.Path(__file__).resolve().parents[2]
+CREDKEEP = r"""#!/bin/sh
+case "$*" in
+--help) cat <<'TEXT'
+Keeps records
+
+Usage: credkeep [--wait <SECONDS>] <FILE> <COMMAND>
+
+Commands:
+  init     Begins a book: an empty one
+  check    Says whether it's right
+  backup   Writes a copy
+
+Options:
+      --wait <SECONDS>  Tries for so many seconds [default: 0]
+  -h, --help            Print help
+TEXT
+;;
+'- init --help') printf 'Usage: credkeep <FILE> init\n\nOptions:\n  -h, --help  Print help\n' ;;
+'- check --help') printf 'Usage: credkeep <FILE> check [OPTIONS] <NAME>\n\nOptions:\n      --echo  Asks at a terminal\n' ;;
+'- backup --help') printf 'Usage: credkeep <FILE> backup <TO>\n\nOptions:\n      --most <SIZE>\n          At most this\n' ;;
+'users.db list') printf 'ada\nann\n' ;;
+*) exit 1 ;;
+esac
+"""
+CREDBOOK = r"""#!/bin/sh
+exec >&2
+case "$*" in
+--help) printf 'Usage: credbook <COMMAND>\n\nCommands:\n  run    Runs\n  help   Print this\n\nOptions:\n  -h, --help  Print help\n' ;;
+*) printf 'Usage: credbook run [OPTIONS]\n\nOptions:\n      --workers <N>  Threads\n' ;;
+esac
+exit 1
+"""
+# The line before the cursor, and what is offered there.
+CASES = [
+    ("credkeep ", {"users.db"}),
+    ("credkeep users.db ", {"init", "check", "backup"}),
+    ("credkeep users.db ch", {"check"}),
+    ("credkeep --wait 5 users.db ch", {"check"}),
+    ("credkeep-ask users.db ch", {"check"}),
+    ("credkeep users.db check a", {"ada", "ann"}),
+    ("credkeep users.db check ada ", set()),
+    ("credkeep users.db check --", {"--echo"}),
+    ("credkeep users.db backup u", {"users.db"}),
+    ("credkeep users.db backup --", {"--most"}),
+    ("credkeep --w", {"--wait"}),
+    ("credbook ", {"run"}),
+    ("credbook run --", {"--workers"}),
+    ("credkeep-server ", {"users.db"}),
+]
+
+
+class Completions(unittest.TestCase):
+    @classmethod
+    def setUpClass(cls):
+        room = tempfile.TemporaryDirectory()
+        cls.addClassCleanup(room.cleanup)
+        cls.top, cls.at, cls.bin = (pathlib.Path(room.name) / it for it in ("tree", "at", "bin"))
+        for folder in ("tools", "crates/credkeep/out", "crates/credbook/out"):
+            (cls.top / folder).mkdir(parents=True)
+        for name, text in (("credkeep", CREDKEEP), ("credbook", CREDBOOK)):
+            (cls.top / f"crates/{name}/out/{name}").write_text(text)
+            (cls.top / f"crates/{name}/out/{name}").chmod(0o755)
+        shutil.copy(TOP / "tools/completions.py", cls.top / "tools")
+        shutil.copytree(TOP / "completions", cls.top / "completions")
+        shutil.copytree(TOP / "bin", cls.top / "bin")
+        cls.folders = [cls.top / it for it in ("bash", "zsh", "fish")]
+        subprocess.run([sys.executable, cls.top / "tools/completions.py", *cls.folders], check=True)
+        cls.at.mkdir()
+        (cls.at / "users.db").touch()
+        cls.bin.mkdir()
+        shutil.copy(cls.top / "crates/credkeep/out/credkeep", cls.bin)
+        cls.env = {**os.environ, "PATH": f"{cls.bin}:{os.environ['PATH']}", "HOME": str(cls.at)}
+
+    def shell(self, *words):
+        done = subprocess.run(words, cwd=self.at, env=self.env, capture_output=True, text=True, timeout=60)
+        self.assertEqual(done.stderr, "")
+        return {it.split("\t")[0] for it in done.stdout.splitlines() if it}
+
+    def test_bash(self):
+        for line, offered in CASES:
+            words = [*shlex.split(line), *([""] if line.endswith(" ") else [])]
+            file = self.folders[0] / words[0]
+            script = f"source {file}; COMP_WORDS=({' '.join(map(shlex.quote, words))}); COMP_CWORD={len(words) - 1}"
+            script += '; f=$(complete -p "${COMP_WORDS[0]}"); f=${f#*-F }; ${f%% *}; printf "%s\\n" "${COMPREPLY[@]}"'
+            with self.subTest(line=line):
+                self.assertEqual(self.shell("bash", "--norc", "-c", script), offered)
+
+    @unittest.skipUnless(shutil.which("fish"), "no fish")
+    def test_fish(self):
+        sourced = "; ".join(f"source {it}" for it in sorted(self.folders[2].iterdir()))
+        for line, offered in CASES:
+            with self.subTest(line=line):
+                found = self.shell("fish", "--no-config", "-c", f"{sourced}; complete -C {shlex.quote(line)}")
+                self.assertEqual(found - {"--help", "-h"}, offered)
+
+    @unittest.skipUnless(shutil.which("zsh"), "no zsh")
+    def test_zsh(self):
+        """They parse, and name the commands with the first part of what help says of them."""
+        for file in self.folders[1].iterdir():
+            self.shell("zsh", "-n", file)
+        text = (self.folders[1] / "_credkeep").read_text()
+        for word in ("'init:Begins a book'", r"'check:Says whether it'\''s right'", "'--most[At most this]:size:'", "check) _arguments"):
+            self.assertIn(word, text)
+
+    def test_remove(self):
+        others = [it / "of-another" for it in self.folders]
+        for it in others:
+            it.touch()
+        rooms = [shutil.copytree(it, self.top / f"{it.name}-copy") for it in self.folders]
+        subprocess.run([sys.executable, self.top / "tools/completions.py", "--remove", *rooms], check=True)
+        self.assertEqual([[it.name for it in room.iterdir()] for room in rooms], [["of-another"]] * 3)
+        for it in others:
+            it.unlink()
+
+
+if __name__ == "__main__":
+    unittest.main()
