@@ -1,6 +1,6 @@
 # Rigzumal as a whole. What each part needs says docs/BUILDING.md.
 #
-#     make build                    the programs, the library for C and Python, and libargon2
+#     make build                    the programs, the library for C and Python, libargon2, and the PAM module
 #     make test                     the gate and the tests after it, and those of the library, of the package
 #                                   for Python, of the crate and of the code on the pages
 #     make deb                      Debian's packages: in c/out, python/out and c/pam/out, with programs that run
@@ -16,22 +16,35 @@
 
 PREFIX ?= /usr/local
 DESTDIR ?=
-BASH_DIR := $(PREFIX)/share/bash-completion/completions
-ZSH_DIR := $(PREFIX)/share/zsh/site-functions
+BASH_DIR ?= $(PREFIX)/share/bash-completion/completions
+ZSH_DIR ?= $(PREFIX)/share/zsh/site-functions
+FISH_DIR ?= $(PREFIX)/share/fish/vendor_completions.d
+UNIT_DIR ?= $(PREFIX)/lib/systemd/system
+# Where PAM looks for modules by their names, if the prefix is the system's.
+PAMDIR ?= $(if $(filter /usr /usr/%,$(PREFIX)),/usr/lib/x86_64-linux-gnu/security,$(PREFIX)/lib/security)
 RT ?= rt
 PYTHON ?= /usr/bin/python3
 
 PROGRAMS := credbook credkeep
 # The programs themselves. What bin has is bin/launcher.in, which runs them with huge pages.
 LIBEXEC := $(PREFIX)/libexec/rigzumal
+# The modules of credkeep-server.
+DAEMON := $(PREFIX)/share/rigzumal/daemon
+MODULES := $(notdir $(wildcard python/rigzumal/server/daemon/*.py))
+MAN := $(PREFIX)/share/man
+PAGES := man1/credbook.1 man1/credkeep.1 man1/credkeep-ask.1 man5/rigzumal-script.5 man8/credkeep-server.8
+UNITS := $(notdir $(wildcard units/*))
 CPU ?=
+HAS_PAM := $(wildcard /usr/include/security/pam_modules.h)
+PAM_WORDS = DESTDIR='$(DESTDIR)' PAMDIR='$(PAMDIR)' MANDIR='$(MAN)'
 
-.PHONY: build programs library test deb wheel bench interop install uninstall
+.PHONY: build programs library test deb wheel bench interop install install-programs uninstall
 .DELETE_ON_ERROR:
 # Each of these works on crates side by side, and no two may work on the same ones.
 .NOTPARALLEL:
 
 build: programs library
+	$(if $(HAS_PAM),$(MAKE) -C c/pam,@echo 'pam_rigzumal.so is left out: libpam0g-dev is not there')
 
 # tools/build.py knows what is built already.
 programs:
@@ -60,34 +73,39 @@ bench: library
 interop: programs
 	$(PYTHON) interop/run.py
 
-install: build
+install: build install-programs
+	$(MAKE) -C python install PREFIX='$(PREFIX)' DESTDIR='$(DESTDIR)' PYTHON='$(PYTHON)'
+	$(if $(HAS_PAM),$(MAKE) -C c/pam install $(PAM_WORDS))
 	$(MAKE) -C c install PREFIX='$(PREFIX)' DESTDIR='$(DESTDIR)' RT='$(RT)'
-	$(MAKE) -C python install PREFIX='$(PREFIX)' DESTDIR='$(DESTDIR)'
-	install -d $(DESTDIR)$(PREFIX)/bin $(DESTDIR)$(PREFIX)/share/man/man1 $(DESTDIR)$(PREFIX)/share/man/man5
-	install -d $(DESTDIR)$(LIBEXEC)
+
+# The programs that were built, the server with its units, their pages and completions.
+install-programs:
+	install -d $(DESTDIR)$(LIBEXEC) $(DESTDIR)$(PREFIX)/bin $(DESTDIR)$(PREFIX)/sbin
 	for name in $(PROGRAMS); do \
 		install -m 755 crates/$$name/out/$$name $(DESTDIR)$(LIBEXEC) && \
 		sed "s|@PROGRAM@|$(LIBEXEC)/$$name|" bin/launcher.in > $(DESTDIR)$(PREFIX)/bin/$$name && \
 		chmod 755 $(DESTDIR)$(PREFIX)/bin/$$name || exit 1; \
 	done
 	install -m 755 bin/credkeep-ask $(DESTDIR)$(PREFIX)/bin
-	install -m 644 $(PROGRAMS:%=man/%.1) $(DESTDIR)$(PREFIX)/share/man/man1
-	install -m 644 man/rigzumal-script.5 $(DESTDIR)$(PREFIX)/share/man/man5
-	install -d $(DESTDIR)$(PREFIX)/sbin $(DESTDIR)$(PREFIX)/share/man/man8
 	install -m 755 bin/credkeep-server $(DESTDIR)$(PREFIX)/sbin
-	install -m 644 man/credkeep-server.8 $(DESTDIR)$(PREFIX)/share/man/man8
-	install -d $(DESTDIR)$(BASH_DIR) $(DESTDIR)$(ZSH_DIR)
-	for name in $(PROGRAMS); do \
-		install -m 644 completions/$$name.bash $(DESTDIR)$(BASH_DIR)/$$name && \
-		install -m 644 completions/_$$name $(DESTDIR)$(ZSH_DIR) || exit 1; \
-	done
+	install -d $(DESTDIR)$(DAEMON)
+	install -m 644 $(MODULES:%=python/rigzumal/server/daemon/%) $(DESTDIR)$(DAEMON)
+	install -d $(DESTDIR)$(MAN)/man1 $(DESTDIR)$(MAN)/man5 $(DESTDIR)$(MAN)/man8
+	for page in $(filter-out %-ask.1,$(PAGES)); do install -m 644 man/$${page#*/} $(DESTDIR)$(MAN)/$$page || exit 1; done
+	ln -sf credkeep.1 $(DESTDIR)$(MAN)/man1/credkeep-ask.1
+	install -d $(DESTDIR)$(UNIT_DIR)
+	for unit in $(UNITS); do sed 's|/usr/sbin/|$(PREFIX)/sbin/|' units/$$unit > $(DESTDIR)$(UNIT_DIR)/$$unit || exit 1; done
+	$(PYTHON) tools/completions.py $(DESTDIR)$(BASH_DIR) $(DESTDIR)$(ZSH_DIR) $(DESTDIR)$(FISH_DIR)
 
 uninstall:
 	$(MAKE) -C c uninstall PREFIX='$(PREFIX)' DESTDIR='$(DESTDIR)'
-	$(MAKE) -C python uninstall PREFIX='$(PREFIX)' DESTDIR='$(DESTDIR)'
-	rm -f $(PROGRAMS:%=$(DESTDIR)$(PREFIX)/bin/%) $(DESTDIR)$(PREFIX)/bin/credkeep-ask
-	rm -f $(PROGRAMS:%=$(DESTDIR)$(LIBEXEC)/%)
-	rmdir --ignore-fail-on-non-empty $(DESTDIR)$(LIBEXEC) 2>/dev/null || true
-	rm -f $(PROGRAMS:%=$(DESTDIR)$(BASH_DIR)/%) $(PROGRAMS:%=$(DESTDIR)$(ZSH_DIR)/_%)
-	rm -f $(PROGRAMS:%=$(DESTDIR)$(PREFIX)/share/man/man1/%.1) $(DESTDIR)$(PREFIX)/share/man/man5/rigzumal-script.5
-	rm -f $(DESTDIR)$(PREFIX)/sbin/credkeep-server $(DESTDIR)$(PREFIX)/share/man/man8/credkeep-server.8
+	$(MAKE) -C python uninstall PREFIX='$(PREFIX)' DESTDIR='$(DESTDIR)' PYTHON='$(PYTHON)'
+	$(MAKE) -C c/pam uninstall $(PAM_WORDS)
+	rm -f $(PROGRAMS:%=$(DESTDIR)$(PREFIX)/bin/%) $(PROGRAMS:%=$(DESTDIR)$(LIBEXEC)/%)
+	rm -f $(DESTDIR)$(PREFIX)/bin/credkeep-ask $(DESTDIR)$(PREFIX)/sbin/credkeep-server
+	rm -f $(MODULES:%=$(DESTDIR)$(DAEMON)/%)
+	rm -rf $(DESTDIR)$(DAEMON)/__pycache__
+	for folder in $(DESTDIR)$(LIBEXEC) $(DESTDIR)$(DAEMON) $(DESTDIR)$(PREFIX)/share/rigzumal; do \
+		rmdir --ignore-fail-on-non-empty $$folder 2>/dev/null || true; done
+	rm -f $(PAGES:%=$(DESTDIR)$(MAN)/%) $(UNITS:%=$(DESTDIR)$(UNIT_DIR)/%)
+	$(PYTHON) tools/completions.py --remove $(DESTDIR)$(BASH_DIR) $(DESTDIR)$(ZSH_DIR) $(DESTDIR)$(FISH_DIR)

@@ -2,8 +2,8 @@
 
     python3 build_backend.py FOLDER
 
-The wheel holds the library that `make -C c` has built. It is for this machine's platform, and for
-every Python 3: the library is loaded by ctypes.
+The wheel holds the library that `make -C c` has built. It is for Linux on x86-64, and for every
+Python 3: the library is loaded by ctypes.
 """
 
 from __future__ import annotations
@@ -13,26 +13,32 @@ import hashlib
 import pathlib
 import re
 import sys
-import sysconfig
 import zipfile
 from typing import Any, Optional
 
 HERE = pathlib.Path(__file__).resolve().parent
 LIBRARY = HERE.parent / "c" / "out" / "librigzumal.so.1"
-HEADER = HERE.parent / "c" / "include" / "rigzumal.h"
 
 
 def version() -> str:
-    """The version that the header says."""
-    found = re.search(r'RIGZUMAL_LIBRARY_VERSION "(.*)"', HEADER.read_text())
+    """The version of the repository."""
+    return (HERE.parent / "VERSION").read_text().strip()
+
+
+def field(name: str) -> str:
+    """What pyproject.toml says of the project under this name."""
+    found = re.search(
+        rf'^{name} = "(.*)"', (HERE / "pyproject.toml").read_text(), re.MULTILINE
+    )
     if found is None:
-        sys.exit(f"{HEADER} says no version")
+        sys.exit(f"pyproject.toml has no {name}")
     return found[1]
 
 
 def tag() -> str:
-    """The wheel's tag, as py3-none-linux_x86_64."""
-    return "py3-none-" + re.sub(r"\W", "_", sysconfig.get_platform())
+    """The wheel's tag: the newest glibc that the library names is the oldest that runs it."""
+    names = re.findall(rb"GLIBC_2\.(\d+)\0", LIBRARY.read_bytes())
+    return f"py3-none-manylinux_2_{max(map(int, names))}_x86_64"
 
 
 def metadata() -> dict[str, bytes]:
@@ -40,15 +46,25 @@ def metadata() -> dict[str, bytes]:
     about = f"""Metadata-Version: 2.1
 Name: rigzumal
 Version: {version()}
-Summary: Argon2, scrypt and the strings of password records, proved
-Requires-Python: >=3.9
-"""
+Summary: {field("description")}
+License: none yet, for evaluation only
+Requires-Python: {field("requires-python")}
+Classifier: Operating System :: POSIX :: Linux
+Classifier: Programming Language :: Python :: 3
+Description-Content-Type: text/markdown
+
+{(HERE / "README.md").read_text()}"""
     wheel = f"""Wheel-Version: 1.0
 Generator: rigzumal
 Root-Is-Purelib: false
 Tag: {tag()}
 """
-    return {"METADATA": about.encode(), "WHEEL": wheel.encode()}
+    scripts = f"[console_scripts]\nrigzumal = {field('rigzumal')}\n"
+    return {
+        "METADATA": about.encode(),
+        "WHEEL": wheel.encode(),
+        "entry_points.txt": scripts.encode(),
+    }
 
 
 def need_library() -> None:

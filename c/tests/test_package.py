@@ -36,6 +36,8 @@ PACKED = {
         f"{LIBRARIES}/librigzumal.a",
         f"{LIBRARIES}/librigzumal.so",
         f"{LIBRARIES}/pkgconfig/rigzumal.pc",
+        f"{LIBRARIES}/cmake/rigzumal/rigzumal-config.cmake",
+        f"{LIBRARIES}/cmake/rigzumal/rigzumal-config-version.cmake",
         "usr/share/man/man3/rigzumal.3.gz",
     },
 }

@@ -143,7 +143,7 @@ class Package(unittest.TestCase):
             wheel.unlink()
         make("wheel")
         (wheel,) = (PYTHON / "out").glob("*.whl")
-        if not wheel.name.endswith("-py3-none-linux_x86_64.whl"):
+        if not wheel.name.endswith("-py3-none-manylinux_2_34_x86_64.whl"):
             self.fail(wheel.name)
         held, wanted = check_record(wheel), {*FILES, "rigzumal/librigzumal.so.1"}
         if held != wanted:

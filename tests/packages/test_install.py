@@ -1,0 +1,149 @@
+"""What `make install` and `make deb` put where, and that it works there. It needs root, and what `make build` builds.
+
+    python3 -m unittest tests/packages/test_install.py
+"""
+
+import os
+import pathlib
+import re
+import shutil
+import subprocess
+import sys
+import tempfile
+import unittest
+
+TOP = pathlib.Path(__file__).resolve().parents[2]
+PROGRAMS = ("credbook", "credkeep")
+VERSION = (TOP / "VERSION").read_text().strip()
+# A page's C that is no program by itself: its lines after the first, over a password of their own.
+MAIN = """#include <rigzumal.h>
+int main(void) {
+    const unsigned char password[] = "secret";
+    size_t size = sizeof password - 1;
+    %s
+    return 1;
+}
+"""
+# Each change of /usr, /etc and /var goes into a folder of memory that nobody else sees.
+NAMESPACE = r"""
+set -eu
+mount -t tmpfs none "$ROOM"
+for it in usr etc var; do
+    mkdir "$ROOM/$it" "$ROOM/$it.work"
+    mount -t overlay overlay -o "lowerdir=/$it,upperdir=$ROOM/$it,workdir=$ROOM/$it.work" "/$it"
+done
+mkdir "$ROOM/at"
+make -s -C "$TOP" install > "$ROOM/log" 2>&1 || { cat "$ROOM/log"; exit 1; }
+cd "$ROOM/at"
+"""
+USED = r"""
+/usr/bin/python3 -c 'import rigzumal; print(rigzumal.__file__)'
+/usr/bin/python3 -c "$SAMPLE"
+printf %s "$C_SAMPLE" > service.c
+cc service.c -lrigzumal -o service
+./service && echo "C sample: status $?"
+credkeep users.db init
+printf 'secret\n' | credkeep users.db add ada
+printf 'secret\n' | credkeep users.db check ada
+printf 'account a\n' | credbook run
+/usr/local/sbin/credkeep-server --help | head -n 1
+grep ^ExecStart= /usr/local/lib/systemd/system/credkeep-server@.service
+man -w credkeep-ask rigzumal-script 2>/dev/null | wc -l
+/usr/bin/python3 -c 'import ctypes; ctypes.CDLL("/usr/lib/x86_64-linux-gnu/security/pam_rigzumal.so"); print("module loads")'
+ls /usr/local/share/bash-completion/completions/credkeep /usr/local/share/zsh/site-functions/_credkeep
+make -s -C "$TOP" uninstall > /dev/null
+find "$ROOM/usr" ! -type d
+"""
+USES = f"""/usr/local/lib/python{sys.version_info.major}.*/rigzumal/__init__.py
+C sample: status 0
+enrolled
+yes
+ok
+usage: credkeep-server .*
+ExecStart=/usr/local/sbin/credkeep-server .*
+2
+module loads
+/usr/local/share/bash-completion/completions/credkeep
+/usr/local/share/zsh/site-functions/_credkeep
+"""
+
+
+def is_built(name, level):
+    words = [sys.executable, TOP / "tools/build.py", "--built", "--cpu", level, name]
+    return subprocess.run(words, capture_output=True).returncode == 0
+
+
+def levels(name):
+    return [it for it in ("x86-64", "x86-64-v2", "x86-64-v3") if is_built(name, it)]
+
+
+def sample(page, language, word):
+    """The first piece of code of a page that has a word."""
+    found = re.findall(rf"^```{language}\n(.*?)^```", (TOP / page).read_text(), re.S | re.M)
+    return next(it for it in found if word in it)
+
+
+@unittest.skipUnless(os.geteuid() == 0, "needs root, for a mount namespace")
+@unittest.skipUnless((TOP / "c/out/librigzumal.so.1").exists() and all(map(levels, PROGRAMS)), "needs what make build builds")
+class Install(unittest.TestCase):
+    def test_install_and_uninstall(self):
+        """All that is installed below /usr/local is found and works, and uninstall leaves nothing."""
+        room = tempfile.TemporaryDirectory()
+        self.addCleanup(room.cleanup)
+        code = sample("README.md", "c", "rigzumal.h")
+        if "main(" not in code:
+            code = MAIN % code.partition("\n")[2].replace("...", "return 0;")
+        samples = {"SAMPLE": sample("python/README.md", "python", "PasswordHasher"), "C_SAMPLE": code}
+        env = {**os.environ, "ROOM": room.name, "TOP": str(TOP), "CPU": levels("credkeep")[0], **samples}
+        env.pop("PYTHONPATH", None)
+        words = ["unshare", "--mount", "--propagation", "private", "sh", "-c", NAMESPACE + USED]
+        done = subprocess.run(words, env=env, capture_output=True, text=True, timeout=600)
+        self.assertEqual((done.returncode, done.stderr), (0, ""), done.stdout)
+        self.assertRegex(done.stdout, f"^{USES}$")
+
+
+@unittest.skipUnless(shutil.which("dpkg-shlibdeps"), "needs dpkg-dev")
+@unittest.skipUnless((TOP / "c/out/librigzumal.so.1").exists(), "needs what make -C c builds")
+class Debs(unittest.TestCase):
+    def debs(self, folder, *words):
+        done = subprocess.run(["make", "-s", "-C", TOP / folder, "deb", *words], capture_output=True, text=True, timeout=600)
+        self.assertEqual(done.returncode, 0, done.stdout + done.stderr)
+        return [pathlib.Path(it) for it in done.stdout.splitlines() if it.endswith(".deb")]
+
+    def check(self, debs, names):
+        self.assertEqual([it.name for it in debs], [f"{name}_{VERSION}_{arch}.deb" for name, arch in names])
+        for deb in debs:
+            with self.subTest(deb=deb.name), tempfile.TemporaryDirectory() as room:
+                subprocess.run(["dpkg-deb", "-x", deb, room], check=True)
+                (copyright_,) = pathlib.Path(room).glob("usr/share/doc/*/copyright")
+                self.assertIn("There is no licence yet", copyright_.read_text())
+                said = subprocess.run(["dpkg-deb", "-f", deb, "Version", "Depends"], capture_output=True, text=True, check=True).stdout
+                self.assertIn(f"Version: {VERSION}\n", said)
+                self.assertNotIn("@", said)
+        if shutil.which("lintian"):
+            done = subprocess.run(["lintian", "--fail-on", "error,warning", *debs], capture_output=True, text=True)
+            self.assertEqual(done.returncode, 0, done.stdout)
+
+    def test_library(self):
+        self.check(self.debs("c"), [("librigzumal1", "amd64"), ("librigzumal-dev", "amd64")])
+
+    def test_python(self):
+        self.check(self.debs("python"), [("python3-rigzumal", "all")])
+
+    def test_programs(self):
+        if not all(map(levels, PROGRAMS)) or not pathlib.Path("/usr/include/security/pam_modules.h").exists():
+            self.skipTest("needs credbook and credkeep, built, and libpam0g-dev")
+        self.check(self.debs("c/pam", "CPU="), [("rigzumal-tools", "amd64"), ("libpam-rigzumal", "amd64")])
+
+    def test_programs_of_another_level(self):
+        """Programs that don't run on every processor aren't packed without a word."""
+        words = ["make", "-s", "-C", TOP / "c/pam", "deb"]
+        if "x86-64" in levels("credbook"):
+            words.append("CPU=x86-64-v2")
+        done = subprocess.run(words, capture_output=True, text=True, timeout=600)
+        self.assertNotEqual(done.returncode, 0)
+        self.assertRegex(done.stderr, r"credbook isn't built for x86-64(-v2)?: make programs CPU=")
+
+
+if __name__ == "__main__":
+    unittest.main()
