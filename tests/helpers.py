@@ -1,141 +1,192 @@
-#!/usr/bin/python3
-"""Tests of the built `credkeep` with real files, other programs, kills and full disks.
+"""What all tests share: how a program is run and how it ended, what a test needs of the machine,
+and shims that stand before the C library.
 
-    /usr/bin/python3 tools/credkeep_tests.py [--alone] [--kills N] [PROGRAM]
-
-PROGRAM is by default crates/credkeep/out/credkeep, which `rt ci`, and `rt run` in crates/credkeep, build. With `--alone` only the
-tests run that need nothing but the toolchain, as after the gate; sqlite3 looks at their files if it is there. The others need the programs
-sqlite3, strace and valgrind, the modules argon2 and passlib for records that are not ours, and root for the full disk and the files of another owner.
-What is missing is named and counts as a failure. The last line is `N passed, M failed`, and the status is 1 if one failed.
+RIGZUMAL_TIMES=N makes N times as many kills and random operations as the gate does.
 """
 
+import atexit
+import functools
+import itertools
+import os
+import pathlib
+import resource
+import shlex
+import shutil
+import signal
+import subprocess
 import sys
-from collections.abc import Callable
+import tempfile
+import threading
+import unittest
+from collections.abc import Callable, Iterator
+from concurrent.futures import ThreadPoolExecutor
+from typing import NamedTuple, TypeVar
 
-from credkeep.commands import (
-    carriage_returns,
-    commands_on_an_account,
-    default_records_of_argon2,
-    default_setting,
-    empty_passwords,
-    fresh_salts,
-    killed_resets,
-    no_input_is_no_password,
-    passwords_are_not_shown,
-    resets,
-    setting_with_a_salt,
-    shows,
-)
-from credkeep.files import (
-    analyzed,
-    bad_rows,
-    damaged,
-    directories_and_links,
-    files_of_init,
-    files_that_hold_no_book,
-    modes,
-    no_book,
-    read_only,
-    sqlite3_reads,
-    two_processes,
-    waiting,
-)
-from credkeep.imports import (
-    bad_imports,
-    costly_lines,
-    few_syncs,
-    import_without_memory,
-    import_without_room,
-    imports_of_others,
-    killed_imports,
-    others_records,
-    refused_imports,
-    skipped_lines,
-)
-from credkeep.keep import Room, main
-from credkeep.kills import full_disk, kills
-from credkeep.orders import edits, edits_of_a_full_file, killed_edits, refused_edits
-from credkeep.refusals import refused_calls, refused_memory, refused_memory_of_a_service
-from credkeep.terminals import asked_unseen, long_passwords, scripts, terminals
-from credkeep.texts import (
-    closed_files,
-    commands_are_listed,
-    help_and_version,
-    lost_change,
-    refused_words,
-    texts_of_faults,
-    texts_of_words,
-)
-from credkeep.work import equal_work, no_hash_in_vain, syncs, workers, workers_of_a_command
+TOP = pathlib.Path(__file__).resolve().parent.parent
+TIMES = int(os.environ.get("RIGZUMAL_TIMES", "1"))
+# A run that hasn't ended after so many seconds hangs, and is killed.
+LONGEST = 120
+LIMIT = float(os.environ.get("TEST_LIMIT", "1800"))
 
-# What needs the toolchain alone.
-ALONE: list[Callable[[Room], None]] = [
-    commands_on_an_account,
-    no_input_is_no_password,
-    empty_passwords,
-    carriage_returns,
-    resets,
-    killed_resets,
-    edits,
-    killed_edits,
-    edits_of_a_full_file,
-    shows,
-    default_setting,
-    fresh_salts,
-    setting_with_a_salt,
-    help_and_version,
-    refused_words,
-    commands_are_listed,
-    texts_of_words,
-    texts_of_faults,
-    lost_change,
-    closed_files,
-    workers,
-    workers_of_a_command,
-    no_hash_in_vain,
-    syncs,
-    terminals,
-    asked_unseen,
-    long_passwords,
-    scripts,
-    bad_imports,
-    imports_of_others,
-    costly_lines,
-    skipped_lines,
-    killed_imports,
-    few_syncs,
-    import_without_room,
-    import_without_memory,
-    modes,
-    two_processes,
-    waiting,
-    files_that_hold_no_book,
-    files_of_init,
-    kills,
-    refused_memory,
-    refused_memory_of_a_service,
-    passwords_are_not_shown,
-]
+Found = TypeVar("Found")
 
 
-TESTS: list[Callable[[Room], None]] = [
-    *ALONE,
-    equal_work,
-    default_records_of_argon2,
-    others_records,
-    sqlite3_reads,
-    analyzed,
-    no_book,
-    bad_rows,
-    directories_and_links,
-    read_only,
-    damaged,
-    full_disk,
-    refused_calls,
-    refused_edits,
-    refused_imports,
-]
+class Ended(NamedTuple):
+    """How a run ended: its status, and what it wrote on both streams."""
+
+    status: int
+    written: str = ""
+    faults: str = ""
 
 
-if __name__ == "__main__":
-    sys.exit(main(ALONE, TESTS))
+def ended(command: list[str], given: str = "", **options: object) -> Ended:
+    """Runs a command to its end with this text as its input; the options are those of Popen."""
+    options = {"stdout": subprocess.PIPE, "stderr": subprocess.PIPE, **options}
+    if "stdin" not in options:
+        options["input"] = given.encode()
+    done = subprocess.run(command, timeout=LONGEST, **options)  # type: ignore[call-overload]
+    return Ended(done.returncode, *(text_of(it or b"") for it in (done.stdout, done.stderr)))
+
+
+def run(
+    *words: object,
+    given: str = "",
+    env: dict[str, str] | None = None,
+    status: int = 0,
+    at: pathlib.Path = TOP,
+) -> str:
+    """What a command writes on both streams, if it ends with this status. One that hangs is killed
+    with all that it started, after TEST_LIMIT seconds."""
+    line = [str(word) for word in words]
+    pipe, both = subprocess.PIPE, subprocess.STDOUT
+    streams = {"stdin": pipe, "stdout": pipe, "stderr": both}
+    environment = {**os.environ, **(env or {})}
+    with subprocess.Popen(line, cwd=at, env=environment, start_new_session=True, **streams) as it:
+        try:
+            text = text_of(it.communicate(given.encode(), LIMIT)[0])
+        except BaseException:
+            os.killpg(it.pid, signal.SIGKILL)
+            raise
+    if it.returncode != status:
+        raise AssertionError(f"{shlex.join(line)}: status {it.returncode}\n{text}")
+    return text
+
+
+def text_of(written: bytes) -> str:
+    return written.decode(errors="surrogateescape")
+
+
+@functools.cache
+def program(name: str) -> str:
+    """A copy that every user may run of the program that the variable NAME names, or of the built
+    one."""
+    source = pathlib.Path(os.environ.get(name.upper(), TOP / "crates" / name / "out" / name))
+    if not source.is_file():
+        raise FileNotFoundError(f"{source}: build it by make programs, or by rt ci")
+    return shutil.copy(source, common_folder())
+
+
+@functools.cache
+def common_folder() -> pathlib.Path:
+    """A folder for what is made once a process."""
+    folder = pathlib.Path(tempfile.mkdtemp(prefix="rigzumal-"))
+    folder.chmod(0o755)
+    atexit.register(shutil.rmtree, folder, ignore_errors=True)
+    return folder
+
+
+def need(*programs: str) -> None:
+    """Skips a test where one of these programs isn't installed."""
+    for name in programs:
+        if shutil.which(name) is None:
+            raise unittest.SkipTest(f"{name} isn't installed")
+
+
+def need_module(*names: str) -> None:
+    """Skips a test where this Python lacks one of these modules."""
+    for name in names:
+        if subprocess.run([sys.executable, "-c", f"import {name}"], capture_output=True).returncode:
+            raise unittest.SkipTest(f"Python's module {name} isn't installed")
+
+
+def need_root() -> None:
+    if os.getuid():
+        raise unittest.SkipTest("only root can do it")
+
+
+def limited(limit: int, most: int) -> Callable[[], None]:
+    """What a process does before it begins to have so much and no more: an option preexec_fn."""
+    return lambda: resource.setrlimit(limit, (most, most))
+
+
+def small_files(size: int) -> dict[str, object]:
+    """The options of a process whose files can't grow beyond so many bytes. It still ignores
+    SIGXFSZ, as Python does, so a write is refused."""
+    return {"preexec_fn": limited(resource.RLIMIT_FSIZE, size), "restore_signals": False}
+
+
+def in_turn(attempt: Callable[[int], Found | None]) -> Iterator[Found]:
+    """What comes of an attempt with its first call refused, then its second, and so on, several at
+    once, up to the first number at which nothing was refused and there is no result."""
+    at_once = 4 * (os.cpu_count() or 1)
+    with ThreadPoolExecutor(os.cpu_count()) as pool:
+        for first in itertools.count(1, at_once):
+            for found in pool.map(attempt, range(first, first + at_once)):
+                if found is None:
+                    return
+                yield found
+
+
+# ---- shims
+
+BUILDING = threading.Lock()
+
+
+def shim_compiler() -> list[str]:
+    """The toolchain's clang, in a folder beside the page whose path `rt doc` prints, or cc."""
+    page = subprocess.run(["rt", "doc"], capture_output=True, text=True, check=True).stdout.strip()
+    clang = pathlib.Path(page).parent / "toolchain" / "bin" / "clang"
+    return [str(clang), "-nostdlib", "-fuse-ld=lld"] if clang.exists() else ["cc"]
+
+
+def shim(name: str) -> str:
+    """The library of tests/shims/NAME.c for LD_PRELOAD."""
+    with BUILDING:
+        return built_shim(name)
+
+
+@functools.cache
+def built_shim(name: str) -> str:
+    library = common_folder() / f"{name}.so"
+    source = TOP / "tests" / "shims" / f"{name}.c"
+    flags = ["-shared", "-fPIC", "-fno-builtin", "-O2", "-w", "-o", str(library), str(source)]
+    subprocess.run([*shim_compiler(), *flags], check=True)
+    return str(library)
+
+
+def counts(command: list[str], given: str = "") -> tuple[Ended, dict[str, int]]:
+    """How a run ended, with its counts of SYNCS and THREADS (tests/shims/counts.c)."""
+    done = ended(command, given, env={**os.environ, "LD_PRELOAD": shim("counts")})
+    *faults, syncs, threads = done.faults.splitlines(keepends=True)
+    found = {it.split()[0]: int(it.split()[1]) for it in (syncs, threads)}
+    return done._replace(faults="".join(faults)), found
+
+
+def without_request(nth: int, command: list[str], given: str = "") -> Ended | None:
+    """How a run ended whose request for memory of this number was refused, or nothing if it made
+    fewer requests."""
+    done = ended(
+        command,
+        given,
+        env={**os.environ, "LD_PRELOAD": shim("refuse"), "REFUSE_NTH": str(nth)},
+    )
+    if "REFUSED\n" not in done.faults:
+        return None
+    return done._replace(faults=done.faults.replace("REFUSED\n", ""))
+
+
+def instructions(command: list[str], given: str = "") -> tuple[Ended, int]:
+    """How a run ended, and how many instructions it took, as valgrind counts them."""
+    counter = ["valgrind", "--tool=callgrind", "--callgrind-out-file=/dev/null"]
+    done = ended([*counter, *command], given)
+    return done, int(done.faults.split("Collected : ")[1].split()[0])

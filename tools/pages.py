@@ -113,7 +113,7 @@ def let_through():
     for name in plant.lists():
         for reason in filter(None, (it.passes for it in plant.list_of(name))):
             tests = re.findall(r"`(\w+)::(\w+)`", reason)
-            files = re.findall(r"((?:tools|crates)/[\w/]+(?:\.py|/stdout))(?: \(`(\w+)`\))?", reason)
+            files = re.findall(r"((?:tools|tests|crates)/[\w/]+(?:\.py|/stdout))(?: \(`(\w+)`\))?", reason)
             lost = ["::".join(it) for it in tests if not promises.has_test(*it)]
             lost += [path for path, word in files if f"def {word}" not in promises.source(TOP / path) and word]
             lost += [path for path, _ in files if not (TOP / path).is_file()]

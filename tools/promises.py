@@ -28,7 +28,7 @@ import sys
 TOP = pathlib.Path(__file__).resolve().parent.parent
 CRATES = TOP / "crates"
 PAGE = TOP / "docs/PROMISES.md"
-FILES = re.compile(r"(?<![\w/.-])((?:plants|crates|tools|c|docs|interop|bench)/[\w/.-]*\.(?:txt|rt|antt|py|c|md|h))")
+FILES = re.compile(r"(?<![\w/.-])((?:plants|crates|tools|tests|c|docs|interop|bench)/[\w/.-]*\.(?:txt|rt|antt|py|c|md|h))")
 
 
 @functools.cache

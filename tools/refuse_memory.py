@@ -12,59 +12,23 @@ It needs the toolchain alone, whose compiler builds the shim that refuses.
 
 import os
 import pathlib
-import shutil
 import subprocess
 import sys
-import tempfile
 from concurrent.futures import ThreadPoolExecutor
 
 TOP = pathlib.Path(__file__).resolve().parent.parent
+sys.path.insert(0, str(TOP))
+from tests.helpers import shim  # noqa: E402
+
 # Tests of calls none of which takes memory.
 TAKES_NO_MEMORY = {"keep_tests", "log_tests"}
 
-# Stands before the C library's own calls, and says so if it refuses. It declares what it calls, since the toolchain has no headers.
-SHIM = r"""
-typedef __SIZE_TYPE__ size_t;
-char *getenv(const char *);
-int *__errno_location(void);
-long atol(const char *);
-long write(int, const void *, size_t);
-void *dlsym(void *, const char *);
-static long count;
-static int refused(void) {
-  const char *nth = getenv("REFUSE_NTH");
-  if (!nth || __atomic_add_fetch(&count, 1, __ATOMIC_SEQ_CST) != atol(nth)) return 0;
-  (void)!write(2, "REFUSED\n", 8);
-  *__errno_location() = 12;
-  return 1;
-}
-#define NEXT(name) ((__typeof__(&name))dlsym((void *)-1, #name))
-void *malloc(size_t n) { return refused() ? 0 : NEXT(malloc)(n); }
-void *realloc(void *p, size_t n) { return refused() ? 0 : NEXT(realloc)(p, n); }
-void *aligned_alloc(size_t a, size_t n) { return refused() ? 0 : NEXT(aligned_alloc)(a, n); }
-int posix_memalign(void **p, size_t a, size_t n) { return refused() ? 12 : NEXT(posix_memalign)(p, a, n); }
-"""
 SECONDS = 60
 
 
-def compiler():
-    """The toolchain's clang; `rt doc` prints the path of a page beside its folder."""
-    page = subprocess.run(["rt", "doc"], capture_output=True, text=True, check=True).stdout.strip()
-    clang = pathlib.Path(page).parent / "toolchain" / "bin" / "clang"
-    return [str(clang), "-nostdlib", "-fuse-ld=lld"] if clang.exists() else [shutil.which("cc") or "cc"]
-
-
-def build(room, text=SHIM):
-    source, shim = os.path.join(room, "shim.c"), os.path.join(room, "shim.so")
-    with open(source, "w", encoding="utf-8") as it:
-        it.write(text)
-    subprocess.run([*compiler(), "-shared", "-fPIC", "-fno-builtin", "-O2", "-w", "-o", shim, source], check=True)
-    return shim
-
-
-def run(program, test, shim, nth):
+def run(program, test, nth):
     """Whether the nth request was refused, and whether the test passed."""
-    env = {**os.environ, "LD_PRELOAD": shim, "REFUSE_NTH": str(nth)}
+    env = {**os.environ, "LD_PRELOAD": shim("refuse"), "REFUSE_NTH": str(nth)}
     try:
         done = subprocess.run([program, test], env=env, capture_output=True, timeout=SECONDS)
     except subprocess.TimeoutExpired:
@@ -72,10 +36,10 @@ def run(program, test, shim, nth):
     return b"REFUSED" in done.stderr, done.returncode == 0
 
 
-def sweep(program, test, shim):
+def sweep(program, test):
     failed, nth = [], 1
     while True:
-        refused, passed = run(program, test, shim, nth)
+        refused, passed = run(program, test, nth)
         if not passed:
             failed.append(nth)
         if not refused:
@@ -103,9 +67,8 @@ def main():
     word = sys.argv[2] if len(sys.argv) > 2 else "::refused"
     tests = [it for crate in crates for it in tests_of(crate, word)]
     passed = 0
-    with tempfile.TemporaryDirectory(prefix="refuse-") as room, ThreadPoolExecutor(os.cpu_count()) as pool:
-        shim = build(room)
-        for (crate, _, test), (requests, failed) in zip(tests, pool.map(lambda it: sweep(it[1], it[2], shim), tests)):
+    with ThreadPoolExecutor(os.cpu_count()) as pool:
+        for (crate, _, test), (requests, failed) in zip(tests, pool.map(lambda it: sweep(*it[1:]), tests)):
             passed += not failed
             print(f"{crate} {test}: {requests} requests refused in turn, {f'FAILED at {failed}' if failed else 'all passed'}", flush=True)
     print(f"{passed} passed, {len(tests) - passed} failed")

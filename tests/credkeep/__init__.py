@@ -1,1 +1,0 @@
-"""The tests of `credkeep` by subject; credkeep_tests.py runs them."""

@@ -1,144 +1,250 @@
-"""What the tests of `credkeep` share: a program on a file in a folder of its own, and the run of a list of tests."""
+"""A kept book in a room of its own: the program on its file, as a command and as a service."""
 
-import argparse
-import os
+import contextlib
 import pathlib
+import random
 import shutil
+import sqlite3
 import subprocess
 import tempfile
-import traceback
-from collections.abc import Callable
-from typing import NamedTuple
+import threading
+import time
+import unittest
+from collections.abc import Iterable, Iterator
 
-TOP = pathlib.Path(__file__).resolve().parent.parent.parent
+from tests.helpers import LONGEST, Ended, ended, program, text_of
 
+# Costs that a test can afford, and a salt.
 CHEAP = "$argon2id$v=19$m=8,t=1,p=1"
+SALT = "c29tZXNhbHQ"
+# The tag of no known password.
+TAG = "A" * 43
 
-DEFAULT_RECORD = "$argon2id$v=19$m=65536,t=3,p=4$"
+# Of the password "password", from the list of vectors of the reference program's test.c; and the
+# third vector of RFC 7914, of the password "pleaseletmein", as a record.
+SETTING = f"$argon2id$v=19$m=256,t=2,p=1${SALT}"
+RECORD = f"{SETTING}$nf65EOgLrQMR/uIPnA4rEsF5h7TKyQwu9U1bMCHGi/4"
+OTHER = f"$argon2i$v=19$m=256,t=2,p=1${SALT}$iekCn0Y3spW+sCcFanM2xBT63UP2sghkUoHLIUpWRS8"
+SCRYPT = (
+    "$scrypt$ln=14,r=8,p=1$U29kaXVtQ2hsb3JpZGU"
+    "$cCO9yzr9c0hGHAbNgf046/2o+7qQT44+qbVD9lRdofLVQylVYT8Pz2LUlwUkKpr55h6F3A1lHkDfzwF7RVdYhw"
+)
 
-PASSWORD = b"correct horse battery staple"
+# The bytes of a log with nothing in it.
+EMPTY_LOG = 41
 
-# Of the password "password", from the list of vectors of the reference program's test.c.
-RECORD = "$argon2id$v=19$m=256,t=2,p=1$c29tZXNhbHQ$nf65EOgLrQMR/uIPnA4rEsF5h7TKyQwu9U1bMCHGi/4"
+Accounts = dict[str, str]
 
-
-class Ended(NamedTuple):
-    """How a run of the program ended."""
-
-    status: int
-    written: bytes
-    faults: bytes
-
-
-class Failed(Exception):
-    """A test found another thing than it should have."""
+DONE = Ended(0)
 
 
-class Keep:
-    """A database file, and the program on it."""
+def says(answer: str) -> Ended:
+    """How an order ends that writes this line: the status says whether it is a no."""
+    is_no = answer in ("noaccount", "absent", "no", "wrong", "exists")
+    return Ended(4 if is_no else 0, f"{answer}\n")
 
-    has_sqlite3 = True
 
-    def __init__(self, program: pathlib.Path, path: pathlib.Path) -> None:
-        self.program = program
+def fails(status: int, text: str) -> Ended:
+    """How an order ends that says why it failed."""
+    return Ended(status, "", f"credkeep: {text}\n")
+
+
+def lines_of(accounts: Accounts) -> str:
+    """The lines that an import takes, and an export writes."""
+    return "".join(f"{name}:{record}\n" for name, record in accounts.items())
+
+
+class Book:
+    """A file, and the program on it."""
+
+    def __init__(self, path: pathlib.Path) -> None:
         self.path = path
+        self.log = pathlib.Path(f"{path}-wal")
 
-    def __call__(self, *words: str, given: bytes = b"") -> Ended:
+    def command(self, *words: str, wait: int | None = None) -> list[str]:
+        """The program's words on the file."""
+        first = [] if wait is None else ["--wait", str(wait)]
+        return [program("credkeep"), *first, str(self.path), *words]
+
+    def __call__(
+        self, *words: str, given: str = "", wait: int | None = None, **options: object
+    ) -> Ended:
         """Runs the program on the file with these words."""
-        command = [str(self.program), str(self.path), *words]
-        done = subprocess.run(command, input=given, capture_output=True, timeout=60)
-        return Ended(done.returncode, done.stdout, done.stderr)
+        return ended(self.command(*words, wait=wait), given, **options)
 
-    def add(self, name: str, password: bytes = PASSWORD) -> None:
+    def start(self, *words: str, **options: object) -> "Service":
+        """Starts the program with these words."""
+        return Service(self.command(*words), **options)
+
+    def tagged(self, *words: str, **options: object) -> "Service":
+        """Starts a service of tagged lines, whose own costs are cheap if the words name none."""
+        costs = [] if "--setting" in words else ["--setting", CHEAP]
+        return self.start("serve", "--tagged", *costs, *words, **options)
+
+    def answers(self, *lines: str, words: Iterable[str] = ()) -> list[str]:
+        """A service's answers to tagged lines, each of which waits for the one before."""
+        with self.tagged(*words) as service:
+            found = [service.ask(line) for line in lines]
+            rest = service.end()
+        assert rest == DONE, rest
+        return found
+
+    def add(self, name: str, password: str = "correct horse battery staple") -> None:
         """Adds an account under a cheap setting."""
-        same(self("add", name, "--setting", CHEAP, given=password), Ended(0, b"enrolled\n", b""))
+        done = self("add", name, "--setting", CHEAP, given=password)
+        assert done == says("enrolled"), done
 
-    def script(self) -> "subprocess.Popen[bytes]":
-        """Starts the program as a co-process that answers a script."""
-        return subprocess.Popen(
-            [str(self.program), str(self.path), "run"],
-            stdin=subprocess.PIPE,
-            stdout=subprocess.PIPE,
-            stderr=subprocess.PIPE,
-        )
-
-    def is_sound(self) -> None:
-        """Sees that sqlite3 takes the file."""
-        if Keep.has_sqlite3:
-            same(by_sqlite3(self.path, "PRAGMA integrity_check"), "ok\n")
+    def accounts(self) -> Accounts:
+        """The names with their records, as an export writes them."""
+        done = self("export")
+        assert (done.status, done.faults) == (0, ""), done
+        return dict(line.split(":", 1) for line in done.written.splitlines())
 
     def names(self) -> list[str]:
         """The names of the accounts, in their order."""
-        ended = self("list")
-        same(ended.status, 0)
-        return ended.written.decode().split()
+        done = self("list")
+        assert done.status == 0, done
+        return done.written.split()
+
+    def remove(self) -> None:
+        """Takes the file away, and all that stands beside it under its name."""
+        for file in self.path.parent.glob(f"{self.path.name}*"):
+            file.unlink()
+
+    def move_to(self, target: "Book") -> None:
+        """Copies the file and its log as `cp` does, over what is there."""
+        target.remove()
+        shutil.copy(self.path, target.path)
+        if self.log.exists():
+            shutil.copy(self.log, target.log)
 
 
-def same(found: object, wanted: object) -> None:
-    """Fails where a value is not the one that is wanted."""
-    if found != wanted:
-        raise Failed(f"found {found!r}, and not {wanted!r}")
+class Service:
+    """A program that answers lines, and is killed if it is there for too long."""
+
+    def __init__(self, command: list[str], **options: object) -> None:
+        pipe = subprocess.PIPE
+        options = {"stdin": pipe, "stdout": pipe, "stderr": pipe, **options}
+        self.process = subprocess.Popen(command, **options)  # type: ignore[call-overload]
+        self.guard = threading.Timer(LONGEST, self.process.kill)
+        self.guard.daemon = True
+        self.guard.start()
+
+    def __enter__(self) -> "Service":
+        return self
+
+    def __exit__(self, *_: object) -> None:
+        self.kill()
+        self.guard.cancel()
+        for stream in (self.process.stdin, self.process.stdout, self.process.stderr):
+            with contextlib.suppress(OSError):
+                if stream:
+                    stream.close()
+
+    def send(self, text: str) -> None:
+        self.process.stdin.write(text.encode())
+        self.process.stdin.flush()
+
+    def answer(self) -> str:
+        """The next line without its end, or nothing if there is none."""
+        return text_of(self.process.stdout.readline()).removesuffix("\n")
+
+    def ask(self, line: str) -> str:
+        """The answer to a line."""
+        self.send(line + "\n")
+        return self.answer()
+
+    def feed(self, text: str) -> threading.Thread:
+        """Gives it the text from beside, and the end of its input; it may be gone by then."""
+
+        def write() -> None:
+            with contextlib.suppress(OSError):
+                self.process.stdin.write(text.encode())
+                self.process.stdin.close()
+
+        feeder = threading.Thread(target=write)
+        feeder.start()
+        return feeder
+
+    def end(self, given: str = "") -> Ended:
+        """How it ends with this as its last input, and what it still writes."""
+        written, faults = self.process.communicate(given.encode(), LONGEST)
+        return Ended(self.process.returncode, text_of(written), text_of(faults))
+
+    def kill(self) -> None:
+        self.process.kill()
+        self.process.wait()
 
 
-def holds(fact: bool, what: str) -> None:
-    """Fails if a fact doesn't hold."""
-    if not fact:
-        raise Failed(what)
+def rows(path: pathlib.Path, text: str) -> list[tuple[object, ...]]:
+    """What SQLite itself answers to a statement."""
+    with contextlib.closing(sqlite3.connect(path, isolation_level=None)) as connection:
+        return connection.execute(text).fetchall()
 
 
-def by_sqlite3(path: pathlib.Path, text: str) -> str:
-    """What the program sqlite3 prints."""
-    done = subprocess.run(["sqlite3", str(path), text], capture_output=True, text=True, timeout=60)
-    if done.returncode:
-        raise Failed(f"sqlite3: {done.stderr}")
-    return done.stdout
+class BookTest(unittest.TestCase):
+    """A test with a folder of its own, and an empty book in it."""
+
+    maxDiff = 2000
+
+    def setUp(self) -> None:
+        self.room = pathlib.Path(tempfile.mkdtemp(prefix="credkeep-"))
+        self.addCleanup(shutil.rmtree, self.room, ignore_errors=True)
+        self.room.chmod(0o755)
+        self.book = self.begun()
+
+    def file(self, name: str) -> Book:
+        """The program on a file of this name, which may not be there."""
+        return Book(self.room / name)
+
+    def begun(self, accounts: Accounts | None = None, name: str = "users.db") -> Book:
+        """A new book with these accounts, in place of the file that was there."""
+        book = self.file(name)
+        book.remove()
+        self.assertEqual(book("init"), DONE)
+        if accounts:
+            self.assertEqual(book("import", given=lines_of(accounts)), DONE)
+        return book
+
+    def killed_after(self, book: Book, *lines: str) -> None:
+        """A service makes these changes and is killed, so they are in the log alone."""
+        with book.start("serve") as service:
+            for line in lines:
+                self.assertEqual(service.ask(line), "ok")
+        self.assertGreater(book.log.stat().st_size, EMPTY_LOG)
+
+    def assertFails(self, done: Ended, status: int, *texts: str) -> None:
+        """It wrote nothing, and each of these texts stands in what it told."""
+        self.assertEqual((done.status, done.written), (status, ""), done.faults)
+        for text in texts or (" ",):
+            self.assertIn(text, done.faults)
+
+    def assertSound(self, book: Book) -> None:
+        """SQLite finds nothing wrong with the file."""
+        self.assertEqual(rows(book.path, "PRAGMA integrity_check"), [("ok",)])
+
+    def assertLogIsEmpty(self, book: Book) -> None:
+        """The file alone has all of the book."""
+        self.assertTrue(not book.log.exists() or book.log.stat().st_size <= EMPTY_LOG)
 
 
-def begun(room: "Room") -> Keep:
-    """An empty book in a new file."""
-    keep = room.keep()
-    same(keep("init"), Ended(0, b"", b""))
-    return keep
+def killed(book: Book, *words: str, given: str = "", within: float) -> str:
+    """What an order wrote that is killed at a random moment of so many seconds."""
+    with book.start(*words) as run:
+        feeder = run.feed(given)
+        time.sleep(random.random() * within)
+        run.process.kill()
+        feeder.join()
+        return text_of(run.process.stdout.read())
 
 
-class Room:
-    """A folder of a test's own."""
-
-    def __init__(self, program: pathlib.Path, folder: pathlib.Path, kills: int) -> None:
-        self.program = program
-        self.folder = folder
-        self.kills = kills
-
-    def keep(self, name: str = "users.db") -> Keep:
-        """The program on a file of this name in the folder."""
-        return Keep(self.program, self.folder / name)
-
-
-def main(alone: list[Callable[[Room], None]], every: list[Callable[[Room], None]]) -> int:
-    """Runs each test in a folder of its own."""
-    parser = argparse.ArgumentParser(description="Tests of the built credkeep.")
-    parser.add_argument("--alone", action="store_true", help="the tests that need the toolchain alone")
-    parser.add_argument("--kills", type=int, default=200)
-    parser.add_argument("program", nargs="?", type=pathlib.Path, default=TOP / "crates/credkeep/out/credkeep")
-    words = parser.parse_args()
-    passed, failed = 0, []
-    Keep.has_sqlite3 = not words.alone or shutil.which("sqlite3") is not None
-    for test in alone if words.alone else every:
-        with tempfile.TemporaryDirectory(prefix="credkeep-") as folder:
-            program = pathlib.Path(folder) / "credkeep"
-            shutil.copy(words.program, program)
-            inside = pathlib.Path(folder) / "room"
-            inside.mkdir()
-            os.chmod(folder, 0o755)
-            try:
-                test(Room(program, inside, words.kills))
-                passed += 1
-                print(f"ok    {test.__name__}", flush=True)
-            except (Failed, OSError, ImportError, AssertionError, ValueError, subprocess.SubprocessError) as fault:
-                failed.append(test.__name__)
-                print(f"FAILED {test.__name__}: {fault}", flush=True)
-                traceback.print_exc()
-    for name in failed:
-        print(f"FAILED {name}")
-    print(f"{passed} passed, {len(failed)} failed")
-    return 1 if failed or not passed else 0
+@contextlib.contextmanager
+def small_disk(folder: pathlib.Path, size: int) -> Iterator[pathlib.Path]:
+    """A disk of so many bytes, which only root can make."""
+    folder.mkdir()
+    options = ["-t", "tmpfs", "-o", f"size={size}"]
+    subprocess.run(["mount", *options, "tmpfs", str(folder)], check=True)
+    try:
+        yield folder
+    finally:
+        subprocess.run(["umount", str(folder)], check=True)

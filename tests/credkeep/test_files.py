@@ -1,307 +1,269 @@
-"""The file: its format, mode, locks and damages."""
+"""The file: its format, its mode, its locks and its damages."""
 
+import contextlib
 import os
 import pathlib
 import random
 import shutil
 import sqlite3
 import stat
-import subprocess
 import time
 from collections.abc import Callable
 
-from credkeep.commands import own_records
-from credkeep.keep import Ended, Keep, PASSWORD, Room, begun, by_sqlite3, holds, same
+from tests.credkeep.books import DONE, EMPTY_LOG, RECORD, Book, BookTest, Service, fails, rows, says
+from tests.helpers import Ended, need_root
+
+TABLE = "CREATE TABLE account (name TEXT NOT NULL PRIMARY KEY, record TEXT) STRICT;"
+NOBODY = 65534
 
 
-def sqlite3_reads(room: Room) -> None:
-    keep = begun(room)
-    keep.add("ann")
-    keep.add("bob")
-    keep("remove", "bob", given=PASSWORD)
-    keep.is_sound()
-    same(by_sqlite3(keep.path, "SELECT name, record IS NULL FROM account"), "ann|0\nbob|1\n")
-    record = keep("export").written.decode().splitlines()[0].split(":")[1]
-    same(by_sqlite3(keep.path, "SELECT record FROM account WHERE name = 'ann'"), record + "\n")
-    by_sqlite3(keep.path, "INSERT INTO account (name) VALUES ('cat')")
-    same(keep.names(), ["ann", "bob", "cat"])
-
-
-def analyzed(room: Room) -> None:
-    """The statistics of ANALYZE are beside the table, and nothing is done to them."""
-    keep = begun(room)
-    keep.add("ann")
-    keep.add("bob")
-    by_sqlite3(keep.path, "ANALYZE")
-    statistics = by_sqlite3(keep.path, "SELECT * FROM sqlite_stat1")
-    same(statistics, "account|sqlite_autoindex_account_1|2 1\n")
-    same(keep("check", "ann", given=PASSWORD).status, 0)
-    keep.add("cat")
-    same(keep("rename", "ann", "dan").status, 0)
-    same(keep("delete", "bob").status, 0)
-    same(keep("import", given=b"eve:\n").status, 0)
-    same(keep.names(), ["cat", "dan", "eve"])
-    keep.is_sound()
-    same(by_sqlite3(keep.path, "SELECT * FROM sqlite_stat1"), statistics)
-    by_sqlite3(keep.path, "DELETE FROM sqlite_stat1")
-    same(keep.names(), ["cat", "dan", "eve"])
-
-
-def modes(room: Room) -> None:
-    old = os.umask(0)
-    try:
-        keep = begun(room)
-        same(stat.S_IMODE(keep.path.stat().st_mode), 0o600)
-        with keep.script() as run:
-            assert run.stdin and run.stdout
-            run.stdin.write(b"account ann\n")
-            run.stdin.flush()
-            run.stdout.readline()
-            log = pathlib.Path(f"{keep.path}-wal")
-            same(stat.S_IMODE(log.stat().st_mode), 0o600)
-            run.communicate(b"")
-    finally:
-        os.umask(old)
-
-
-def two_processes(room: Room) -> None:
-    keep = begun(room)
-    with keep.script() as run:
-        assert run.stdin and run.stdout
-        run.stdin.write(b"account ann\n")
-        run.stdin.flush()
-        run.stdout.readline()
-        for words in (["list"], ["init"], ["add", "bob"], ["run"]):
-            ended = keep(*words, given=b"x\n")
-            same((ended.status, ended.written), (5, b""))
-            holds(b"busy" in ended.faults, f"{ended.faults!r}")
-        run.communicate(b"")
-    same(keep.names(), ["ann"])
-
-
-def waiting(room: Room) -> None:
-    keep = begun(room)
-    with keep.script() as run:
-        assert run.stdin and run.stdout
-        run.stdin.write(b"account ann\n")
-        run.stdin.flush()
-        run.stdout.readline()
-        start = time.monotonic()
-        command = [str(keep.program), "--wait", "1", str(keep.path), "list"]
-        same(subprocess.run(command, capture_output=True, timeout=60).returncode, 5)
-        holds(time.monotonic() - start >= 0.9, "it didn't wait")
-        command[2] = "30"
-        with subprocess.Popen(command, stdout=subprocess.PIPE) as waits:
-            time.sleep(0.3)
-            same(waits.poll(), None)
-            run.communicate(b"")
-            same(waits.communicate(timeout=60)[0], b"ann\n")
-            same(waits.returncode, 0)
-
-
-def files_that_hold_no_book(room: Room) -> None:
-    """Each has its text, and nothing is written into it or beside it."""
-
-    def database(text: str) -> Callable[[pathlib.Path], None]:
-        def make(path: pathlib.Path) -> None:
-            connection = sqlite3.connect(path)
+def database(text: str) -> Callable[[pathlib.Path], None]:
+    def make(path: pathlib.Path) -> None:
+        with contextlib.closing(sqlite3.connect(path)) as connection:
             connection.executescript(text)
-            connection.close()
 
-        return make
+    return make
 
-    table = "CREATE TABLE account (name TEXT NOT NULL PRIMARY KEY, record TEXT) STRICT;"
-    other = b"the database holds no book"
-    no_record = b"row 1: the text there is no record: "
-    no_shape = b"a field is missing, or there is one too many (1 shape)"
-    no_scheme = b"the name is none of argon2d, argon2i, argon2id and scrypt (2 scheme)"
-    for make, status, text in (
-        (lambda path: path.touch(), 5, b"it is empty; init begins a book in it"),
-        (lambda path: path.write_text("ann:x\n" * 1000), 5, b"it is no database"),
-        (lambda path: path.write_text("x"), 5, b"it is no database"),
-        (lambda path: path.mkdir(), 5, b"it is a folder, a link or a device"),
-        (lambda path: None, 5, b"there is no such file; init makes one"),
-        (database("CREATE TABLE t (a)"), 5, other),
-        (database(table + "CREATE TABLE t (a)"), 5, other),
-        (database(table + "CREATE INDEX i ON account (record)"), 5, other),
-        (database(table + "ALTER TABLE account ADD COLUMN mail TEXT"), 5, other),
-        (
-            database(table + "INSERT INTO account VALUES ('ann', NULL), ('Bob', NULL)"),
-            5,
-            b"row 2: there is no name; names are",
-        ),
-        (database(table + "INSERT INTO account VALUES ('ann', 'abc')"), 5, no_record + no_shape),
-        (database(table + "INSERT INTO account VALUES ('ann', '$2y$10$abc')"), 5, no_record + no_scheme),
-    ):
-        for words in (["list"], ["check", "ann"], ["run"], ["import"], ["add", "ann"], ["reset", "ann"]):
-            for file in room.folder.iterdir():
-                shutil.rmtree(file) if file.is_dir() else file.unlink()
-            keep = room.keep()
-            make(keep.path)
-            if keep.path.is_file():
-                keep.path.chmod(0o600)
-            before = contents(room.folder)
-            ended = keep(*words, given=b"x\n")
-            same((text, ended.status, ended.written), (text, status, b""))
-            holds(text in ended.faults, f"{ended.faults!r}, and not {text!r}")
-            same(contents(room.folder), before)
-    memory = Keep(room.program, pathlib.Path(":memory:"))
-    for words in (["init"], ["list"]):
-        same(memory(*words)[:2], (1, b""))
-    holds(not pathlib.Path(":memory:").exists(), "a file :memory: was made")
-    for file in room.folder.iterdir():
-        file.unlink()
-    journal = begun(room)
-    pathlib.Path(f"{journal.path}-journal").write_bytes(b"x" * 512)
-    ended = journal("list")
-    same(ended[:2], (5, b""))
-    holds(b"open it with sqlite3 first" in ended.faults, f"{ended.faults!r}")
+
+# What holds no book, and what is told of it.
+NO_BOOKS = [
+    (lambda path: path.touch(), "it is empty; init begins a book in it"),
+    (lambda path: path.write_text("ann:x\n" * 1000), "it is no database"),
+    (lambda path: path.write_text("x"), "it is no database"),
+    (lambda path: path.mkdir(), "it is a folder, a link or a device"),
+    (lambda path: path.symlink_to("nowhere.db"), ""),
+    (lambda path: None, "there is no such file; init makes one"),
+    *(
+        (database(text), "the database holds no book")
+        for text in (
+            "CREATE TABLE t (a)",
+            TABLE + "CREATE TABLE t (a)",
+            TABLE + "CREATE INDEX i ON account (record)",
+            TABLE + "ALTER TABLE account ADD COLUMN mail TEXT",
+        )
+    ),
+    (
+        database(TABLE + "INSERT INTO account VALUES ('ann', NULL), ('Bob', NULL)"),
+        "row 2: there is no name; names are",
+    ),
+    (
+        database(TABLE + "INSERT INTO account VALUES ('ann', 'abc')"),
+        "row 1: the text there is no record: a field is missing, or there is one too many (1 shape)",
+    ),
+    (
+        database(TABLE + "INSERT INTO account VALUES ('ann', '$2y$10$abc')"),
+        "row 1: the text there is no record: "
+        "the name is none of argon2d, argon2i, argon2id and scrypt (2 scheme)",
+    ),
+]
+ORDERS = ("list", "check ann", "run", "import", "add ann", "reset ann")
 
 
 def contents(folder: pathlib.Path) -> dict[str, bytes | None]:
     """What the files of a folder hold; a log without a change counts as none."""
     return {
-        file.name: None if file.is_dir() else file.read_bytes()
+        file.name: file.read_bytes() if file.is_file() else None
         for file in folder.iterdir()
-        if not (file.name.endswith("-wal") and file.stat().st_size < 100)
+        if not (file.name.endswith("-wal") and file.stat().st_size <= EMPTY_LOG)
     }
 
 
-def files_of_init(room: Room) -> None:
-    """A file that is there is taken if it is this user's alone and empty; a book is said to be one."""
-    keep = room.keep()
-    keep.path.touch()
-    for mode in (0o666, 0o644, 0o620):
-        keep.path.chmod(mode)
-        ended = keep("init")
-        same(ended[:2], (5, b""))
-        holds(b"others can read or write it" in ended.faults, f"{ended.faults!r}")
-        same(keep.path.read_bytes(), b"")
-    keep.path.chmod(0o600)
-    same(keep("init"), Ended(0, b"", b""))
-    keep.add("ann")
-    ended = keep("init")
-    same(ended, Ended(5, b"", b"credkeep: the file holds a book already\n"))
-    same(keep.names(), ["ann"])
-    link = room.keep("link.db")
-    link.path.symlink_to(keep.path)
-    same(link("init")[:2], (5, b""))
-    keep.path.chmod(0o640)
-    ended = keep("list")
-    same(ended[:2], (0, b"ann\n"))
-    holds(b"warning: " in ended.faults, "no warning")
-    if os.getuid() == 0:
-        foreign = room.keep("foreign.db")
+class FormatTest(BookTest):
+    def test_sqlite3_reads_and_writes(self) -> None:
+        self.book.add("ann")
+        self.book.add("bob", "first")
+        self.assertEqual(self.book("remove", "bob", given="first"), says("removed"))
+        self.assertSound(self.book)
+        names = rows(self.book.path, "SELECT name, record IS NULL FROM account")
+        self.assertEqual(names, [("ann", 0), ("bob", 1)])
+        record = self.book.accounts()["ann"]
+        found = rows(self.book.path, "SELECT record FROM account WHERE name = 'ann'")
+        self.assertEqual(found, [(record,)])
+        rows(self.book.path, f"INSERT INTO account VALUES ('cat', '{RECORD}'), ('dan', NULL)")
+        self.assertEqual(self.book.names(), ["ann", "bob", "cat", "dan"])
+        self.assertEqual(self.book("check", "cat", given="password"), says("yes"))
+
+    def test_analyzed(self) -> None:
+        """The statistics of ANALYZE are beside the table, and nothing is done to them."""
+        self.book.add("ann", "first")
+        self.book.add("bob")
+        rows(self.book.path, "ANALYZE")
+        statistics = rows(self.book.path, "SELECT * FROM sqlite_stat1")
+        self.assertEqual(statistics, [("account", "sqlite_autoindex_account_1", "2 1")])
+        self.assertEqual(self.book("check", "ann", given="first"), says("yes"))
+        self.book.add("cat")
+        self.assertEqual(self.book("rename", "ann", "dan"), says("renamed"))
+        self.assertEqual(self.book("delete", "bob"), says("deleted"))
+        self.assertEqual(self.book("import", given="eve:\n"), DONE)
+        self.assertEqual(self.book.names(), ["cat", "dan", "eve"])
+        self.assertSound(self.book)
+        self.assertEqual(rows(self.book.path, "SELECT * FROM sqlite_stat1"), statistics)
+        rows(self.book.path, "DELETE FROM sqlite_stat1")
+        self.assertEqual(self.book.names(), ["cat", "dan", "eve"])
+
+    def test_files_that_hold_no_book(self) -> None:
+        """Each has its text, and nothing is written into it or beside it."""
+        for make, text in NO_BOOKS:
+            for words in ORDERS:
+                shutil.rmtree(self.room)
+                self.room.mkdir()
+                make(self.book.path)
+                if self.book.path.is_file():
+                    self.book.path.chmod(0o600)
+                before = contents(self.room)
+                with self.subTest(text=text, words=words):
+                    self.assertFails(self.book(*words.split(), given="x\n"), 5, text)
+                    self.assertEqual(contents(self.room), before)
+
+    def test_no_file_in_memory(self) -> None:
+        memory = Book(pathlib.Path(":memory:"))
+        for words in ("init", "list"):
+            self.assertFails(memory(words, cwd=self.room), 1)
+        self.assertEqual(sorted(contents(self.room)), ["users.db"])
+
+    def test_journal(self) -> None:
+        pathlib.Path(f"{self.book.path}-journal").write_bytes(b"x" * 512)
+        self.assertFails(self.book("list"), 5, "open it with sqlite3 first")
+
+    def test_damaged(self) -> None:
+        """A file that is cut is refused. One with a bit turned is refused, or is the same book, or
+        one in which one account differs: SQLite's format has no sum over a row."""
+        chance = random.Random(17)
+        self.begun({**{f"a{at}": "" for at in range(200)}, "ann": RECORD})
+        whole, accounts = self.book.path.read_bytes(), set(self.book.accounts().items())
+        first = whole.index(RECORD.encode())
+        cut = [whole[: chance.randrange(1, len(whole))] for _ in range(60)]
+        places = [chance.randrange(len(whole) * 8) for _ in range(200)]
+        places += [chance.randrange(first * 8, (first + len(RECORD)) * 8) for _ in range(40)]
+        hurt, refused = self.file("hurt.db"), 0
+        for piece in [*cut, *places]:
+            hurt.remove()
+            if isinstance(piece, int):
+                turned = bytearray(whole)
+                turned[piece // 8] ^= 1 << piece % 8
+                hurt.path.write_bytes(turned)
+            else:
+                hurt.path.write_bytes(piece)
+            done = hurt("export")
+            if done.status:
+                self.assertFails(done, 5)
+                refused += 1
+            else:
+                self.assertIsInstance(piece, int, "a cut file opened")
+                found = {tuple(line.split(":", 1)) for line in done.written.splitlines()}
+                self.assertLessEqual(len(accounts ^ found), 2, "another book")
+        self.assertGreater(refused, len(cut))
+
+
+class NamesTest(BookTest):
+    def test_files_of_init(self) -> None:
+        """A file that is there is taken if it is this user's alone and empty; a book is said to
+        be one."""
+        book = self.file("new.db")
+        book.path.touch()
+        for mode in (0o666, 0o644, 0o620):
+            book.path.chmod(mode)
+            self.assertFails(book("init"), 5, "others can read or write it")
+            self.assertEqual(book.path.read_bytes(), b"")
+        book.path.chmod(0o600)
+        self.assertEqual(book("init"), DONE)
+        book.add("ann")
+        self.assertEqual(book("init"), fails(5, "the file holds a book already"))
+        self.assertEqual(book.names(), ["ann"])
+        other = self.file("other.db")
+        database("CREATE TABLE t (a)")(other.path)
+        before = other.path.read_bytes()
+        self.assertFails(other("init"), 5)
+        self.assertEqual(other.path.read_bytes(), before)
+
+    def test_modes(self) -> None:
+        """Only its owner may read or write a new file and its log; a file that others can read is
+        warned of."""
+        self.addCleanup(os.umask, os.umask(0))
+        book = self.begun()
+        with book.start("run") as run:
+            self.assertEqual(run.ask("account ann"), "ok")
+            for file in (book.path, book.log):
+                self.assertEqual(stat.S_IMODE(file.stat().st_mode), 0o600)
+            self.assertEqual(run.end(), DONE)
+        book.path.chmod(0o640)
+        done = book("list")
+        self.assertEqual(done[:2], (0, "ann\n"))
+        self.assertIn("warning: ", done.faults)
+
+    def test_another_owner(self) -> None:
+        need_root()
+        foreign = self.file("foreign.db")
         foreign.path.touch()
         foreign.path.chmod(0o600)
-        os.chown(foreign.path, 65534, 65534)
-        ended = foreign("init")
-        same(ended[:2], (5, b""))
-        holds(b"another user owns it" in ended.faults, f"{ended.faults!r}")
-        same(foreign.path.read_bytes(), b"")
+        os.chown(foreign.path, NOBODY, NOBODY)
+        self.assertFails(foreign("init"), 5, "another user owns it")
+        self.assertEqual(foreign.path.read_bytes(), b"")
+
+    def test_read_only(self) -> None:
+        """A file that this process may not write is left alone. Root may write any, so the program
+        runs as nobody."""
+        need_root()
+        self.book.add("ann")
+        self.book.path.chmod(0o444)
+        before = self.book.path.read_bytes()
+        for words in ("list", "add bob", "init"):
+            self.assertFails(self.book(*words.split(), given="x\n", user=NOBODY), 5)
+        self.assertEqual(self.book.path.read_bytes(), before)
+
+    def test_folders_and_links(self) -> None:
+        folder, dangling = self.file("folder"), self.file("dangling")
+        folder.path.mkdir()
+        dangling.path.symlink_to(self.room / "nowhere.db")
+        for words in ("init", "list"):
+            self.assertFails(folder(words), 5)
+            self.assertFails(dangling(words), 5)
+        self.assertFalse((self.room / "nowhere.db").exists())
+        self.book.add("ann")
+        link = self.file("link.db")
+        link.path.symlink_to(self.book.path)
+        self.assertFails(link("init"), 5)
+        self.assertEqual(link.names(), ["ann"])
+        self.assertTrue(link.path.is_symlink())
+        second = self.file("second.db")
+        os.link(self.book.path, second.path)
+        for book in (self.book, second):
+            self.assertFails(book("list"), 5, "it has another name, by a hard link")
+        second.path.unlink()
+        self.assertEqual(self.book.names(), ["ann"])
 
 
-def no_book(room: Room) -> None:
-    absent = room.keep("absent.db")
-    for words in (["list"], ["check", "ann"], ["run"], ["import"]):
-        ended = absent(*words, given=b"x\n")
-        same((ended.status, ended.written), (5, b""))
-        holds(bool(ended.faults), "no text")
-        holds(not absent.path.exists(), "a file was made")
-    keep = begun(room)
-    keep.add("ann")
-    ended = keep("init")
-    same((ended.status, ended.written), (5, b""))
-    same(keep.names(), ["ann"])
-    other = room.keep("other.db")
-    by_sqlite3(other.path, "CREATE TABLE t (a)")
-    before = other.path.read_bytes()
-    for words in (["init"], ["list"]):
-        same(other(*words).status, 5)
-    same(by_sqlite3(other.path, "SELECT name FROM sqlite_schema"), "t\n")
-    same(len(other.path.read_bytes()), len(before))
+class LocksTest(BookTest):
+    def test_two_processes(self) -> None:
+        """Beside a process that has the file it is busy for every other one."""
+        for order in ("run", "serve"):
+            with self.begun().start(order) as run:
+                self.assertEqual(run.ask("account ann"), "ok")
+                for words in ("list", "init", "add bob", "run", "serve"):
+                    self.assertFails(self.book(*words.split(), given="x\n"), 5, "busy")
+                self.assertEqual(run.end(), DONE)
+            self.assertEqual(self.book.names(), ["ann"])
 
+    def test_waits(self) -> None:
+        """With --wait it is tried again until the seconds are over, or the other has ended."""
+        with self.book.start("serve") as service:
+            self.assertEqual(service.ask("account ann"), "ok")
+            start = time.monotonic()
+            self.assertFails(self.book("list", wait=1), 5, "busy")
+            self.assertGreaterEqual(time.monotonic() - start, 0.9)
+            with Service(self.book.command("serve", wait=30)) as waiting:
+                waiting.send("show ann\n")
+                time.sleep(0.3)
+                self.assertIsNone(waiting.process.poll())
+                self.assertEqual(service.end(), DONE)
+                self.assertEqual(waiting.answer(), "none")
+                self.assertEqual(waiting.end(), DONE)
 
-def bad_rows(room: Room) -> None:
-    table = "CREATE TABLE account (name TEXT NOT NULL PRIMARY KEY, record TEXT) STRICT"
-    for at, (row, word) in enumerate((("'Ann', NULL", b"name"), ("'ann', 'x'", b"record"))):
-        keep = room.keep(f"{at}.db")
-        by_sqlite3(keep.path, f"{table}; INSERT INTO account VALUES ({row})")
-        for words in (["list"], ["add", "bob"], ["run"]):
-            ended = keep(*words, given=b"x\n")
-            same((ended.status, ended.written), (5, b""))
-            holds(word in ended.faults and b"row 1" in ended.faults, f"{ended.faults!r}")
-
-
-def directories_and_links(room: Room) -> None:
-    folder = room.keep("folder")
-    folder.path.mkdir()
-    for words in (["init"], ["list"]):
-        same(folder(*words).status, 5)
-    dangling = room.keep("dangling")
-    dangling.path.symlink_to(room.folder / "nowhere.db")
-    same(dangling("init").status, 5)
-    same(dangling("list").status, 5)
-    holds(not (room.folder / "nowhere.db").exists(), "made through a link")
-    keep = begun(room)
-    keep.add("ann")
-    link = room.keep("link.db")
-    link.path.symlink_to(keep.path)
-    same(link.names(), ["ann"])
-    same(link.path.is_symlink(), True)
-    second = room.keep("second.db")
-    os.link(keep.path, second.path)
-    same(second("list").status, 5)
-    second.path.unlink()
-    same(keep.names(), ["ann"])
-
-
-def read_only(room: Room) -> None:
-    """A file that this process may not write. Root may write any, so the program runs as nobody."""
-    keep = begun(room)
-    keep.add("ann")
-    os.chmod(room.folder, 0o755)
-    os.chmod(keep.path, 0o444)
-    before = keep.path.read_bytes()
-    for words in (["list"], ["add", "bob"], ["init"]):
-        command = [str(keep.program), str(keep.path), *words]
-        done = subprocess.run(command, input=b"x\n", capture_output=True, user="nobody", timeout=60)
-        same((done.returncode, done.stdout), (5, b""))
-    same(keep.path.read_bytes(), before)
-
-
-def damaged(room: Room) -> None:
-    """A file that is cut is refused. One with a bit turned is refused, or is the same book, or one in
-    which one account differs: SQLite's format has no sum over a row."""
-    keep = begun(room)
-    lines = "".join(f"a{at}:\n" for at in range(200))
-    same(keep("import", given=lines.encode()).status, 0)
-    keep.add("ann")
-    whole, book = keep.path.read_bytes(), keep("export").written.split()
-    refused = equal = other = 0
-    chance = random.Random(17)
-    hurt = room.keep("hurt.db")
-    pieces = [whole[: chance.randrange(1, len(whole))] for _ in range(60)]
-    record = own_records(keep)["ann"].encode()
-    first = whole.find(record)
-    holds(first >= 0, "the file hasn't the record")
-    places = [chance.randrange(len(whole) * 8) for _ in range(200)]
-    places += [chance.randrange(first * 8, (first + len(record)) * 8) for _ in range(40)]
-    for place in places:
-        turned = bytearray(whole)
-        turned[place // 8] ^= 1 << place % 8
-        pieces.append(bytes(turned))
-    for at, piece in enumerate(pieces):
-        for file in room.folder.glob("hurt.db*"):
-            file.unlink()
-        hurt.path.write_bytes(piece)
-        ended = hurt("export")
-        if ended.status:
-            same((ended.status, ended.written), (5, b""))
-            refused += 1
-            continue
-        holds(at >= 60, "a cut file opened")
-        differs = set(book) ^ set(ended.written.split())
-        holds(len(differs) <= 2, f"another book: {differs}")
-        equal, other = equal + (not differs), other + bool(differs)
-    print(f"      of 300: {refused} refused, {equal} the same book, {other} with one account that differs")
+    def test_log_is_copied(self) -> None:
+        """After an order, and after a service that has ended, the file alone has all of the book."""
+        self.book.add("ann")
+        self.assertEqual(self.book("serve", given="account bob\n"), Ended(0, "ok\n"))
+        self.assertLogIsEmpty(self.book)
+        copy = self.file("copy.db")
+        shutil.copy(self.book.path, copy.path)
+        self.assertEqual(copy.names(), ["ann", "bob"])

@@ -1,254 +1,242 @@
-"""Imports, and records that are not ours."""
+"""Lines of an import: their forms, their faults, and those that other programs write."""
 
-import random
-import resource
+import pathlib
+import re
 import subprocess
-import time
 
-from credkeep.commands import own_records
-from credkeep.counting import SYNC_COUNTER, counted, counter
-from credkeep.keep import Ended, Keep, PASSWORD, RECORD, Room, begun, holds, same
-from credkeep.refusals import each_request_refused
-from credkeep.work import syncs
+from tests.credkeep.books import (
+    DONE,
+    OTHER,
+    RECORD,
+    SALT,
+    SCRYPT,
+    Accounts,
+    BookTest,
+    lines_of,
+    says,
+)
+from tests.helpers import TOP, Ended, need, need_module
 
+# Each bad line with its fault. The book has ann, and a line before these names new.
+BAD_LINES = [
+    ("bob", "11 line"),
+    ("Bob:", "3 name"),
+    (":", "3 name"),
+    (f"b@c.org:{RECORD}", "3 name"),
+    ("bcrypt:$2y$05$abc", "2 scheme"),
+    ("ssha:{SSHA}abc", "1 shape"),
+    ("braces:{ARGON2ID}", "1 shape"),
+    (f"costs:$argon2id$v=19$m=256,t=2${SALT}$AAAAAAAA", "4 params"),
+    ("costs:$argon2id$v=19$m=256,t=2", "4 params"),
+    (f"range:$argon2id$v=19$m=1,t=2,p=1${SALT}$AAAAAAAA", "5 range"),
+    ("salt:$argon2id$v=19$m=256,t=2,p=1$!$AAAAAAAA", "6 salt"),
+    (f"tag:$argon2id$v=19$m=256,t=2,p=1${SALT}$!", "7 tag"),
+    (f"return:{RECORD}\rx:", "7 tag"),
+    (f"long:{RECORD}{'A' * 512}", "9 toolong"),
+    ("ann:", "1 exists"),
+    (f"new:{OTHER}", "1 exists"),
+    (f"locked:!{RECORD}", "17 locked"),
+    ("starred:*", "17 locked"),
+    (" ", "11 line"),
+]
 
-def others_records(room: Room) -> None:
-    import argon2
-    import passlib.hash
-
-    cheap = argon2.PasswordHasher(time_cost=1, memory_cost=8, parallelism=1)
-    lines = {
-        "cffi": cheap.hash(PASSWORD),
-        "passlib": passlib.hash.argon2.using(rounds=1, memory_cost=64, parallelism=2).hash(PASSWORD),
-        "scrypt": passlib.hash.scrypt.using(rounds=4).hash(PASSWORD),
-        "none": "",
-    }
-    keep = begun(room)
-    given = "".join(f"{name}:{record}\n" for name, record in lines.items())
-    same(keep("import", given=given.encode()), Ended(0, b"", b""))
-    same(keep.names(), sorted(lines))
-    for name, record in lines.items():
-        right, wrong = ((0, b"yes\n"), (4, b"no\n")) if record else ((4, b"absent\n"),) * 2
-        same(keep("check", name, given=PASSWORD + b"\n"), Ended(*right, b""))
-        same(keep("check", name, given=PASSWORD + b"!\n"), Ended(*wrong, b""))
-    back = dict(line.split(":") for line in keep("export").written.decode().split())
-    same(back, lines)
-    keep.is_sound()
-
-
-def bad_imports(room: Room) -> None:
-    """Each bad line is named, with its fault, and nothing is changed."""
-    keep = begun(room)
-    good = f"ann:{RECORD}"
-    for lines, bad in (
-        (f"{good}\nbob", {2: "11 line"}),
-        (f"{good}\n\n \nbob:\n", {3: "11 line"}),
-        (f"{good}\nBob:\n", {2: "3 name"}),
-        (f"bob:\n{good}\nbob:\n", {3: "1 exists"}),
-        (f"{good}\nbob:$argon2id$v=19$m=256,t=2\n", {2: "4 params"}),
-        (f"{good}\rx:\n", {1: "7 tag"}),
-        (f"x\n{good}\nb@c.org:{RECORD}\nbob:$2y$05$abc\ncat:{{ARGON2ID}}\ndan:{{SSHA}}abc\n{good}\n", None),
-    ):
-        ended = keep("import", given=lines.encode())
-        same((ended.status, ended.written), (6, b""))
-        found = {}
-        for text in ended.faults.decode().splitlines():
-            _, line, why = text.split(": ", 2)
-            found[int(line.removeprefix("line "))] = why.rsplit("(", 1)[1].removesuffix(")")
-        if bad is None:
-            same(list(found), [1, 3, 4, 5, 6, 7])
-        else:
-            same((lines, found), (lines, bad))
-        same(keep.names(), [])
-    same(keep("import", given=b""), Ended(0, b"", b""))
-    same(keep("import", given="".join(f"a{i}:\n" for i in range(4097)).encode()), Ended(0, b"", b""))
-    same(len(keep.names()), 4097)
-    same(keep("import", given=b"b:\na0:\n").status, 6)
-    same(len(keep.names()), 4097)
-    keep.is_sound()
+# Lines as htpasswd, Dovecot and Django write them, and their records.
+FORMS = [
+    (f"htpasswd:{RECORD}", RECORD),
+    (f"dovecot:{{ARGON2ID}}{RECORD}:1000:1000::/home/dovecot::", RECORD),
+    (f"dovecot.i:{{ARGON2I}}{OTHER}", OTHER),
+    (f"django:argon2{RECORD}", RECORD),
+    (f"fields:{RECORD}:x", RECORD),
+    ("none::1000", ""),
+    ("empty:", ""),
+]
 
 
-def imports_of_others(room: Room) -> None:
-    """Lines as htpasswd, Dovecot and Django write them, and files with Windows line ends."""
-    other = "$argon2i$v=19$m=256,t=2,p=1$c29tZXNhbHQ$iekCn0Y3spW+sCcFanM2xBT63UP2sghkUoHLIUpWRS8"
-    lines = [
-        f"htpasswd:{RECORD}",
-        f"dovecot:{{ARGON2ID}}{RECORD}:1000:1000::/home/dovecot::",
-        f"dovecot.i:{{ARGON2I}}{other}",
-        f"django:argon2{RECORD}",
-        f"fields:{RECORD}:x",
-        "none::1000",
-        "empty:",
-    ]
-    wanted = {line.split(":")[0]: RECORD for line in lines} | {"dovecot.i": other, "none": "", "empty": ""}
-    for end in ("\n", "\r\n"):
-        for file in room.folder.glob("users.db*"):
-            file.unlink()
-        keep = begun(room)
-        same(keep("import", given="".join(line + end for line in lines).encode()), Ended(0, b"", b""))
-        same(own_records(keep), wanted)
-        for name in ("htpasswd", "dovecot", "dovecot.i", "django", "fields"):
-            same(keep("check", name, given=b"password\n"), Ended(0, b"yes\n", b""))
-    keep.is_sound()
+def named_lines(done: Ended) -> dict[int, str]:
+    """The lines that standard error names, with the number and the word of each fault."""
+    found = re.findall(r"^credkeep: line (\d+): .*\((\d+ \w+)\)$", done.faults, re.MULTILINE)
+    return {int(line): why for line, why in found}
 
 
-def skipped_lines(room: Room) -> None:
-    """Accounts that are there stay as they are, and the lines that name them are counted."""
-    keep = begun(room)
-    skip = ("import", "--skip-existing")
-    same(keep(*skip, given=b"ann:\nbob:\n"), Ended(0, b"", b""))
-    text = b"credkeep: left out %d lines, whose accounts are there already\n"
-    lines = f"ann:{RECORD}\ncat:{RECORD}\nbob:{RECORD}\nann:\n".encode()
-    same(keep(*skip, given=lines), Ended(0, b"", text % 3))
-    same(own_records(keep), {"ann": "", "bob": "", "cat": RECORD})
-    same(keep(*skip, given=lines), Ended(0, b"", text % 4))
-    # A name that comes twice among the lines isn't one that is there.
-    same(keep(*skip, given=b"ann:\ndan:\ndan:\n")[:2], (6, b""))
-    same(keep(*skip, given=b"ann:\nx\n")[:2], (6, b""))
-    same(own_records(keep), {"ann": "", "bob": "", "cat": RECORD})
+def other_texts(done: Ended) -> list[str]:
+    """What else standard error says."""
+    return re.findall(r"^credkeep: (?!line \d)(.*)$", done.faults, re.MULTILINE)
 
 
-def costly_lines(room: Room) -> None:
-    """With --most-memory a line is bad whose record asks for more, and is named and counted as others are."""
-    keep, tag = begun(room), "$c29tZXNhbHQ$" + "A" * 43
-    within, above, twice = (
-        start + tag for start in ("$argon2id$v=19$m=256,t=1,p=1", "$argon2id$v=19$m=257,t=1,p=1", "$scrypt$ln=8,r=8,p=2")
-    )
-    lines = f"ann:{within}\nbob:{above}\ncat:\n# {above}\ndan:{twice}:x\neve:!{above}\n".encode()
-    fault = b"credkeep: line %d: its record asks for more than --most-memory (18 costly)\n"
-    bound = ("import", "--disable-locked", "--most-memory", "256K")
-    same(keep(*bound, given=lines), Ended(6, b"", fault % 2 + fault % 5))
-    same(keep.names(), [])
-    told = fault % 2 + fault % 5 + b"credkeep: left out 2 lines, which are bad\n"
-    same(keep(*bound, "--skip-bad", given=lines), Ended(0, b"", told))
-    same(own_records(keep), {"ann": within, "cat": "", "eve": ""})
-    # An account that is there keeps its record, and its line is bad too.
-    update = f"ann:{above}\ncat:{within}\n".encode()
-    same(keep(*bound, "--update", given=update)[:2], (6, b""))
-    for how in ("--update", "--skip-existing"):
-        same(keep(*bound, how, given=f"ann:{above}\n".encode()), Ended(6, b"", fault % 1))
-    same(own_records(keep), {"ann": within, "cat": "", "eve": ""})
-    # Without a bound they are taken in; and so they are with one that is as high.
-    same(keep("import", "--update", given=update)[:2], (0, b""))
-    same(keep("import", "--most-memory", "1M", given=f"dan:{twice}\n".encode()), Ended(0, b"", b""))
-    same(own_records(keep), {"ann": above, "cat": within, "dan": twice, "eve": ""})
-    ended = keep("import", "--most-memory", "1T", given=b"fay:\n")
-    text = b"credkeep: --most-memory: a size is a number of KiB, or one with K, M or G behind it\n"
-    same(ended, Ended(1, b"", text))
-    keep.is_sound()
+class LinesTest(BookTest):
+    def assertNames(self, done: Ended, status: int, wanted: dict[int, str]) -> None:
+        """It ends so, and names these lines and says nothing else."""
+        found = (done.status, done.written, named_lines(done), other_texts(done))
+        self.assertEqual(found, (status, "", wanted, []))
+
+    def test_remarks(self) -> None:
+        """Empty lines and lines that begin with # are passed over, and counted in the numbers of
+        the others."""
+        for end in ("\n", "\r\n"):
+            book = self.begun()
+            lines = ["", "# made by hand", "#", "#ann:x", f"ann:{RECORD}", "", "bob:", "", ""]
+            self.assertEqual(book("import", given=end.join(lines)), DONE)
+            done = book("import", given=end.join(["", "# x", "cat", "", " #", "dan:"]))
+            self.assertNames(done, 6, {3: "11 line", 5: "11 line"})
+            self.assertEqual(book.accounts(), {"ann": RECORD, "bob": ""})
+        for given in ("", "#\n\n", "# the last line has no end"):
+            self.assertEqual(book("import", given=given), DONE)
+
+    def test_bad_lines(self) -> None:
+        """Each bad line is named with its fault, and nothing is changed; with --skip-bad the others
+        are taken in, and the bad ones are counted."""
+        lines = [f"new:{RECORD}", *(line for line, _ in BAD_LINES), f"last:{OTHER}", "# x", "none:"]
+        wanted = {at: why for at, (_, why) in enumerate(BAD_LINES, 2)}
+        for end in ("\n", "\r\n"):
+            book, given = self.begun({"ann": RECORD}), end.join(lines) + end
+            self.assertNames(book("import", given=given), 6, wanted)
+            self.assertEqual(book.accounts(), {"ann": RECORD})
+            done = book("import", "--skip-bad", given=given)
+            self.assertEqual((done.status, done.written, named_lines(done)), (0, "", wanted))
+            left_out = f"left out {len(BAD_LINES)} lines, which are bad"
+            self.assertEqual(other_texts(done), [left_out])
+            added = {"new": RECORD, "last": OTHER, "none": ""}
+            self.assertEqual(book.accounts(), {"ann": RECORD, **added})
+            self.assertSound(book)
+
+    def test_only_bad_lines(self) -> None:
+        """Where no line is good nothing is added, and that is no failure; without a bad line
+        nothing is said."""
+        done = self.book("import", "--skip-bad", given="x\ny\n")
+        self.assertEqual((done.status, named_lines(done)), (0, {1: "11 line", 2: "11 line"}))
+        self.assertEqual(self.book("import", "--skip-bad", given="bob:\n"), DONE)
+        self.assertEqual(self.book.names(), ["bob"])
+
+    def test_many_lines(self) -> None:
+        """More than are taken in or written at once; then every second line is bad."""
+        self.begun({f"a{at}": "" for at in range(4097)})
+        self.assertEqual(len(self.book.names()), 4097)
+        self.assertEqual(self.book("import", given="b:\na0:\n").status, 6)
+        self.assertEqual(len(self.book.names()), 4097)
+        book = self.begun()
+        lines = [f"n{at:05}:{RECORD}" if at % 2 else f"n{at:05}" for at in range(1, 20001)]
+        done = book("import", "--skip-bad", given="\n".join(lines))
+        self.assertEqual(done.status, 0)
+        self.assertEqual(named_lines(done), {at: "11 line" for at in range(2, 20001, 2)})
+        names = [f"n{at:05}" for at in range(1, 20001, 2)]
+        self.assertEqual(book.accounts(), {name: RECORD for name in names})
+        costs = [f"{name}:$argon2id$v=19$m=256,t=2,p=1" for name in names]
+        self.assertEqual(book("list", "--costs").written.splitlines(), costs)
+        self.assertSound(book)
+
+    def test_forms(self) -> None:
+        wanted = {line.split(":")[0]: record for line, record in FORMS}
+        for end in ("\n", "\r\n"):
+            book = self.begun()
+            self.assertEqual(book("import", given="".join(line + end for line, _ in FORMS)), DONE)
+            self.assertEqual(book.accounts(), dict(sorted(wanted.items())))
+            for name in (name for name, record in wanted.items() if record):
+                self.assertEqual(book("check", name, given="password\n"), says("yes"))
+            self.assertSound(book)
+
+    def test_costs(self) -> None:
+        """A list of costs has each record's scheme and numbers, and neither a salt nor a hash."""
+        self.assertEqual(self.book("list", "--costs"), DONE)
+        old = RECORD.replace("$v=19", "")
+        self.begun({"cat": SCRYPT, "ann": RECORD, "bob": "", "dan": OTHER, "eve": old})
+        costs: Accounts = {
+            "ann": "$argon2id$v=19$m=256,t=2,p=1",
+            "bob": "",
+            "cat": "$scrypt$ln=14,r=8,p=1",
+            "dan": "$argon2i$v=19$m=256,t=2,p=1",
+            "eve": "$argon2id$v=16$m=256,t=2,p=1",
+        }
+        self.assertEqual(self.book("list", "--costs"), Ended(0, lines_of(costs)))
+        for name in ("ann", "cat", "dan", "eve"):
+            self.assertEqual(self.book("show", name), Ended(0, f"{costs[name]}\n"))
+        self.assertEqual(self.book.names(), sorted(costs))
+        self.assertEqual(self.book("check", "cat", given="pleaseletmein\n"), says("yes"))
 
 
-# How many lines an import has that is killed.
-LINES = 4000
+class OthersTest(BookTest):
+    def test_records_of_argon2_cffi_and_passlib(self) -> None:
+        need_module("argon2", "passlib.hash")
+        import argon2
+        import passlib.hash
+
+        cheap = argon2.PasswordHasher(time_cost=1, memory_cost=8, parallelism=1)
+        passlib_argon2 = passlib.hash.argon2.using(rounds=1, memory_cost=64, parallelism=2)
+        records = {
+            "cffi": cheap.hash("secret"),
+            "none": "",
+            "passlib": passlib_argon2.hash("secret"),
+            "scrypt": passlib.hash.scrypt.using(rounds=4).hash("secret"),
+        }
+        self.begun(records)
+        for name, record in records.items():
+            right, wrong = ("yes", "no") if record else ("absent", "absent")
+            self.assertEqual(self.book("check", name, given="secret\n"), says(right))
+            self.assertEqual(self.book("check", name, given="secret!\n"), says(wrong))
+        self.assertEqual(self.book.accounts(), records)
+        self.assertSound(self.book)
+
+    def test_files_of_htpasswd(self) -> None:
+        """Its own records are named, and ours are taken."""
+        need("htpasswd")
+        path = self.room / "passwd"
+        path.write_text(f"# the admins\n\nann:{RECORD}\n")
+        for name, scheme in (("bob", "-B"), ("cat", "-m"), ("dan", "-s")):
+            words = ["htpasswd", "-b", scheme, str(path), name, "secret"]
+            subprocess.run(words, check=True, capture_output=True)
+        faults = {"bob": "2 scheme", "cat": "2 scheme", "dan": "1 shape"}
+        names = [line.split(":")[0] for line in path.read_text().splitlines()]
+        wanted = {at: faults[name] for at, name in enumerate(names, 1) if name in faults}
+        self.assertEqual(len(wanted), 3)
+        for words, status in ((["import"], 6), (["import", "--skip-bad"], 0)):
+            done = self.book(*words, given=path.read_text())
+            self.assertEqual((done.status, named_lines(done)), (status, wanted))
+        self.assertEqual(self.book.accounts(), {"ann": RECORD})
+
+    def test_files_of_usermod(self) -> None:
+        """A shadow file of Debian's: an account that `usermod -L` locked, and one that never had
+        a password."""
+        need("usermod")
+        etc, users = self.room / "root/etc", ("ann", "bob", "cat")
+        etc.mkdir(parents=True)
+        for file, line in (
+            ("passwd", "{0}:x:{1}:{1}::/:/bin/sh\n"),
+            ("group", "{0}:x:{1}:\n"),
+            ("shadow", "{0}:*:19000:0:99999:7:::\n"),
+        ):
+            text = "".join(line.format(name, 1000 + at) for at, name in enumerate(users))
+            (etc / file).write_text(text)
+        for words in (("-p", RECORD, "ann"), ("-p", RECORD, "bob"), ("-L", "bob")):
+            command = ["usermod", "--prefix", str(etc.parent), *words]
+            subprocess.run(command, check=True, capture_output=True, timeout=60)
+        shadow = (etc / "shadow").read_text()
+        stored = [line.split(":")[1] for line in shadow.splitlines()]
+        self.assertEqual(stored, [RECORD, f"!{RECORD}", "*"])
+        done = self.book("import", given=shadow)
+        self.assertEqual((done.status, named_lines(done)), (6, {2: "17 locked", 3: "17 locked"}))
+        self.assertEqual(self.book("import", "--disable-locked", given=shadow), DONE)
+        self.assertEqual(self.book.accounts(), {"ann": RECORD, "bob": "", "cat": ""})
+
+    def test_records_of_dovecot(self) -> None:
+        """As text they are taken; in hexadecimal and base64 once docs/MIGRATING.md's command wrote
+        them out."""
+        need("doveadm", "perl")
+        page = (TOP / "docs/MIGRATING.md").read_text()
+        command = re.search(r"^ *perl -MMIME::Base64.*$", page, re.MULTILINE)[0].strip()
+        forms = [f"{it}{end}" for it in ("ARGON2ID", "ARGON2I") for end in ("", ".HEX", ".B64")]
+        lines = "".join(
+            f"{form.lower()}:{made_by_dovecot(form)}:1000:1000::/home\n" for form in forms
+        )
+        done = self.book("import", given=lines)
+        self.assertEqual((done.status, sorted(named_lines(done))), (6, [2, 3, 5, 6]))
+        pipe = {"input": lines, "capture_output": True, "text": True, "check": True}
+        written = subprocess.run(command, shell=True, **pipe).stdout
+        self.assertEqual(self.book("import", given=written), DONE)
+        for form in forms:
+            self.assertEqual(self.book("check", form.lower(), given="secret\n"), says("yes"))
+            self.assertEqual(self.book("check", form.lower(), given="guess\n"), says("no"))
 
 
-def killed_imports(room: Room) -> None:
-    """After a kill at any moment all of the lines are taken in, or none."""
-    given = "".join(f"n{at}:{RECORD}\n" for at in range(LINES)).encode()
-    keep = begun(room)
-    keep.add("ann")
-    with given_import(keep, given) as run:
-        start = time.monotonic()
-        same(run.communicate(), (b"", b""))
-        took = time.monotonic() - start
-    same(run.returncode, 0)
-    keep.is_sound()
-    chance, counts = random.Random(), {0: 0, LINES: 0}
-    for turn in range(room.kills):
-        for file in room.folder.glob("users.db*"):
-            file.unlink()
-        same(keep("init").status, 0)
-        keep.add("ann")
-        with given_import(keep, given) as run:
-            time.sleep(chance.random() * 1.5 * took)
-            run.kill()
-            run.communicate()
-        there = keep.names()
-        holds(there[:1] == ["ann"] and len(there) - 1 in counts, f"turn {turn}: {len(there) - 1} of {LINES}")
-        counts[len(there) - 1] += 1
-        if turn % 20 == 0:
-            keep.is_sound()
-    print(f"      of {room.kills} kills {counts[0]} left none of {LINES} lines, and {counts[LINES]} all")
-
-
-def given_import(keep: Keep, given: bytes) -> "subprocess.Popen[bytes]":
-    """An import that has been given its lines."""
-    command = [str(keep.program), str(keep.path), "import"]
-    run = subprocess.Popen(command, stdin=subprocess.PIPE, stdout=subprocess.PIPE, stderr=subprocess.PIPE)
-    assert run.stdin
-    run.stdin.write(given)
-    run.stdin.close()
-    run.stdin = None
-    return run
-
-
-def few_syncs(room: Room) -> None:
-    """An import syncs as often for a thousand lines as for ten."""
-    shim = counter(room, "syncs", SYNC_COUNTER)
-    counts = []
-    for lines in (10, 1000):
-        for file in room.folder.iterdir():
-            file.unlink()
-        keep = begun(room)
-        given = b"".join(b"n%d:\n" % at for at in range(lines))
-        counts.append(counted(shim, "SYNCS", [str(keep.program), str(keep.path), "import"], given)[0])
-    same(counts[0], counts[1])
-
-
-def import_without_room(room: Room) -> None:
-    """A file that can't grow: the import is named, and all or none of it is kept."""
-    keep = begun(room)
-    keep.add("ann")
-
-    def small() -> None:
-        resource.setrlimit(resource.RLIMIT_FSIZE, (100_000, 100_000))
-
-    done = subprocess.run(
-        [str(keep.program), str(keep.path), "import"],
-        input="".join(f"n{at}:{RECORD}\n" for at in range(4000)).encode(),
-        capture_output=True,
-        timeout=60,
-        preexec_fn=small,
-        restore_signals=False,
-    )
-    same((done.returncode, done.stdout), (5, b""))
-    first = done.stderr.decode().splitlines()[0]
-    # The system's refusal is told as what it was: which error a lost import names stands in no clause.
-    lost = "; the 4000 new accounts may be kept or not, all or none of them"
-    same(first, f"credkeep: the database failed: disk I/O error{lost}")
-    same(keep.names(), ["ann"])
-
-
-def import_without_memory(room: Room) -> None:
-    """Whichever request for memory of an import is refused, all of it is taken in, or none."""
-    empty = begun(room)
-    empty.add("ann")
-
-    def judge(ended: Ended, there: list[str]) -> None:
-        holds(there in (["ann"], ["a", "ann", "b", "c"]), f"{there}")
-        holds(ended.status != 0 or len(there) == 4, "done without the accounts")
-
-    each_request_refused(room, empty, "import", f"a:{RECORD}\nb:\nc:{RECORD}\n".encode(), judge)
-
-
-def refused_imports(room: Room) -> None:
-    """Each write, sync and cut of an import is refused in turn, by strace: all of it is kept, or none."""
-    given = "".join(f"n{at}:{RECORD}\n" for at in range(200)).encode()
-    for call in ("pwrite64", "write", "fsync", "fdatasync", "ftruncate"):
-        refused = 0
-        for nth in range(1, 200):
-            for file in room.folder.iterdir():
-                file.unlink()
-            keep, trace = begun(room), room.folder / "trace"
-            strace = ["strace", "-f", "-o", str(trace), "-e", f"inject={call}:error=EIO:when={nth}"]
-            command = [*strace, str(keep.program), str(keep.path), "import"]
-            done = subprocess.run(command, input=given, capture_output=True, timeout=60)
-            if "INJECTED" not in trace.read_text():
-                break
-            refused += 1
-            there = len(keep.names())
-            holds(there in (0, 200), f"{call} {nth}: {there} of 200 lines")
-            holds(done.returncode in (0, 2, 5), f"{call} {nth}: status {done.returncode}")
-            holds(done.returncode != 0 or there == 200, f"{call} {nth}: done without the accounts")
-            keep.is_sound()
-        print(f"      {call}: {refused} refused")
+def made_by_dovecot(form: str) -> str:
+    """A record in this form, of the password "secret"."""
+    words = ["doveadm", "-o", "stats_writer_socket_path=", "pw", "-s", form, "-p", "secret"]
+    return subprocess.run(words, capture_output=True, check=True, text=True).stdout.strip()

@@ -1,74 +1,98 @@
-"""Kills, and disks that are full."""
+"""Kills at random moments: what was answered stands, and nothing is done by halves."""
 
-import os
 import random
-import shutil
 import signal
-import subprocess
 import time
 
-from credkeep.keep import Keep, Room, begun, holds, same
+from tests.credkeep.books import (
+    DONE,
+    OTHER,
+    RECORD,
+    SETTING,
+    Accounts,
+    Book,
+    BookTest,
+    killed,
+    lines_of,
+)
+from tests.helpers import TIMES
+
+FOUR = {f"n{at:04}": RECORD for at in range(4000)}
+SIX = {f"n{at:04}": OTHER for at in range(6000)}
+
+# A book, an order on it with its input, the book after it, and how often it is killed.
+ORDERS: list[tuple[Accounts, list[str], str, Accounts, int]] = [
+    ({"ann": OTHER}, ["reset", "ann", "--setting", SETTING], "password\n", {"ann": RECORD}, 12),
+    ({"ann": RECORD, "cat": ""}, ["rename", "ann", "bob"], "", {"bob": RECORD, "cat": ""}, 10),
+    ({"ann": RECORD, "cat": ""}, ["disable", "ann"], "", {"ann": "", "cat": ""}, 10),
+    ({"ann": RECORD, "cat": ""}, ["delete", "ann"], "", {"cat": ""}, 10),
+    ({"ann": RECORD}, ["import"], lines_of(FOUR), {"ann": RECORD, **FOUR}, 50),
+    ({name: RECORD for name in list(SIX)[::2]}, ["import", "--update"], lines_of(SIX), SIX, 20),
+]
 
 
-def kills(room: Room) -> None:
-    """Every change that was answered is there after a kill, and at most one that wasn't."""
-    keep = begun(room)
-    chance, at = random.Random(), 0
-    for turn in range(room.kills):
-        if at > 3000:
-            for file in room.folder.glob("users.db*"):
-                file.unlink()
-            same(keep("init").status, 0)
-            at = 0
-        run = keep.script()
-        assert run.stdin and run.stdout
-        fed = [f"n{i}" for i in range(at, at + 300)]
-        feeder = os.fork()
-        if feeder == 0:
-            try:
-                run.stdin.write("".join(f"account {name}\n" for name in fed).encode())
-                run.stdin.flush()
-            finally:
-                os._exit(0)
-        time.sleep(chance.random() * 0.08)
-        run.send_signal(signal.SIGKILL)
-        answers = run.communicate()[0]
-        os.waitpid(feeder, 0)
-        answered = answers.split(b"\n")[:-1]
-        holds(set(answered) <= {b"ok"}, f"{set(answered)!r}")
-        at += len(answered)
-        there = set(keep.names())
-        holds({f"n{i}" for i in range(at)} <= there, f"turn {turn}: an answered change is gone")
-        extra = there - {f"n{i}" for i in range(at)}
-        holds(extra <= {f"n{at}"}, f"turn {turn}: {extra} too")
-        at += len(extra)
-        if turn % 20 == 0:
-            keep.is_sound()
-    keep.is_sound()
-    print(f"      {room.kills} kills, and {at} accounts in the last file")
+class OrdersTest(BookTest):
+    def test_orders(self) -> None:
+        """An order is done whole or not at all, and one that was answered is done."""
+        for before, words, given, after, kills in ORDERS:
+            with self.subTest(words=words):
+                self.begun(before)
+                whole = self.book.path.read_bytes()
+                start = time.monotonic()
+                self.assertEqual(self.book(*words, given=given).status, 0)
+                took = time.monotonic() - start
+                self.assertEqual(self.book.accounts() == after, True)
+                for turn in range(kills * TIMES):
+                    self.book.remove()
+                    self.book.path.write_bytes(whole)
+                    self.book.path.chmod(0o600)
+                    answered = killed(self.book, *words, given=given, within=1.5 * took)
+                    found = self.book.accounts()
+                    self.assertTrue(found in (before, after), f"turn {turn}: a mixture")
+                    self.assertTrue(not answered or found == after, "an answered order is gone")
+                    if turn % 20 == 0:
+                        self.assertSound(self.book)
+
+    def test_init(self) -> None:
+        """After a kill there is no file, or a whole book; the next `init` goes on from there."""
+        start = time.monotonic()
+        self.assertEqual(self.file("first.db")("init"), DONE)
+        took = time.monotonic() - start
+        for turn in range(20 * TIMES):
+            book = self.file(f"{turn}.db")
+            killed(book, "init", within=1.5 * took)
+            if not book.path.exists():
+                self.assertEqual(book("init"), DONE)
+            self.assertEqual(book("list"), DONE)
 
 
-def full_disk(room: Room) -> None:
-    """A small tmpfs fills: the change that fails is named, and every one before it is there."""
-    mount = room.folder / "small"
-    mount.mkdir()
-    subprocess.run(["mount", "-t", "tmpfs", "-o", "size=256k", "tmpfs", str(mount)], check=True)
-    try:
-        keep = Keep(room.program, mount / "users.db")
-        same(keep("init").status, 0)
-        lines = b"".join(b"account n%d\n" % at for at in range(4000))
-        command = [str(room.program), str(keep.path), "run"]
-        done = subprocess.run(command, input=lines, capture_output=True, timeout=60)
-        answered = done.stdout.count(b"\n")
-        same(done.returncode, 5)
-        holds(0 < answered < 4000, f"{answered} answered")
-        holds(f"the change of n{answered} may be kept or not".encode() in done.stderr, str(done.stderr))
-        for file in mount.iterdir():
-            shutil.copy(file, room.folder)
-        copied = room.keep()
-        there = set(copied.names())
-        wanted = {f"n{at}" for at in range(answered)}
-        holds(wanted <= there <= wanted | {f"n{answered}"}, "another book")
-        copied.is_sound()
-    finally:
-        subprocess.run(["umount", str(mount)], check=True)
+class ScriptsTest(BookTest):
+    def test_scripts(self) -> None:
+        """Every change that was answered is there after a kill, and at most one that wasn't."""
+        for order, signals, kills in (
+            ("run", [signal.SIGKILL], 50),
+            ("serve", [signal.SIGKILL, signal.SIGTERM], 20),
+        ):
+            with self.subTest(order=order):
+                count = 0
+                for turn in range(kills * TIMES):
+                    if count == 0 or count > 3000:
+                        count, book = 0, self.begun()
+                    count = self.killed(book, order, signals[turn % len(signals)], count)
+                    if turn % 20 == 0:
+                        self.assertSound(book)
+                self.assertSound(book)
+
+    def killed(self, book: Book, order: str, how: signal.Signals, count: int) -> int:
+        """Kills it amid new accounts after the first so many; how many there are then."""
+        with book.start(order) as run:
+            feeder = run.feed("".join(f"account n{at}\n" for at in range(count, count + 300)))
+            time.sleep(random.random() * 0.08)
+            run.process.send_signal(how)
+            answers = run.process.stdout.read().decode().split("\n")[:-1]
+            feeder.join()
+        self.assertLessEqual(set(answers), {"ok"})
+        answered, found = count + len(answers), set(book.names())
+        self.assertLessEqual({f"n{at}" for at in range(answered)}, found, "an answer is gone")
+        self.assertLessEqual(found, {f"n{at}" for at in range(answered + 1)})
+        return len(found)

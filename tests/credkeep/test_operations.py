@@ -1,149 +1,206 @@
-"""Orders without a password: disable, delete, rename."""
+"""Each operation on an account, with each answer that it has: at every door the same."""
 
-import random
-import resource
-import subprocess
-import time
+from tests.credkeep.books import CHEAP, DONE, RECORD, SALT, SCRYPT, TAG, BookTest
+from tests.credkeep.doors import DOORS, Script, Tagged, perform
 
-from credkeep.commands import own_records
-from credkeep.keep import Ended, Keep, RECORD, Room, begun, holds, same
+WIDER = "$argon2id$v=19$m=16,t=1,p=1"
 
-
-def edits(room: Room) -> None:
-    keep = begun(room)
-    for words in (["disable", "ann"], ["delete", "ann"], ["rename", "ann", "bob"], ["rename", "ann", "ann"]):
-        same((words, keep(*words)), (words, Ended(4, b"noaccount\n", b"")))
-    same(keep.names(), [])
-    keep.add("ann", b"first\n")
-    keep.add("cat", b"third\n")
-    records = own_records(keep)
-    same(keep("rename", "ann", "cat"), Ended(4, b"exists\n", b""))
-    same(keep("rename", "ann", "ann"), Ended(4, b"exists\n", b""))
-    same(own_records(keep), records)
-    same(keep("rename", "ann", "bob"), Ended(0, b"renamed\n", b""))
-    same(own_records(keep), {"bob": records["ann"], "cat": records["cat"]})
-    same(keep("check", "ann", given=b"first\n"), Ended(4, b"noaccount\n", b""))
-    same(keep("check", "bob", given=b"first\n"), Ended(0, b"yes\n", b""))
-    same(keep("disable", "bob"), Ended(0, b"disabled\n", b""))
-    same(keep("disable", "bob"), Ended(4, b"absent\n", b""))
-    same(keep("check", "bob", given=b"first\n"), Ended(4, b"absent\n", b""))
-    same(keep("rename", "bob", "dan"), Ended(0, b"renamed\n", b""))
-    same(own_records(keep), {"cat": records["cat"], "dan": ""})
-    same(keep("delete", "dan"), Ended(0, b"deleted\n", b""))
-    same(keep("delete", "cat"), Ended(0, b"deleted\n", b""))
-    same(keep("delete", "cat"), Ended(4, b"noaccount\n", b""))
-    same(keep.names(), [])
+OPERATIONS = [
+    # No account.
+    ("verify ann one", "noaccount"),
+    ("login ann one", "noaccount"),
+    ("change ann one two", "noaccount"),
+    ("upgrade ann one", "noaccount"),
+    ("remove ann one", "noaccount"),
+    ("reset ann one", "noaccount"),
+    ("disable ann", "noaccount"),
+    ("delete ann", "noaccount"),
+    ("rename ann bob", "noaccount"),
+    ("rename ann ann", "noaccount"),
+    ("show ann", "bad 5 noaccount"),
+    (f"load ann {RECORD}", "bad 5 noaccount"),
+    # An account without a record.
+    ("account ann", "ok"),
+    ("account ann", "bad 1 exists"),
+    ("show ann", "none"),
+    ("verify ann one", "absent"),
+    ("login ann one", "absent"),
+    ("change ann one two", "absent"),
+    ("upgrade ann one", "absent"),
+    ("remove ann one", "absent"),
+    ("disable ann", "absent"),
+    # An account with one.
+    ("enrol ann one", "enrolled"),
+    ("enrol ann two", "exists"),
+    ("verify ann one", "yes"),
+    ("verify ann One", "no"),
+    ("login ann one", "yes"),
+    ("login ann two", "no"),
+    ("change ann two -", "wrong"),
+    (f"change ann one two {WIDER}$AAAAAAAAAAA", "replaced"),
+    ("verify ann one", "no"),
+    ("verify ann two", "yes"),
+    ("upgrade ann one", "wrong"),
+    (f"upgrade ann two {WIDER}$BBBBBBBBBBA", "kept"),
+    ("upgrade ann two", "upgraded"),
+    ("upgrade ann two", "kept"),
+    ("verify ann two", "yes"),
+    ("reset ann one", "replaced"),
+    ("verify ann two", "no"),
+    ("verify ann one", "yes"),
+    ("remove ann two", "wrong"),
+    ("remove ann one", "removed"),
+    ("remove ann one", "absent"),
+    ("reset ann two", "enrolled"),
+    ("verify ann two", "yes"),
+    # Its name and its record.
+    ("account cat", "ok"),
+    ("rename ann cat", "exists"),
+    ("rename ann ann", "exists"),
+    ("verify ann two", "yes"),
+    ("rename ann bob", "renamed"),
+    ("verify ann two", "noaccount"),
+    ("verify bob two", "yes"),
+    ("disable bob", "disabled"),
+    ("disable bob", "absent"),
+    ("verify bob two", "absent"),
+    ("login bob two", "absent"),
+    ("rename bob dan", "renamed"),
+    ("show dan", "none"),
+    ("delete dan", "deleted"),
+    ("delete dan", "noaccount"),
+    ("delete cat", "deleted"),
     # The places are free again.
-    keep.add("cat", b"new\n")
-    same(keep("check", "cat", given=b"new\n"), Ended(0, b"yes\n", b""))
-    keep.is_sound()
-
-
-# A book, an order, and the book after it.
-EDITS: list[tuple[dict[str, str], list[str], dict[str, str]]] = [
-    ({"ann": "R", "cat": ""}, ["rename", "ann", "bob"], {"bob": "R", "cat": ""}),
-    ({"ann": "R", "cat": ""}, ["disable", "ann"], {"ann": "", "cat": ""}),
-    ({"ann": "R", "cat": ""}, ["delete", "ann"], {"cat": ""}),
+    ("account cat", "ok"),
+    ("enrol cat -", "enrolled"),
+    ("verify cat -", "yes"),
+    ("account dan", "ok"),
+    # Records that others made.
+    (f"load cat {RECORD}", "ok"),
+    ("show cat", RECORD),
+    ("verify cat password", "yes"),
+    ("verify cat passwort", "no"),
+    (f"load dan {SCRYPT}", "ok"),
+    ("verify dan pleaseletmein", "yes"),
+    (f"upgrade dan pleaseletmein $scrypt$ln=4,r=8,p=1${SALT}", "upgraded"),
+    ("verify dan pleaseletmein", "yes"),
 ]
 
-# The bytes of a log with nothing in it.
-EMPTY_LOG = 41
+# What a line may not be, and the fault that it is answered by.
+FAULTS = [
+    ("frob ann", "11 line"),
+    ("show", "11 line"),
+    ("show ann ann", "11 line"),
+    ("show  ann", "11 line"),
+    ("show ann ", "11 line"),
+    ("show Ann", "3 name"),
+    ("account " + "x" * 33, "3 name"),
+    ("verify ann !", "13 password"),
+    ("verify ann " + "A" * 343, "13 password"),
+    (f"enrol ann - $argon2id$v=16$m=8,t=1,p=1${SALT}", "3 version"),
+    (f"enrol ann - $argon2id$v=19$m=7,t=1,p=1${SALT}", "5 range"),
+    ("load ann x", "1 shape"),
+]
+
+# Settings and records that ask for 64 KiB, and for more.
+WITHIN, ABOVE = (f"$argon2id$v=19$m={kib},t=1,p=1${SALT}" for kib in (64, 65))
+# scrypt asks for 128 * 2^ln * r * p bytes: 64 KiB, and two times as much.
+FLAT, TWICE = (f"$scrypt$ln=6,r=8,p={p}${SALT}" for p in (1, 2))
+COSTLY = "bad 18 costly"
+
+# With a bound of 64 KiB and without one. The book has ann's record already.
+BOUNDED = [
+    ("verify ann one", "yes", "yes"),
+    (f"load bob {WITHIN}${TAG}", "ok", "ok"),
+    (f"load bob {ABOVE}${TAG}", COSTLY, "ok"),
+    (f"load bob {TWICE}${TAG}", COSTLY, "ok"),
+    (f"load zed {ABOVE}${TAG}", COSTLY, "bad 5 noaccount"),
+    (f"load bob {FLAT}${TAG}", "ok", "ok"),
+    (f"enrol bob one {ABOVE}", COSTLY, "exists"),
+    (f"enrol bob one {WITHIN}", "exists", "exists"),
+    (f"change bob one - {FLAT}", "wrong", "wrong"),
+    (f"change ann two one {ABOVE}", COSTLY, "wrong"),
+    (f"upgrade ann two {TWICE}", COSTLY, "wrong"),
+    (f"reset bob one {ABOVE}", COSTLY, "replaced"),
+    (f"reset bob one {WITHIN}", "replaced", "replaced"),
+    ("reset bob one", "replaced", "replaced"),
+    ("login ann one", "yes", "yes"),
+    ("change ann one one", "replaced", "replaced"),
+    ("remove ann one", "removed", "removed"),
+]
+BOUNDS = [("--most-memory", "64"), ("--most-memory", "64K"), ("--most-memory", "1M"), ()]
 
 
-def with_records(book: dict[str, str]) -> dict[str, str]:
-    """The book, with a record for each R."""
-    return {name: RECORD if stored else "" for name, stored in book.items()}
+class OperationsTest(BookTest):
+    def test_operations(self) -> None:
+        for name, door in DOORS.items():
+            with self.subTest(door=name):
+                book = self.begun()
+                perform(self, book, door, OPERATIONS)
+                found = book.accounts()
+                self.assertEqual((list(found), found["cat"]), (["cat", "dan"], RECORD))
+                self.assertTrue(found["dan"].startswith("$scrypt$ln=4,r=8,p=1$"), found)
+                self.assertSound(book)
 
+    def test_faults(self) -> None:
+        """A line that isn't one has the same fault from a script and a service, and no effect."""
+        answers = "".join(f"bad {fault}\n" for _, fault in FAULTS)
+        lines = [f"begin 1 {it}" if it.split()[0] in Script.begun else it for it, _ in FAULTS]
+        for order in ("run", "serve"):
+            done = self.book(order, given="".join(f"{line}\n" for line in lines))
+            self.assertEqual((order, done), (order, (0, answers, "")))
+        found = self.book.answers(*(f"t {line}" for line, _ in FAULTS))
+        self.assertEqual(found, [f"t bad {fault}" for _, fault in FAULTS])
+        self.assertEqual(self.book.names(), [])
 
-def before_edit(room: Room, book: dict[str, str]) -> Keep:
-    """A new file with this book."""
-    for file in room.folder.glob("users.db*"):
-        file.unlink()
-    keep = begun(room)
-    given = "".join(f"{name}:{stored}\n" for name, stored in with_records(book).items())
-    same(keep("import", given=given.encode()).status, 0)
-    return keep
+    def test_bounds(self) -> None:
+        """What a line brings is refused if it asks for more than --most-memory; what the book has
+        already, and what the service draws, is not."""
+        for words in BOUNDS:
+            at = 1 if "64" in "".join(words) else 2
+            for door in (Script("serve", *words), Tagged(*words)):
+                with self.subTest(words=words, door=type(door).__name__):
+                    book = self.begun({"ann": "", "bob": ""})
+                    perform(self, book, Tagged(), [(f"enrol ann one {ABOVE}", "enrolled")])
+                    rows = [(row[0], row[at]) for row in BOUNDED]
+                    door.perform(self, book, [it for it in rows if it[0].split()[0] in door.verbs])
+                    self.assertSound(book)
 
+    def test_bounds_at_other_doors(self) -> None:
+        """What the book has is checked whatever it asks for, and `run` has no bound."""
+        book = self.begun({"ann": f"{ABOVE}${TAG}"})
+        asked = "show ann\nbegin 1 verify ann -\ncommit 1\n"
+        answers = f"{ABOVE}${TAG}\nbegun\nno\n"
+        self.assertEqual(book("serve", "--most-memory", "0", given=asked), (0, answers, ""))
+        self.assertEqual(book("run", given=f"load ann {ABOVE}${TAG}\n"), (0, "ok\n", ""))
 
-def seconds_of_edit(room: Room, book: dict[str, str], words: list[str]) -> float:
-    """How long an order takes that isn't killed."""
-    keep, start = before_edit(room, book), time.monotonic()
-    subprocess.run([str(keep.program), str(keep.path), *words], stdin=subprocess.DEVNULL, stdout=subprocess.DEVNULL, check=True)
-    return time.monotonic() - start
+    def test_bounds_and_numbers(self) -> None:
+        """A number is looked at before what its line asks for, and that before an open number."""
+        book = self.begun({"ann": ""})
+        for words, above in ((("--most-memory", "64"), COSTLY), ((), "bad 14 busy")):
+            dialogue = [
+                (f"begin 65 enrol ann - {ABOVE}", "bad 12 key"),
+                (f"begin 4 enrol ann - {WITHIN}", "begun"),
+                (f"begin 4 enrol ann - {ABOVE}", above),
+                ("commit 1", "bad 15 idle"),
+            ]
+            done = book("serve", *words, given="".join(f"{line}\n" for line, _ in dialogue))
+            self.assertEqual(done, (0, "".join(f"{answer}\n" for _, answer in dialogue), ""))
 
-
-def killed_edits(room: Room) -> None:
-    """After a kill at any moment an order is done whole or not at all, and an answered one is done."""
-    chance, done = random.Random(), 0
-    took = max(seconds_of_edit(room, book, words) for book, words, _ in EDITS)
-    for turn in range(room.kills // 2):
-        book, words, after = EDITS[turn % len(EDITS)]
-        keep = before_edit(room, book)
-        command = [str(keep.program), str(keep.path), *words]
-        with subprocess.Popen(command, stdin=subprocess.DEVNULL, stdout=subprocess.PIPE) as run:
-            time.sleep(chance.random() * 1.5 * took)
-            run.kill()
-            answered = run.communicate()[0]
-        there = own_records(keep)
-        holds(there in (with_records(book), with_records(after)), f"{words}: {there}")
-        holds(not answered or there == with_records(after), f"an answered {words[0]} is gone")
-        done += there == with_records(after)
-        if turn % 20 == 0:
-            keep.is_sound()
-    print(f"      {done} of {room.kills // 2} were done")
-
-
-def ended_within(keep: Keep, words: list[str], size: int) -> Ended:
-    """How an order ends whose files may be written up to so many bytes."""
-
-    def small() -> None:
-        resource.setrlimit(resource.RLIMIT_FSIZE, (size, size))
-
-    # SIGXFSZ stays ignored, so that a write answers EFBIG.
-    done = subprocess.run(
-        [str(keep.program), str(keep.path), *words],
-        stdin=subprocess.DEVNULL,
-        capture_output=True,
-        timeout=60,
-        preexec_fn=small,
-        restore_signals=False,
-    )
-    return Ended(done.returncode, done.stdout, done.stderr)
-
-
-def edits_of_a_full_file(room: Room) -> None:
-    """A file whose log can't be begun isn't opened. If the log can't grow, the change is named, and what is kept is the book
-    before it or the one after it."""
-    for book, words, after in EDITS:
-        for size in (0, EMPTY_LOG - 1):
-            keep = before_edit(room, book)
-            same(ended_within(keep, words, size), Ended(5, b"", b"credkeep: disk I/O error\n"))
-            same(own_records(keep), with_records(book))
-        for size in (EMPTY_LOG, 4096):
-            keep = before_edit(room, book)
-            ended = ended_within(keep, words, size)
-            same((ended.status, ended.written), (5, b""))
-            holds(b"credkeep: the database failed: " in ended.faults, f"{ended.faults!r}")
-            holds(b"the change of ann may be kept or not" in ended.faults, f"{ended.faults!r}")
-            there = own_records(keep)
-            holds(there in (with_records(book), with_records(after)), f"{words}: {there}")
-
-
-def refused_edits(room: Room) -> None:
-    """Each write and sync of an order is refused in turn, by strace."""
-    for book, words, after in EDITS:
-        refused = 0
-        for call in ("pwrite64", "write", "fsync", "fdatasync", "ftruncate"):
-            for nth in range(1, 100):
-                keep, trace = before_edit(room, book), room.folder / "trace"
-                strace = ["strace", "-f", "-o", str(trace), "-e", f"inject={call}:error=EIO:when={nth}"]
-                done = subprocess.run([*strace, str(keep.program), str(keep.path), *words], capture_output=True, timeout=60)
-                if "INJECTED" not in trace.read_text():
-                    break
-                refused += 1
-                there = own_records(keep)
-                holds(there in (with_records(book), with_records(after)), f"{words}, {call} {nth}: {there}")
-                holds(not done.stdout or there == with_records(after), f"{words}, {call} {nth}: answered, not done")
-                holds(done.returncode in (0, 2, 5), f"{words}, {call} {nth}: status {done.returncode}")
-                holds(done.returncode != 0 or there == with_records(after), f"{words}, {call} {nth}: not done")
-        print(f"      {words[0]}: {refused} refused")
+    def test_bounds_of_costs(self) -> None:
+        """A service's own costs are within its bound, or it doesn't start."""
+        book, own = self.begun({"bob": ""}), (
+            "serve",
+            "--tagged",
+            "--setting",
+            WITHIN.rpartition("$")[0],
+        )
+        done = book(*own, "--most-memory", "64", given="t show bob\n")
+        self.assertEqual(done, (0, "t none\n", ""))
+        text = "credkeep: --setting: it asks for more than --most-memory (18 costly)\n"
+        for words in (
+            (*own, "--most-memory", "63"),
+            ("serve", "--tagged", "--most-memory", "65535"),
+        ):
+            self.assertEqual(book(*words, given="t account cat\n"), (1, "", text))
+        self.assertEqual(book.names(), ["bob"])

@@ -1,96 +1,103 @@
-"""Calls of the system and requests for memory, refused in turn."""
+"""Each request for memory of a run is refused in turn: the run ends with a status of its own, and
+what it answered is kept."""
 
-import os
-import shutil
-import subprocess
+import re
 from collections.abc import Callable
-from concurrent.futures import ThreadPoolExecutor
 
-from credkeep.keep import Ended, Failed, Keep, Room, begun, holds
-from refuse_memory import build as refusing_shim
+from tests.credkeep.books import CHEAP, RECORD, SALT, TAG, BookTest
+from tests.helpers import Ended, in_turn, without_request
 
-
-def refused_calls(room: Room) -> None:
-    """Each write, sync and cut of a script's run is refused in turn, by strace."""
-    names, lines = ["a", "b", "c"], b"account a\naccount b\naccount c\n"
-    for call in ("pwrite64", "write", "fsync", "fdatasync", "ftruncate"):
-        refused = 0
-        for nth in range(1, 100):
-            for file in room.folder.iterdir():
-                file.unlink()
-            keep, trace = begun(room), room.folder / "trace"
-            strace = ["strace", "-f", "-o", str(trace), "-e", f"inject={call}:error=EIO:when={nth}"]
-            command = [*strace, str(keep.program), str(keep.path), "run"]
-            done = subprocess.run(command, input=lines, capture_output=True, timeout=60)
-            if "INJECTED" not in trace.read_text():
-                break
-            refused += 1
-            answered = done.stdout.count(b"ok\n")
-            holds(done.returncode in (0, 2, 5), f"{call} {nth}: status {done.returncode}")
-            holds(done.returncode != 0 or answered == 3, f"{call} {nth}: {answered} answered")
-            there = keep.names()
-            holds(there in (names[:answered], names[: answered + 1]), f"{call} {nth}: {there}")
-            keep.is_sound()
-        print(f"      {call}: {refused} refused")
+NAMES = ["a", "b"]
+# A status, and whether all was done.
+STATUSES = [(0, True), (3, False), (3, True), (5, False), (5, True)]
+SERVED = [
+    ("account a", "ok"),
+    (f"load a $argon2id$v=19$m=64,t=1,p=1${SALT}${TAG}", "ok"),
+    ("begin 1 verify a cHc", "begun"),
+    ("commit 1", "no"),
+    ("account b", "ok"),
+    ("commit 1", "bad 15 idle"),
+]
 
 
-def refused_memory(room: Room) -> None:
-    """What was answered of a script's run is kept, and at most the line after it."""
-    names = ["a", "b"]
+class RefusedMemoryTest(BookTest):
+    def assertEach(
+        self, words: list[str], given: str, judge: Callable[[Ended, list[str]], None]
+    ) -> list[Ended]:
+        """Each end of the order passes the judge, who sees the names that are there afterwards."""
 
-    def judge(ended: Ended, there: list[str]) -> None:
-        answered = ended.written.count(b"ok\n")
-        holds(ended.status != 0 or answered == 2, f"{answered} answered")
-        holds(there in (names[:answered], names[: answered + 1]), f"{there}")
+        def attempt(nth: int) -> tuple[Ended, list[str]] | None:
+            book = self.file(f"{nth}.db")
+            self.book.move_to(book)
+            done = without_request(nth, book.command(*words), given)
+            names = book.names()
+            book.remove()
+            return done and (done, names)
 
-    each_request_refused(room, begun(room), "run", b"account a\naccount b\n", judge)
+        found = []
+        for nth, (done, names) in enumerate(in_turn(attempt), 1):
+            with self.subTest(request=nth, done=done):
+                judge(done, names)
+            found.append(done)
+        self.assertGreater(len(found), 20)
+        return found
 
+    def test_scripts(self) -> None:
+        """What was answered is kept, and at most the line after it."""
 
-def refused_memory_of_a_service(room: Room) -> None:
-    """A service answers `bad 4 memory` to a commit whose hash was refused memory, and goes on; otherwise it ends as a run does."""
-    record = b"$argon2id$v=19$m=64,t=1,p=1$c29tZXNhbHQ$" + b"A" * 43
-    lines = [b"account a", b"load a " + record, b"begin 1 verify a cHc", b"commit 1", b"account b", b"commit 1"]
-    answers = [b"ok", b"ok", b"begun", b"no", b"ok", b"bad 15 idle"]
-    starved = [*answers[:3], b"bad 4 memory", b"ok", b"no"]
-    went_on = []
+        def judge(done: Ended, names: list[str]) -> None:
+            answered = done.written.count("ok\n")
+            self.assertIn((done.status, answered == 2), STATUSES)
+            self.assertIn(names, (NAMES[:answered], NAMES[: answered + 1]))
 
-    def judge(ended: Ended, there: list[str]) -> None:
-        written = ended.written.split(b"\n")[:-1]
-        holds(written in (answers[: len(written)], starved[: len(written)]), f"{written}")
-        holds(ended.status != 0 or len(written) == len(lines), f"status {ended.status}: {written}")
-        named = written[:1].count(b"ok") + written[4:5].count(b"ok")
-        holds(there in (["a", "b"][:named], ["a", "b"][: named + 1]), f"{there}")
-        went_on.append(written == starved)
+        found = self.assertEach(["run"], "account a\naccount b\n", judge)
+        self.assertLessEqual({3, 5}, {it.status for it in found})
 
-    each_request_refused(room, begun(room), "serve", b"".join(line + b"\n" for line in lines), judge)
-    holds(any(went_on), "no request of a hash was refused")
+    def test_services(self) -> None:
+        """A commit whose hash was refused memory is answered `bad 4 memory`, and the service goes
+        on; otherwise it ends as a run does."""
+        answers = [answer for _, answer in SERVED]
+        starved = [*answers[:3], "bad 4 memory", "ok", "no"]
 
+        def judge(done: Ended, names: list[str]) -> None:
+            written = done.written.splitlines()
+            self.assertIn(written, (answers[: len(written)], starved[: len(written)]))
+            self.assertIn((done.status, len(written) == len(SERVED)), STATUSES)
+            named = written[:1].count("ok") + written[4:5].count("ok")
+            self.assertIn(names, (NAMES[:named], NAMES[: named + 1]))
 
-def each_request_refused(room: Room, empty: Keep, order: str, given: bytes, judge: Callable[[Ended, list[str]], None]) -> None:
-    """Each request for memory of an order is refused in turn, by a shim before the C library, and what came of it is judged."""
-    shim = refusing_shim(str(room.folder.parent))
+        given = "".join(f"{line}\n" for line, _ in SERVED)
+        found = self.assertEach(["serve"], given, judge)
+        self.assertLessEqual({3, 5}, {it.status for it in found})
+        self.assertIn(starved, [it.written.splitlines() for it in found])
 
-    def refused(nth: int) -> int | None:
-        """The status of a run whose request of this number is refused, or none if there is no such."""
-        folder = room.folder / str(nth)
-        folder.mkdir()
-        keep = Keep(room.program, folder / "users.db")
-        shutil.copy(empty.path, keep.path)
-        env = {**os.environ, "LD_PRELOAD": shim, "REFUSE_NTH": str(nth)}
-        done = subprocess.run([str(keep.program), str(keep.path), order], input=given, capture_output=True, timeout=60, env=env)
-        if b"REFUSED" not in done.stderr:
-            return None
-        holds(done.returncode in (0, 3, 5), f"request {nth}: status {done.returncode}")
-        try:
-            judge(Ended(done.returncode, done.stdout, done.stderr), keep.names())
-        except Failed as fault:
-            raise Failed(f"request {nth}: {fault}") from None
-        shutil.rmtree(folder)
-        return done.returncode
+    def test_imports(self) -> None:
+        """All of an import is taken in, or none."""
+        self.book.add("ann")
 
-    statuses: list[int | None] = []
-    with ThreadPoolExecutor(os.cpu_count()) as pool:
-        while None not in statuses:
-            statuses += pool.map(refused, range(len(statuses) + 1, len(statuses) + 65))
-    holds({3, 5} <= set(statuses), f"only {set(statuses)}")
-    print(f"      {statuses.index(None)} refused")
+        def judge(done: Ended, names: list[str]) -> None:
+            self.assertIn(names, (["ann"], ["a", "ann", "b", "c"]))
+            self.assertIn((done.status, len(names) == 4), STATUSES)
+
+        found = self.assertEach(["import"], f"a:{RECORD}\nb:\nc:{RECORD}\n", judge)
+        self.assertLessEqual({3, 5}, {it.status for it in found})
+
+    def test_services_of_tagged_lines(self) -> None:
+        """A line is answered once, or the service ends; a thread that was refused its memory may be
+        missing."""
+        self.book.answers("a account ann", "a enrol ann -")
+        given = "b verify ann -\nc show ann\nd change ann - -\ne login bob -\n"
+        answer = re.compile(r"[b-e] (yes|no|noaccount|replaced|bad 4 memory|\$argon2id\S*)")
+
+        def judge(done: Ended, names: list[str]) -> None:
+            lines = done.written.splitlines()
+            self.assertEqual([it for it in lines if not answer.fullmatch(it)], [])
+            self.assertEqual(len({it.split()[0] for it in lines}), len(lines))
+            self.assertIn(done.status, (0, 1, 2, 3, 5))
+            self.assertTrue(done.status != 0 or len(lines) == 4)
+            self.assertEqual(names, ["ann"])
+
+        words = ["serve", "--tagged", "--setting", CHEAP, "--at-once", "2"]
+        statuses = {it.status for it in self.assertEach(words, given, judge)}
+        self.assertIn(0, statuses)
+        self.assertGreater(len(statuses), 1)

@@ -1,98 +1,78 @@
-"""Passwords at a terminal, and scripts."""
+"""Passwords at a terminal."""
 
 import os
-import pathlib
 import pty
-import signal
 import termios
 import time
 
-from credkeep.keep import CHEAP, Ended, Room, begun, holds, same
+from tests.credkeep.books import CHEAP, BookTest, says
+from tests.helpers import LONGEST, TOP, program
 
-TOP = pathlib.Path(__file__).resolve().parent.parent.parent
 
-
-def at_a_terminal(program: list[str], typed: list[bytes], env: dict[str, str] | None = None) -> tuple[int, bytes, bool]:
-    """The status of a program whose terminal types these lines, each after a prompt, what the terminal
-    showed, and whether it echoed as the last line was typed."""
+def at_a_terminal(
+    command: list[str], typed: list[str], env: dict[str, str] | None = None
+) -> tuple[int, str, bool]:
+    """The status of a program whose terminal types these lines, each after a prompt, what the
+    terminal showed, and whether it echoed as the last line was typed."""
     pid, terminal = pty.fork()
     if pid == 0:
-        os.environ.update(env or {})
-        os.execvp(program[0], program)
-    shown, echo, asked = b"", True, 0
-    end = time.monotonic() + 30
+        os.execvpe(command[0], command, {**os.environ, **(env or {})})
+    shown, echo, lines = b"", True, list(typed)
+    end = time.monotonic() + LONGEST
     while time.monotonic() < end:
         try:
-            piece = os.read(terminal, 1000)
+            shown += os.read(terminal, 1000)
         except OSError:
             break
-        shown += piece
-        if asked < len(typed) and shown.endswith(b": "):
+        if lines and shown.endswith(b": "):
             echo = bool(termios.tcgetattr(terminal)[3] & termios.ECHO)
-            os.write(terminal, typed[asked] + b"\n")
-            asked += 1
-    status = os.waitstatus_to_exitcode(os.waitpid(pid, 0)[1])
+            os.write(terminal, f"{lines.pop(0)}\n".encode())
     os.close(terminal)
-    return status, shown, echo
+    return os.waitstatus_to_exitcode(os.waitpid(pid, 0)[1]), shown.decode(), echo
 
 
-def terminals(room: Room) -> None:
-    keep = begun(room)
-    command = [str(keep.program), str(keep.path)]
-    status, shown, _ = at_a_terminal([*command, "add", "ann"], [])
-    same(status, 1)
-    holds(b"credkeep-ask" in shown and b"--echo" in shown, f"{shown!r}")
-    same(keep.names(), [])
-    add = [*command, "add", "--echo", "--setting", CHEAP, "ann"]
-    same(at_a_terminal(add, [b"first", b"second"])[0], 6)
-    same(keep.names(), [])
-    status, shown, _ = at_a_terminal(add, [b"first", b"first"])
-    same((status, shown.splitlines()[-1]), (0, b"enrolled"))
-    status, shown, _ = at_a_terminal([*command, "check", "--echo", "ann"], [b"first"])
-    same((status, shown.splitlines()[-1]), (0, b"yes"))
-    change = [*command, "change", "--echo", "--setting", CHEAP, "ann"]
-    same(at_a_terminal(change, [b"first", b"third", b"third"])[0], 0)
-    same(keep("check", "ann", given=b"third\n").status, 0)
+class TerminalsTest(BookTest):
+    def test_echo(self) -> None:
+        """A terminal shows what is typed, so it is refused unless --echo is given."""
+        status, shown, _ = at_a_terminal(self.book.command("add", "ann"), [])
+        self.assertEqual(status, 1)
+        self.assertIn("credkeep-ask", shown)
+        self.assertIn("--echo", shown)
+        self.assertEqual(self.book.names(), [])
+        for order, typed, ended in (
+            ("add", ["first", "second"], (6, None)),
+            ("add", ["first", "first"], (0, "enrolled")),
+            ("check", ["first"], (0, "yes")),
+            ("change", ["first", "third", "third"], (0, "replaced")),
+        ):
+            costs = [] if order == "check" else ["--setting", CHEAP]
+            command = self.book.command(order, "--echo", *costs, "ann")
+            status, shown, _ = at_a_terminal(command, typed)
+            answer = shown.splitlines()[-1] if ended[1] else None
+            self.assertEqual((order, typed, status, answer), (order, typed, *ended))
+            if status:
+                self.assertEqual(self.book.names(), [])
+        self.assertEqual(self.book("check", "ann", given="third\n"), says("yes"))
 
-
-def asked_unseen(room: Room) -> None:
-    """credkeep-ask shows nothing of what is typed, and its status is credkeep's."""
-    keep = begun(room)
-    env = {"CREDKEEP": str(keep.program)}
-    script = [str(TOP / "bin" / "credkeep-ask"), "--wait", "5", str(keep.path)]
-    for words, typed, ended in (
-        (["add", "--setting", CHEAP, "ann"], [b"first", b"first"], (0, b"enrolled")),
-        (["check", "ann"], [b"first"], (0, b"yes")),
-        (["check", "ann"], [b"other"], (4, b"no")),
-        (["change", "--setting", CHEAP, "ann"], [b"first", b"a b\\n ", b"a b\\n "], (0, b"replaced")),
-        (["reset", "--setting", CHEAP, "ann"], [b"third", b"3rd"], (6, b"credkeep-ask: the two new passwords differ")),
-        (["remove", "ann"], [b"a b\\n "], (0, b"removed")),
-    ):
-        status, shown, echo = at_a_terminal([*script, *words], typed, env)
-        same((words, status, shown.splitlines()[-1], echo), (words, *ended, False))
-        for line in typed:
-            holds(line not in shown, f"{words} shows what was typed")
-
-
-def long_passwords(room: Room) -> None:
-    keep = begun(room)
-    keep.add("ann", b"x" * 256)
-    same(keep("check", "ann", given=b"x" * 256 + b"\n"), Ended(0, b"yes\n", b""))
-    ended = keep("check", "ann", given=b"x" * 257)
-    same((ended.status, ended.written), (6, b""))
-    ended = keep("add", "bob", "--setting", CHEAP, given=b"x" * 257)
-    same((ended.status, ended.written), (6, b""))
-    same(keep.names(), ["ann"])
-
-
-def scripts(room: Room) -> None:
-    keep = begun(room)
-    with keep.script() as run:
-        assert run.stdin and run.stdout
-        for line, answer in ((b"account ann", b"ok"), (b"show ann", b"none"), (b"frob", b"bad 11 line")):
-            run.stdin.write(line + b"\n")
-            run.stdin.flush()
-            same(run.stdout.readline(), answer + b"\n")
-        # The change is on the disk before the script is at its end.
-        run.send_signal(signal.SIGKILL)
-    same(keep.names(), ["ann"])
+    def test_credkeep_ask(self) -> None:
+        """It shows nothing of what is typed, and its status is credkeep's."""
+        script = [str(TOP / "bin" / "credkeep-ask"), "--wait", "5", str(self.book.path)]
+        differ = "credkeep-ask: the two new passwords differ"
+        for words, typed, ended in (
+            (["add", "--setting", CHEAP, "ann"], ["first", "first"], (0, "enrolled")),
+            (["check", "ann"], ["first"], (0, "yes")),
+            (["check", "ann"], ["other"], (4, "no")),
+            (
+                ["change", "--setting", CHEAP, "ann"],
+                ["first", "a b\\n ", "a b\\n "],
+                (0, "replaced"),
+            ),
+            (["reset", "--setting", CHEAP, "ann"], ["third", "3rd"], (6, differ)),
+            (["remove", "ann"], ["a b\\n "], (0, "removed")),
+        ):
+            env = {"CREDKEEP": program("credkeep")}
+            status, shown, echo = at_a_terminal([*script, *words], typed, env)
+            found = (words, status, shown.splitlines()[-1], echo)
+            self.assertEqual(found, (words, *ended, False))
+            for line in typed:
+                self.assertNotIn(line, shown, words)

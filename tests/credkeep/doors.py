@@ -1,0 +1,131 @@
+"""The doors to a book: orders as words, the script's lines (`run`, `serve`) and tagged lines.
+
+An operation is a line such as `change ann one two`: its passwords are in the clear, `-` is the
+empty one, and a setting may follow. Each door puts it in its own form.
+"""
+
+import base64
+import itertools
+import unittest
+from collections.abc import Iterable
+from typing import NamedTuple, Protocol
+
+from tests.credkeep.books import CHEAP, DONE, SALT, Book, says
+
+# How many passwords an operation has, and whether the last of them makes a record.
+PASSWORDS = {
+    "verify": 1,
+    "login": 1,
+    "enrol": 1,
+    "change": 2,
+    "upgrade": 1,
+    "remove": 1,
+    "reset": 1,
+}
+MAKING = {"enrol", "change", "upgrade", "reset"}
+
+# An operation, and the answer to it.
+Row = tuple[str, str]
+
+
+def in_base64(password: str) -> str:
+    """A password as a line has it."""
+    return base64.b64encode(password.encode()).decode().rstrip("=") or "-"
+
+
+class Operation(NamedTuple):
+    verb: str
+    name: str
+    passwords: list[str]
+    rest: list[str]
+
+    @classmethod
+    def of(cls, text: str) -> "Operation":
+        verb, name, *words = text.split()
+        count = PASSWORDS.get(verb, 0)
+        return cls(verb, name, [it.strip("-") for it in words[:count]], words[count:])
+
+    def line(self) -> str:
+        """The line of a service of tagged lines, without its tag."""
+        return " ".join([self.verb, self.name, *map(in_base64, self.passwords), *self.rest])
+
+
+class Door(Protocol):
+    verbs: set[str]
+
+    def perform(self, test: unittest.TestCase, book: Book, rows: list[Row]) -> None:
+        """Performs the operations one by one, and compares the answers."""
+
+
+class Orders:
+    """A run of the program for each operation, which reads its passwords as lines."""
+
+    words = {"verify": "check", "enrol": "add"}
+    verbs = {*PASSWORDS, "disable", "delete", "rename"} - {"login"}
+
+    def perform(self, test: unittest.TestCase, book: Book, rows: list[Row]) -> None:
+        for text, answer in rows:
+            verb, name, passwords, rest = Operation.of(text)
+            words = [self.words.get(verb, verb), name, *rest]
+            if verb in MAKING:
+                words = [*words[:2], "--setting", *(rest or [CHEAP])]
+            if verb in MAKING - {"upgrade"} and not passwords[-1]:
+                words.append("--empty-password")
+            done = book(*words, given="".join(f"{it}\n" for it in passwords))
+            test.assertEqual((text, done), (text, says(answer)))
+
+
+class Script:
+    """One process that answers the lines of a script, `run` or `serve`."""
+
+    begun = {"verify", "enrol", "change", "upgrade", "remove"}
+    verbs = begun | {"account", "load", "show"}
+
+    def __init__(self, *words: str) -> None:
+        self.words = words
+
+    def dialogue(self, row: Row) -> list[Row]:
+        """The lines with their answers: those of a number's begin and its commit for a hash."""
+        operation, answer = Operation.of(row[0]), row[1]
+        line = operation.line()
+        if operation.verb not in self.begun:
+            return [(line, answer)]
+        if operation.verb in MAKING and not operation.rest:
+            line += f" {CHEAP}${SALT}"
+        answers = (answer, "bad 15 idle") if answer.startswith("bad") else ("begun", answer)
+        return list(zip((f"begin 1 {line}", "commit 1"), answers))
+
+    def perform(self, test: unittest.TestCase, book: Book, rows: list[Row]) -> None:
+        dialogue = [it for row in rows for it in self.dialogue(row)]
+        done = book(*self.words, given="".join(f"{line}\n" for line, _ in dialogue))
+        found = [(line, answer) for (line, _), answer in zip(dialogue, done.written.splitlines())]
+        test.assertEqual(found, dialogue)
+        test.assertEqual(done._replace(written=""), DONE)
+
+
+class Tagged:
+    """A service of tagged lines, each of which waits for the answer to the one before."""
+
+    verbs = {*PASSWORDS, "account", "load", "show", "disable", "delete", "rename"}
+
+    def __init__(self, *words: str) -> None:
+        self.words = words
+
+    def perform(self, test: unittest.TestCase, book: Book, rows: list[Row]) -> None:
+        lines = [f"t1 {Operation.of(text).line()}" for text, _ in rows]
+        found = zip(lines, book.answers(*lines, words=self.words))
+        test.assertEqual(list(found), [(line, f"t1 {it}") for line, (_, it) in zip(lines, rows)])
+
+
+DOORS: dict[str, Door] = {
+    "orders": Orders(),
+    "run": Script("run"),
+    "serve": Script("serve"),
+    "serve --tagged": Tagged(),
+}
+
+
+def perform(test: unittest.TestCase, book: Book, door: Door, rows: Iterable[Row]) -> None:
+    """Performs each operation at a door, or at that of tagged lines if the door hasn't it."""
+    for is_there, group in itertools.groupby(rows, lambda it: it[0].split()[0] in door.verbs):
+        (door if is_there else DOORS["serve --tagged"]).perform(test, book, [*group])

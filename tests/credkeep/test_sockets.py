@@ -1,0 +1,78 @@
+"""A service behind a socket, which another program listens at: docs/SERVING.md shows both."""
+
+import contextlib
+import os
+import pathlib
+import signal
+import socket
+import subprocess
+import time
+from collections.abc import Iterator
+
+from tests.credkeep.books import BookTest
+from tests.helpers import need
+
+
+@contextlib.contextmanager
+def listening(command: list[str], path: pathlib.Path) -> Iterator[None]:
+    """Another program that listens at a path and starts credkeep for each connection."""
+    with subprocess.Popen(command, start_new_session=True, stderr=subprocess.DEVNULL) as listener:
+        try:
+            until = time.monotonic() + 20
+            while not path.exists():
+                assert listener.poll() is None and time.monotonic() < until, "it doesn't listen"
+                time.sleep(0.02)
+            yield
+        finally:
+            os.killpg(listener.pid, signal.SIGTERM)
+
+
+def connected(path: pathlib.Path) -> socket.socket:
+    """A connection to what listens at a path."""
+    made = socket.socket(socket.AF_UNIX)
+    made.settimeout(60)
+    made.connect(str(path))
+    return made
+
+
+def answers_of(client: socket.socket, count: int) -> str:
+    """So many answers."""
+    answers = b""
+    while answers.count(b"\n") < count:
+        more = client.recv(4096)
+        assert more, "the connection was closed"
+        answers += more
+    return answers.decode()
+
+
+class SocketsTest(BookTest):
+    def setUp(self) -> None:
+        super().setUp()
+        self.path = self.room / "socket"
+        self.service = self.book.command("serve", wait=30)
+
+    def two_clients(self) -> None:
+        """The second client's lines are answered once the first has closed its connection."""
+        with connected(self.path) as first, connected(self.path) as second:
+            first.sendall(b"account ann\nshow ann\n")
+            self.assertEqual(answers_of(first, 2), "ok\nnone\n")
+            second.sendall(b"account bob\nshow ann\n")
+            time.sleep(0.2)
+            first.sendall(b"show bob\n")
+            self.assertEqual(answers_of(first, 1), "bad 5 noaccount\n")
+            first.close()
+            self.assertEqual(answers_of(second, 2), "ok\nnone\n")
+
+    def test_socat(self) -> None:
+        need("socat")
+        listen = f"UNIX-LISTEN:{self.path},mode=600,fork,max-children=1"
+        with listening(["socat", listen, f"EXEC:{' '.join(self.service)}"], self.path):
+            self.two_clients()
+        self.assertEqual(self.book("list", wait=30), (0, "ann\nbob\n", ""))
+
+    def test_socket_activation(self) -> None:
+        need("systemd-socket-activate")
+        listen = ["systemd-socket-activate", "--accept", "--inetd", "-l", str(self.path)]
+        with listening([*listen, *self.service], self.path):
+            self.two_clients()
+        self.assertEqual(self.book("list", wait=30), (0, "ann\nbob\n", ""))
