@@ -31,8 +31,8 @@ int pthread_create(unsigned long *thread, const void *attributes, void *(*start)
     int seen = __atomic_load_n(&most, __ATOMIC_SEQ_CST);
     int fault = create(thread, attributes, start, argument);
 
-    while (now > seen && !__atomic_compare_exchange_n(&most, &seen, now, 0, __ATOMIC_SEQ_CST,
-                                                      __ATOMIC_SEQ_CST))
+    while (now > seen &&
+           !__atomic_compare_exchange_n(&most, &seen, now, 0, __ATOMIC_SEQ_CST, __ATOMIC_SEQ_CST))
         ;
     if (fault)
         __atomic_sub_fetch(&live, 1, __ATOMIC_SEQ_CST);

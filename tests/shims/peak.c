@@ -15,8 +15,8 @@ static void add(void *made) {
     long now = __atomic_add_fetch(&held, (long)malloc_usable_size(made), __ATOMIC_SEQ_CST);
     long seen = __atomic_load_n(&most, __ATOMIC_SEQ_CST);
 
-    while (seen < now && !__atomic_compare_exchange_n(&most, &seen, now, 0, __ATOMIC_SEQ_CST,
-                                                      __ATOMIC_SEQ_CST))
+    while (seen < now &&
+           !__atomic_compare_exchange_n(&most, &seen, now, 0, __ATOMIC_SEQ_CST, __ATOMIC_SEQ_CST))
         ;
 }
 
