@@ -18,9 +18,10 @@ import sys
 import tempfile
 import threading
 import unittest
+from collections import deque
 from collections.abc import Callable, Iterator
 from concurrent.futures import ThreadPoolExecutor
-from typing import NamedTuple, TypeVar
+from typing import Any, NamedTuple, TypeVar
 
 TOP = pathlib.Path(__file__).resolve().parent.parent
 TIMES = int(os.environ.get("RIGZUMAL_TIMES", "1"))
@@ -39,12 +40,12 @@ class Ended(NamedTuple):
     faults: str = ""
 
 
-def ended(command: list[str], given: str = "", **options: object) -> Ended:
+def ended(command: list[str], given: str = "", **options: Any) -> Ended:
     """Runs a command to its end with this text as its input; the options are those of Popen."""
     options = {"stdout": subprocess.PIPE, "stderr": subprocess.PIPE, **options}
     if "stdin" not in options:
         options["input"] = given.encode()
-    done = subprocess.run(command, timeout=LONGEST, **options)  # type: ignore[call-overload]
+    done = subprocess.run(command, timeout=LONGEST, **options)
     return Ended(done.returncode, *(text_of(it or b"") for it in (done.stdout, done.stderr)))
 
 
@@ -59,7 +60,7 @@ def run(
     with all that it started, after TEST_LIMIT seconds."""
     line = [str(word) for word in words]
     pipe, both = subprocess.PIPE, subprocess.STDOUT
-    streams = {"stdin": pipe, "stdout": pipe, "stderr": both}
+    streams: dict[str, Any] = {"stdin": pipe, "stdout": pipe, "stderr": both}
     environment = {**os.environ, **(env or {})}
     with subprocess.Popen(line, cwd=at, env=environment, start_new_session=True, **streams) as it:
         try:
@@ -119,7 +120,7 @@ def limited(limit: int, most: int) -> Callable[[], None]:
     return lambda: resource.setrlimit(limit, (most, most))
 
 
-def small_files(size: int) -> dict[str, object]:
+def small_files(size: int) -> dict[str, Any]:
     """The options of a process whose files can't grow beyond so many bytes. It still ignores
     SIGXFSZ, as Python does, so a write is refused."""
     return {"preexec_fn": limited(resource.RLIMIT_FSIZE, size), "restore_signals": False}
@@ -128,13 +129,12 @@ def small_files(size: int) -> dict[str, object]:
 def in_turn(attempt: Callable[[int], Found | None]) -> Iterator[Found]:
     """What comes of an attempt with its first call refused, then its second, and so on, several at
     once, up to the first number at which nothing was refused and there is no result."""
-    at_once = 4 * (os.cpu_count() or 1)
-    with ThreadPoolExecutor(os.cpu_count()) as pool:
-        for first in itertools.count(1, at_once):
-            for found in pool.map(attempt, range(first, first + at_once)):
-                if found is None:
-                    return
-                yield found
+    at_once, numbers = os.cpu_count() or 1, itertools.count(1)
+    with ThreadPoolExecutor(at_once) as pool:
+        running = deque(pool.submit(attempt, next(numbers)) for _ in range(at_once))
+        while (found := running.popleft().result()) is not None:
+            running.append(pool.submit(attempt, next(numbers)))
+            yield found
 
 
 # ---- shims

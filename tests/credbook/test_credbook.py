@@ -6,6 +6,7 @@ import os
 import pathlib
 import tempfile
 import unittest
+from typing import Any
 
 from tests.helpers import (
     TOP,
@@ -52,7 +53,7 @@ RUNS = [
 REFUSED = ["", "ran", "run --workers 65", "run --workers 0", "hash", "--help", "--version"]
 
 
-def credbook(*words: str, given: str = "", **options: object) -> Ended:
+def credbook(*words: str, given: str = "", **options: Any) -> Ended:
     return ended([program("credbook"), *words], given, **options)
 
 
@@ -125,7 +126,7 @@ class LauncherTest(unittest.TestCase):
     """What is installed runs the program with huge pages, unless GLIBC_TUNABLES says something of
     them: same words, input and end."""
 
-    def launched(self, inner: str, *words: str, **options: object) -> Ended:
+    def launched(self, inner: str, *words: str, **options: Any) -> Ended:
         with tempfile.TemporaryDirectory(prefix="credbook-") as folder:
             launcher = pathlib.Path(folder) / "launcher"
             text = (TOP / "bin" / "launcher.in").read_text()

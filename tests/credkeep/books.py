@@ -11,6 +11,7 @@ import threading
 import time
 import unittest
 from collections.abc import Iterable, Iterator
+from typing import Any
 
 from tests.helpers import LONGEST, Ended, ended, program, text_of
 
@@ -67,16 +68,16 @@ class Book:
         return [program("credkeep"), *first, str(self.path), *words]
 
     def __call__(
-        self, *words: str, given: str = "", wait: int | None = None, **options: object
+        self, *words: str, given: str = "", wait: int | None = None, **options: Any
     ) -> Ended:
         """Runs the program on the file with these words."""
         return ended(self.command(*words, wait=wait), given, **options)
 
-    def start(self, *words: str, **options: object) -> "Service":
+    def start(self, *words: str, **options: Any) -> "Service":
         """Starts the program with these words."""
         return Service(self.command(*words), **options)
 
-    def tagged(self, *words: str, **options: object) -> "Service":
+    def tagged(self, *words: str, **options: Any) -> "Service":
         """Starts a service of tagged lines, whose own costs are cheap if the words name none."""
         costs = [] if "--setting" in words else ["--setting", CHEAP]
         return self.start("serve", "--tagged", *costs, *words, **options)
@@ -122,10 +123,11 @@ class Book:
 class Service:
     """A program that answers lines, and is killed if it is there for too long."""
 
-    def __init__(self, command: list[str], **options: object) -> None:
+    def __init__(self, command: list[str], **options: Any) -> None:
         pipe = subprocess.PIPE
-        options = {"stdin": pipe, "stdout": pipe, "stderr": pipe, **options}
-        self.process = subprocess.Popen(command, **options)  # type: ignore[call-overload]
+        run = subprocess.Popen(command, stdin=pipe, stdout=pipe, stderr=pipe, **options)
+        assert run.stdin and run.stdout and run.stderr
+        self.process, self.stdin, self.stdout, self.stderr = run, run.stdin, run.stdout, run.stderr
         self.guard = threading.Timer(LONGEST, self.process.kill)
         self.guard.daemon = True
         self.guard.start()
@@ -136,18 +138,17 @@ class Service:
     def __exit__(self, *_: object) -> None:
         self.kill()
         self.guard.cancel()
-        for stream in (self.process.stdin, self.process.stdout, self.process.stderr):
+        for stream in (self.stdin, self.stdout, self.stderr):
             with contextlib.suppress(OSError):
-                if stream:
-                    stream.close()
+                stream.close()
 
     def send(self, text: str) -> None:
-        self.process.stdin.write(text.encode())
-        self.process.stdin.flush()
+        self.stdin.write(text.encode())
+        self.stdin.flush()
 
     def answer(self) -> str:
         """The next line without its end, or nothing if there is none."""
-        return text_of(self.process.stdout.readline()).removesuffix("\n")
+        return text_of(self.stdout.readline()).removesuffix("\n")
 
     def ask(self, line: str) -> str:
         """The answer to a line."""
@@ -159,8 +160,8 @@ class Service:
 
         def write() -> None:
             with contextlib.suppress(OSError):
-                self.process.stdin.write(text.encode())
-                self.process.stdin.close()
+                self.stdin.write(text.encode())
+                self.stdin.close()
 
         feeder = threading.Thread(target=write)
         feeder.start()
@@ -176,7 +177,7 @@ class Service:
         self.process.wait()
 
 
-def rows(path: pathlib.Path, text: str) -> list[tuple[object, ...]]:
+def rows(path: pathlib.Path, text: str) -> list[Any]:
     """What SQLite itself answers to a statement."""
     with contextlib.closing(sqlite3.connect(path, isolation_level=None)) as connection:
         return connection.execute(text).fetchall()
@@ -235,7 +236,7 @@ def killed(book: Book, *words: str, given: str = "", within: float) -> str:
         time.sleep(random.random() * within)
         run.process.kill()
         feeder.join()
-        return text_of(run.process.stdout.read())
+        return text_of(run.stdout.read())
 
 
 @contextlib.contextmanager

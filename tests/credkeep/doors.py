@@ -85,13 +85,16 @@ class Script:
         self.words = words
 
     def dialogue(self, row: Row) -> list[Row]:
-        """The lines with their answers: those of a number's begin and its commit for a hash."""
+        """The lines with their answers: those of a number's begin and its commit for a hash. A name
+        that isn't there has no number."""
         operation, answer = Operation.of(row[0]), row[1]
         line = operation.line()
         if operation.verb not in self.begun:
             return [(line, answer)]
         if operation.verb in MAKING and not operation.rest:
             line += f" {CHEAP}${SALT}"
+        if answer == "noaccount":
+            answer = "bad 5 noaccount"
         answers = (answer, "bad 15 idle") if answer.startswith("bad") else ("begun", answer)
         return list(zip((f"begin 1 {line}", "commit 1"), answers))
 

@@ -1,11 +1,13 @@
 """Copies of a book, also while it is served, and how a copy comes back."""
 
 import os
+import pathlib
 import random
 import stat
 import subprocess
 import threading
 import time
+from typing import Any
 
 from tests.credkeep.books import DONE, EMPTY_LOG, RECORD, SALT, Accounts, Book, BookTest, rows
 from tests.helpers import LONGEST, Ended, need_root
@@ -75,7 +77,8 @@ class BackupTest(CopyTest):
     def test_service(self) -> None:
         """While a service adds accounts one by one, each copy has the first so many, and all that
         were answered before."""
-        total, answered, copies = 1500, [0], []
+        total, answered = 1500, [0]
+        copies: list[tuple[int, int, Ended, Book]] = []
 
         def add() -> None:
             for at in range(total):
@@ -148,8 +151,8 @@ class BackupTest(CopyTest):
         prey.write_text("prey\n")
         for end in ("-read", "-new"):
             part = self.room / f"copy.db{end}"
-            for make in (part.symlink_to, lambda path: os.link(path, part)):
-                make(prey)
+            for make in (pathlib.Path.symlink_to, pathlib.Path.hardlink_to):
+                make(part, prey)
                 self.assertFails(book("backup", str(copy.path)), 5)
                 part.unlink()
             part.write_bytes(b"left by a run that was stopped" * 1000)
@@ -237,7 +240,7 @@ class RestoreTest(CopyTest):
         the restored book."""
         copy = self.begun({"bob": ""}, "copy.db")
         restore = self.book.command("restore", str(copy.path), wait=30)
-        pipe = {"stdout": subprocess.PIPE, "stderr": subprocess.PIPE}
+        pipe: dict[str, Any] = {"stdout": subprocess.PIPE, "stderr": subprocess.PIPE}
         with self.book.start("serve") as service, subprocess.Popen(restore, **pipe) as waits:
             self.assertEqual(service.ask("account late"), "ok")
             time.sleep(0.3)

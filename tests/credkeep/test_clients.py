@@ -2,20 +2,19 @@
 was answered before a kill stands."""
 
 import importlib.util
-import os
 import random
 import signal
 import sys
 import threading
 import time
-from typing import NamedTuple
+from typing import Any, NamedTuple
 
 from tests.credkeep.books import CHEAP, DONE, BookTest, Service
 from tests.credkeep.doors import Operation
 from tests.helpers import TIMES, TOP
 
 CLIENTS = 64
-OPERATIONS = int(os.environ.get("RIGZUMAL_OPERATIONS", 4000 * TIMES))
+OPERATIONS = 4000 * TIMES
 NAMES = ["ann", "bob", "cat", "dan", "eve", "fay", "gus", "hal"]
 PASSWORDS = ["-", "one", "two"]
 WIDER = "$argon2id$v=19$m=16,t=1,p=1"
@@ -130,7 +129,7 @@ class Clients:
 
     def take(self) -> bool:
         """Takes the next answer, and says whether there was one."""
-        text = self.service.process.stdout.readline().decode()
+        text = self.service.stdout.readline().decode()
         if not text.endswith("\n"):
             return False
         tag, reply = text.removesuffix("\n").split(" ", 1)
@@ -175,7 +174,7 @@ class ClientsTest(BookTest):
         """Each answer is what one thread replies, in the order of the answers; and each account's
         history is legal by the times of its lines."""
         stored: dict[str, Stored | None] = dict.fromkeys(NAMES)
-        events = {name: [] for name in NAMES}
+        events: dict[str, list[Any]] = {name: [] for name in NAMES}
         served = [line for line in lines if line.reply != "bad 14 busy"]
         for place, line in enumerate(served, 1):
             before = stored[line.name]
@@ -186,7 +185,8 @@ class ClientsTest(BookTest):
         self.assertLessEqual(busy * 100, len(lines) + 100, "too many are busy")
         for name, of_name in events.items():
             ended = max((it.answered for it in of_name), default=0.0) + 1
-            salt = stored[name] and stored[name].salt
+            last = stored[name]
+            salt = last and last.salt
             seed = history.Operation("first", "seed", None, -2.0, answered=-1.0, after=None)
             times = {"called": ended, "answered": ended + 1}
             end = history.Operation("last", "end", None, **times, before=salt, after=salt)

@@ -15,7 +15,7 @@ from tests.credkeep.books import (
     lines_of,
     says,
 )
-from tests.helpers import TOP, Ended, need, need_module
+from tests.helpers import TOP, Ended, need, need_module, run
 
 # Each bad line with its fault. The book has ann, and a line before these names new.
 BAD_LINES = [
@@ -221,15 +221,14 @@ class OthersTest(BookTest):
         them out."""
         need("doveadm", "perl")
         page = (TOP / "docs/MIGRATING.md").read_text()
-        command = re.search(r"^ *perl -MMIME::Base64.*$", page, re.MULTILINE)[0].strip()
+        (command,) = re.findall(r"^ *(perl -MMIME::Base64.*)$", page, re.MULTILINE)
         forms = [f"{it}{end}" for it in ("ARGON2ID", "ARGON2I") for end in ("", ".HEX", ".B64")]
         lines = "".join(
             f"{form.lower()}:{made_by_dovecot(form)}:1000:1000::/home\n" for form in forms
         )
         done = self.book("import", given=lines)
         self.assertEqual((done.status, sorted(named_lines(done))), (6, [2, 3, 5, 6]))
-        pipe = {"input": lines, "capture_output": True, "text": True, "check": True}
-        written = subprocess.run(command, shell=True, **pipe).stdout
+        written = run("sh", "-c", command, given=lines)
         self.assertEqual(self.book("import", given=written), DONE)
         for form in forms:
             self.assertEqual(self.book("check", form.lower(), given="secret\n"), says("yes"))

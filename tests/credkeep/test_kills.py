@@ -89,7 +89,7 @@ class ScriptsTest(BookTest):
             feeder = run.feed("".join(f"account n{at}\n" for at in range(count, count + 300)))
             time.sleep(random.random() * 0.08)
             run.process.send_signal(how)
-            answers = run.process.stdout.read().decode().split("\n")[:-1]
+            answers = run.stdout.read().decode().split("\n")[:-1]
             feeder.join()
         self.assertLessEqual(set(answers), {"ok"})
         answered, found = count + len(answers), set(book.names())

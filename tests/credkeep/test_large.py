@@ -63,10 +63,10 @@ class LargeTest(BookTest):
                 changes.append((f"account {new}", new, "") if at % 2 else load)
             with self.book.start("serve") as service:
                 feeder = service.feed("".join(f"{line}\n" for line, _, _ in changes))
-                first = b"" if turn % 4 == 0 else service.process.stdout.readline()
+                first = b"" if turn % 4 == 0 else service.stdout.readline()
                 time.sleep(chance.random() * (0.1 if first else opening))
                 service.process.send_signal(signal.SIGKILL)
-                answers = (first + service.process.stdout.read()).split(b"\n")[:-1]
+                answers = (first + service.stdout.read()).split(b"\n")[:-1]
                 feeder.join()
             self.assertLessEqual(set(answers), {b"ok"})
             self.accounts |= {name: record for _, name, record in changes[: len(answers)]}

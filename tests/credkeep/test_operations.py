@@ -1,7 +1,7 @@
 """Each operation on an account, with each answer that it has: at every door the same."""
 
 from tests.credkeep.books import CHEAP, DONE, RECORD, SALT, SCRYPT, TAG, BookTest
-from tests.credkeep.doors import DOORS, Script, Tagged, perform
+from tests.credkeep.doors import DOORS, Door, Script, Tagged, perform
 
 WIDER = "$argon2id$v=19$m=16,t=1,p=1"
 
@@ -158,7 +158,8 @@ class OperationsTest(BookTest):
         already, and what the service draws, is not."""
         for words in BOUNDS:
             at = 1 if "64" in "".join(words) else 2
-            for door in (Script("serve", *words), Tagged(*words)):
+            doors: list[Door] = [Script("serve", "--workers", "4", *words), Tagged(*words)]
+            for door in doors:
                 with self.subTest(words=words, door=type(door).__name__):
                     book = self.begun({"ann": "", "bob": ""})
                     perform(self, book, Tagged(), [(f"enrol ann one {ABOVE}", "enrolled")])

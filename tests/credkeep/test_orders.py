@@ -79,10 +79,10 @@ class PasswordsTest(BookTest):
         secret = "aVeryRareSecret"
         with self.book.start("add", "ann") as run:
             shown = pathlib.Path(f"/proc/{run.process.pid}")
-            words = (shown / "cmdline").read_bytes() + (shown / "environ").read_bytes()
+            seen = (shown / "cmdline").read_bytes() + (shown / "environ").read_bytes()
             self.assertEqual(run.end(f"{secret}\n"), says("enrolled"))
-        self.assertIn(b"users.db", words)
-        self.assertNotIn(secret.encode(), words)
+        self.assertIn(b"users.db", seen)
+        self.assertNotIn(secret.encode(), seen)
         for given in (secret * 20, secret, f"{secret}\n{secret * 20}"):
             for words in (["change", "ann"], ["add", "ann"], ["import"], ["run"]):
                 self.assertNotIn(secret, self.book(*words, given=given).faults, words)

@@ -4,6 +4,7 @@ memory."""
 import resource
 import signal
 import time
+from typing import Any
 
 from tests.credkeep.books import CHEAP, DONE, SALT, TAG, BookTest, fails
 from tests.helpers import Ended
@@ -116,7 +117,8 @@ class MemoryTest(BookTest):
     def test_without_memory(self) -> None:
         """A commit for whose hash there is no memory is refused, changes nothing, and may be sent
         again; `run` ends there."""
-        lines, short = [line for line, _ in NO_MEMORY], {"preexec_fn": self.short_of_memory}
+        lines = [line for line, _ in NO_MEMORY]
+        short: dict[str, Any] = {"preexec_fn": self.short_of_memory}
         done = self.book("serve", given="".join(f"{line}\n" for line in lines), **short)
         self.assertEqual([*zip(lines, done.written.splitlines())], NO_MEMORY)
         self.assertEqual(done._replace(written=""), DONE)
@@ -151,10 +153,10 @@ class PipesTest(BookTest):
         """If nobody reads the answers it ends with status 2, and the change of the line is kept."""
         with self.book.start("serve") as service:
             self.assertEqual(service.ask("account ann"), "ok")
-            service.process.stdout.close()
+            service.stdout.close()
             service.send("account bob\naccount cat\n")
             self.assertEqual(service.process.wait(), 2)
-            faults = service.process.stderr.read().decode()
+            faults = service.stderr.read().decode()
         self.assertEqual(Ended(2, "", faults), fails(2, "the writer failed, or took no byte"))
         self.assertEqual(self.book.names(), ["ann", "bob"])
 
@@ -164,7 +166,7 @@ class PipesTest(BookTest):
             feeder = service.feed("frob\n" * 100_000)
             time.sleep(0.5)
             self.assertIsNone(service.process.poll())
-            written = service.process.stdout.read()
+            written = service.stdout.read()
             feeder.join()
             self.assertEqual(service.process.wait(), 0)
         self.assertTrue(written == b"bad 11 line\n" * 100_000)

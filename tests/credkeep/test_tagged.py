@@ -84,8 +84,8 @@ class LinesTest(BookTest):
 
     def test_lists_in_pages(self) -> None:
         """Pages of a list have all names in the order of their bytes, and no record."""
-        names = {"-", ".", "a", "z" * 32, "a-", "a.b", "a_b", *(f"n{at}" for at in range(1200))}
-        names = sorted(names)
+        many = [f"n{at}" for at in range(1200)]
+        names = sorted(["-", ".", "a", "z" * 32, "a-", "a.b", "a_b", *many])
         self.begun({name: RECORD for name in names})
         for line, wanted in (
             ("- 1000", names[:1000]),
@@ -138,7 +138,7 @@ class LinesTest(BookTest):
         with self.book.tagged() as service:
             feeder = service.feed("".join(f"{tag} show nobody\n" for tag in tags(20_000)))
             time.sleep(0.5)
-            written = service.process.stdout.read().decode().splitlines()
+            written = service.stdout.read().decode().splitlines()
             feeder.join()
             self.assertEqual(service.process.wait(), 0)
         wanted = sorted(f"{tag} bad 5 noaccount" for tag in tags(20_000))
@@ -148,7 +148,7 @@ class LinesTest(BookTest):
         """Where nobody reads the answers it ends, though its input is still open."""
         self.book.answers("a account ann", "a enrol ann -")
         with self.book.tagged() as service:
-            service.process.stdout.close()
+            service.stdout.close()
             service.send("b verify ann -\n")
             self.assertEqual(service.process.wait(), 2)
 
@@ -240,7 +240,7 @@ class HashesTest(BookTest):
         """Where too few threads can be started it says so; with enough of them it serves. Root has
         no such limit, so a user without other processes runs it."""
         self.book.answers("a account ann", "a enrol ann -")
-        options: dict[str, object] = {}
+        options: dict[str, Any] = {}
         if os.getuid() == 0:
             options = {"user": 61_234, "group": 61_234, "extra_groups": []}
             for path in (self.room, self.book.path):
@@ -309,8 +309,8 @@ class GroupsTest(BookTest):
             is_kept = lambda name: service.ask(f"t account {name}") == "t ok"
             answered = list(itertools.takewhile(is_kept, names))
             self.assertEqual(service.process.wait(), 5)
-            self.assertEqual(service.process.stdout.read(), b"")
-            faults = service.process.stderr.read().decode()
+            self.assertEqual(service.stdout.read(), b"")
+            faults = service.stderr.read().decode()
         self.assertTrue(faults.startswith("credkeep: the database failed: "), faults)
         self.assertTrue(answered)
         self.assertIn(book.names(), (answered, names[: len(answered) + 1]))
@@ -330,10 +330,10 @@ class GroupsTest(BookTest):
                 if len(done) < len(MEMBERS):
                     break
             self.assertEqual(service.process.wait(), 5)
-            faults = service.process.stderr.read().decode()
+            faults = service.stderr.read().decode()
         named = r"; the changes? of ([a-z0-9 ]+) may be kept or not(, all or none of them)?\n"
         told = re.fullmatch(f"credkeep: the database failed: .*{named}", faults)
-        self.assertIsNotNone(told, faults)
+        assert told, faults
         lost = set(told[1].split())
         self.assertTrue(lost.isdisjoint(done) and lost <= set(MEMBERS), f"{lost} of {done}")
         kept = standing | lost if turn % 2 == 0 else standing - lost
@@ -348,7 +348,7 @@ class GroupsTest(BookTest):
             out.write_bytes(b"." * (100_000 - left))
             words = ("serve", "--tagged", "--setting", CHEAP)
             with out.open("ab") as answers:
-                options = {"stdout": answers, **small_files(100_000)}
+                options: dict[str, Any] = {"stdout": answers, **small_files(100_000)}
                 done = book(*words, given=self.lines(0), **options)
             self.assertEqual(done.status, 2)
             written = out.read_text()[100_000 - left :]

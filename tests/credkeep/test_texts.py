@@ -96,11 +96,12 @@ class WordsTest(BookTest):
 
     def test_texts_of_names(self) -> None:
         """What was wrong, why, and the number and the word to look it up by."""
+        book = self.file("none.db")
         form = "; names are a-z, 0-9, '.', '_', '-', 1 to 32 of them (3 name)"
         for name, shown, cause in NAMES:
-            done = self.book("add", name, given="x\n")
+            done = book("add", name, given="x\n")
             self.assertEqual(done, fails(1, f"the name '{shown}': {cause}{form}"))
-        self.assertEqual(self.book.names(), [])
+        self.assertFalse(book.path.exists())
 
     def test_texts_of_settings(self) -> None:
         book = self.file("none.db")
