@@ -78,9 +78,12 @@ class PasswordsTest(BookTest):
         """Neither the words nor what is said on standard error holds a password."""
         secret = "aVeryRareSecret"
         with self.book.start("add", "ann") as run:
-            shown = pathlib.Path(f"/proc/{run.process.pid}")
-            seen = (shown / "cmdline").read_bytes() + (shown / "environ").read_bytes()
-            self.assertEqual(run.end(f"{secret}\n"), says("enrolled"))
+            run.send(secret)
+            shown, seen = pathlib.Path(f"/proc/{run.process.pid}"), b""
+            # The system shows no words of a program that it is only beginning.
+            while b"users.db" not in seen and run.process.poll() is None:
+                seen = (shown / "cmdline").read_bytes() + (shown / "environ").read_bytes()
+            self.assertEqual(run.end("\n"), says("enrolled"))
         self.assertIn(b"users.db", seen)
         self.assertNotIn(secret.encode(), seen)
         for given in (secret * 20, secret, f"{secret}\n{secret * 20}"):

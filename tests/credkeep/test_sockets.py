@@ -53,15 +53,16 @@ class SocketsTest(BookTest):
 
     def two_clients(self) -> None:
         """The second client's lines are answered once the first has closed its connection."""
-        with connected(self.path) as first, connected(self.path) as second:
+        with connected(self.path) as first:
             first.sendall(b"account ann\nshow ann\n")
             self.assertEqual(answers_of(first, 2), "ok\nnone\n")
-            second.sendall(b"account bob\nshow ann\n")
-            time.sleep(0.2)
-            first.sendall(b"show bob\n")
-            self.assertEqual(answers_of(first, 1), "bad 5 noaccount\n")
-            first.close()
-            self.assertEqual(answers_of(second, 2), "ok\nnone\n")
+            with connected(self.path) as second:
+                second.sendall(b"account bob\nshow ann\n")
+                time.sleep(0.2)
+                first.sendall(b"show bob\n")
+                self.assertEqual(answers_of(first, 1), "bad 5 noaccount\n")
+                first.close()
+                self.assertEqual(answers_of(second, 2), "ok\nnone\n")
 
     def test_socat(self) -> None:
         need("socat")
