@@ -132,8 +132,8 @@ impl Hasher {
     }
 
     /// The same with a secret beside each password, which a program keeps apart from its records:
-    /// K of RFC 9106, section 3.1. The hasher clears its copy when it is dropped. Such a hasher verifies records of this secret alone, and none of
-    /// scrypt: [`Error::Scheme`].
+    /// K of RFC 9106, section 3.1. Such a hasher verifies records of this secret alone, and none of
+    /// scrypt: [`Error::Scheme`]. It clears its copy when it is dropped.
     #[must_use]
     pub fn secret(self, secret: &[u8]) -> Hasher {
         Hasher { secret: Some(Secret(secret.into())), ..self }

@@ -62,9 +62,8 @@ class Crate(unittest.TestCase):
         """rustfmt leaves the crate as it is, clippy and rustdoc say nothing, and no line is long."""
         need("cargo", "cargo-clippy", "cargo-fmt")
         cargo("fmt", "--check")
-        for features in ([], ["--no-default-features"]):
-            words = ("--offline", "--locked", *features)
-            cargo("clippy", *words, "--all-targets", "--", "-D", "warnings")
+        for targets in (["--all-targets"], ["--no-default-features"]):
+            cargo("clippy", "--offline", "--locked", *targets, "--", "-D", "warnings")
         cargo("doc", "--offline", "--locked", env=STRICT)
         for path in [*CRATE.glob("src/*.rs"), *CRATE.glob("tests/*.rs"), CRATE / "build.rs"]:
             long = [it for it in path.read_text().splitlines() if len(it) > 100]
