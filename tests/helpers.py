@@ -96,6 +96,10 @@ def common_folder() -> pathlib.Path:
     return folder
 
 
+def files_below(folder: pathlib.Path) -> set[str]:
+    return {str(it.relative_to(folder)) for it in folder.rglob("*") if not it.is_dir()}
+
+
 def need(*programs: str) -> None:
     """Skips a test where one of these programs isn't installed."""
     for name in programs:

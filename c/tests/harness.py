@@ -1,18 +1,18 @@
 """What the tests of the library share: how a test in C is built, and under what it runs."""
 
+import functools
 import os
 import pathlib
 import re
-import shutil
 import sys
 import unittest
 
 HERE = pathlib.Path(__file__).resolve().parent
 TOP = HERE.parent
-sys.path.insert(0, str(TOP.parent / "tools"))
+sys.path.insert(0, str(TOP.parent))
 
-import testing
-from testing import ROOM, compiler  # noqa: F401 (the tests take them from here)
+from tests import helpers
+from tests.helpers import files_below, need, need_module  # noqa: F401 (for the tests)
 
 OUT = TOP / "out"
 ORIGINAL = pathlib.Path("/usr/lib/x86_64-linux-gnu/libargon2.so.1")
@@ -44,27 +44,13 @@ WRAPPED = {
 IN_THREADS = "-DLEAST_SHARED_MEMORY=1"
 
 
-def run(*words, at=TOP, **options):
-    """What a command wrote, in the library's folder, if it ended as it has to."""
-    try:
-        return testing.run(*words, at=at, **options)
-    except testing.Failed as failed:
-        raise AssertionError(str(failed)) from None
+# A folder for what the tests build, and what a command wrote, in the library's folder.
+ROOM = helpers.common_folder()
+run = functools.partial(helpers.run, at=TOP)
 
 
-def need(*programs):
-    """Skips a test where a program isn't installed."""
-    for name in programs:
-        if shutil.which(name) is None:
-            raise unittest.SkipTest(f"{name} isn't installed")
-
-
-def need_module(*modules):
-    """Skips a test where this Python lacks a module."""
-    try:
-        testing.need_module(*modules)
-    except testing.Skipped as skipped:
-        raise unittest.SkipTest(str(skipped)) from None
+def compiler():
+    return os.environ.get("CC", "cc")
 
 
 def need_original():

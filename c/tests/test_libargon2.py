@@ -98,12 +98,12 @@ class Libargon2(unittest.TestCase):
                 *costs.split(),
                 image,
                 "-",
-                given=b"a secret",
+                given="a secret",
                 env=maker,
             )
             test = ("cryptsetup", "open", "--test-passphrase", "--key-file", "-", image)
-            run(*test, given=b"a secret", env=reader)
-            run(*test, given=b"A secret", env=reader, status=2)
+            run(*test, given="a secret", env=reader)
+            run(*test, given="A secret", env=reader, status=2)
 
 
 if __name__ == "__main__":

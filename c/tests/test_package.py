@@ -6,10 +6,10 @@ import shutil
 import stat
 import unittest
 
-from harness import OUT, ROOM, TOP, built, compiler, need, run
-from testing import files_below, library_version
+from harness import OUT, ROOM, TOP, built, compiler, files_below, need, run
 
 
+VERSION = (TOP.parent / "VERSION").read_text().strip()
 INSTALLED = {
     "include/rigzumal.h",
     "lib/librigzumal.a",
@@ -21,11 +21,7 @@ INSTALLED = {
     "lib/rigzumal/libargon2.so.1",
     "share/man/man3/rigzumal.3",
 }
-
-
 LIBRARIES = "usr/lib/x86_64-linux-gnu"
-
-
 PACKED = {
     "librigzumal1": {
         f"{LIBRARIES}/librigzumal.so.1",
@@ -41,9 +37,11 @@ PACKED = {
         "usr/share/man/man3/rigzumal.3.gz",
     },
 }
-
-
-SCRIPTS = {"triggers": "activate-noawait ldconfig", "shlibs": "librigzumal 1 "}
+SCRIPTS = {
+    "triggers": "activate-noawait ldconfig",
+    "shlibs": "librigzumal 1 ",
+    "symbols": "rigzumal_check@RIGZUMAL_1 0.2.0",
+}
 
 
 def check_pkg_config(env):
@@ -52,7 +50,7 @@ def check_pkg_config(env):
         run("pkg-config", *words, "rigzumal", env=env).split()
         for words in (["--modversion"], ["--libs"], ["--static", "--libs"])
     ]
-    if said[0] != [library_version()] or "-lrigzumal" not in said[1] or "-pthread" not in said[2]:
+    if said[0] != [VERSION] or "-lrigzumal" not in said[1] or "-pthread" not in said[2]:
         raise AssertionError(str(said))
 
 
@@ -125,8 +123,14 @@ class Package(unittest.TestCase):
         room = ROOM / "symbols"
         (room / "debian").mkdir(parents=True)
         (room / "debian/control").write_text("Source: rigzumal\n\nPackage: librigzumal1\n")
-        words = ("-c4", "-plibrigzumal1", f"-v{library_version()}", f"-e{OUT / 'librigzumal.so.1'}")
-        run("dpkg-gensymbols", *words, f"-I{TOP / 'librigzumal1.symbols'}", "-Osymbols", at=room)
+        words = ("-c4", "-plibrigzumal1", f"-v{VERSION}", f"-e{OUT / 'librigzumal.so.1'}")
+        run(
+            "dpkg-gensymbols",
+            *words,
+            f"-I{TOP.parent / 'packaging/librigzumal1/symbols'}",
+            "-Osymbols",
+            at=room,
+        )
 
     def test_symbols_are_bound_within(self):
         """A program's own functions with names of libargon2's aren't called by the library."""
@@ -186,7 +190,7 @@ class Package(unittest.TestCase):
             self.fail(str(debs))
         said = run("lintian", "--fail-on", "error", *debs.values())
         needs = {
-            "librigzumal-dev": f"librigzumal1 (= {library_version()})",
+            "librigzumal-dev": f"librigzumal1 (= {VERSION})",
             "librigzumal1": "libc6 (>= ",
         }
         room = ROOM / "debs"

@@ -9,10 +9,11 @@ import sys
 import unittest
 
 CRATE = pathlib.Path(__file__).resolve().parent.parent
-sys.path.insert(0, str(CRATE.parent / "tools"))
+sys.path.insert(0, str(CRATE.parent))
 
-import testing
-from testing import ROOM
+from tests.helpers import common_folder, need, run
+
+ROOM = common_folder()
 
 LIBRARIES = CRATE.parent / "c/out"
 ROOM_OF_CARGO = {"CARGO_TARGET_DIR": str(ROOM / "cargo"), "RIGZUMAL_LIB_DIR": str(LIBRARIES)}
@@ -21,17 +22,7 @@ MOST_UNSAFE_LINES = 140
 
 
 def cargo(*words, env=None):
-    try:
-        return testing.run("cargo", *words, env=env or ROOM_OF_CARGO, at=CRATE)
-    except testing.Failed as failed:
-        raise AssertionError(str(failed)) from None
-
-
-def need(*programs):
-    """Skips a test where a program isn't installed."""
-    for name in programs:
-        if shutil.which(name) is None:
-            raise unittest.SkipTest(f"{name} isn't installed")
+    return run("cargo", *words, env=env or ROOM_OF_CARGO, at=CRATE)
 
 
 class Crate(unittest.TestCase):
@@ -55,7 +46,7 @@ class Crate(unittest.TestCase):
         env = {"RIGZUMAL_LIB_DIR": str(folder), "CARGO_TARGET_DIR": str(target)}
         cargo("test", "--offline", "--locked", "--no-run", "--test", "vectors", env=env)
         (program,) = [it for it in (target / "debug/deps").glob("vectors-*") if not it.suffix]
-        found = testing.run("ldd", program, env={"LD_LIBRARY_PATH": str(folder)})
+        found = run("ldd", program, env={"LD_LIBRARY_PATH": str(folder)})
         self.assertIn(f"librigzumal.so.1 => {folder}", found)
 
     def test_rust_layout(self):

@@ -5,7 +5,6 @@ for all of them: python3-venv, lintian, mypy, black, python3-django, python3-pas
 import base64
 import hashlib
 import pathlib
-import shutil
 import sys
 import unittest
 import zipfile
@@ -14,10 +13,12 @@ HERE = pathlib.Path(__file__).resolve().parent
 PYTHON = HERE.parent.parent
 REPOSITORY = PYTHON.parent
 LIBRARIES = REPOSITORY / "c/out"
-sys.path.insert(0, str(REPOSITORY / "tools"))
+sys.path.insert(0, str(REPOSITORY))
 
-import testing
-from testing import ROOM, files_below, library_version
+from tests.helpers import common_folder, files_below, need, need_module, run
+
+ROOM = common_folder()
+VERSION = (REPOSITORY / "VERSION").read_text().strip()
 
 FILES = sorted(
     str(it.relative_to(PYTHON))
@@ -35,31 +36,6 @@ HASHES = (
 )
 CLEAN = {"PYTHONPATH": "", "LD_LIBRARY_PATH": "", "RIGZUMAL_LIBRARY": ""}
 OVER_LIBRARY = {**CLEAN, "LD_LIBRARY_PATH": str(LIBRARIES)}
-
-
-def run(*words, **options):
-    """What a command wrote on both streams, if it ended as it has to."""
-    try:
-        return testing.run(*words, **options)
-    except testing.Failed as failed:
-        raise AssertionError(str(failed)) from None
-
-
-def need(*programs):
-    """The path of the first of the programs; skips a test where one isn't installed."""
-    paths = [shutil.which(name) for name in programs]
-    for name, path in zip(programs, paths):
-        if path is None:
-            raise unittest.SkipTest(f"{name} isn't installed")
-    return paths[0]
-
-
-def need_module(*modules):
-    """Skips a test where this Python lacks a module."""
-    try:
-        testing.need_module(*modules)
-    except testing.Skipped as skipped:
-        raise unittest.SkipTest(str(skipped)) from None
 
 
 def make(*words):
@@ -181,14 +157,15 @@ class Package(unittest.TestCase):
             if line not in (room / "DEBIAN" / script).read_text():
                 self.fail(f"{deb.name}: {script} lacks {line}")
         depends = run("dpkg-deb", "-f", deb, "Depends")
-        if f"librigzumal1 (>= {library_version()})" not in depends:
+        if f"librigzumal1 (>= {VERSION})" not in depends:
             self.fail(f"{deb.name} depends on {depends}")
         packages = str(room / "usr/lib/python3/dist-packages")
         check_hashing("/usr/bin/python3", {**OVER_LIBRARY, "PYTHONPATH": packages}, room)
 
     def test_layout(self):
         """black leaves the sources as they are: the package's, the packers', and the tests'."""
-        black = (need("black"), "-q", "--check", "-l")
+        need("black")
+        black = ("black", "-q", "--check", "-l")
         run(
             *black, "88", PYTHON / "rigzumal", PYTHON / "build_backend.py", REPOSITORY / "packaging"
         )
@@ -199,7 +176,8 @@ class Package(unittest.TestCase):
     def test_types(self):
         """mypy takes the package, strictly."""
         cache = f"--cache-dir={ROOM / 'mypy'}"
-        run(need("mypy"), "--strict", cache, "rigzumal", at=PYTHON)
+        need("mypy")
+        run("mypy", "--strict", cache, "rigzumal", at=PYTHON)
 
     def test_types_of_frameworks(self):
         """mypy --strict, as far as libraries that have no stubs here let it, with the login page."""
