@@ -14,6 +14,12 @@ import unittest
 from served import SECRET, WRONG, Case, Client, as_user, field_of, need_root, serving, until
 
 
+def two_sockets(room: str, operations: str) -> list[str]:
+    """One for everybody, and one for its owner."""
+    first = f"--socket a {room}/s 0666 - {operations}".split()
+    return [*first, *f"--socket b {room}/t 0600 - all".split()]
+
+
 class Limits(Case):
     def test_long_lines(self) -> None:
         """A line of 960 bytes is taken; a longer one, of any size, is refused under its tag, and its client goes on."""
@@ -155,25 +161,15 @@ class Limits(Case):
         with tempfile.TemporaryDirectory() as room:
             os.chmod(room, 0o755)
             path = pathlib.Path(room, "s")
-            with serving(
-                "--socket",
-                "a",
-                str(path),
-                "0666",
-                "-",
-                "known",
-                "--socket",
-                "b",
-                f"{room}/t",
-                "0600",
-                "-",
-                "all",
-            ) as service:
+            with serving(*two_sockets(room, "known")) as service:
                 clients = [Client(path) for _ in range(600)]
                 try:
                     self.assertEqual(clients[511].ask("known ada"), "noaccount")
                     for client in clients[512:]:
                         self.assertEqual((client.line(), client.line()), (b"* unavailable", b""))
+                    for _ in range(3):  # that some were refused makes no room
+                        with Client(path) as client:
+                            self.assertEqual(client.line(), b"* unavailable")
                     self.assertEqual(as_user(4711, 4711, path, "known ada"), "noaccount")
                     with Client(pathlib.Path(room, "t")) as other:
                         self.assertEqual(other.ask("known ada"), "noaccount", "the other socket")
@@ -204,21 +200,9 @@ class Limits(Case):
         with tempfile.TemporaryDirectory() as room:
             os.chmod(room, 0o755)
             path = pathlib.Path(room, "s")
-            sockets = (
-                "--socket",
-                "a",
-                str(path),
-                "0666",
-                "-",
-                "verify",
-                "--socket",
-                "b",
-                f"{room}/t",
-                "0600",
-                "-",
-                "all",
-            )
-            with serving(*sockets, "--at-once", "2", "--tries", "0", faults="slow=0.02") as service:
+            with serving(
+                *two_sockets(room, "verify"), "--at-once", "2", "--tries", "0", faults="slow=0.02"
+            ) as service:
                 flood = [Client(path) for _ in range(30)]
                 for client in flood:
                     client.send(b"a verify flood -\n" * 100)

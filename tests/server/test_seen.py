@@ -55,7 +55,7 @@ class Seen(Case):
                 name: int(after[name]) - int(before[name]) for name in after if name != "waited"
             }
             ought = {"yes": 3, "no": 2, "later": 1, "noaccount": 1, "changes": 1, "denied": 2}
-            ought |= {"absent": 0, "refused": 0, "clients": 0, "waits": 1}
+            ought |= {"absent": 0, "refused": 0, "clients": 0, "waits": 1, "upgraded": 0}
             self.assertEqual(grown, ought)
             self.assertEqual((before["changes"], before["clients"]), ("2", "2"))
 
@@ -202,6 +202,7 @@ class Audited(Case):
             with serving("--audit", str(path), "--upgrade", "$fast$c=2", folder=folder) as service:
                 self.assertEqual(service.client().ask(f"verify ada {SECRET}"), "yes")
                 until(lambda: len(path.read_text().splitlines()) == 2, "two lines")
+                self.assertEqual(stats(service.client("admin").ask("stats"))["upgraded"], "1")
             lines = [json.loads(line) for line in path.read_text().splitlines()]
             self.assertEqual([it["operation"] for it in lines], ["verify", "upgrade"])
             self.assertEqual(lines[1]["answer"], "upgraded")
@@ -252,7 +253,7 @@ class Mistakes(Case):
             ((*socket[:4], "nosuchgroup", "verify", "x.db"), "there is no group nosuchgroup"),
             (
                 (*socket[:2], "/nonexistent/folder/s", *socket[3:], "x.db"),
-                "there is no folder /nonexistent/folder",
+                "/nonexistent/folder, for a socket: No such file or directory",
             ),
             ((*socket[:2], "/tmp/" + "x" * 110, *socket[3:], "x.db"), "up to 107 bytes"),
             (

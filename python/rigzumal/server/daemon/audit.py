@@ -13,6 +13,7 @@ from .log import Seldom
 from .options import Problem
 
 Written = Callable[[bool], None]
+Entry = dict[str, Union[str, int, None]]
 
 
 def utc(seconds: float) -> str:
@@ -32,10 +33,8 @@ class Audit:
         except OSError as fault:
             raise Problem(f"{path}: {fault.strerror}") from None
 
-    def add(
-        self, entry: dict[str, Union[str, int, None]], written: Optional[Written]
-    ) -> None:
-        """Appends a line, and tells whether it is on the disk; lines that come together are synced together."""
+    def add(self, entry: Entry, written: Optional[Written]) -> None:
+        """Appends a line, and tells whether it is on the disk, with those that came with it."""
         line = json.dumps({"time": utc(time.time()), **entry}).encode() + b"\n"
         self.waiting.append((line, written))
         if not self.is_writing:

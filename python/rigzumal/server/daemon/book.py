@@ -41,7 +41,7 @@ class Book(asyncio.SubprocessProtocol):
     def ask(self, words: Sequence[bytes], answered: Answered) -> None:
         """Has the book answer a line; UNAVAILABLE if it ends before it has."""
         if self.ended.done():
-            answered(UNAVAILABLE)
+            self.loop.call_soon(answered, UNAVAILABLE)
             return
         self.last += 1
         tag = b"%d" % self.last

@@ -17,11 +17,8 @@ from typing import Optional, Protocol, cast
 
 from .options import Door, Problem
 
-LONGEST, IN_FLIGHT, CLIENTS = (
-    960,
-    32,
-    1024,
-)  # bytes of a line, a client's lines, a door's clients
+LONGEST = 960  # bytes of a line
+IN_FLIGHT, CLIENTS = 32, 1024  # a client's lines at once, a door's clients
 BACKLOG, BUFFER = 1024, 4096
 
 
@@ -34,30 +31,28 @@ def handed_over(name: str) -> Optional[socket.socket]:
         raise Problem(f"systemd handed over no socket with the name {name}")
     made = socket.socket(fileno=3 + names.index(name))
     if made.type != socket.SOCK_STREAM or made.family != socket.AF_UNIX:
-        raise Problem(
-            f"the socket {name} that systemd handed over is no stream of a Unix socket"
-        )
+        raise Problem(f"the socket {name} that systemd handed over is no stream")
     return made
+
+
+def group_id(door: Door) -> int:
+    """The group that a socket is given, or -1."""
+    try:
+        return -1 if door.group == "-" else grp.getgrnam(door.group).gr_gid
+    except KeyError:
+        raise Problem(f"there is no group {door.group}, for {door.path}") from None
 
 
 def lock(door: Door) -> None:
     """Takes the lock beside a socket's path, for as long as this process lives."""
+    group_id(door)
     folder = os.path.dirname(door.path)
     if not os.path.isdir(folder):
         try:
             os.mkdir(folder)
             os.chmod(folder, 0o755)
         except OSError as fault:
-            raise Problem(
-                f"there is no folder {folder} for sockets: {fault.strerror}"
-            ) from None
-    if door.group != "-":
-        try:
-            grp.getgrnam(door.group)
-        except KeyError:
-            raise Problem(
-                f"there is no group {door.group}, as the socket {door.name} wants"
-            ) from None
+            raise Problem(f"{folder}, for a socket: {fault.strerror}") from None
     try:
         it = os.open(f"{door.path}.lock", os.O_RDWR | os.O_CREAT | os.O_CLOEXEC, 0o600)
         fcntl.flock(it, fcntl.LOCK_EX | fcntl.LOCK_NB)
@@ -68,7 +63,7 @@ def lock(door: Door) -> None:
 
 
 def bound(door: Door) -> socket.socket:
-    """A socket at the path of a door whose lock this server has; its mode is set before it listens."""
+    """A socket at a path whose lock this server has; its mode is set before it listens."""
     made = socket.socket(socket.AF_UNIX)
     try:
         if pathlib.Path(door.path).is_socket():
@@ -76,9 +71,7 @@ def bound(door: Door) -> socket.socket:
                 raise Problem(f"another server listens at {door.path}")
             os.unlink(door.path)
         made.bind(door.path)
-        os.chown(
-            door.path, -1, -1 if door.group == "-" else grp.getgrnam(door.group).gr_gid
-        )
+        os.chown(door.path, -1, group_id(door))
         os.chmod(door.path, door.mode)
     except OSError as fault:
         raise Problem(f"{door.path}: {fault.strerror}") from None
@@ -110,8 +103,9 @@ class Guests:
         self.by_uid[client.uid] += 1
 
     def remove(self, client: Client) -> None:
-        self.clients.discard(client)
-        self.by_uid[client.uid] -= 1
+        if client in self.clients:  # and not one that found no room
+            self.clients.remove(client)
+            self.by_uid[client.uid] -= 1
 
 
 class Host(Protocol):
@@ -146,8 +140,9 @@ class Client(asyncio.BufferedProtocol):
             self.end()
 
     def connection_lost(self, fault: Optional[Exception]) -> None:
-        self.is_gone = self.is_ending = True
+        self.is_gone = True
         self.guests.remove(self)
+        self.end()
 
     def get_buffer(self, hint: int) -> memoryview:
         return self.buffer

@@ -9,6 +9,7 @@ from .options import Problem
 TRIES = "yes no absent noaccount later".split()
 TOTALS = {
     "changes": "Changes that were made.",
+    "upgraded": "Records that --upgrade upgraded.",
     "denied": "Lines that their socket doesn't take.",
     "refused": "Connections that had no room.",
     "waited": "Seconds that lines waited for their turn.",

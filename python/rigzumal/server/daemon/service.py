@@ -10,12 +10,12 @@ import re
 import signal
 import time
 from collections.abc import Sequence
-from dataclasses import dataclass
+from dataclasses import dataclass, replace
 from functools import partial
-from typing import Any, Union
+from typing import Any, Optional
 
 from . import doors
-from .audit import Audit
+from .audit import Audit, Entry, Written
 from .book import UNAVAILABLE, Book
 from .doors import Client, Guests
 from .log import Seldom, log, log_fault, notify
@@ -23,11 +23,11 @@ from .options import OPERATIONS, Operation, Options
 from .tally import Tally
 from .turns import Turns
 
-KNOWN = {
-    b"none": b"absent",
-    b"bad 5 noaccount": b"noaccount",
-}  # what `show` says otherwise
+TAG = re.compile(rb"[a-z0-9]{1,20}")
+# What `known` says where `show` has no record.
+KNOWN = {b"none": b"absent", b"bad 5 noaccount": b"noaccount"}
 PROBE = (b"verify", b"-", b"-")  # a hash, whether the name is there or not
+HASHED = frozenset(b"yes no absent noaccount".split())
 OTHERS, CHANGES = 64, 128  # places for lines without a hash, and changes at once
 SYNC = 0.01  # seconds that a change waits for the disk, more or less
 LAST_SECONDS = 20.0  # after a signal to end
@@ -43,7 +43,7 @@ class Line:
     operation: Operation
     turns: Turns[Line]
     share: float
-    came: float
+    began: float  # to wait for its turn, or for the book
 
     @property
     def name(self) -> str:
@@ -58,9 +58,7 @@ class Service:
         self.places = float(options.workers() + 1)
         self.hashes = Turns(self.places, self.start)
         self.others = Turns(float(OTHERS), self.start)
-        self.change_share = (
-            1.0  # of a place for hashes: as much as of its time it hashes
-        )
+        self.hash_seconds = float("inf")  # what a hash takes if nothing else waits
         self.guests = [Guests(door) for door in options.doors]
         self.audit = Audit(options.audit) if options.audit else None
         self.listeners: list[asyncio.AbstractServer] = []
@@ -71,9 +69,8 @@ class Service:
         if not self.is_ending and not client.guests.has_room(client.uid):
             text = "no more connections at %s for uid %d, which has %d"
             count = client.guests.by_uid[client.uid]
-            self.seldom.log(
-                (client.door, client.uid), text, client.door.name, client.uid, count
-            )
+            values = (client.door.name, client.uid)
+            self.seldom.log(values, text, *values, count)
             self.tally.counts["refused"] += 1
             return False
         return not self.is_ending
@@ -83,7 +80,7 @@ class Service:
         tag, *words = line.split(b" ")
         words += [b"", b""][len(words) :]  # an operation, and one field at least
         operation = OPERATIONS.get(words[0])
-        if not re.fullmatch(rb"[a-z0-9]{1,20}", tag):
+        if not TAG.fullmatch(tag):
             client.write(b"*", b"bad 11 line")
         elif operation is None or words[0] not in client.door.operations:
             what = "an unknown operation" if operation is None else words[0].decode()
@@ -99,16 +96,11 @@ class Service:
     def in_book(self, name: bytes) -> bytes:
         """What stands in the book for a name; "@", which no name is, where it is refused."""
         local, at, domain = name.rpartition(b"@")
-        if not self.options.mail_names or not (
-            at or re.fullmatch(rb"e\.[a-z2-7]{30}", name)
-        ):
+        is_hashed = re.fullmatch(rb"e\.[a-z2-7]{30}", name)
+        if not self.options.mail_names or not (at or is_hashed):
             return name
-        if (
-            not local
-            or not domain
-            or len(name) > 254
-            or re.search(rb"[\0-\x20\x7f]", name)
-        ):
+        is_whole = local and domain and not re.search(rb"[\0-\x20\x7f]", name)
+        if not is_whole or len(name) > 254:
             return b"@"
         local = local.lower() if self.options.fold_local_part else local
         digest = hashlib.blake2b(local + b"@" + domain.lower(), digest_size=20).digest()
@@ -118,11 +110,10 @@ class Service:
         self, client: Client, tag: bytes, words: list[bytes], operation: Operation
     ) -> None:
         turns = self.hashes if operation.hashes else self.others
-        share = self.change_share if operation.hashes and operation.changes else 1.0
+        share = self.share() if operation.hashes and operation.changes else 1.0
         line = Line(client, tag, words, operation, turns, share, time.monotonic())
-        if (
-            sum(map(len, words)) + len(words) > doors.LONGEST
-        ):  # with names that became longer
+        size = sum(map(len, words)) + len(words)
+        if size > doors.LONGEST:  # with names that became longer
             client.write(tag, b"bad 16 long")
         elif own := self.tally.own.get(words[0]):
             self.tally.clients = len(self.clients())
@@ -133,6 +124,12 @@ class Service:
             client.running += 1
             turns.take(client.uid, client, share, line)
 
+    def share(self) -> float:
+        """The share of a place for hashes that a change takes: as much as of its time it hashes."""
+        seconds = self.hash_seconds
+        share = 1.0 if seconds > 1.0 else seconds / (seconds + SYNC)
+        return max(share, self.places / CHANGES)
+
     def is_early(self, line: Line) -> bool:
         early = line.operation.tries and self.tally.is_early(line.name, line.client.uid)
         self.tally.counts["later"] += early
@@ -140,7 +137,8 @@ class Service:
 
     def start(self, line: Line) -> bool:
         """Has the book answer a line whose turn it is; false if it needn't any more."""
-        self.tally.waited += time.monotonic() - line.came
+        began, line.began = line.began, time.monotonic()
+        self.tally.waited += line.began - began
         if line.client.is_gone and not line.operation.changes:
             return False
         if self.is_early(line):
@@ -156,41 +154,42 @@ class Service:
             said = b"yes" if said[:1] == b"$" else KNOWN.get(said, said)
         else:
             self.tally.note(line.operation, line.name, line.client.uid, said.decode())
-        if not self.audit or not (
-            line.operation.changes or line.operation.tries and said == b"yes"
-        ):
-            line.client.answer(line.tag, said)
-        elif line.operation.changes:
+        if line.operation.changes and self.audit:
             self.note(line, said, partial(self.answer_written, line, said))
         else:
-            self.note(line, said)
             line.client.answer(line.tag, said)
-        if line.words[0] == b"verify" and said == b"yes" and self.options.upgrade:
-            self.upgrade(line)
+        hashes_alone = line.operation.hashes and not line.operation.changes
+        if hashes_alone and said in HASHED:
+            self.measure(time.monotonic() - line.began)
+        if said == b"yes" and line.operation.tries:
+            self.note(line, said)
+            if self.options.upgrade and line.words[0] == b"verify":
+                self.upgrade(line)
 
     def answer_written(self, line: Line, said: bytes, is_written: bool) -> None:
         """Answers a change once the audit log has it; without that nobody says that it was made."""
         line.client.answer(line.tag, said if is_written else UNAVAILABLE)
 
-    def note(self, line: Line, said: bytes, written: Any = None) -> None:
+    def note(self, line: Line, said: bytes, written: Optional[Written] = None) -> None:
         """Has the audit log say who did what. A name that is in no book may be a password."""
-        entry: dict[str, Union[str, int, None]] = {"door": line.client.door.name}
-        entry.update(
-            uid=line.client.uid, pid=line.client.pid, operation=line.words[0].decode()
-        )
         is_known = not said.startswith((b"noaccount", b"bad", UNAVAILABLE))
-        entry["name"] = line.name if is_known else None
-        if line.words[0] == b"rename" and is_known:
-            entry["new_name"] = line.words[2].decode(errors="replace")
+        operation, *fields = [it.decode(errors="replace") for it in line.words]
+        entry: Entry = {"door": line.client.door.name, "uid": line.client.uid}
+        entry.update(pid=line.client.pid, operation=operation)
+        entry["name"] = fields[0] if is_known else None
+        if operation == "rename":
+            entry["new_name"] = fields[1] if is_known else None
         if self.audit:
             self.audit.add({**entry, "answer": said.decode()}, written)
 
+    def measure(self, seconds: float) -> None:
+        """Takes the quickest hash of late for what one takes."""
+        self.hash_seconds = min(seconds, 1.01 * self.hash_seconds)
+
     def upgrade(self, line: Line) -> None:
         """Upgrades a record of other costs, after its password was right; one at a time."""
-        words, costs = [
-            b"upgrade",
-            *line.words[1:],
-        ], f"{self.options.upgrade}$".encode()
+        words = [b"upgrade", *line.words[1:]]
+        costs = f"{self.options.upgrade}$".encode()
 
         def shown(record: bytes) -> None:
             if record[:1] == b"$" and not record.startswith(costs):
@@ -199,12 +198,9 @@ class Service:
                 self.is_upgrading = False
 
         def done(said: bytes) -> None:
-            self.tally.counts["upgrades"] += said == b"upgraded"
             self.is_upgrading = False
-            self.note(
-                Line(line.client, b"", words, line.operation, line.turns, 0.0, 0.0),
-                said,
-            )
+            self.tally.counts["upgraded"] += said == b"upgraded"
+            self.note(replace(line, words=words), said)
 
         if not self.is_upgrading:
             self.is_upgrading = True
@@ -220,21 +216,15 @@ class Service:
         for guests in self.guests:
             client, it = partial(Client, self, guests), guests.listening()
             made = loop.create_unix_server(client, sock=it, backlog=doors.BACKLOG)
-            self.listeners.append(
-                await made
-            )  # its end leaves the path, which may be systemd's
+            self.listeners.append(await made)  # whose end leaves the path
         log.info("start: %s", self.options.file)
         notify("READY=1")
-        self.book.ask(PROBE, partial(self.measure, time.monotonic()))
+        began = time.monotonic()
+        self.book.ask(PROBE, lambda _: self.measure(time.monotonic() - began))
         while await self.book.answer(b"show", b"-") != UNAVAILABLE:
             notify("WATCHDOG=1")
             self.tally.sweep()
             await asyncio.sleep(int(os.environ.get("WATCHDOG_USEC", 60_000_000)) / 2e6)
-
-    def measure(self, began: float, said: bytes) -> None:
-        """Finds out which share of its time a change hashes."""
-        seconds = time.monotonic() - began
-        self.change_share = max(seconds / (seconds + SYNC), self.places / CHANGES)
 
     async def end_idle(self) -> None:
         """Closes clients that ask for nothing, or don't read their answers."""
@@ -260,11 +250,10 @@ class Service:
         status = await self.end()
         for task in (opening, stopping, sweeping):
             task.cancel()
-        if (
-            opening.done()
-            and not opening.cancelled()
-            and (fault := opening.exception())
-        ):
+        fault = (
+            opening.exception() if opening.done() and not opening.cancelled() else None
+        )
+        if fault:
             raise fault
         return status
 
@@ -286,10 +275,7 @@ class Service:
             rest = until - time.monotonic()
             status = await asyncio.wait_for(asyncio.shield(self.book.ended), rest)
         except asyncio.TimeoutError:
-            log.error(
-                "the book is killed: it has hashed for %d s since the signal",
-                LAST_SECONDS,
-            )
+            log.error("the book is killed, which hashed on for %d s", LAST_SECONDS)
             self.book.kill()
             await self.book.ended
             status = 0

@@ -14,7 +14,7 @@ PEOPLE = range(1000, 60001)  # uids whose failed tries count: a service logs in 
 RIGHT = frozenset("yes replaced upgraded kept removed".split())
 WRONG = {"no": "no", "wrong": "no", "absent": "absent"}
 CHANGED = "ok enrolled replaced upgraded removed disabled deleted renamed".split()
-COUNTED = "yes no absent noaccount later changes denied refused".split()
+COUNTED = "yes no absent noaccount later changes upgraded denied refused".split()
 MOST_SHOWN = 1000  # names in an answer
 
 
