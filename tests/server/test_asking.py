@@ -10,22 +10,19 @@ import socket
 import stat
 import subprocess
 import tempfile
-
 import unittest
 
 from served import (
+    SECRET,
+    WRONG,
     Case,
     Client,
     Given,
-    SECRET,
-    WRONG,
     as_user,
     command,
     field_of,
-    holds,
     need,
     need_root,
-    same,
     serving,
 )
 

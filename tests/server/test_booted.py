@@ -11,12 +11,10 @@ import os
 import pathlib
 import shutil
 import subprocess
-import sys
 import tempfile
-
 import unittest
 
-from served import CHEAP, Case, holds, need, need_root, real_book, same
+from served import CHEAP, Case, need, need_root, real_book
 from test_units import base, debs
 
 CGROUPS = pathlib.Path("/sys/fs/cgroup")

@@ -21,7 +21,7 @@ from collections.abc import Callable, Iterator
 from contextlib import contextmanager
 from typing import Any
 
-from served import Case, TOP, field_of, holds, need, same, serving
+from served import TOP, Case, field_of, need, same, serving
 
 
 def ours() -> Any:
@@ -200,6 +200,7 @@ class Clients(Case):
             "\u00e4",
             "\0",
         )
+        cases: list[tuple[str, tuple[Any, ...], Any]]
         cases = [("verify", (name, "secret"), R.NO) for name in names]
         cases += [("known", (name,), R.NO_ACCOUNT) for name in names]
         cases += [("change", (name, "secret", "fresh"), R.NO_ACCOUNT) for name in names]

@@ -13,11 +13,10 @@ import re
 import signal
 import socket
 import subprocess
-import sys
 import tempfile
 import time
 import unittest
-from collections.abc import Callable, Iterator
+from collections.abc import Iterator
 from contextlib import contextmanager
 
 from served import (
@@ -25,14 +24,12 @@ from served import (
     FAST_BOOK,
     PYTHON,
     TOP,
+    Case,
     Client,
     Service,
-    Case,
     field_of,
-    holds,
     need_root,
     real_book,
-    same,
     serving,
     until,
 )

@@ -14,7 +14,7 @@ from unittest import mock
 from collections.abc import Callable, Iterator
 from contextlib import contextmanager
 
-from served import Case, Client, SECRET, holds, is_listening, need, same, serving, until
+from served import SECRET, Case, Client, is_listening, need, serving, until
 from daemon import doors
 from daemon.options import Options
 from daemon.service import Service

@@ -8,7 +8,7 @@ import tempfile
 import time
 import unittest
 
-from served import Case, Client, SECRET, TOP, WRONG, field_of, holds, need, same, serving, until
+from served import SECRET, TOP, WRONG, Case, Client, field_of, need, serving, until
 
 
 def hashed(address: str) -> str:

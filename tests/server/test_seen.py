@@ -10,7 +10,6 @@ import re
 import stat
 import subprocess
 import tempfile
-import time
 import unittest
 
 from served import FAST_BOOK, PYTHON, SECRET, TOP, WRONG, Case, need, serving, until
@@ -154,8 +153,8 @@ class Audited(Case):
                 self.assertEqual(service.stop(), 0)
             text = path.read_text()
             lines = [json.loads(line) for line in text.splitlines()]
-            ours = {"uid": os.getuid(), "pid": os.getpid()}
-            whole = {"door": "admin", **ours, "operation": "account", "name": "ada", "answer": "ok"}
+            ours: dict[str, object] = {"uid": os.getuid(), "pid": os.getpid()}
+            whole: dict[str, object] = {"door": "admin", **ours, "operation": "account", "name": "ada", "answer": "ok"}
             self.assertEqual(lines[0], {"time": lines[0]["time"], **whole})
             self.assertRegex(lines[0]["time"], r"^\d{4}-\d\d-\d\dT\d\d:\d\d:\d\dZ$")
             self.assertEqual(
@@ -213,7 +212,8 @@ class Audited(Case):
         with tempfile.TemporaryDirectory() as room:
             path = pathlib.Path(room, "audit")
             with serving("--audit", str(path), before=("prlimit", "--fsize=2000")) as service:
-                admin, said = service.client("admin"), []
+                admin = service.client("admin")
+                said: list[str] = []
                 while "unavailable" not in said and len(said) < 100:
                     said.append(admin.ask(f"account n{len(said)}"))
                 self.assertIn(len(said), range(10, 30))

@@ -12,7 +12,7 @@ import time
 import unittest
 from unittest import mock
 
-from served import Case, Client, SECRET, holds, need, same, serving, until
+from served import SECRET, Case, Client, need, serving, until
 from daemon.options import Options
 from daemon.service import Service
 
@@ -127,7 +127,11 @@ class Starting(Case):
             ):
                 await service.open()
 
-        for given, ought in (({"WATCHDOG_USEC": "3000000"}, 1.5), ({}, 30.0)):
+        cases: list[tuple[dict[str, str], float]] = [
+            ({"WATCHDOG_USEC": "3000000"}, 1.5),
+            ({}, 30.0),
+        ]
+        for given, ought in cases:
             environment = {
                 name: it
                 for name, it in os.environ.items()

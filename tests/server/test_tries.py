@@ -9,9 +9,10 @@ import time
 import unittest
 from unittest import mock
 
-from served import Case, SECRET, WRONG, as_user, holds, need_root, same, serving
+from served import SECRET, WRONG, Case, as_user, need_root, serving
 from daemon import limits
 from daemon.limits import Limiter
+from daemon.log import log
 
 
 class Tries(Case):
@@ -161,7 +162,7 @@ class Tries(Case):
 
     def test_all_may_wait(self) -> None:
         """If all who are remembered wait, the oldest goes."""
-        with mock.patch.object(limits, "REMEMBERED", 3), mock.patch.object(limits.log, "info"):
+        with mock.patch.object(limits, "REMEMBERED", 3), mock.patch.object(log, "info"):
             limiter = Limiter(1)
             for name in "abcd":
                 limiter.fail(name)
@@ -169,12 +170,13 @@ class Tries(Case):
 
     def test_expired_go_first(self) -> None:
         """What is an hour old goes before what isn't, though it had more tries."""
+        clock = 0.0
         with (
             mock.patch.object(limits, "REMEMBERED", 2),
-            mock.patch.object(limits.time, "monotonic", lambda: clock),
-            mock.patch.object(limits.log, "info"),
+            mock.patch.object(time, "monotonic", lambda: clock),
+            mock.patch.object(log, "info"),
         ):
-            clock, limiter = 0.0, Limiter(2)
+            limiter = Limiter(2)
             limiter.fail("old")
             limiter.fail("old")
             clock = 4000.0
@@ -184,8 +186,8 @@ class Tries(Case):
 
     def test_tries_are_forgotten(self) -> None:
         """An hour after a wait was over its tries are forgotten, and not before; a wait has a bound."""
-        limiter = Limiter(3)
-        with mock.patch.object(limits.time, "monotonic", lambda: clock):
+        limiter, clock = Limiter(3), 0.0
+        with mock.patch.object(time, "monotonic", lambda: clock):
             for clock, count, wait in (
                 *((1000.0, 1, 0), (1000.0, 2, 0), (1000.0, 3, 1), (1000.0, 4, 2)),
                 *((1002.0 + 3599, 5, 4), (4605.0 + 3600, 1, 0), (8205.0 + 3599, 2, 0)),

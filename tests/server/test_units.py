@@ -14,22 +14,19 @@ import pathlib
 import re
 import shutil
 import subprocess
-import sys
 import tempfile
+import unittest
 from collections.abc import Iterator
 from contextlib import contextmanager
-
-import unittest
 
 from served import (
     FAST_BOOK,
     PYTHON,
     TOP,
-    Client,
     Case,
+    Client,
     chosen_book,
     field_of,
-    holds,
     is_listening,
     need,
     need_root,
@@ -103,6 +100,7 @@ for try in $(seq 200); do if grep -q start: /server.log; then break; fi; sleep 0
 printf '1 account ada\\n2 enrol ada c2VjcmV0 %s\\n' "$SETTING" > /lines
 python3 - <<'PYTHON'
 import socket
+import unittest
 it = socket.socket(socket.AF_UNIX)
 it.connect("/run/rigzumal/users/admin.sock")
 for line in open("/lines", "rb"):

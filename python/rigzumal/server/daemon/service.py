@@ -172,6 +172,8 @@ class Service:
 
     def note(self, line: Line, said: bytes, written: Optional[Written] = None) -> None:
         """Has the audit log say who did what. A name that is in no book may be a password."""
+        if not self.audit:
+            return
         is_known = not said.startswith((b"noaccount", b"bad", UNAVAILABLE))
         operation, *fields = [it.decode(errors="replace") for it in line.words]
         entry: Entry = {"door": line.client.door.name, "uid": line.client.uid}
@@ -179,8 +181,7 @@ class Service:
         entry["name"] = fields[0] if is_known else None
         if operation == "rename":
             entry["new_name"] = fields[1] if is_known else None
-        if self.audit:
-            self.audit.add({**entry, "answer": said.decode()}, written)
+        self.audit.add({**entry, "answer": said.decode()}, written)
 
     def measure(self, seconds: float) -> None:
         """Takes the quickest hash of late for what one takes."""

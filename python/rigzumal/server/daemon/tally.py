@@ -39,7 +39,8 @@ class Tally:
 
     def is_early(self, name: str, uid: int) -> bool:
         """Whether it isn't time yet for the next try."""
-        return self.names.is_early(name) or self.users.is_early(user_of(uid))
+        by_uid = self.users.most and self.users.is_early(user_of(uid))
+        return bool(by_uid) or self.names.is_early(name)
 
     def note(self, operation: Operation, name: str, uid: int, said: str) -> None:
         """Counts an answer, and the failed try that it may be."""
