@@ -2,10 +2,10 @@
 
     /usr/bin/python3 python/tests/run.py [SUBJECT ..]
 
-A subject is a folder here: hashers, package, accounts, frameworks. `SUBJECT/run.py NAME ..` runs
-some tests of one, and says which of Debian's packages they are for: what isn't there is named,
-and its tests are skipped. Left out are the long histories of accounts on real servers, which
-`accounts/run.py histories` runs.
+A subject is a folder here: hashers, package, accounts, frameworks. Each is plain unittest, so
+`/usr/bin/python3 -m unittest discover -s python/tests/accounts -k postgres` runs some tests of one.
+What the machine doesn't have is named, and its tests are skipped. Left out are the long histories
+of accounts on real servers: `/usr/bin/python3 python/tests/accounts/histories.py`.
 """
 
 import pathlib
@@ -13,7 +13,8 @@ import subprocess
 import sys
 
 TESTS = pathlib.Path(__file__).resolve().parent
-SUBJECTS = {"hashers": [], "package": [], "accounts": ["--quick"], "frameworks": []}
+# Drivers of databases warn of what is theirs; the tests over SQLite take care of it themselves.
+SUBJECTS = {"hashers": ["-W", "error"], "package": ["-W", "error"], "accounts": [], "frameworks": []}
 
 
 def main(wanted):
@@ -25,9 +26,7 @@ def main(wanted):
         if wanted and subject not in wanted:
             continue
         print(f"== {subject}", flush=True)
-        runner = TESTS / subject / "run.py"
-        discover = ["-W", "error", "-m", "unittest", "discover", "-s", TESTS / subject]
-        words = [runner, *options] if runner.exists() else discover
+        words = [*options, "-m", "unittest", "discover", "-s", TESTS / subject]
         if subprocess.run([sys.executable, *words]).returncode:
             failed.append(subject)
     print(f"== failed: {', '.join(failed)}" if failed else "== all passed")

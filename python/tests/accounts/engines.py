@@ -13,7 +13,7 @@ SERVERS = {}
 
 
 def server(kind):
-    """A server for all tests of this file; a skipped test if it isn't there."""
+    """A server for all tests of a run; a skipped test if it isn't there."""
     if kind not in SERVERS:
         try:
             made = kind("engines-" + kind.__name__).start()
@@ -23,7 +23,7 @@ def server(kind):
         except servers.Missing as reason:
             SERVERS[kind] = reason
     if isinstance(SERVERS[kind], servers.Missing):
-        raise unittest.SkipTest(str(SERVERS[kind]))
+        raise SERVERS[kind]
     return SERVERS[kind]
 
 

@@ -10,6 +10,7 @@ import socket
 import subprocess
 import tempfile
 import time
+import unittest
 
 ROOM = pathlib.Path(tempfile.mkdtemp(prefix="rigzumal-accounts-"))
 ROOM.chmod(0o755)
@@ -23,7 +24,7 @@ def clear():
         shutil.rmtree(ROOM, ignore_errors=True)
 
 
-class Missing(Exception):
+class Missing(unittest.SkipTest):
     """A program or a module that isn't there."""
 
 
@@ -408,6 +409,78 @@ class MariaServer(Server):
             database="store",
             **given,
         )
+
+
+class MySqlServer(Server):
+    """A server of MySQL, whose files are in a root of their own.
+
+    RIGZUMAL_MYSQL names that folder: Debian's mysql-server-core of a later suite and what it
+    depends on, each unpacked there by `dpkg -x`.
+    """
+
+    user = "root"  # only root enters another root, and its users are none of this machine's
+
+    def __init__(self, name):
+        self.root = os.environ.get("RIGZUMAL_MYSQL")
+        if not self.root or os.getuid() != 0:
+            raise Missing("RIGZUMAL_MYSQL names no root of MySQL, or one isn't root")
+        try:
+            import pymysql  # noqa: F401
+        except ImportError:
+            raise Missing("python3-pymysql is not there") from None
+        super().__init__(name)
+        self.port = free_port()
+        self.data = f"/tmp/{name}-{os.getpid()}"
+        self.root = self.root.rstrip("/")
+        self.run(*self.mysqld("--initialize-insecure"))
+
+    @property
+    def url(self):
+        return f"mysql://store@127.0.0.1:{self.port}/store"
+
+    def mysqld(self, *more):
+        given = ("--no-defaults", "--user=root", f"--datadir={self.data}", *more)
+        return ["/usr/sbin/chroot", self.root, "/usr/sbin/mysqld", *given]
+
+    def words(self):
+        return self.mysqld(
+            f"--port={self.port}",
+            "--bind-address=127.0.0.1",
+            f"--socket={self.data}.sock",
+            f"--pid-file={self.data}.pid",
+            "--mysqlx=OFF",
+            "--secure-file-priv=NULL",
+        )
+
+    def root_connection(self):
+        import pymysql
+
+        file = f"{self.root}{self.data}.sock"
+        return pymysql.connect(unix_socket=file, user="root", autocommit=True)
+
+    def connect(self, **more):
+        import pymysql
+
+        given = {"autocommit": True, "connect_timeout": 5, **more}
+        place = {"host": "127.0.0.1", "port": self.port, "user": "store", "database": "store"}
+        return pymysql.connect(**place, **given)
+
+    def ready(self):
+        import pymysql
+
+        try:
+            with self.root_connection() as conn, conn.cursor() as cursor:
+                cursor.execute("CREATE DATABASE IF NOT EXISTS store")
+                cursor.execute("CREATE USER IF NOT EXISTS store@'%'")
+                cursor.execute("GRANT ALL ON store.* TO store@'%'")
+                cursor.execute("GRANT PROCESS, CONNECTION_ADMIN ON *.* TO store@'%'")
+        except (pymysql.err.Error, OSError):
+            return False
+        return True
+
+    def stop_at_exit(self):
+        super().stop_at_exit()
+        shutil.rmtree(f"{self.root}{self.data}", ignore_errors=True)
 
 
 def galera(count=3):

@@ -252,10 +252,7 @@ class Pooler(unittest.TestCase):
 
     def setUp(self):
         of = engines.server(servers.PostgresServer)
-        try:
-            self.bouncer = servers.PgBouncer("bouncer", of).start()
-        except servers.Missing as reason:
-            self.skipTest(str(reason))
+        self.bouncer = servers.PgBouncer("bouncer", of).start()
         self.addCleanup(self.bouncer.end)
         self.dialect = Postgres("bounced", "name", "record")
         with of.connect() as conn:

@@ -1,12 +1,14 @@
 """The operations on each engine; their traps are in files of their own."""
 
+import contextlib
+import io
 import sqlite3
 import unittest
 
 import engines
 import of_engines
 import servers
-from rigzumal.accounts import MariaDB, Postgres, Sqlite
+from rigzumal.accounts import MariaDB, MySQL, Postgres, Sqlite
 
 
 class OnSqlite:
@@ -54,6 +56,12 @@ class OnMariaDB:
             self.execute(f"KILL {number}")
 
 
+class OnMySQL(OnMariaDB):
+    kind, dialect = servers.MySqlServer, MySQL("users", "name", "record")
+    lock_timeout = "SET innodb_lock_wait_timeout = 1"
+    statement_timeout = lock_timeout  # max_execution_time is of SELECT alone
+
+
 class OperationsOnSqlite(OnSqlite, of_engines.Operations, engines.Base):
     pass
 
@@ -64,6 +72,21 @@ class OperationsOnPostgres(OnPostgres, of_engines.Operations, engines.Base):
 
 class OperationsOnMariaDB(OnMariaDB, of_engines.Operations, engines.Base):
     pass
+
+
+class OperationsOnMySQL(OnMySQL, of_engines.Operations, engines.Base):
+    def test_the_command(self):
+        """It makes a table, and a torture of it is legal."""
+        from rigzumal.accounts import cli
+
+        given = ["--database", self.server.url]
+        said = io.StringIO()
+        with contextlib.redirect_stdout(said):
+            self.assertEqual(cli.main([*given, "--table", "made", "init"]), 0)
+            words = ["torture", "--seconds", "3", "--processes", "4", "--kill"]
+            self.assertEqual(cli.main([*given, *words]), 0)
+        self.assertIn("legal: ", said.getvalue())
+        self.execute("DROP TABLE made")
 
 
 class RowsOnSqlite(OnSqlite, of_engines.RowsOfOnesOwn, engines.Base):
@@ -78,11 +101,19 @@ class RowsOnMariaDB(OnMariaDB, of_engines.RowsOfOnesOwn, engines.Base):
     pass
 
 
+class RowsOnMySQL(OnMySQL, of_engines.RowsOfOnesOwn, engines.Base):
+    pass
+
+
 class FaultsOfPostgres(OnPostgres, of_engines.OnServers, engines.Base):
     pass
 
 
 class FaultsOfMariaDB(OnMariaDB, of_engines.OnServers, engines.Base):
+    pass
+
+
+class FaultsOfMySQL(OnMySQL, of_engines.OnServers, engines.Base):
     pass
 
 

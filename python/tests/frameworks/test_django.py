@@ -3,6 +3,7 @@
 import sys
 from unittest import mock
 
+import project  # noqa: F401: Django, set up
 from asgiref.sync import async_to_sync
 from cheap import Cheap, cheap
 from django.contrib.auth import authenticate, hashers

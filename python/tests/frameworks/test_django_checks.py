@@ -8,6 +8,7 @@ import sys
 import unittest
 from unittest import mock
 
+import project  # noqa: F401: Django, set up
 from cheap import Cheap
 from django.contrib import admin
 from django.contrib.auth import admin as djangos_admin

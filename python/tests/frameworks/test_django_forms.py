@@ -3,6 +3,7 @@
 import io
 from unittest import mock
 
+import project  # noqa: F401: Django, set up
 from cheap import Cheap, cheap
 from django.contrib.admin import site
 from django.contrib.auth import authenticate, hashers

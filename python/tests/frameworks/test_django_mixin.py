@@ -4,6 +4,7 @@ import copy
 import pickle
 from unittest import mock
 
+import project  # noqa: F401: Django, set up
 from asgiref.sync import async_to_sync
 from cheap import Cheap, cheap
 from django.contrib.auth import authenticate, hashers

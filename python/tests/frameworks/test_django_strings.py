@@ -8,6 +8,7 @@ import runpy
 import unittest
 from unittest import mock
 
+import project  # noqa: F401: Django, set up
 from cheap import cheap
 from django.contrib.auth import hashers
 

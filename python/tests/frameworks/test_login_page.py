@@ -27,10 +27,15 @@ import urllib.parse
 from unittest import mock
 
 TOP = pathlib.Path(__file__).resolve().parents[3]
-sys.path.insert(0, str(TOP / "examples" / "login_page"))
+sys.path[:0] = [str(TOP / "examples" / "login_page"), str(TOP / "python")]
+_PATHS = (str(TOP / "python"), os.environ.get("PYTHONPATH"))
+os.environ["PYTHONPATH"] = os.pathsep.join(filter(None, _PATHS))
 
-import login_page
-import store
+try:
+    import login_page
+    import store
+except ImportError as what:
+    raise unittest.SkipTest(f"python3-flask, -waitress and -django are wanted: {what}") from None
 
 try:
     from selenium import webdriver

@@ -1,6 +1,6 @@
 """Django's own tests of its hashers and of all that is in auth, over Rigzumal.
 
-    python3 test_django_own.py FOLDER-OF-DJANGO'S-SOURCE
+    python3 django_own.py FOLDER-OF-DJANGO'S-SOURCE
 
 Its stock User compares, as by RIGZUMAL_USER_COMPARES. `--djangos` runs the same without
 Rigzumal, to see what fails then.

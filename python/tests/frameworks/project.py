@@ -1,0 +1,33 @@
+"""The tests' project of Django, with its databases: read first by each test of Django.
+
+FRAMEWORKS_POSTGRES=PORT takes PostgreSQL in the place of SQLite. The library and the package are
+those of this repository.
+"""
+
+import atexit
+import os
+import pathlib
+import sys
+import unittest
+
+HERE = pathlib.Path(__file__).resolve().parent
+PACKAGE = HERE.parent.parent
+sys.path[:0] = [str(PACKAGE), str(HERE)]
+_NAMED = os.environ.get("PYTHONPATH")
+os.environ["PYTHONPATH"] = os.pathsep.join(filter(None, (str(PACKAGE), str(HERE), _NAMED)))
+os.environ.setdefault("DJANGO_SETTINGS_MODULE", "settings")
+
+try:
+    import django
+except ImportError:
+    raise unittest.SkipTest("python3-django is not there") from None
+
+django.setup()
+
+from django.core.checks import run_checks
+from django.test import utils
+
+run_checks()  # which reads the URLs, and what they register, as `manage.py test` does
+utils.setup_test_environment()
+_databases = utils.setup_databases(0, False)
+atexit.register(utils.teardown_databases, _databases, 0)

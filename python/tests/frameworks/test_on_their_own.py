@@ -1,0 +1,176 @@
+"""What wants a process or a server of its own: the tests of Django on PostgreSQL, random
+histories, Django's own tests and passlib's own, and the login page on PostgreSQL."""
+
+import contextlib
+import os
+import pathlib
+import shutil
+import socket
+import subprocess
+import sys
+import tempfile
+import time
+import unittest
+
+HERE = pathlib.Path(__file__).resolve().parent
+PACKAGE = HERE.parent.parent
+
+
+def need(*modules):
+    """Skips what this Python hasn't got."""
+    for module in modules:
+        found = [sys.executable, "-c", f"import {module}"]
+        if subprocess.run(found, capture_output=True).returncode:
+            raise unittest.SkipTest(f"Python's {module} is not there")
+
+
+@contextlib.contextmanager
+def postgres():
+    """The port of a server of PostgreSQL with databases one and two, in a folder of its own."""
+    programs = sorted(pathlib.Path("/usr/lib/postgresql").glob("*/bin/initdb"))
+    if not programs:
+        raise unittest.SkipTest("postgresql is not there")
+    tools = programs[-1].parent
+    folder = pathlib.Path(tempfile.mkdtemp(prefix="rigzumal-pg-"))
+    own = ["runuser", "-u", "postgres", "--"] if os.geteuid() == 0 else []
+    if own:
+        shutil.chown(folder, "postgres")
+    with socket.socket() as found:
+        found.bind(("127.0.0.1", 0))
+        port = found.getsockname()[1]
+    quiet = {"check": True, "stdout": subprocess.DEVNULL, "cwd": folder}
+    make = [tools / "initdb", "-D", folder / "data", "-U", "postgres", "-A", "trust"]
+    subprocess.run([*own, *make, "--no-sync"], **quiet)
+    options = ["-c", "listen_addresses=127.0.0.1", "-c", f"port={port}"]
+    options += ["-c", f"unix_socket_directories={folder}"]
+    words = [*own, tools / "postgres", "-D", folder / "data", *options]
+    server = subprocess.Popen(words, cwd=folder, stderr=subprocess.DEVNULL)
+    try:
+        reach = ["-h", "127.0.0.1", "-p", str(port), "-U", "postgres"]
+        for name in ("one", "two"):
+            for _ in range(300):
+                done = subprocess.run([tools / "createdb", *reach, name], capture_output=True)
+                if not done.returncode:
+                    break
+                time.sleep(0.1)
+            else:
+                raise AssertionError(f"no database {name}: {done.stderr.decode()}")
+        yield port
+    finally:
+        stop = [tools / "pg_ctl", "-D", folder / "data", "-m", "fast", "stop"]
+        subprocess.run([*own, *stop], **quiet)
+        server.wait()
+        shutil.rmtree(folder, ignore_errors=True)
+
+
+class Runs(unittest.TestCase):
+    """Each has to end with status 0."""
+
+    def run_python(self, *words, **env):
+        room = tempfile.TemporaryDirectory(prefix="rigzumal-")
+        self.addCleanup(room.cleanup)
+        path = filter(None, (str(PACKAGE), str(HERE), os.environ.get("PYTHONPATH")))
+        given = {"PYTHONPATH": os.pathsep.join(path), "FRAMEWORKS_ROOM": room.name, **env}
+        done = subprocess.run(
+            [sys.executable, *map(str, words)],
+            cwd=HERE,
+            env={**os.environ, "PYTHONDONTWRITEBYTECODE": "1", **given},
+            stdout=subprocess.PIPE,
+            stderr=subprocess.STDOUT,
+            text=True,
+            timeout=1800,
+        )
+        self.assertEqual(done.returncode, 0, done.stdout[-5000:])
+        return done.stdout
+
+    def test_django_on_postgres(self):
+        need("django", "psycopg2")
+        words = ("-m", "unittest", "discover", "-p", "test_django*.py")
+        with postgres() as port:
+            self.run_python(*words, FRAMEWORKS_POSTGRES=str(port))
+
+    def test_histories(self):
+        """1,000 random interleavings in threads have one legal order each."""
+        need("django")
+        for words in ((), ("--mixin",)):
+            self.assertIn("legal rounds on sqlite", self.run_python("django_histories.py", *words))
+
+    def test_histories_on_postgres(self):
+        need("django", "psycopg2")
+        with postgres() as port:
+            for words in ((), ("--mixin",)):
+                said = self.run_python("django_histories.py", *words, FRAMEWORKS_POSTGRES=str(port))
+                self.assertIn("legal rounds on postgresql", said)
+
+    def test_histories_without_comparison_are_refused(self):
+        need("django")
+        for words in ((), ("--mixin",)):
+            self.assertIn("refused", self.run_python("django_histories.py", "--broken", *words))
+
+    def test_djangos_own(self):
+        """Those of auth, over this backend and these hashers."""
+        need("django")
+        self.run_python("django_own.py", djangos_source())
+
+    def test_passlibs_own(self):
+        need("passlib")
+        self.run_python("passlib_own.py", PASSLIB_TEST_MODE="full")
+
+    def test_the_login_page_on_postgres(self):
+        need("psycopg", "flask", "waitress", "django")
+        with postgres() as port:
+            url = f"postgresql://postgres@127.0.0.1:{port}/one"
+            self.run_python("test_login_page.py", DATABASE=url)
+
+
+def djangos_source():
+    """The folder of the source of the Django that is there, with its tests.
+
+    DJANGO_SOURCE names it; otherwise Debian's source package is fetched into a cache, once.
+    """
+    named = os.environ.get("DJANGO_SOURCE")
+    if named:
+        return named
+    kept = pathlib.Path(os.environ.get("XDG_CACHE_HOME", "~/.cache")).expanduser()
+    import django
+
+    folder = kept / "rigzumal" / f"django-{django.__version__}"
+    if not (folder / "tests").is_dir():
+        fetch_source(folder)
+    return folder
+
+
+def fetch_source(folder):
+    """Debian's source package of Django, by an apt of its own; a skipped test without a network."""
+    release = dict(
+        line.split("=", 1) for line in pathlib.Path("/etc/os-release").read_text().splitlines()
+    )
+    with tempfile.TemporaryDirectory(prefix="rigzumal-apt-") as name:
+        room = pathlib.Path(name)
+        for part in ("state/lists/partial", "cache/archives/partial"):
+            (room / part).mkdir(parents=True)
+        (room / "status").touch()
+        suite = release.get("VERSION_CODENAME", "stable")
+        (room / "list").write_text(f"deb-src http://deb.debian.org/debian {suite} main\n")
+        options = {
+            "Dir::Etc::sourcelist": room / "list",
+            "Dir::Etc::sourceparts": "/dev/null",
+            "Dir::State": room / "state",
+            "Dir::State::status": room / "status",
+            "Dir::Cache": room / "cache",
+        }
+        apt = ["apt-get", "-q", *(f"-o{name}={value}" for name, value in options.items())]
+        quiet = {"check": True, "capture_output": True, "cwd": room, "timeout": 300}
+        try:
+            subprocess.run([*apt, "update"], **quiet)
+            subprocess.run([*apt, "source", "--download-only", "python-django"], **quiet)
+            (archive,) = room.glob("python-django_*.orig.tar.*")
+        except (OSError, subprocess.SubprocessError, ValueError):
+            raise unittest.SkipTest("Django's source can't be fetched: DJANGO_SOURCE") from None
+        folder.mkdir(parents=True)
+        words = ["tar", "-x", "--strip-components=1", "-f", archive, "-C", folder]
+        subprocess.run(words, check=True)
+
+
+if __name__ == "__main__":
+    unittest.main()
