@@ -1,13 +1,12 @@
 #!/usr/bin/env python3
 """Compares what docs/PROMISES.md names with the tree; tools/pages.py runs it.
 
-    python3 tools/promises.py [--left-out]
+    python3 tools/promises.py
     python3 tools/promises.py --refused LOG..
 
 Each call is named by its path, `cred_argon::argon::argon2` (`input_len`, `err`): the function has to stand in that file, and its
-contract has to have the clauses in brackets. Each wrong body `CRATE/NAME`, each test `CRATE::TEST`, each file, and each definition
-that a file "has" has to be there. No cell of a table has over 120 characters. With --left-out it prints the wrong bodies of the gate
-that the page doesn't name. The last line is `N passed, M failed`, and the status is 1 if anything failed.
+contract has to have the clauses in brackets. Each test `CRATE::TEST`, each file, and each definition that a file "has" has to be
+there. No cell of a table has over 120 characters. The last line is `N passed, M failed`, and the status is 1 if anything failed.
 
 With --refused it reads what `rt ci` or `rt must-fail` printed, and says of each kind of refusal how many wrong bodies it has:
 
@@ -16,7 +15,7 @@ With --refused it reads what `rt ci` or `rt must-fail` printed, and says of each
     no proof of it  a written answer is no proof of the goal any more
     names           a written answer names what the edit took away, and nothing else was judged: this says nothing of the contract
 
-The wrong bodies that docs/PROMISES.md or docs/PLANTED.md names count by themselves. The status is 1 if one of these is refused for
+The wrong bodies that docs/PLANTED.md names count by themselves. The status is 1 if one of these is refused for
 its names alone, or if the log has a wrong body that wasn't refused.
 """
 
@@ -101,12 +100,6 @@ def words(text):
                 yield None if found or name in listed() else f"`{word}` isn't in {crate}"
 
 
-def edits(text):
-    """What is wrong with each wrong body that a text names."""
-    for crate, name in re.findall(r"`(\w+)/([\w-]+)`", text):
-        yield None if has_edit(crate, name) else f"the wrong body `{crate}/{name}` isn't there"
-
-
 def files(text):
     """What is wrong with each file that a text names, and with the definitions that it is said to have."""
     for name in FILES.findall(text):
@@ -145,7 +138,7 @@ def refusals(logs):
 
 def say_refusals(logs):
     found = refusals(logs)
-    named = {it for page in (PAGE, PAGE.parent / "PLANTED.md") for it in re.findall(r"`(\w+/[\w-]+)`", page.read_text())}
+    named = set(re.findall(r"`(\w+/[\w-]+)`", (PAGE.parent / "PLANTED.md").read_text()))
     for kind in KINDS:
         of = [it for it in found if found[it] == kind]
         print(f"{kind}: {len(of)}, {sum(it in named for it in of)} of them named")
@@ -157,22 +150,15 @@ def say_refusals(logs):
 def check():
     """How many names are right, and what is wrong."""
     text = PAGE.read_text()
-    found = [*calls(text), *words(text), *edits(text), *files(text), *cells(text)]
+    found = [*calls(text), *words(text), *files(text), *cells(text)]
     return found.count(None), [f"docs/PROMISES.md: {it}" for it in found if it]
-
-
-def left_out():
-    """The wrong bodies of the gate that the page doesn't name."""
-    named = set(re.findall(r"`(\w+/[\w-]+)`", PAGE.read_text()))
-    return sorted({f"{it.parent.parent.name}/{it.stem}" for it in CRATES.glob("*/must-fail/*.edit")} - named)
 
 
 def main():
     if "--refused" in sys.argv:
         return say_refusals(sys.argv[sys.argv.index("--refused") + 1 :])
     passed, failures = check()
-    notes = [f"not named: {it}" for it in left_out()] if "--left-out" in sys.argv else []
-    print("\n".join([*notes, *failures, f"{passed} passed, {len(failures)} failed"]))
+    print("\n".join([*failures, f"{passed} passed, {len(failures)} failed"]))
     return 1 if failures or not passed else 0
 
 
