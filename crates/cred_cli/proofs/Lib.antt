@@ -16,4 +16,5 @@ pub mod Readings
 pub mod Runs
 pub mod Simulation
 pub mod Starvings
+pub mod Basis
 pub mod Writes

@@ -1,5 +1,5 @@
 -- How the program ends.
-use Rattle.std.proofs.Common.{◌≡◌, ℕ, List, [], Option, Some, None, Bool, Err, IfSome, inr, refl, sym}
+use Rattle.std.proofs.Common.{◌≡◌, ℕ, List, [], Option, Some, None, Bool, Ok, Err, IfSome, inl, inr, refl, sym}
 use Rattle.std.specs.FinMap as map
 use Rattle.std.proofs.KnownBytes.{Appends-nil}
 use Rattle.cred_book.specs.Accounts.{Accounts, most_accounts}
@@ -7,7 +7,10 @@ use Rattle.cred_cli.specs.declared.fault.ScriptFault.{ScriptFault}
 use Rattle.cred_cli.specs.declared.fault.ScriptFault.TheVariants.{Memory}
 use Rattle.cred_cli.specs.Statuses.{status_number, status_of}
 use Rattle.cred_cli.specs.Commands.{Runs}
-use Rattle.cred_cli.specs.Outcome.{HasCause, ScriptFails, StandsAfter}
+use Rattle.cred_cli.specs.declared.exit_status.ExitStatus.TheVariants.{Done}
+use Rattle.cred_cli.specs.declared.script.End.{End}
+use Rattle.cred_cli.specs.Calls.{Call}
+use Rattle.cred_cli.specs.Outcome.{HasCause, ScriptFails, StandsAfter, longest_script}
 use Rattle.cred_cli.specs.Prompt.{IsPrompt}
 use Rattle.cred_cli.specs.Costs.{events_within}
 use Rattle.cred_cli.specs.Script.{events_of, script_start, start_as}
@@ -64,3 +67,9 @@ run_fails book r w accounts fault status empty is fails cause prompt =
     known : (bytes : Option (List ℕ)) → IfSome bytes (λ bs. ScriptFails most_accounts book bs r.left w.before w.now accounts fault) → IfSome bytes (λ bs. (accounts : Accounts) × ScriptFails most_accounts map.empty bs r.left w.before w.now accounts fault)
     known None fails = tt
     known (Some bs) fails = (accounts, rw empty at fails)
+
+-- the script was answered whole
+pub runs_whole : (book new : Accounts) (bytes : List ℕ) (left : Option (List ℕ)) (failed : Bool) (log : List Call) (w : Writing) (end_ : End) (status : ℕ) → book ≡ map.empty → status ≡ status_number Done →
+    EndsAs longest_script most_accounts (script_start book bytes w.before) (record { input = Some bytes; left = left; failed = failed; log = log }) w new (Ok end_) → Runs (record { input = Some bytes; left = left; failed = failed; log = log }) w status
+runs_whole book new bytes left failed log w end_ status empty is ended =
+    inl (is, record { written = rw empty at ended.done.written; short = ended.short; prompt = rw empty at ended.prompt })

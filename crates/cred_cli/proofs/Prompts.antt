@@ -43,30 +43,37 @@ read_to_start policy capacity script name left s calls known at none = record {
   fewer = rw none tt;
 }
 
--- the call that stands on earlier ones
-abbrev pub call_at : Option (List ℕ) → ℕ → Standing → Call
-call_at left beside s = record { left = left; beside = beside; written = s.written; accounts = s.accounts }
+-- a call found this
+pub record Finds (left : Option (List ℕ)) (name : ℕ) (s : Standing) (call : Call) : Type 0 where
+  pub left_is : call.left ≡ left
+  pub beside_is : call.beside ≡ name
+  pub written_is : call.written ≡ s.written
+  pub accounts_are : call.accounts ≡ s.accounts
 
 -- one call more is prompt, whatever comes of it
-pub prompt_call : {policy : Policy} {capacity : ℕ} {script : ScriptStart} {name : ℕ} {left : Option (List ℕ)} {s : Standing} {earlier calls : List Call} (beside : ℕ) (read : IsReadTo policy capacity script name left s earlier)
-    → beside ≡ name → calls ≡ call_at left beside s ∷ earlier → (later : List Event) → IsSameBefore (line_ends read.front) read.events later → IsPrompt capacity (with_events script later) name calls
-prompt_call {capacity = capacity} {script = script} {s = s} beside read named are later same =
+pub prompt_call : {policy : Policy} {capacity : ℕ} {script : ScriptStart} {name : ℕ} {left : Option (List ℕ)} {s : Standing} {earlier calls : List Call} (call : Call) (read : IsReadTo policy capacity script name left s earlier)
+    → Finds left name s call → calls ≡ call ∷ earlier → (later : List Event) → IsSameBefore (line_ends read.front) read.events later → IsPrompt capacity (with_events script later) name calls
+prompt_call {capacity = capacity} {script = script} {s = s} call read found are later same =
     let stands = stands_front capacity script.book read.events later (line_ends read.front) same script.before s.written s.accounts (rw (← read.at.lines_are) read.at.stands) in
-    rw are (record { front = read.front; came = rw read.left_is read.cut; beside = named; stands = stands }, rw read.left_is read.fewer, read.prompt later same)
+    rw are (
+      record { front = read.front; came = rw (found.left_is, read.left_is) read.cut; beside = found.beside_is; stands = rw (found.written_is, found.accounts_are) stands },
+      rw (found.left_is, read.left_is) read.fewer,
+      read.prompt later same,
+    )
 
 -- and where it gave bytes that are taken, the script is read behind them
-pub read_on : {policy : Policy} {capacity : ℕ} {script : ScriptStart} {name : ℕ} {left now : Option (List ℕ)} {old new : Standing} {earlier calls : List Call} (beside : ℕ) (bytes : List ℕ) (read : IsReadTo policy capacity script name left old earlier)
-    → HasCome read.rest bytes now → 0 < length bytes → beside ≡ name → calls ≡ call_at left beside old ∷ earlier → (events : List Event) → GoesOn policy capacity (with_events script read.events) (line_ends read.front) events
+pub read_on : {policy : Policy} {capacity : ℕ} {script : ScriptStart} {name : ℕ} {left now : Option (List ℕ)} {old new : Standing} {earlier calls : List Call} (call : Call) (bytes : List ℕ) (read : IsReadTo policy capacity script name left old earlier)
+    → HasCome read.rest bytes now → 0 < length bytes → Finds left name old call → calls ≡ call ∷ earlier → (events : List Event) → GoesOn policy capacity (with_events script read.events) (line_ends read.front) events
     → IsAt policy capacity (with_events script events) (read.front ++ bytes) new → IsReadTo policy capacity script name now new calls
-read_on {script = script} beside bytes read more some named are events goes_on fed = record {
+read_on {script = script} call bytes read more some found are events goes_on fed = record {
   front = read.front ++ bytes;
   rest = more.left;
   cut = cut_behind script.bytes read.front read.rest bytes more.left read.cut more.cut;
   left_is = more.now_is;
   events = events;
   at = fed;
-  prompt = λ later same. prompt_call beside read named are later (λ j before. same j (omega (arith, before, line_ends_longer read.front bytes)) ∙ goes_on.same j before);
-  fewer = rw (are, read.left_is) (omega (arith, some, ap length more.cut, length-append bytes more.left));
+  prompt = λ later same. prompt_call call read found are later (λ j before. same j (omega (arith, before, line_ends_longer read.front bytes)) ∙ goes_on.same j before);
+  fewer = rw (are, found.left_is, read.left_is) (omega (arith, some, ap length more.cut, length-append bytes more.left));
 }
 
 -- no call was made, and so none too early
@@ -77,13 +84,14 @@ no_calls capacity book name before known calls none =
 -- ---- of what is prompt
 
 -- the bytes that had come are those that are not left
-pub prompt-stands : (capacity : ℕ) (book accounts : Accounts) (front rest before now : List ℕ) (name beside : ℕ)
-    → IsPromptAt capacity (script_start book (front ++ rest) (Some before)) name (record { left = Some rest; beside = beside; written = Some now; accounts = accounts })
+pub prompt-stands : (capacity : ℕ) (book accounts : Accounts) (front rest before now : List ℕ) (name : ℕ) (call : Call) → call.left ≡ Some rest → call.written ≡ Some now → call.accounts ≡ accounts
+    → IsPromptAt capacity (script_start book (front ++ rest) (Some before)) name call
     → (now ≡ before ++ answers_before capacity book (events_of (front ++ rest)) (line_ends front)) × (accounts ≡ book_at capacity book (events_of (front ++ rest)) (line_ends front))
-prompt-stands capacity book accounts front rest before now name beside prompt =
-    let same : front ≡ prompt.front = append_cancel_right front prompt.front rest prompt.came in (
-      prompt.stands.written ∙ ap (λ xs. before ++ answers_before capacity book (events_of (front ++ rest)) (line_ends xs)) (sym same),
-      prompt.stands.accounts_are ∙ ap (λ xs. book_at capacity book (events_of (front ++ rest)) (line_ends xs)) (sym same),
+prompt-stands capacity book accounts front rest before now name call left written kept prompt =
+    let same : front ≡ prompt.front = append_cancel_right front prompt.front rest (rw left at prompt.came) in
+    let stood = rw (written, kept) at prompt.stands in (
+      stood.written ∙ ap (λ xs. before ++ answers_before capacity book (events_of (front ++ rest)) (line_ends xs)) (sym same),
+      stood.accounts_are ∙ ap (λ xs. book_at capacity book (events_of (front ++ rest)) (line_ends xs)) (sym same),
     )
 
 -- no more is left than all

@@ -194,14 +194,14 @@ at_again policy capacity script front s at = record {
 
 -- its lines come to what they ask for
 module _ (longest capacity : ℕ) (r : Reading) (w : Writing) (old new : Accounts) where
-  abbrev Asked : List ℕ → Result End ScriptFault → Type 0
+  abbrev pub Asked : List ℕ → Result End ScriptFault → Type 0
   Asked bytes result = EndsAs longest capacity (script_start old bytes w.before) r w new result
 
   -- where nothing is too costly
-  abbrev Alone : List ℕ → Result End ScriptFault → Type 0
+  abbrev pub Alone : List ℕ → Result End ScriptFault → Type 0
   Alone bytes result = (events : List Event) × IsHistory Ends capacity old (events_within None bytes) events × EndsAs longest capacity (start_as old bytes w.before events) r w new result
 
-  asked_alone : (bytes : List ℕ) (result : Result End ScriptFault) → Alone bytes result → Asked bytes result
+  pub asked_alone : (bytes : List ℕ) (result : Result End ScriptFault) → Alone bytes result → Asked bytes result
   asked_alone bytes result (events, is, ended) = rw (is ∙ unbounded bytes) at ended
 
   pub as_asked : (result : Result End ScriptFault) → IfSome r.input (λ bytes. Alone bytes result) →

@@ -19,3 +19,10 @@ cut_later bytes front rest n cut = cut ∙ rw append_assoc (ap (λ xs. front ++ 
 pub none_more : (a b c : Option (List ℕ)) (front rest : List ℕ) (n : ℕ) → n ≡ 0 → Appends a b front → Appends b c (take n rest) → Appends a c front
 none_more a b c front rest n none written more =
     rw append-nil at (Appends-trans a b c front [] written (rw none at more))
+
+-- and so of the bytes that were taken
+pub taken_later : (a b c front more : List ℕ) → b ≡ a ++ front → c ≡ b ++ more → c ≡ a ++ (front ++ more)
+taken_later a b c front more taken later = later ∙ ap (λ xs. xs ++ more) taken ∙ append_assoc a front more
+
+pub none_taken : (a b c front rest : List ℕ) (n : ℕ) → n ≡ 0 → b ≡ a ++ front → c ≡ b ++ take n rest → c ≡ a ++ front
+none_taken a b c front rest n none taken later = later ∙ ap (λ k. b ++ take k rest) none ∙ append-nil b ∙ taken

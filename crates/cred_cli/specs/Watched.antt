@@ -1,5 +1,7 @@
 -- What is seen of a watched reader or writer.
-use Rattle.std.specs.Prelude.{◌≡◌, ℕ, Bool, false, List, [], Option}
+use Rattle.std.specs.Prelude.{◌≡◌, ℕ, Bool, true, false, List, [], ◌++◌, Option, Some, Result}
+use Rattle.std.specs.Prelude.{MatchResult, drop, length, map, take}
+use Rattle.std.specs.Io.KnownBytes.{Appends, Consumes}
 use Rattle.cred_cli.specs.Calls.{Call}
 use Rattle.cred_cli.specs.declared.watched.Watched.{Watched}
 
@@ -11,6 +13,18 @@ calls_of watched = watched.calls
 
 abbrev pub failed_of : {X : Type 0} → Watched X → Bool
 failed_of watched = watched.failed
+
+-- a call gave no byte though there was room for one: the reader was at its end
+abbrev pub ended_of : {X : Type 0} → Watched X → Bool
+ended_of watched = watched.ended
+
+-- the transcript: all the bytes that calls on it gave, whatever it is
+abbrev pub given_of : {X : Type 0} → Watched X → List ℕ
+given_of watched = watched.given.bytes
+
+-- all the bytes that calls on it took, whatever it is
+abbrev pub taken_of : {X : Type 0} → Watched X → List ℕ
+taken_of watched = watched.taken.bytes
 
 -- the calls on it that were logged, the last one first
 abbrev pub log_of : {X : Type 0} → Watched X → List Call
@@ -24,7 +38,70 @@ name_of watched = watched.log.name
 pub record IsNew {X : Type 0} (watched : Watched X) : Type 0 where
   pub calls : calls_of watched ≡ 0
   pub failed : failed_of watched ≡ false
+  pub ended : ended_of watched ≡ false
+  pub given : given_of watched ≡ []
+  pub taken : taken_of watched ≡ []
   pub log : log_of watched ≡ []
+
+-- at `Ok(n)` the first n bytes of the buffer passed, and none at `Err`
+abbrev pub Passes : {E : Type 0} → List ℕ → List ℕ → Result ℕ E → List ℕ → Type 0
+Passes old new result buf = MatchResult result (λ n. new ≡ old ++ take n buf) (λ _. new ≡ old)
+
+-- What it gave in between is what its contract says was taken off.
+abbrev pub GivesAsContracted : {R : Type 0} → (R → Option (List ℕ)) → Watched R → Watched R → Type 0
+GivesAsContracted remaining old new = (bytes : List ℕ) × (given_of new ≡ given_of old ++ bytes)
+    × Consumes (remaining (inner_of old)) (remaining (inner_of new)) bytes
+
+-- What it took in between is what its contract says that it holds more.
+abbrev pub TakesAsContracted : {W : Type 0} → (W → Option (List ℕ)) → Watched W → Watched W → Type 0
+TakesAsContracted contents old new = (bytes : List ℕ) × (taken_of new ≡ taken_of old ++ bytes)
+    × Appends (contents (inner_of old)) (contents (inner_of new)) bytes
+
+-- a writer on which nothing but writes came in between
+pub record IsWritten {W : Type 0} (contents : W → Option (List ℕ)) (old new : Watched W)
+    : Type 0 where
+  pub named : name_of new ≡ name_of old
+  pub takes : TakesAsContracted contents old new
+
+-- ---- the basis on which the bytes are known
+
+-- The contracts of the reader and the writer, where these name them; or the transcript of the calls,
+-- whatever they are: of a reader that gives these bytes in all.
+pub data Basis : Type 0 where
+  Contract : Basis
+  Transcript : List ℕ → Basis
+
+-- what a reader has left
+abbrev pub left_on : Basis → {R : Type 0} → (R → Option (List ℕ)) → Watched R → Option (List ℕ)
+left_on Contract remaining reader = remaining (inner_of reader)
+left_on (Transcript all) remaining reader = Some (drop (length (given_of reader)) all)
+
+-- what a writer holds
+abbrev pub held_on : Basis → {W : Type 0} → (W → Option (List ℕ)) → Watched W → Option (List ℕ)
+held_on Contract contents writer = contents (inner_of writer)
+held_on (Transcript all) contents writer = Some (taken_of writer)
+
+-- what stood as a reader was called
+abbrev pub call_on : Basis → Call → Call
+call_on Contract call = call
+call_on (Transcript all) call =
+    record call { left = Some (drop (length call.given) all); written = Some call.taken }
+
+abbrev pub log_on : Basis → List Call → List Call
+log_on Contract calls = calls
+log_on (Transcript all) calls = map (call_on (Transcript all)) calls
+
+-- these bytes may be what a reader gives later: none if it was at its end
+abbrev pub MayFollow : List ℕ → {R : Type 0} → Watched R → Type 0
+MayFollow rest reader = ended_of reader ≡ true → rest ≡ []
+
+-- what a reader gave is the front of what it gives in all
+abbrev pub Fits : Basis → {R : Type 0} → Watched R → Type 0
+Fits Contract reader = Unit {0}
+Fits (Transcript all) reader =
+    (rest : List ℕ) × (all ≡ given_of reader ++ rest) × MayFollow rest reader
+
+-- ---- a reader and a writer before and after a call
 
 -- what a reader had, what it has left, whether a call on it failed by now, and the calls that were
 -- logged
@@ -34,13 +111,25 @@ pub record Reading : Type 0 where
   pub failed : Bool
   pub log : List Call
 
--- that of a reader before and after a call, whose bytes are seen so
-abbrev pub reading : {R : Type 0} → (R → Option (List ℕ)) → Watched R → Watched R → Reading
-reading remaining old new = record {
-  input = remaining (inner_of old);
-  left = remaining (inner_of new);
+abbrev pub reading_on : Basis → {R : Type 0} → (R → Option (List ℕ)) → Watched R → Watched R → Reading
+reading_on basis remaining old new = record {
+  input = left_on basis remaining old;
+  left = left_on basis remaining new;
   failed = failed_of new;
-  log = log_of new;
+  log = log_on basis (log_of new);
+}
+
+-- by the reader's contract
+abbrev pub reading : {R : Type 0} → (R → Option (List ℕ)) → Watched R → Watched R → Reading
+reading remaining old new = reading_on Contract remaining old new
+
+-- by the transcript of a new reader, which may give these bytes later
+abbrev pub transcript_reading : List ℕ → {R : Type 0} → Watched R → Reading
+transcript_reading rest new = record {
+  input = Some (given_of new ++ rest);
+  left = Some rest;
+  failed = failed_of new;
+  log = log_on (Transcript (given_of new ++ rest)) (log_of new);
 }
 
 -- what a writer held, what it holds now, whether a call on it failed by now, and its name
@@ -50,11 +139,23 @@ pub record Writing : Type 0 where
   pub failed : Bool
   pub name : ℕ
 
--- that of a writer before and after a call, whose bytes are seen so
+abbrev pub writing_on : Basis → {W : Type 0} → (W → Option (List ℕ)) → Watched W → Watched W → Writing
+writing_on basis contents old new = record {
+  before = held_on basis contents old;
+  now = held_on basis contents new;
+  failed = failed_of new;
+  name = name_of old;
+}
+
+-- by the writer's contract
 abbrev pub writing : {W : Type 0} → (W → Option (List ℕ)) → Watched W → Watched W → Writing
-writing contents old new = record {
-  before = contents (inner_of old);
-  now = contents (inner_of new);
+writing contents old new = writing_on Contract contents old new
+
+-- by its transcript
+abbrev pub transcript_writing : {W : Type 0} → Watched W → Watched W → Writing
+transcript_writing old new = record {
+  before = Some (taken_of old);
+  now = Some (taken_of new);
   failed = failed_of new;
   name = name_of old;
 }

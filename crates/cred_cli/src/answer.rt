@@ -11,7 +11,7 @@ ghost use Rattle.cred_cli.specs.Starving.{hashes};
 ghost use Rattle.cred_cli.specs.Steps.{WriteFails, begin_step, slot};
 ghost use Rattle.cred_cli.specs.Texts.{line_of, reply_line};
 ghost use Rattle.cred_cli.specs.declared.event.Event.TheVariants.{Commit};
-ghost use Rattle.cred_cli.specs.Watched.{failed_of, inner_of, name_of};
+ghost use Rattle.cred_cli.specs.Watched.{Basis, IsWritten, failed_of, held_on};
 
 use crate::event::Event;
 use crate::fault::ScriptFault;
@@ -41,12 +41,12 @@ pub(crate) enum AnswerLine {
 impl AnswerLine {
     /// Writes the line whole. If that fails a proper prefix of it is written.
     pub(crate) fn write_to<W: Write>(self, writer: &mut Watched<W>) -> Result<(), ScriptFault>
-        ensures done { OnOk result
-            (Appends (W.contents (inner_of writer.old)) (W.contents (inner_of writer.new))
+        ensures done { (basis : Basis) → OnOk result
+            (Appends (held_on basis W.contents writer.old) (held_on basis W.contents writer.new)
             (line_bytes self)) }
-        ensures named { name_of writer.new ≡ name_of writer.old }
-        ensures fails { IfErr result
-            (WriteFails (W.contents (inner_of writer.old)) (W.contents (inner_of writer.new))
+        ensures written { IsWritten W.contents writer.old writer.new }
+        ensures fails { (basis : Basis) → IfErr result
+            (WriteFails (held_on basis W.contents writer.old) (held_on basis W.contents writer.new)
             (line_bytes self) (failed_of writer.new)) }
     {
         match self {

@@ -5,6 +5,7 @@ ghost use Rattle.std.specs.Borrow.{ftrue};
 ghost use Rattle.std.specs.Coded.{coded_list};
 ghost use Rattle.cred_cli.specs.Calls.{Call, call_code};
 
+use crate::transcript::Transcript;
 use cred_book::Keeper;
 use std::io::{Read, Write};
 use std::marker::Model;
@@ -29,19 +30,23 @@ impl CallLog {
         CallLog {}
     }
 
-    /// The log with one call more: on this reader, as the writer of the name of `beside` and the
-    /// keeper stand.
+    /// The log with one call more on the reader. It says what the reader gave so far, the name of
+    /// `beside`, what the writer took so far, and how the three stand.
     pub(crate) fn and<K: Keeper, R: Read, W: Write>(
         &self,
         keeper: &K,
         reader: &R,
+        given: &Transcript,
         beside: &CallLog,
         writer: &W,
+        taken: &Transcript,
     ) -> CallLog
         ensures { result.calls ≡ (record {
           left = R.remaining reader.now;
+          given = given.now.bytes;
           beside = beside.now.name;
           written = W.contents writer.now;
+          taken = taken.now.bytes;
           accounts = K.book keeper.now;
         }) ∷ self.now.calls }
     {

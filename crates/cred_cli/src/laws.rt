@@ -82,13 +82,9 @@ pub fn line_is_its_events()
 /// that there are no more prompt calls than bytes, and one.
 pub fn prompt_calls_are_answered()
     ensures stands { (capacity : ℕ) (book accounts : Accounts) (front rest before now : List ℕ)
-        (name beside : ℕ)
-        → IsPromptAt capacity (script_start book (front ++ rest) (Some before)) name (record {
-          left = Some rest;
-          beside = beside;
-          written = Some now;
-          accounts = accounts;
-        })
+        (name : ℕ) (call : Call) → call.left ≡ Some rest → call.written ≡ Some now
+        → call.accounts ≡ accounts
+        → IsPromptAt capacity (script_start book (front ++ rest) (Some before)) name call
         → (now ≡ before
         ++ answers_before capacity book (events_of (front ++ rest)) (line_ends front))
         × (accounts ≡ book_at capacity book (events_of (front ++ rest)) (line_ends front)) }

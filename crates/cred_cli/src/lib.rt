@@ -31,6 +31,7 @@ mod single;
 mod starving;
 mod tickets;
 mod tools;
+mod transcript;
 mod watched;
 mod writing;
 
@@ -50,5 +51,6 @@ pub use refusal::Refusal;
 pub use script::{End, run_script};
 pub use service::serve;
 pub use tools::Tools;
+pub use transcript::Transcript;
 pub use watched::Watched;
 pub use writing::write_whole;

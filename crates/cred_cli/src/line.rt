@@ -1,9 +1,9 @@
 //! One line of a script: what it asks for is done, and answered.
 
-ghost use Rattle.std.specs.Prelude.{◌≡◌, false, IfErr};
+ghost use Rattle.std.specs.Prelude.{false, IfErr};
 ghost use Rattle.cred_cli.specs.Feeding.{TakesLine, between};
 ghost use Rattle.cred_cli.specs.Outcome.{HasCause};
-ghost use Rattle.cred_cli.specs.Watched.{failed_of, inner_of, name_of};
+ghost use Rattle.cred_cli.specs.Watched.{Basis, IsWritten, failed_of, held_on};
 
 use crate::answer::do_event;
 use crate::event::Event;
@@ -24,10 +24,10 @@ pub(crate) fn answer_line<T: Threads + Wait + Sync, K: Keeper, W: Write>(
     writer: &mut Watched<W>,
     line: &[u8],
 ) -> Result<(), ScriptFault>
-    ensures answered { TakesLine engine.now.policy K.capacity line.now
-        (between (W.contents (inner_of writer.old)) (K.book keeper.old) tickets.old)
-        (between (W.contents (inner_of writer.new)) (K.book keeper.new) tickets.new) result }
-    ensures named { name_of writer.new ≡ name_of writer.old }
+    ensures answered { (basis : Basis) → TakesLine engine.now.policy K.capacity line.now
+        (between (held_on basis W.contents writer.old) (K.book keeper.old) tickets.old)
+        (between (held_on basis W.contents writer.new) (K.book keeper.new) tickets.new) result }
+    ensures written { IsWritten W.contents writer.old writer.new }
     ensures cause { IfErr result (HasCause false (failed_of writer.new)) }
 {
     let event = Event::of_line(line).within(engine.policy.most);

@@ -3,7 +3,7 @@
 ghost use Rattle.std.specs.Prelude.{◌≡◌};
 ghost use Rattle.cred_cli.specs.Commands.{Prints};
 ghost use Rattle.cred_cli.specs.Statuses.{status_number, status_of};
-ghost use Rattle.cred_cli.specs.Watched.{writing};
+ghost use Rattle.cred_cli.specs.Watched.{Basis, TakesAsContracted, writing_on};
 
 use crate::exit_status::ExitStatus;
 use crate::fault::ScriptFault;
@@ -19,8 +19,9 @@ pub(crate) fn print<W: Write, F: Write>(
     line: &[u8],
     good: ExitStatus,
 ) -> ExitStatus
-    ensures { Prints line.now good (writing W.contents writer.old writer.new)
-        (status_number result) }
+    ensures prints { (basis : Basis) → Prints line.now good
+        (writing_on basis W.contents writer.old writer.new) (status_number result) }
+    ensures takes { TakesAsContracted W.contents writer.old writer.new }
 {
     match write_whole(writer, line) {
         Ok(()) => good,

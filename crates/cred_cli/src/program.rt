@@ -1,11 +1,12 @@
 //! The program behind `main`.
 
-ghost use Rattle.std.specs.Prelude.{◌≡◌, ◌⊎◌, [], false, map};
+ghost use Rattle.std.specs.Prelude.{◌≡◌, ◌⊎◌, ℕ, List, [], false, map};
 ghost use Rattle.clap.specs.Words.{fault_of, subcommand_of, subcommand_rows_of};
 ghost use Rattle.cred_cli.specs.Arguments.{credbook};
 ghost use Rattle.cred_cli.specs.Commands.{Acts, Ends, Runs, is_run};
 ghost use Rattle.cred_cli.specs.Statuses.{status_number};
-ghost use Rattle.cred_cli.specs.Watched.{IsNew, reading, writing};
+ghost use Rattle.cred_cli.specs.Watched.{GivesAsContracted, IsNew, MayFollow, TakesAsContracted};
+ghost use Rattle.cred_cli.specs.Watched.{reading, transcript_reading, transcript_writing, writing};
 
 use crate::arguments::{matches_of, workers_of};
 use crate::exit_status::ExitStatus;
@@ -53,6 +54,16 @@ pub fn command<T: Threads + Wait + Sync, R: Read, W: Write, F: Write>(
         → reader.new ≡ reader.old }
     ensures unparsed { (fault_of credbook (map (λ s. s.now) words.entry.now) ≡ [] → ⊥)
         → reader.new ≡ reader.old }
+    ensures transcript { fault_of credbook (map (λ s. s.now) words.entry.now) ≡ []
+        → (rest : List ℕ) → MayFollow rest reader.new
+        → Acts (subcommand_of credbook (map (λ s. s.now) words.entry.now))
+        (transcript_reading rest reader.new) (transcript_writing writer.old writer.new) result
+        ⊎ Ends ExitStatus.OutOfMemory (transcript_writing writer.old writer.new) result }
+    ensures transcript_refused { (fault_of credbook (map (λ s. s.now) words.entry.now) ≡ [] → ⊥)
+        → Ends ExitStatus.Refused (transcript_writing writer.old writer.new) result
+        ⊎ Ends ExitStatus.OutOfMemory (transcript_writing writer.old writer.new) result }
+    ensures gives { GivesAsContracted R.remaining reader.old reader.new }
+    ensures takes { TakesAsContracted W.contents writer.old writer.new }
 {
     match matches_of(alloc, words) {
         Ok(matches) => act(rt, alloc, &matches, reader, writer, faults).number(),
@@ -79,6 +90,11 @@ fn act<T: Threads + Wait + Sync, R: Read, W: Write, F: Write>(
     ensures acts { Acts (subcommand_rows_of matches.now)
         (reading R.remaining reader.old reader.new)
         (writing W.contents writer.old writer.new) (status_number result) }
+    ensures transcript { (rest : List ℕ) → MayFollow rest reader.new
+        → Acts (subcommand_rows_of matches.now) (transcript_reading rest reader.new)
+        (transcript_writing writer.old writer.new) (status_number result) }
+    ensures gives { GivesAsContracted R.remaining reader.old reader.new }
+    ensures takes { TakesAsContracted W.contents writer.old writer.new }
     ensures unread { is_run (subcommand_rows_of matches.now) ≡ false
         → reader.new ≡ reader.old }
 {
@@ -107,8 +123,13 @@ fn run<T: Threads + Wait + Sync, R: Read, W: Write, F: Write>(
 ) -> ExitStatus
     requires new_reader { IsNew reader.old }
     requires new_writer { IsNew writer.old }
-    ensures { Runs (reading R.remaining reader.old reader.new)
+    ensures runs { Runs (reading R.remaining reader.old reader.new)
         (writing W.contents writer.old writer.new) (status_number result) }
+    ensures transcript { (rest : List ℕ) → MayFollow rest reader.new
+        → Runs (transcript_reading rest reader.new) (transcript_writing writer.old writer.new)
+        (status_number result) }
+    ensures gives { GivesAsContracted R.remaining reader.old reader.new }
+    ensures takes { TakesAsContracted W.contents writer.old writer.new }
 {
     let Ok(mut book) = Book::new(tools.alloc) else {
         return failed(faults, ScriptFault::Memory);

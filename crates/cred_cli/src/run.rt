@@ -1,15 +1,16 @@
 //! A script that is being run: its bytes are read and taken in turn, and each whole line is
 //! answered.
 
-ghost use Rattle.std.specs.Prelude.{◌≡◌, ◌+◌, ◌≤◌, false, List, [], ◌∷◌, length, Some};
+ghost use Rattle.std.specs.Prelude.{◌≡◌, ◌+◌, ◌≤◌, false, true, List, [], ◌∷◌, length, Some};
 ghost use Rattle.std.specs.Prelude.{IfErr, IfSome, OnOk};
 ghost use Rattle.cred_cli.specs.Costs.{events_within};
 ghost use Rattle.cred_cli.specs.Feeding.{Finishes, IsAt, Plays, Takes, standing};
 ghost use Rattle.cred_cli.specs.Outcome.{HasCause};
 ghost use Rattle.cred_cli.specs.Script.{ScriptStart, start_as};
 ghost use Rattle.cred_cli.specs.Starving.{EndsAs, IsHistory};
-ghost use Rattle.cred_cli.specs.Watched.{IsNew, calls_of, failed_of, inner_of, name_of};
-ghost use Rattle.cred_cli.specs.Watched.{reading, writing};
+ghost use Rattle.cred_cli.specs.Watched.{Basis, Fits, GivesAsContracted, IsNew, IsWritten};
+ghost use Rattle.cred_cli.specs.Watched.{TakesAsContracted, calls_of, ended_of, failed_of, held_on};
+ghost use Rattle.cred_cli.specs.Watched.{left_on, reading_on, writing_on};
 ghost use Rattle.cred_cli.specs.declared.event.Event.{Event};
 
 use crate::fault::ScriptFault;
@@ -38,16 +39,20 @@ pub(crate) fn answer_all<T: Threads + Wait + Sync, K: Keeper, R: Read, W: Write>
 ) -> Result<End, ScriptFault>
     requires new_reader { IsNew reader.old }
     requires new_writer { IsNew writer.old }
-    ensures ended { IfSome (R.remaining (inner_of reader.old)) (λ bytes. (events : List Event)
+    ensures ended { (basis : Basis) → Fits basis reader.new
+        → IfSome (left_on basis R.remaining reader.old) (λ bytes. (events : List Event)
         × IsHistory engine.now.policy.starving K.capacity (K.book keeper.old)
         (events_within engine.now.policy.most bytes) events
         × EndsAs limit K.capacity
-        (start_as (K.book keeper.old) bytes (W.contents (inner_of writer.old)) events)
-        (reading R.remaining reader.old reader.new) (writing W.contents writer.old writer.new)
-        (K.book keeper.new) result) }
+        (start_as (K.book keeper.old) bytes (held_on basis W.contents writer.old) events)
+        (reading_on basis R.remaining reader.old reader.new)
+        (writing_on basis W.contents writer.old writer.new) (K.book keeper.new) result) }
+    ensures end { OnOk result (ended_of reader.new ≡ true) }
+    ensures gives { GivesAsContracted R.remaining reader.old reader.new }
+    ensures takes { TakesAsContracted W.contents writer.old writer.new }
     ensures cause { IfErr result (HasCause (failed_of reader.new) (failed_of writer.new)) }
     ensures calls { calls_of reader.new ≤ limit + 1 }
-    ensures few { IfSome (R.remaining (inner_of reader.old))
+    ensures few { (basis : Basis) → Fits basis reader.new → IfSome (left_on basis R.remaining reader.old)
         (λ bytes. calls_of reader.new ≤ length bytes + 1) }
 {
     let tickets = Tickets::new(engine.tools.alloc)?;
@@ -72,12 +77,12 @@ impl Run {
         writer: &mut Watched<W>,
         byte: u8,
     ) -> Result<(), ScriptFault>
-        ensures fed { Takes engine.now.policy K.capacity (byte ∷ [])
-            (standing (W.contents (inner_of writer.old)) (K.book keeper.old) self.old)
-            (standing (W.contents (inner_of writer.new)) (K.book keeper.new) self.new) result }
+        ensures fed { (basis : Basis) → Takes engine.now.policy K.capacity (byte ∷ [])
+            (standing (held_on basis W.contents writer.old) (K.book keeper.old) self.old)
+            (standing (held_on basis W.contents writer.new) (K.book keeper.new) self.new) result }
         ensures taken { OnOk result (self.new.progress.taken ≡ self.old.progress.taken + 1) }
         ensures limit { self.new.progress.limit ≡ self.old.progress.limit }
-        ensures named { name_of writer.new ≡ name_of writer.old }
+        ensures written { IsWritten W.contents writer.old writer.new }
         ensures cause { IfErr result (HasCause false (failed_of writer.new)) }
     {
         if self.progress.limit.is_reached(self.progress.taken) {
@@ -109,13 +114,13 @@ impl Run {
         writer: &mut Watched<W>,
         bytes: &[u8],
     ) -> Result<(), ScriptFault>
-        ensures fed { Takes engine.now.policy K.capacity bytes.now
-            (standing (W.contents (inner_of writer.old)) (K.book keeper.old) self.old)
-            (standing (W.contents (inner_of writer.new)) (K.book keeper.new) self.new) result }
+        ensures fed { (basis : Basis) → Takes engine.now.policy K.capacity bytes.now
+            (standing (held_on basis W.contents writer.old) (K.book keeper.old) self.old)
+            (standing (held_on basis W.contents writer.new) (K.book keeper.new) self.new) result }
         ensures taken { OnOk result (self.new.progress.taken
             ≡ self.old.progress.taken + length bytes.now) }
         ensures limit { self.new.progress.limit ≡ self.old.progress.limit }
-        ensures named { name_of writer.new ≡ name_of writer.old }
+        ensures written { IsWritten W.contents writer.old writer.new }
         ensures cause { IfErr result (HasCause false (failed_of writer.new)) }
     {
         for byte in bytes {
@@ -131,9 +136,10 @@ impl Run {
         keeper: &mut K,
         writer: &mut Watched<W>,
     ) -> Result<u64, ScriptFault>
-        ensures answered { Finishes engine.now.policy K.capacity
-            (standing (W.contents (inner_of writer.old)) (K.book keeper.old) self.old)
-            (standing (W.contents (inner_of writer.new)) (K.book keeper.new) self.new) result }
+        ensures answered { (basis : Basis) → Finishes engine.now.policy K.capacity
+            (standing (held_on basis W.contents writer.old) (K.book keeper.old) self.old)
+            (standing (held_on basis W.contents writer.new) (K.book keeper.new) self.new) result }
+        ensures written { IsWritten W.contents writer.old writer.new }
         ensures cause { IfErr result (HasCause false (failed_of writer.new)) }
     {
         if self.progress.start.bytes().is_empty() {
@@ -159,16 +165,20 @@ impl Run {
     ) -> Result<End, ScriptFault>
         requires new_reader { IsNew reader.old }
         requires new_progress { self.old.progress.taken ≡ 0 }
-        ensures ended { Plays engine.now.policy K.capacity
-            (reading R.remaining reader.old reader.new) (writing W.contents writer.old writer.new)
-            (standing (W.contents (inner_of writer.old)) (K.book keeper.old) self.old)
-            (standing (W.contents (inner_of writer.new)) (K.book keeper.new) self.new) result }
+        ensures ended { (basis : Basis) → Fits basis reader.new → Plays engine.now.policy K.capacity
+            (reading_on basis R.remaining reader.old reader.new)
+            (writing_on basis W.contents writer.old writer.new)
+            (standing (held_on basis W.contents writer.old) (K.book keeper.old) self.old)
+            (standing (held_on basis W.contents writer.new) (K.book keeper.new) self.new) result }
+        ensures end { OnOk result (ended_of reader.new ≡ true) }
+        ensures gives { GivesAsContracted R.remaining reader.old reader.new }
+        ensures takes { TakesAsContracted W.contents writer.old writer.new }
         ensures cause { IfErr result (HasCause (failed_of reader.new) (failed_of writer.new)) }
         ensures calls { calls_of reader.new ≤ self.old.progress.limit + 1 }
-        ensures few { (script : ScriptStart)
-            → R.remaining (inner_of reader.old) ≡ Some script.bytes
+        ensures few { (basis : Basis) → Fits basis reader.new → (script : ScriptStart)
+            → left_on basis R.remaining reader.old ≡ Some script.bytes
             → IsAt engine.now.policy K.capacity script []
-            (standing (W.contents (inner_of writer.old)) (K.book keeper.old) self.old)
+            (standing (held_on basis W.contents writer.old) (K.book keeper.old) self.old)
             → calls_of reader.new ≤ length script.bytes + 1 }
     {
         let mut buffer = [0; CHUNK];

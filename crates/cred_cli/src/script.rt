@@ -1,12 +1,15 @@
 //! A whole script: read to its end, each line done and answered in turn.
 
-ghost use Rattle.std.specs.Prelude.{◌+◌, ◌≤◌, length, IfErr, IfOk, IfSome, OnOk};
+ghost use Rattle.std.specs.Prelude.{◌≡◌, ◌+◌, ◌≤◌, ◌++◌, ℕ, List, true, length};
+ghost use Rattle.std.specs.Prelude.{IfErr, IfOk, IfSome, OnOk};
 ghost use Rattle.cred_cli.specs.Outcome.{HasCause, IsAnswered, ScriptFails, longest_script};
 ghost use Rattle.cred_cli.specs.Outcome.{most_calls};
 ghost use Rattle.cred_cli.specs.Prompt.{IsPrompt};
-ghost use Rattle.cred_cli.specs.Script.{script_start};
-ghost use Rattle.cred_cli.specs.Watched.{IsNew, calls_of, failed_of, inner_of, name_of};
-ghost use Rattle.cred_cli.specs.Watched.{log_of};
+ghost use Rattle.cred_cli.specs.Script.{out, script_start};
+ghost use Rattle.cred_cli.specs.Starving.{EndsAs};
+ghost use Rattle.cred_cli.specs.Watched.{GivesAsContracted, IsNew, MayFollow, TakesAsContracted};
+ghost use Rattle.cred_cli.specs.Watched.{calls_of, ended_of, failed_of, given_of, inner_of, log_of};
+ghost use Rattle.cred_cli.specs.Watched.{name_of, taken_of, transcript_reading, transcript_writing};
 
 use crate::fault::ScriptFault;
 use crate::limit::Limit;
@@ -33,6 +36,12 @@ pub struct End {
 /// the reader but the last gives a byte, so it isn't called after its end. At most `workers`
 /// threads hash. No call was made on the reader or the writer before. The writer is one that holds
 /// nothing back, as it is never flushed.
+///
+/// Whatever the reader and the writer are, a pipe or a terminal: where the script ends well, the
+/// bytes that the writer took are the answers to the lines of the bytes that the reader gave
+/// (`answers`), and the reader was at its end (`end`). After a fault, and at each call of the reader,
+/// `transcript` says which lines are answered. Of a reader or a writer whose own contract names its
+/// bytes, they are the same bytes (`gives`, `takes`).
 ///
 /// Errors: `Read` or `Write` if a call on the reader or the writer failed; `Memory` if it runs out;
 /// `TooLong` if the script has more bytes.
@@ -62,6 +71,17 @@ pub fn run_script<T: Threads + Wait + Sync, K: Keeper, R: Read, W: Write>(
     ensures calls { calls_of reader.new ≤ most_calls }
     ensures few { IfSome (R.remaining (inner_of reader.old))
         (λ bytes. calls_of reader.new ≤ length bytes + 1) }
+    ensures answers { OnOk result (taken_of writer.new
+        ≡ out K.capacity (K.book keeper.old) (given_of reader.new)) }
+    ensures end { OnOk result (ended_of reader.new ≡ true) }
+    ensures transcript { (rest : List ℕ) → MayFollow rest reader.new
+        → EndsAs longest_script K.capacity (script_start (K.book keeper.old)
+        (given_of reader.new ++ rest) (Some (taken_of writer.old)))
+        (transcript_reading rest reader.new) (transcript_writing writer.old writer.new)
+        (K.book keeper.new) result }
+    ensures reads { calls_of reader.new ≤ length (given_of reader.new) + 1 }
+    ensures gives { GivesAsContracted R.remaining reader.old reader.new }
+    ensures takes { TakesAsContracted W.contents writer.old writer.new }
 {
     let tools = Tools { rt, alloc, workers };
     let engine = Engine {

@@ -1,10 +1,11 @@
 //! A script with no end: its lines are answered as they come.
 
-ghost use Rattle.std.specs.Prelude.{◌+◌, ◌≤◌, length, IfErr, IfSome};
+ghost use Rattle.std.specs.Prelude.{◌≡◌, ◌+◌, ◌≤◌, ℕ, List, true, length, IfErr, IfSome, OnOk};
 ghost use Rattle.cred_cli.specs.Outcome.{HasCause};
 ghost use Rattle.cred_cli.specs.Starving.{Serves};
-ghost use Rattle.cred_cli.specs.Watched.{IsNew, calls_of, failed_of, inner_of};
-ghost use Rattle.cred_cli.specs.Watched.{reading, writing};
+ghost use Rattle.cred_cli.specs.Watched.{GivesAsContracted, IsNew, MayFollow, TakesAsContracted};
+ghost use Rattle.cred_cli.specs.Watched.{calls_of, ended_of, failed_of, given_of, inner_of, reading};
+ghost use Rattle.cred_cli.specs.Watched.{transcript_reading, transcript_writing, writing};
 
 use crate::fault::ScriptFault;
 use crate::limit::Limit;
@@ -31,7 +32,8 @@ use std::thread::Threads;
 /// nothing else is: what is written is the answers of one history of those lines, and the keeper's
 /// book is the one after them. So a call that fails or doesn't return leaves just that, and a
 /// client that waits for its answer before it sends more has it. Each call but the last gives a
-/// byte, so the reader isn't called again after the end of the input. At most `tools.workers`
+/// byte, so the reader isn't called again after the end of the input. All this holds of the bytes
+/// that passed, whatever the reader and the writer are (`transcript`). At most `tools.workers`
 /// threads hash. No call was made on the reader or the writer before. The writer is one that holds
 /// nothing back, as it is never flushed.
 ///
@@ -51,6 +53,13 @@ pub fn serve<T: Threads + Wait + Sync, K: Keeper, R: Read, W: Write>(
     ensures cause { IfErr result (HasCause (failed_of reader.new) (failed_of writer.new)) }
     ensures calls { IfSome (R.remaining (inner_of reader.old))
         (λ bytes. calls_of reader.new ≤ length bytes + 1) }
+    ensures transcript { (rest : List ℕ) → MayFollow rest reader.new → Serves K.capacity most
+        (transcript_reading rest reader.new) (transcript_writing writer.old writer.new)
+        (K.book keeper.old) (K.book keeper.new) result }
+    ensures end { OnOk result (ended_of reader.new ≡ true) }
+    ensures reads { calls_of reader.new ≤ length (given_of reader.new) + 1 }
+    ensures gives { GivesAsContracted R.remaining reader.old reader.new }
+    ensures takes { TakesAsContracted W.contents writer.old writer.new }
 {
     let engine = Engine {
         tools,

@@ -7,7 +7,7 @@ ghost use Rattle.cred_book.specs.Works.{new_record};
 ghost use Rattle.cred_cli.specs.Commands.{Checks, Hashes, password_word, record_line, to_check};
 ghost use Rattle.cred_cli.specs.Commands.{to_hash};
 ghost use Rattle.cred_cli.specs.Statuses.{status_number};
-ghost use Rattle.cred_cli.specs.Watched.{writing};
+ghost use Rattle.cred_cli.specs.Watched.{Basis, TakesAsContracted, writing_on};
 
 use crate::answer::record_line;
 use crate::arguments::value;
@@ -31,9 +31,11 @@ pub(crate) fn hash<T: Threads + Sync, W: Write, F: Write>(
     writer: &mut Watched<W>,
     faults: &mut F,
 ) -> ExitStatus
-    ensures { Hashes (first_of (codes "setting") (rows_of (found_of values.now)))
+    ensures hashes { (basis : Basis)
+        → Hashes (first_of (codes "setting") (rows_of (found_of values.now)))
         (first_of (codes "password") (rows_of (found_of values.now)))
-        (writing W.contents writer.old writer.new) (status_number result) }
+        (writing_on basis W.contents writer.old writer.new) (status_number result) }
+    ensures takes { TakesAsContracted W.contents writer.old writer.new }
 {
     let Some(text) = value(values, "setting") else {
         return ExitStatus::Refused;
@@ -54,9 +56,11 @@ pub(crate) fn check<T: Threads + Sync, W: Write, F: Write>(
     writer: &mut Watched<W>,
     faults: &mut F,
 ) -> ExitStatus
-    ensures { Checks (first_of (codes "record") (rows_of (found_of values.now)))
+    ensures checks { (basis : Basis)
+        → Checks (first_of (codes "record") (rows_of (found_of values.now)))
         (first_of (codes "password") (rows_of (found_of values.now)))
-        (writing W.contents writer.old writer.new) (status_number result) }
+        (writing_on basis W.contents writer.old writer.new) (status_number result) }
+    ensures takes { TakesAsContracted W.contents writer.old writer.new }
 {
     let Some(text) = value(values, "record") else {
         return ExitStatus::Refused;

@@ -1,4 +1,5 @@
-//! A reader or a writer that counts the calls on it, and keeps in mind whether one failed.
+//! A reader or a writer that counts the calls on it, and keeps in mind whether one failed. Proofs
+//! also see all the bytes that passed.
 
 ghost use Rattle.std.specs.Prelude.{◌≡◌, ◌||◌, ◌+◌, ◌-◌, ◌^◌, ◌<◌, ◌∷◌};
 ghost use Rattle.std.specs.Prelude.{min, true, length, IfOk, OnOk};
@@ -6,9 +7,10 @@ ghost use Rattle.std.specs.Prelude.{OnErr};
 ghost use Rattle.std.specs.Io.{ReadsAtMost, WritesAtMost};
 ghost use Rattle.std.specs.Io.KnownBytes.{Keeps, ReadConsumes, WriteAppends};
 ghost use Rattle.cred_cli.specs.Watched.{IsNew, calls_of, failed_of, inner_of, name_of};
-ghost use Rattle.cred_cli.specs.Watched.{log_of};
+ghost use Rattle.cred_cli.specs.Watched.{Passes, ended_of, given_of, log_of, taken_of};
 
 use crate::call_log::CallLog;
+use crate::transcript::Transcript;
 use cred_book::Keeper;
 use std::io;
 use std::io::{Read, Write};
@@ -19,7 +21,10 @@ pub struct Watched<X> {
     inner: X,
     calls: u64,
     failed: bool,
+    ended: bool,
     log: CallLog,
+    given: Transcript,
+    taken: Transcript,
 }
 
 impl<X> Watched<X> {
@@ -32,7 +37,10 @@ impl<X> Watched<X> {
             inner,
             calls: 0,
             failed: false,
+            ended: false,
             log: CallLog::new(),
+            given: Transcript::new(),
+            taken: Transcript::new(),
         }
     }
 
@@ -50,6 +58,13 @@ impl<X> Watched<X> {
         self.failed
     }
 
+    /// Whether a call gave no byte though there was room for one.
+    pub fn ended(&self) -> bool
+        ensures { result ≡ ended_of self.now }
+    {
+        self.ended
+    }
+
     /// The reader or writer itself.
     pub fn into_inner(self) -> X
         ensures { result ≡ inner_of self }
@@ -61,7 +76,10 @@ impl<X> Watched<X> {
     /// Counts a call, and keeps in mind whether it failed.
     fn note(&mut self, failed: bool)
         ensures inner { self.new.inner ≡ self.old.inner }
+        ensures ended { self.new.ended ≡ self.old.ended }
         ensures log { self.new.log ≡ self.old.log }
+        ensures given { self.new.given ≡ self.old.given }
+        ensures taken { self.new.taken ≡ self.old.taken }
         ensures calls { self.new.calls ≡ min (self.old.calls + 1) (2 ^ 64 - 1) }
         ensures failed { self.new.failed ≡ (self.old.failed || failed) }
     {
@@ -82,22 +100,56 @@ impl<R: Read> Watched<R> {
         ensures bound { ReadsAtMost result buf.new }
         ensures bytes { ReadConsumes (R.remaining (inner_of self.old))
             (R.remaining (inner_of self.new)) result buf.new }
+        ensures passed { Passes (given_of self.old) (given_of self.new) result buf.new }
         ensures logged { log_of self.new ≡ (record {
           left = R.remaining (inner_of self.old);
+          given = given_of self.old;
           beside = name_of writer.now;
           written = W.contents (inner_of writer.now);
+          taken = taken_of writer.now;
           accounts = K.book keeper.now;
         }) ∷ log_of self.old }
         ensures calls { calls_of self.new ≡ min (calls_of self.old + 1) (2 ^ 64 - 1) }
         ensures failed { OnErr result (failed_of self.new ≡ true) }
         ensures kept { OnOk result (failed_of self.new ≡ failed_of self.old) }
+        ensures end { IfOk result (λ n. n ≡ 0 → 0 < length buf.new → ended_of self.new ≡ true) }
+        ensures goes_on { IfOk result (λ n. 0 < n → ended_of self.new ≡ ended_of self.old) }
+        ensures nothing { OnOk result (length buf.new ≡ 0 → ended_of self.new ≡ ended_of self.old) }
+        ensures broken { OnErr result (ended_of self.new ≡ ended_of self.old) }
     {
-        self.log = self
-            .log
-            .and(keeper, &self.inner, &writer.log, &writer.inner);
-        let taken = self.inner.read(buf);
-        self.note(taken.is_err());
-        taken
+        self.log = self.log.and(
+            keeper,
+            &self.inner,
+            &self.given,
+            &writer.log,
+            &writer.inner,
+            &writer.taken,
+        );
+        self.read_on(buf)
+    }
+
+    /// Reads, and keeps what came.
+    fn read_on(&mut self, buf: &mut [u8]) -> io::Result<usize>
+        ensures bound { ReadsAtMost result buf.new }
+        ensures bytes { ReadConsumes (R.remaining self.old.inner)
+            (R.remaining self.new.inner) result buf.new }
+        ensures passed { Passes self.old.given.bytes self.new.given.bytes result buf.new }
+        ensures log { self.new.log ≡ self.old.log }
+        ensures calls { self.new.calls ≡ min (self.old.calls + 1) (2 ^ 64 - 1) }
+        ensures failed { OnErr result (self.new.failed ≡ true) }
+        ensures kept { OnOk result (self.new.failed ≡ self.old.failed) }
+        ensures end { IfOk result (λ n. n ≡ 0 → 0 < length buf.new → self.new.ended ≡ true) }
+        ensures goes_on { IfOk result (λ n. 0 < n → self.new.ended ≡ self.old.ended) }
+        ensures nothing { OnOk result (length buf.new ≡ 0 → self.new.ended ≡ self.old.ended) }
+        ensures broken { OnErr result (self.new.ended ≡ self.old.ended) }
+    {
+        let read = self.inner.read(buf);
+        if let Ok(n) = read {
+            self.given = self.given.and(&buf[..n]);
+            self.ended |= n == 0 && !buf.is_empty();
+        }
+        self.note(read.is_err());
+        read
     }
 }
 
@@ -108,13 +160,16 @@ impl<R: Read> Read for Watched<R> {
         ensures bound { ReadsAtMost result buf.new }
         ensures bytes { ReadConsumes (R.remaining self.old.inner)
             (R.remaining self.new.inner) result buf.new }
+        ensures passed { Passes self.old.given.bytes self.new.given.bytes result buf.new }
         ensures calls { self.new.calls ≡ min (self.old.calls + 1) (2 ^ 64 - 1) }
         ensures failed { OnErr result (self.new.failed ≡ true) }
         ensures kept { OnOk result (self.new.failed ≡ self.old.failed) }
+        ensures end { IfOk result (λ n. n ≡ 0 → 0 < length buf.new → self.new.ended ≡ true) }
+        ensures goes_on { IfOk result (λ n. 0 < n → self.new.ended ≡ self.old.ended) }
+        ensures nothing { OnOk result (length buf.new ≡ 0 → self.new.ended ≡ self.old.ended) }
+        ensures broken { OnErr result (self.new.ended ≡ self.old.ended) }
     {
-        let taken = self.inner.read(buf);
-        self.note(taken.is_err());
-        taken
+        self.read_on(buf)
     }
 }
 
@@ -125,6 +180,7 @@ impl<W: Write> Write for Watched<W> {
         ensures bound { WritesAtMost result buf.now }
         ensures bytes { WriteAppends (W.contents self.old.inner)
             (W.contents self.new.inner) result buf.now }
+        ensures passed { Passes self.old.taken.bytes self.new.taken.bytes result buf.now }
         ensures named { self.new.log.name ≡ self.old.log.name }
         ensures calls { self.new.calls ≡ min (self.old.calls + 1) (2 ^ 64 - 1) }
         ensures failed { OnErr result (self.new.failed ≡ true) }
@@ -132,17 +188,21 @@ impl<W: Write> Write for Watched<W> {
         ensures kept { IfOk result (λ n. 0 < n → self.new.failed ≡ self.old.failed) }
         ensures nothing { OnOk result (length buf.now ≡ 0 → self.new.failed ≡ self.old.failed) }
     {
-        let taken = self.inner.write(buf);
-        let failed = match taken {
+        let written = self.inner.write(buf);
+        let failed = match written {
             Ok(n) => n == 0 && !buf.is_empty(),
             Err(_) => true,
         };
+        if let Ok(n) = written {
+            self.taken = self.taken.and(&buf[..n]);
+        }
         self.note(failed);
-        taken
+        written
     }
 
     fn flush(&mut self) -> io::Result<()>
         ensures bytes { Keeps (W.contents self.old.inner) (W.contents self.new.inner) }
+        ensures passed { self.new.taken.bytes ≡ self.old.taken.bytes }
         ensures named { self.new.log.name ≡ self.old.log.name }
         ensures calls { self.new.calls ≡ min (self.old.calls + 1) (2 ^ 64 - 1) }
         ensures failed { OnErr result (self.new.failed ≡ true) }

@@ -1,9 +1,9 @@
 //! Writing a text whole.
 
-ghost use Rattle.std.specs.Prelude.{◌≡◌, IfErr, OnOk};
+ghost use Rattle.std.specs.Prelude.{◌≡◌, ◌++◌, IfErr, OnOk};
 ghost use Rattle.std.specs.Io.KnownBytes.{Appends};
 ghost use Rattle.cred_cli.specs.Steps.{WriteFails};
-ghost use Rattle.cred_cli.specs.Watched.{failed_of, inner_of, name_of};
+ghost use Rattle.cred_cli.specs.Watched.{TakesAsContracted, failed_of, inner_of, name_of, taken_of};
 
 use crate::fault::ScriptFault;
 use crate::watched::Watched;
@@ -20,6 +20,10 @@ pub fn write_whole<W: Write>(writer: &mut Watched<W>, bytes: &[u8]) -> Result<()
     ensures fails { IfErr result
         (WriteFails (W.contents (inner_of writer.old)) (W.contents (inner_of writer.new)) bytes.now
         (failed_of writer.new)) }
+    ensures taken { OnOk result (taken_of writer.new ≡ taken_of writer.old ++ bytes.now) }
+    ensures taken_in_part { IfErr result (WriteFails (Some (taken_of writer.old))
+        (Some (taken_of writer.new)) bytes.now (failed_of writer.new)) }
+    ensures takes { TakesAsContracted W.contents writer.old writer.new }
 {
     let mut rest = bytes;
     while !rest.is_empty() {

@@ -3,18 +3,19 @@ use Rattle.cred_cli.specs.Costs.{events_within}
 use Rattle.cred_cli.specs.Script.{start_as}
 use Rattle.cred_cli.proofs.Programs.{unbegun}
 use Rattle.cred_cli.proofs.Readings.{if_known, opening}
+use Rattle.cred_cli.proofs.Basis.{none_logged}
 use Rattle.cred_cli.proofs.run.answer_all.Goals as goal
 
 -- there was no memory for the tickets, and so no call
 pub returns-in_err-tickets-clause-ended : goal.returns-in_err-tickets-clause-ended
 returns-in_err-tickets-clause-ended g c =
     let told = err_from_is_err_and c.from_residual.result c.from_residual.ensures.1 in
-    rw (told.1, told.2) (unbegun _ _ _ _ _ _ _ _ c.requires.new_reader.log)
+    λ basis fits. rw (told.1, told.2) (unbegun _ _ _ _ _ _ _ _ (none_logged basis _ c.requires.new_reader.log))
 
 pub returns-clause-ended : goal.returns-clause-ended
-returns-clause-ended g c = rw (← c.new-progress.ensures.limit)
-    (if_known _ _ (λ all known. c.read_all.ensures.ended (start_as _ all _ (events_within c.args.engine.now.policy.most all)) known (opening _ _ _ all _ _ _ c.in_ok-tickets.ensures c.new-progress.ensures.start c.new-progress.ensures.lines c.new-progress.ensures.taken)))
+returns-clause-ended g c = λ basis fits. rw (← c.new-progress.ensures.limit)
+    (if_known _ _ (λ all known. c.read_all.ensures.ended basis fits (start_as _ all _ (events_within c.args.engine.now.policy.most all)) known (opening _ _ _ all _ _ _ c.in_ok-tickets.ensures c.new-progress.ensures.start c.new-progress.ensures.lines c.new-progress.ensures.taken)))
 
 pub returns-clause-few : goal.returns-clause-few
-returns-clause-few g c =
-    if_known _ _ (λ all known. c.read_all.ensures.few (start_as _ all _ (events_within c.args.engine.now.policy.most all)) known (opening _ _ _ all _ _ _ c.in_ok-tickets.ensures c.new-progress.ensures.start c.new-progress.ensures.lines c.new-progress.ensures.taken))
+returns-clause-few g c = λ basis fits.
+    if_known _ _ (λ all known. c.read_all.ensures.few basis fits (start_as _ all _ (events_within c.args.engine.now.policy.most all)) known (opening _ _ _ all _ _ _ c.in_ok-tickets.ensures c.new-progress.ensures.start c.new-progress.ensures.lines c.new-progress.ensures.taken))

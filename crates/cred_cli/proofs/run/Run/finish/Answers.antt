@@ -12,7 +12,7 @@ use Rattle.cred_cli.proofs.run.Run.finish.Goals as goal
 
 -- every line has its end
 pub returns-then-is_empty-clause-answered : goal.returns-then-is_empty-clause-answered
-returns-then-is_empty-clause-answered g c = λ script at.
+returns-then-is_empty-clause-answered g c = λ basis script at.
     let none : length c.bytes.result.now ≡ 0 = grind (arith, nat_tests) in
     let count : length script.events ≡ c.args.self.now.progress.lines =
     history-size _ _ _ _ _ at.history ∙ count-ended _ script.bytes (none_kept _ _ (c.bytes.ensures ∙ at.start_is) none) ∙ sym at.lines_are in (
@@ -25,13 +25,13 @@ returns-then-is_empty-clause-answered g c = λ script at.
 
 -- the last line has none
 pub returns-clause-answered : goal.returns-clause-answered
-returns-clause-answered g c = λ script at.
+returns-clause-answered g c = λ basis script at.
     let some : 0 < length c.bytes.result.now = grind (arith, nat_tests) in
     let most = c.args.engine.now.policy.most in
     let last = has_last most script.bytes (some_kept _ _ (c.bytes.ensures ∙ at.start_is) some) in
     let lines = c.args.self.now.progress.lines in
     let event : slice_get script.events lines ≡ Some (within most (event_of c.bytes-2.result.now)) = at.behind lines (omega arith) ∙ rw (c.bytes-2.ensures, at.lines_are, at.start_is) last.event in
-    let done = c.in_ok-answer_line.ensures.answered script.book script.events lines script.before at.stands at.tickets event in
+    let done = c.in_ok-answer_line.ensures.answered basis script.book script.events lines script.before at.stands at.tickets event in
     let grown = grows _ _ script.book (events_within most script.bytes) script.events done.0 lines at.history at.behind done.1.becomes in
     let count : length done.0 ≡ suc lines = history-size _ _ _ _ _ grown.history ∙ rw at.lines_are last.count in (
       done.0,
@@ -42,13 +42,13 @@ returns-clause-answered g c = λ script at.
     )
 
 pub returns-in_err-answer_line-clause-answered : goal.returns-in_err-answer_line-clause-answered
-returns-in_err-answer_line-clause-answered g c = λ script at.
+returns-in_err-answer_line-clause-answered g c = λ basis script at.
     let some : 0 < length c.bytes.result.now = grind (arith, nat_tests) in
     let most = c.args.engine.now.policy.most in
     let last = has_last most script.bytes (some_kept _ _ (c.bytes.ensures ∙ at.start_is) some) in
     let lines = c.args.self.now.progress.lines in
     let event : slice_get script.events lines ≡ Some (within most (event_of c.bytes-2.result.now)) = at.behind lines (omega arith) ∙ rw (c.bytes-2.ensures, at.lines_are, at.start_is) last.event in
-    let done = c.in_err-answer_line.ensures.answered script.book script.events lines script.before at.stands at.tickets event in
+    let done = c.in_err-answer_line.ensures.answered basis script.book script.events lines script.before at.stands at.tickets event in
     let grown = grows _ _ script.book (events_within most script.bytes) script.events done.0 lines at.history at.behind done.1.becomes in
     let old_size : length script.events ≡ length (events_within most script.bytes) = history-size _ _ _ _ _ at.history in
     let size : length done.0 ≡ length (events_within most script.bytes) = history-size _ _ _ _ _ grown.history in

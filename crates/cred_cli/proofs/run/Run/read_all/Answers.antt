@@ -1,29 +1,36 @@
-use Rattle.std.proofs.Common.{rules, ◌≡◌, arith, sym, refl, ap, ◌∙◌, append-nil, ◌≤◌, ◌<◌, ◌+◌, ◌-◌, ◌^◌, length, length-take-le, take}
+use Rattle.std.proofs.Common.{rules, ◌≡◌, arith, sym, refl, ap, ◌∙◌, append-nil, [], ◌≤◌, ◌<◌, ◌+◌, ◌-◌, ◌^◌, length, length-take-le, take}
 use Rattle.std.proofs.Math.Nat.{min-eq_left}
 use Rattle.std.proofs.lemmas.Result.{err_from_is_err_and}
 use Rattle.cred_cli.specs.Script.{line_ends, with_events}
 use Rattle.cred_cli.specs.Starving.{IsSameBefore}
 use Rattle.cred_cli.proofs.Prompts.{prompt_call, read_on, read_to_start}
 use Rattle.cred_cli.proofs.Readings.{came, came_to_end, cut_behind, kept_left}
+use Rattle.cred_cli.proofs.Basis.{fits_before, found_on, gave_on, gives_more, gives_nothing, kept_on, none_logged, one_logged, unwritten, written_on}
 use Rattle.cred_cli.proofs.run.Run.read_all.Goals as goal
 
 pub loop-call-init : goal.loop-call-init
 loop-call-init g c = record {
-  at = λ script known at. read_to_start _ _ script _ _ _ _ known at c.requires.new_reader.log;
+  at = λ basis fits script known at. read_to_start _ _ script _ _ _ _ known at (none_logged basis _ c.requires.new_reader.log);
+  ended = c.requires.new_reader.ended;
   limit = refl;
   calls = c.requires.new_reader.calls;
   taken = omega (arith, c.requires.new_progress);
-  named = refl;
+  gives = gives_nothing g.R.Read.remaining c.args.reader.now;
+  written = unwritten g.W.Write.contents c.args.writer.now;
   size = search rules;
 }
 
 pub returns-in-Ok-eq0-clause-ended : goal.returns-in-Ok-eq0-clause-ended
-returns-in-Ok-eq0-clause-ended g c = λ script known at.
-    let read = c.loop-call.invariant.at script known at in
-    let none = came_to_end _ _ read.rest _ _ c.in-Ok-eq0.field-0-test read.left_is c.in-Ok-eq0.ensures.bytes.0 (c.in-Ok-eq0.ensures.bytes.1 c.in-Ok-eq0.field-0-test (omega (arith, c.loop-call.invariant.size))) in
+returns-in-Ok-eq0-clause-ended g c = λ basis fits script known at.
+    let found = found_on g.R.Read.remaining g.W.Write.contents c.loop-call.reader c.loop-call.writer (g.K.Keeper.book c.loop-call.keeper) c.loop-call.self _ basis c.loop-call.invariant.written.named in
+    let logged = one_logged basis _ _ _ c.read_beside.ensures.logged in
+    let before = fits_before g.R.Read.remaining c.loop-call.reader c.read_beside.new.self basis _ c.in-Ok-eq0.ensures.passed c.loop-call.invariant.ended fits in
+    let gave = gave_on g.R.Read.remaining c.loop-call.reader c.read_beside.new.self basis _ c.read_beside.new.buf c.in-Ok-eq0.ensures.bytes c.in-Ok-eq0.ensures.passed c.in-Ok-eq0.ensures.end fits in
+    let read = c.loop-call.invariant.at basis before script known at in
+    let none = came_to_end _ _ read.rest _ _ c.in-Ok-eq0.field-0-test read.left_is gave.0 (gave.1 c.in-Ok-eq0.field-0-test (omega (arith, c.loop-call.invariant.size))) in
     let whole : read.front ≡ script.bytes = sym (rw (none, append-nil) at read.cut) in
     let at_end = rw whole at read.at in
-    let done = c.in_ok-lines-in-Ok-eq0.ensures.answered (with_events script read.events) at_end in
+    let done = c.in_ok-lines-in-Ok-eq0.ensures.answered basis (with_events script read.events) at_end in
     let same : IsSameBefore (line_ends read.front) read.events done.0 = λ j before. done.1.goes_on.same j (omega (arith, before, ap line_ends whole)) in (
       done.0,
       done.1.goes_on.history,
@@ -31,16 +38,20 @@ returns-in-Ok-eq0-clause-ended g c = λ script known at.
         done = done.1.ended;
         fault = tt;
         short = omega (arith, at_end.taken_is, c.loop-call.self.progress.not_too_long, c.loop-call.invariant.limit);
-        prompt = prompt_call _ read c.loop-call.invariant.named c.read_beside.ensures.logged done.0 same;
+        prompt = prompt_call _ read found logged done.0 same;
       },
     )
 
 pub returns-in_err-lines-in-Ok-eq0-clause-ended : goal.returns-in_err-lines-in-Ok-eq0-clause-ended
-returns-in_err-lines-in-Ok-eq0-clause-ended g c = λ script known at.
-    let read = c.loop-call.invariant.at script known at in
-    let none = came_to_end _ _ read.rest _ _ c.in-Ok-eq0.field-0-test read.left_is c.in-Ok-eq0.ensures.bytes.0 (c.in-Ok-eq0.ensures.bytes.1 c.in-Ok-eq0.field-0-test (omega (arith, c.loop-call.invariant.size))) in
+returns-in_err-lines-in-Ok-eq0-clause-ended g c = λ basis fits script known at.
+    let found = found_on g.R.Read.remaining g.W.Write.contents c.loop-call.reader c.loop-call.writer (g.K.Keeper.book c.loop-call.keeper) c.loop-call.self _ basis c.loop-call.invariant.written.named in
+    let logged = one_logged basis _ _ _ c.read_beside.ensures.logged in
+    let before = fits_before g.R.Read.remaining c.loop-call.reader c.read_beside.new.self basis _ c.in-Ok-eq0.ensures.passed c.loop-call.invariant.ended fits in
+    let gave = gave_on g.R.Read.remaining c.loop-call.reader c.read_beside.new.self basis _ c.read_beside.new.buf c.in-Ok-eq0.ensures.bytes c.in-Ok-eq0.ensures.passed c.in-Ok-eq0.ensures.end fits in
+    let read = c.loop-call.invariant.at basis before script known at in
+    let none = came_to_end _ _ read.rest _ _ c.in-Ok-eq0.field-0-test read.left_is gave.0 (gave.1 c.in-Ok-eq0.field-0-test (omega (arith, c.loop-call.invariant.size))) in
     let whole : read.front ≡ script.bytes = sym (rw (none, append-nil) at read.cut) in
-    let done = c.in_err-lines-in-Ok-eq0.ensures.answered (with_events script read.events) (rw whole at read.at) in
+    let done = c.in_err-lines-in-Ok-eq0.ensures.answered basis (with_events script read.events) (rw whole at read.at) in
     let same : IsSameBefore (line_ends read.front) read.events done.0 = λ j before. done.1.goes_on.same j (omega (arith, before, ap line_ends whole)) in
     let told = err_from_is_err_and c.from_residual.result c.from_residual.ensures.1 in (
       done.0,
@@ -49,15 +60,19 @@ returns-in_err-lines-in-Ok-eq0-clause-ended g c = λ script known at.
         done = rw told.1 tt;
         fault = rw (told.1, told.2, ← c.loop-call.invariant.limit) (done.1.ended _);
         short = rw told.1 tt;
-        prompt = prompt_call _ read c.loop-call.invariant.named c.read_beside.ensures.logged done.0 same;
+        prompt = prompt_call _ read found logged done.0 same;
       },
     )
 
 pub returns-in_err-take_bytes-in-Ok-clause-ended : goal.returns-in_err-take_bytes-in-Ok-clause-ended
-returns-in_err-take_bytes-in-Ok-clause-ended g c = λ script known at.
-    let read = c.loop-call.invariant.at script known at in
-    let more = came _ _ read.rest _ read.left_is c.in-Ok.ensures.bytes.0 in
-    let done = c.in_err-take_bytes-in-Ok.ensures.fed (with_events script read.events) read.front more.left (cut_behind script.bytes read.front read.rest _ _ read.cut more.cut) read.at in
+returns-in_err-take_bytes-in-Ok-clause-ended g c = λ basis fits script known at.
+    let found = found_on g.R.Read.remaining g.W.Write.contents c.loop-call.reader c.loop-call.writer (g.K.Keeper.book c.loop-call.keeper) c.loop-call.self _ basis c.loop-call.invariant.written.named in
+    let logged = one_logged basis _ _ _ c.read_beside.ensures.logged in
+    let before = fits_before g.R.Read.remaining c.loop-call.reader c.read_beside.new.self basis _ c.in-Ok.ensures.passed c.loop-call.invariant.ended fits in
+    let gave = gave_on g.R.Read.remaining c.loop-call.reader c.read_beside.new.self basis _ c.read_beside.new.buf c.in-Ok.ensures.bytes c.in-Ok.ensures.passed c.in-Ok.ensures.end fits in
+    let read = c.loop-call.invariant.at basis before script known at in
+    let more = came _ _ read.rest _ read.left_is gave.0 in
+    let done = c.in_err-take_bytes-in-Ok.ensures.fed basis (with_events script read.events) read.front more.left (cut_behind script.bytes read.front read.rest _ _ read.cut more.cut) read.at in
     let told = err_from_is_err_and c.from_residual-in_err-take_bytes-in-Ok.result c.from_residual-in_err-take_bytes-in-Ok.ensures.1 in (
       done.0,
       done.1.goes_on.history,
@@ -65,21 +80,25 @@ returns-in_err-take_bytes-in-Ok-clause-ended g c = λ script known at.
         done = rw told.1 tt;
         fault = rw (told.1, told.2, ← c.loop-call.invariant.limit) (done.1.ended _);
         short = rw told.1 tt;
-        prompt = prompt_call _ read c.loop-call.invariant.named c.read_beside.ensures.logged done.0 done.1.goes_on.same;
+        prompt = prompt_call _ read found logged done.0 done.1.goes_on.same;
       },
     )
 
 -- the reader failed
 pub returns-in-Err-clause-ended : goal.returns-in-Err-clause-ended
-returns-in-Err-clause-ended g c = λ script known at.
-    let read = c.loop-call.invariant.at script known at in (
+returns-in-Err-clause-ended g c = λ basis fits script known at.
+    let found = found_on g.R.Read.remaining g.W.Write.contents c.loop-call.reader c.loop-call.writer (g.K.Keeper.book c.loop-call.keeper) c.loop-call.self _ basis c.loop-call.invariant.written.named in
+    let logged = one_logged basis _ _ _ c.read_beside.ensures.logged in
+    let before = fits_before g.R.Read.remaining c.loop-call.reader c.read_beside.new.self basis [] (c.in-Err.ensures.passed ∙ sym (append-nil c.loop-call.reader.given.bytes)) c.loop-call.invariant.ended fits in
+    let kept = kept_on g.R.Read.remaining c.loop-call.reader c.read_beside.new.self basis c.in-Err.ensures.bytes c.in-Err.ensures.passed in
+    let read = c.loop-call.invariant.at basis before script known at in (
       read.events,
       read.at.history,
       record {
         done = tt;
-        fault = (read.front, kept_left _ _ script.bytes read.front read.rest read.left_is c.in-Err.ensures.bytes read.cut, rw (← read.at.lines_are) read.at.stands);
+        fault = (read.front, kept_left _ _ script.bytes read.front read.rest read.left_is kept read.cut, rw (← read.at.lines_are) read.at.stands);
         short = tt;
-        prompt = prompt_call _ read c.loop-call.invariant.named c.read_beside.ensures.logged read.events (λ j before. refl);
+        prompt = prompt_call _ read found logged read.events (λ j before. refl);
       },
     )
 
@@ -88,16 +107,22 @@ loop-call-preserved g c =
     let small : c.loop-call.reader.calls + 1 ≤ 2 ^ 64 - 1 = omega (arith, c.loop-call.invariant.calls) in
     let within : c.in-Ok.n ≤ length c.read_beside.new.buf = omega (arith, c.in-Ok.ensures.bound) in
     record {
-      at = λ script known at.
-          let read = c.loop-call.invariant.at script known at in
-          let more = came _ _ read.rest _ read.left_is c.in-Ok.ensures.bytes.0 in
+      at = λ basis fits script known at.
+          let found = found_on g.R.Read.remaining g.W.Write.contents c.loop-call.reader c.loop-call.writer (g.K.Keeper.book c.loop-call.keeper) c.loop-call.self _ basis c.loop-call.invariant.written.named in
+          let logged = one_logged basis _ _ _ c.read_beside.ensures.logged in
+          let before = fits_before g.R.Read.remaining c.loop-call.reader c.read_beside.new.self basis _ c.in-Ok.ensures.passed c.loop-call.invariant.ended fits in
+          let gave = gave_on g.R.Read.remaining c.loop-call.reader c.read_beside.new.self basis _ c.read_beside.new.buf c.in-Ok.ensures.bytes c.in-Ok.ensures.passed c.in-Ok.ensures.end fits in
+          let read = c.loop-call.invariant.at basis before script known at in
+          let more = came _ _ read.rest _ read.left_is gave.0 in
           let some : 0 < length (take c.in-Ok.n c.read_beside.new.buf) = omega (arith, c.in-Ok.n-test, length-take-le c.in-Ok.n c.read_beside.new.buf within) in
-          let fed = c.in_ok-take_bytes-in-Ok.ensures.fed (with_events script read.events) read.front more.left (cut_behind script.bytes read.front read.rest _ _ read.cut more.cut) read.at in
-          read_on _ _ read more some c.loop-call.invariant.named c.read_beside.ensures.logged fed.0 fed.1.goes_on fed.1.ended;
+          let fed = c.in_ok-take_bytes-in-Ok.ensures.fed basis (with_events script read.events) read.front more.left (cut_behind script.bytes read.front read.rest _ _ read.cut more.cut) read.at in
+          read_on _ _ read more some found logged fed.0 fed.1.goes_on fed.1.ended;
+      ended = c.in-Ok.ensures.goes_on (omega (arith, c.in-Ok.n-test)) ∙ c.loop-call.invariant.ended;
       limit = c.in_ok-take_bytes-in-Ok.ensures.limit ∙ c.loop-call.invariant.limit;
       calls = c.read_beside.ensures.calls ∙ min-eq_left small ∙ ap (λ n. n + 1) c.loop-call.invariant.calls;
       taken = omega (arith, c.in_ok-take_bytes-in-Ok.ensures.taken, c.loop-call.invariant.taken, c.in-Ok.n-test, length-take-le c.in-Ok.n c.read_beside.new.buf within);
-      named = c.in_ok-take_bytes-in-Ok.ensures.named ∙ c.loop-call.invariant.named;
+      gives = gives_more g.R.Read.remaining c.args.reader.now c.loop-call.reader c.read_beside.new.self _ c.loop-call.invariant.gives c.in-Ok.ensures.passed c.in-Ok.ensures.bytes.0;
+      written = written_on g.W.Write.contents c.args.writer.now c.loop-call.writer c.take_bytes.new.writer c.loop-call.invariant.written c.in_ok-take_bytes-in-Ok.ensures.written;
       size = omega (arith, c.loop-call.invariant.size, c.read_beside.auto.buf);
     }
 

@@ -1,18 +1,22 @@
-use Rattle.std.proofs.Common.{◌≡◌, ◌≤◌, [], length, Some}
+use Rattle.std.proofs.Common.{◌≡◌, ◌≤◌, false, [], length, Some}
 use Rattle.cred_cli.specs.Feeding.{IsAt, standing}
 use Rattle.cred_cli.specs.Script.{ScriptStart}
+use Rattle.cred_cli.specs.Watched.{Basis, Fits, GivesAsContracted, IsWritten, held_on, left_on, log_on}
 use Rattle.cred_cli.proofs.Prompts.{IsReadTo}
 use Rattle.cred_cli.proofs.run.Run.read_all.Given as goal
 
 -- each call but the last gave a byte at least
 abbrev pub invariant-loop-call : goal.invariant-loop-call
 invariant-loop-call g l = record {
-  at : (script : ScriptStart) → g.R.Read.remaining l.fn.reader.inner ≡ Some script.bytes →
-      IsAt l.engine.policy g.K.Keeper.capacity script [] (standing (g.W.Write.contents l.fn.writer.inner) (g.K.Keeper.book l.fn.keeper) l.fn.self) →
-      IsReadTo l.engine.policy g.K.Keeper.capacity script l.fn.writer.log.name (g.R.Read.remaining l.reader.inner) (standing (g.W.Write.contents l.writer.inner) (g.K.Keeper.book l.keeper) l.self) l.reader.log.calls;
+  at : (basis : Basis) → Fits basis l.reader → (script : ScriptStart) → left_on basis g.R.Read.remaining l.fn.reader ≡ Some script.bytes →
+      IsAt l.engine.policy g.K.Keeper.capacity script [] (standing (held_on basis g.W.Write.contents l.fn.writer) (g.K.Keeper.book l.fn.keeper) l.fn.self) →
+      IsReadTo l.engine.policy g.K.Keeper.capacity script l.fn.writer.log.name (left_on basis g.R.Read.remaining l.reader) (standing (held_on basis g.W.Write.contents l.writer) (g.K.Keeper.book l.keeper) l.self)
+      (log_on basis l.reader.log.calls);
+  ended : l.reader.ended ≡ false;
   limit : l.self.progress.limit ≡ l.fn.self.progress.limit;
   calls : l.reader.calls ≡ l._call;
   taken : l._call ≤ l.self.progress.taken;
-  named : l.writer.log.name ≡ l.fn.writer.log.name;
+  gives : GivesAsContracted g.R.Read.remaining l.fn.reader l.reader;
+  written : IsWritten g.W.Write.contents l.fn.writer l.writer;
   size : length l.buffer ≡ 4096;
 }

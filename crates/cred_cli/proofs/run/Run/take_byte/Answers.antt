@@ -13,7 +13,7 @@ use Rattle.cred_cli.proofs.run.Run.take_byte.Goals as goal
 
 -- a byte too many
 pub returns-then-is_reached-clause-fed : goal.returns-then-is_reached-clause-fed
-returns-then-is_reached-clause-fed g c = λ script front rest at_seam at.
+returns-then-is_reached-clause-fed g c = λ basis script front rest at_seam at.
     let cut = at_seam ∙ append_assoc front (c.args.byte ∷ []) rest in
     let limit = c.args.self.now.progress.limit in
     let reached : limit ≤ length front = grind (arith, at.taken_is) in
@@ -30,7 +30,7 @@ returns-then-is_reached-clause-fed g c = λ script front rest at_seam at.
 
 -- a byte of a line
 pub returns-then-byte-ne10-clause-fed : goal.returns-then-byte-ne10-clause-fed
-returns-then-byte-ne10-clause-fed g c = λ script front rest cut at. (
+returns-then-byte-ne10-clause-fed g c = λ basis script front rest cut at. (
   script.events,
   record {
     goes_on = goes_nowhere _ _ script _ at.history;
@@ -48,13 +48,13 @@ returns-then-byte-ne10-clause-fed g c = λ script front rest cut at. (
 
 -- a line end
 pub returns-clause-fed : goal.returns-clause-fed
-returns-clause-fed g c = λ script front rest at_seam at.
+returns-clause-fed g c = λ basis script front rest at_seam at.
     let cut = at_seam ∙ append_assoc front (c.args.byte ∷ []) rest in
     let here = rw c.if-byte-ne10.false at cut in
     let lines = c.args.self.now.progress.lines in
     let most = c.args.engine.now.policy.most in
     let event : slice_get script.events lines ≡ Some (within most (event_of c.bytes.result.now)) = at.behind lines (omega arith) ∙ rw (c.bytes.ensures, at.lines_are, at.start_is) (ended_event most script.bytes front rest here) in
-    let done = c.in_ok-answer_line.ensures.answered script.book script.events lines script.before at.stands at.tickets event in
+    let done = c.in_ok-answer_line.ensures.answered basis script.book script.events lines script.before at.stands at.tickets event in
     let grown = grows _ _ script.book (events_within most script.bytes) script.events done.0 lines at.history at.behind done.1.becomes in (
       done.0,
       record {
@@ -73,13 +73,13 @@ returns-clause-fed g c = λ script front rest at_seam at.
 
 -- a fault at a line end
 pub returns-in_err-answer_line-clause-fed : goal.returns-in_err-answer_line-clause-fed
-returns-in_err-answer_line-clause-fed g c = λ script front rest at_seam at.
+returns-in_err-answer_line-clause-fed g c = λ basis script front rest at_seam at.
     let cut = at_seam ∙ append_assoc front (c.args.byte ∷ []) rest in
     let here = rw c.if-byte-ne10.false at cut in
     let lines = c.args.self.now.progress.lines in
     let most = c.args.engine.now.policy.most in
     let event : slice_get script.events lines ≡ Some (within most (event_of c.bytes.result.now)) = at.behind lines (omega arith) ∙ rw (c.bytes.ensures, at.lines_are, at.start_is) (ended_event most script.bytes front rest here) in
-    let done = c.in_err-answer_line.ensures.answered script.book script.events lines script.before at.stands at.tickets event in
+    let done = c.in_err-answer_line.ensures.answered basis script.book script.events lines script.before at.stands at.tickets event in
     let grown = grows _ _ script.book (events_within most script.bytes) script.events done.0 lines at.history at.behind done.1.becomes in
     let old_size : length script.events ≡ length (events_within most script.bytes) = history-size _ _ _ _ _ at.history in
     let size : length done.0 ≡ length (events_within most script.bytes) = history-size _ _ _ _ _ grown.history in

@@ -3,16 +3,17 @@ use Rattle.cred_cli.specs.declared.event.Event.{Event}
 use Rattle.cred_cli.specs.Feeding.{IsAt, standing}
 use Rattle.cred_cli.specs.Script.{ScriptStart, line_ends, with_events}
 use Rattle.cred_cli.specs.Starving.{GoesOn}
+use Rattle.cred_cli.specs.Watched.{Basis, IsWritten, held_on}
 use Rattle.cred_cli.proofs.run.Run.take_bytes.Given as goal
 
 -- the first bytes are taken
 abbrev pub invariant-loop-byte : goal.invariant-loop-byte
 invariant-loop-byte g l = record {
-  fed : (script : ScriptStart) (front rest : List ℕ) → script.bytes ≡ (front ++ l.bytes) ++ rest →
-      IsAt l.engine.policy g.K.Keeper.capacity script front (standing (g.W.Write.contents l.fn.writer.inner) (g.K.Keeper.book l.fn.keeper) l.fn.self) →
+  fed : (basis : Basis) (script : ScriptStart) (front rest : List ℕ) → script.bytes ≡ (front ++ l.bytes) ++ rest →
+      IsAt l.engine.policy g.K.Keeper.capacity script front (standing (held_on basis g.W.Write.contents l.fn.writer) (g.K.Keeper.book l.fn.keeper) l.fn.self) →
       (events : List Event) × GoesOn l.engine.policy g.K.Keeper.capacity script (line_ends front) events
-      × IsAt l.engine.policy g.K.Keeper.capacity (with_events script events) (front ++ take l.byte-index l.bytes) (standing (g.W.Write.contents l.writer.inner) (g.K.Keeper.book l.keeper) l.self);
-  named : l.writer.log.name ≡ l.fn.writer.log.name;
+      × IsAt l.engine.policy g.K.Keeper.capacity (with_events script events) (front ++ take l.byte-index l.bytes) (standing (held_on basis g.W.Write.contents l.writer) (g.K.Keeper.book l.keeper) l.self);
+  written : IsWritten g.W.Write.contents l.fn.writer l.writer;
   limit : l.self.progress.limit ≡ l.fn.self.progress.limit;
   taken : l.self.progress.taken ≡ l.fn.self.progress.taken + l.byte-index;
 }

@@ -1,0 +1,134 @@
+-- What is read and written, on either basis.
+use Rattle.std.proofs.Common.{◌≡◌, ℕ, ◌<◌, List, [], ◌∷◌, ◌++◌, length, take, drop, map, Option, Some, Bool, true, false, Result, Ok, Err, OnOk, IfErr, IfOk, IfSome, subst, refl, sym, ap, ◌∙◌, ap₂, append_assoc, append-nil}
+use Rattle.std.proofs.KnownBytes.{Appends-nil, Appends-trans, Consumes-kept, Consumes-nil, Consumes-trans}
+use Rattle.std.proofs.Math.Seq.{drop-append_seam}
+use Rattle.std.specs.Io.KnownBytes.{Consumes, IsAtEnd, Keeps}
+use Rattle.cred_book.specs.Accounts.{Accounts}
+use Rattle.cred_cli.specs.Calls.{Call}
+use Rattle.cred_cli.specs.Outcome.{HasCause, IsAnsweredAs}
+use Rattle.cred_cli.specs.Script.{out, script_start}
+use Rattle.cred_cli.specs.declared.script.End.{End}
+use Rattle.cred_cli.specs.Steps.{WriteFails}
+use Rattle.cred_cli.specs.Watched.{Basis, Contract, Transcript, Fits, GivesAsContracted, IsWritten, Reading, TakesAsContracted, call_on, ended_of, failed_of, transcript_reading, given_of, held_on, inner_of, left_on, log_on, log_of, name_of, reading_on, taken_of}
+use Rattle.cred_cli.specs.declared.fault.ScriptFault.{ScriptFault}
+use Rattle.cred_cli.specs.declared.watched.Watched.{Watched}
+use Rattle.cred_cli.specs.declared.run.Run.{Run}
+use Rattle.cred_cli.specs.Feeding.{standing}
+use Rattle.cred_cli.proofs.Prompts.{Finds}
+use Rattle.cred_cli.proofs.Writes.{taken_later}
+
+-- ---- what a writer took
+
+module _ {W : Type 0} (contents : W → Option (List ℕ)) where
+  pub takes_nothing : (writer : Watched W) → TakesAsContracted contents writer writer
+  takes_nothing writer = ([], sym (append-nil (taken_of writer)), Appends-nil (contents (inner_of writer)))
+
+  pub takes_more : (old mid new : Watched W) → TakesAsContracted contents old mid → TakesAsContracted contents mid new → TakesAsContracted contents old new
+  takes_more old mid new (front, taken, held) (bytes, later, more) = (front ++ bytes, taken_later _ _ _ _ _ taken later, Appends-trans _ _ _ _ _ held more)
+
+  pub unwritten : (writer : Watched W) → IsWritten contents writer writer
+  unwritten writer = record { named = refl; takes = takes_nothing writer }
+
+  pub written_on : (old mid new : Watched W) → IsWritten contents old mid → IsWritten contents mid new → IsWritten contents old new
+  written_on old mid new written more = record { named = more.named ∙ written.named; takes = takes_more old mid new written.takes more.takes }
+
+-- a write that fails has its cause
+pub write_cause : {T : Type 0} (before now : Option (List ℕ)) (bytes : List ℕ) (failed : Bool) (r : Result T ScriptFault) → IfErr r (WriteFails before now bytes failed) → IfErr r (HasCause false failed)
+write_cause before now bytes failed (Ok t) fails = tt
+write_cause before now bytes failed (Err e) (is_write, has_failed, front) = rw is_write has_failed
+
+-- ---- what a reader gave
+
+module _ {R : Type 0} (remaining : R → Option (List ℕ)) where
+  pub gives_nothing : (reader : Watched R) → GivesAsContracted remaining reader reader
+  gives_nothing reader = ([], sym (append-nil (given_of reader)), Consumes-nil (remaining (inner_of reader)))
+
+  pub gives_more : (old mid new : Watched R) (bytes : List ℕ) → GivesAsContracted remaining old mid → given_of new ≡ given_of mid ++ bytes → Consumes (remaining (inner_of mid)) (remaining (inner_of new)) bytes → GivesAsContracted remaining old new
+  gives_more old mid new bytes (front, given, consumed) later more = (front ++ bytes, taken_later _ _ _ _ _ given later, Consumes-trans _ _ _ _ _ consumed more)
+
+  -- a read that failed gave nothing
+  pub gives_no_more : (old mid new : Watched R) → GivesAsContracted remaining old mid → given_of new ≡ given_of mid → Keeps (remaining (inner_of mid)) (remaining (inner_of new)) → GivesAsContracted remaining old new
+  gives_no_more old mid new (front, given, consumed) same kept = (front, same ∙ given, Consumes-kept _ _ _ _ consumed kept)
+
+-- ---- what a reader has left
+
+never : false ≡ true → ⊥
+never e = cc
+
+module _ {R : Type 0} (remaining : R → Option (List ℕ)) (old new : Watched R) where
+  -- what fits a reader fitted it before it gave these
+  pub fits_before : (basis : Basis) (bytes : List ℕ) → given_of new ≡ given_of old ++ bytes → ended_of old ≡ false → Fits basis new → Fits basis old
+  fits_before Contract bytes more open_ fits = tt
+  fits_before (Transcript all) bytes more open_ (rest, cut, last) =
+      (bytes ++ rest, cut ∙ ap (λ xs. xs ++ rest) more ∙ append_assoc (given_of old) bytes rest, λ e. absurd (never (sym open_ ∙ e)))
+
+  pub gave_on : (basis : Basis) (n : ℕ) (buf : List ℕ) → Consumes (remaining (inner_of old)) (remaining (inner_of new)) (take n buf) × (n ≡ 0 → 0 < length buf → IsAtEnd (remaining (inner_of new))) →
+      given_of new ≡ given_of old ++ take n buf → (n ≡ 0 → 0 < length buf → ended_of new ≡ true) → Fits basis new →
+      Consumes (left_on basis remaining old) (left_on basis remaining new) (take n buf) × (n ≡ 0 → 0 < length buf → IsAtEnd (left_on basis remaining new))
+  gave_on Contract n buf named passed end fits = named
+  gave_on (Transcript all) n buf named passed end (rest, cut, last) =
+      let later : drop (length (given_of new)) all ≡ rest = ap (drop (length (given_of new))) cut ∙ drop-append_seam (given_of new) rest in
+      let sooner : drop (length (given_of old)) all ≡ take n buf ++ rest =
+      ap (drop (length (given_of old))) (cut ∙ ap (λ xs. xs ++ rest) passed ∙ append_assoc (given_of old) (take n buf) rest) ∙ drop-append_seam (given_of old) (take n buf ++ rest) in
+      (sooner ∙ ap (λ xs. take n buf ++ xs) (sym later), λ none room. later ∙ last (end none room))
+
+  pub kept_on : (basis : Basis) → Keeps (remaining (inner_of old)) (remaining (inner_of new)) → given_of new ≡ given_of old → Keeps (left_on basis remaining old) (left_on basis remaining new)
+  kept_on Contract named passed = named
+  kept_on (Transcript all) named passed = ap (λ xs. drop (length xs) all) passed
+
+-- ---- what stood as a reader was called
+
+pub none_logged : (basis : Basis) (calls : List Call) → calls ≡ [] → log_on basis calls ≡ []
+none_logged Contract calls none = none
+none_logged (Transcript all) calls none = ap (map (call_on (Transcript all))) none
+
+pub one_logged : (basis : Basis) (call : Call) (earlier calls : List Call) → calls ≡ call ∷ earlier → log_on basis calls ≡ call_on basis call ∷ log_on basis earlier
+one_logged Contract call earlier calls more = more
+one_logged (Transcript all) call earlier calls more = ap (map (call_on (Transcript all))) more
+
+-- the call as it is logged
+abbrev pub call_of : {R W : Type 0} → (R → Option (List ℕ)) → (W → Option (List ℕ)) → Watched R → Watched W → Accounts → Call
+call_of remaining contents reader writer accounts = record {
+  left = remaining (inner_of reader);
+  given = given_of reader;
+  beside = name_of writer;
+  written = contents (inner_of writer);
+  taken = taken_of writer;
+  accounts = accounts;
+}
+
+-- what the call found is seen in the basis too
+pub found_on : {R W : Type 0} (remaining : R → Option (List ℕ)) (contents : W → Option (List ℕ)) (reader : Watched R) (writer : Watched W) (accounts : Accounts) (run : Run) (name : ℕ) (basis : Basis) → name_of writer ≡ name →
+    Finds (left_on basis remaining reader) name (standing (held_on basis contents writer) accounts run) (call_on basis (call_of remaining contents reader writer accounts))
+found_on remaining contents reader writer accounts run name Contract named = record { left_is = refl; beside_is = named; written_is = refl; accounts_are = refl }
+found_on remaining contents reader writer accounts run name (Transcript all) named = record { left_is = refl; beside_is = named; written_is = refl; accounts_are = refl }
+
+-- ---- a new reader, whatever it is
+
+module _ {R : Type 0} (remaining : R → Option (List ℕ)) (old new : Watched R) (rest all : List ℕ) (fresh : given_of old ≡ []) (cut : all ≡ given_of new ++ rest) where
+  -- all that it had
+  pub had_all : left_on (Transcript all) remaining old ≡ Some all
+  had_all = ap (λ xs. Some (drop (length xs) all)) fresh
+
+  pub as_transcript_reading : reading_on (Transcript all) remaining old new ≡ transcript_reading rest new
+  as_transcript_reading =
+      let had : drop (length (given_of old)) all ≡ given_of new ++ rest = ap (λ xs. drop (length xs) all) fresh ∙ cut in
+      let left : drop (length (given_of new)) all ≡ rest = ap (drop (length (given_of new))) cut ∙ drop-append_seam (given_of new) rest in
+      ap₂ (λ had left. record { input = Some had; left = Some left; failed = failed_of new; log = log_on (Transcript all) (log_of new) }) had left
+      ∙ ap (λ every. record { input = Some (given_of new ++ rest); left = Some rest; failed = failed_of new; log = log_on (Transcript every) (log_of new) }) cut
+
+  -- so what is told of it in that basis may be told of what it gave
+  pub as_passed : (P : Reading → List ℕ → Type 0) → IfSome (left_on (Transcript all) remaining old) (P (reading_on (Transcript all) remaining old new)) → P (transcript_reading rest new) all
+  as_passed P told =
+      let at_all : P (reading_on (Transcript all) remaining old new) all = subst (λ known. IfSome known (P (reading_on (Transcript all) remaining old new))) had_all told in
+      subst (λ r. P r all) as_transcript_reading at_all
+
+-- what came is all, if nothing else may come
+pub alone : {R : Type 0} (reader : Watched R) → Fits (Transcript (given_of reader)) reader
+alone reader = ([], sym (append-nil (given_of reader)), λ e. refl)
+
+-- a script that was answered whole: what was taken is its answers
+pub answers_of : {E : Type 0} (capacity : ℕ) (book accounts : Accounts) (given before now : List ℕ) (result : Result End E) → before ≡ [] →
+    IfOk result (λ end. IsAnsweredAs capacity (script_start book given (Some before)) (Some now) accounts end.lines) → OnOk result (now ≡ out capacity book given)
+answers_of capacity book accounts given before now (Ok end) fresh done = done.written ∙ ap (λ xs. xs ++ out capacity book given) fresh
+answers_of capacity book accounts given before now (Err e) fresh done = tt
