@@ -7,7 +7,7 @@ use crate::job::{Hashed, Job};
 use crate::message::{Ending, Message};
 use crate::naming::Naming;
 use crate::open::MOST_OPEN;
-use crate::session::Session;
+use crate::scribe::Scribe;
 use crossbeam_channel::{Receiver, Sender};
 use std::alloc::Global;
 use std::io::Write;
@@ -34,7 +34,7 @@ struct Waiting<J: Naming> {
 pub(crate) fn attend<J: Naming, T: Wait, K: Host, W: Write + Drop>(
     rt: &T,
     alloc: Global,
-    session: &mut Session<J, K, W>,
+    scribe: &mut Scribe<J, K, W>,
     desk: &Desk<J>,
 ) -> Ending<J> {
     let mut waiting = Waiting {
@@ -45,12 +45,12 @@ pub(crate) fn attend<J: Naming, T: Wait, K: Host, W: Write + Drop>(
         let Ok(message) = desk.inbox.recv(rt) else {
             break;
         };
-        take_in(rt, alloc, session, desk, message, &mut waiting);
-        gather(rt, alloc, session, desk, &mut waiting);
+        take_in(rt, alloc, scribe, desk, message, &mut waiting);
+        gather(rt, alloc, scribe, desk, &mut waiting);
         let changes = mem::replace(&mut waiting.changes, Vec::new(alloc));
-        commit(rt, alloc, session, desk, changes);
-        if session.output.fault.is_some()
-            || (waiting.ending.is_some() && session.pending.is_empty())
+        commit(rt, alloc, scribe, desk, changes);
+        if scribe.output.fault.is_some()
+            || (waiting.ending.is_some() && scribe.pending.is_empty())
         {
             break;
         }
@@ -61,7 +61,7 @@ pub(crate) fn attend<J: Naming, T: Wait, K: Host, W: Write + Drop>(
     } = waiting;
     match ending {
         Some(ending) => ending,
-        None => Ending::cut(session.came, ServiceFault::Lost),
+        None => Ending::cut(scribe.came, ServiceFault::Lost),
     }
 }
 
@@ -70,7 +70,7 @@ pub(crate) fn attend<J: Naming, T: Wait, K: Host, W: Write + Drop>(
 fn gather<J: Naming, T: Wait, K: Host, W: Write + Drop>(
     rt: &T,
     alloc: Global,
-    session: &mut Session<J, K, W>,
+    scribe: &mut Scribe<J, K, W>,
     desk: &Desk<J>,
     waiting: &mut Waiting<J>,
 ) {
@@ -81,7 +81,7 @@ fn gather<J: Naming, T: Wait, K: Host, W: Write + Drop>(
         let Ok(message) = desk.inbox.try_recv(rt) else {
             return;
         };
-        take_in(rt, alloc, session, desk, message, waiting);
+        take_in(rt, alloc, scribe, desk, message, waiting);
     }
 }
 
@@ -89,7 +89,7 @@ fn gather<J: Naming, T: Wait, K: Host, W: Write + Drop>(
 fn take_in<J: Naming, T: Wait, K: Host, W: Write + Drop>(
     rt: &T,
     alloc: Global,
-    session: &mut Session<J, K, W>,
+    scribe: &mut Scribe<J, K, W>,
     desk: &Desk<J>,
     message: Message<J>,
     waiting: &mut Waiting<J>,
@@ -97,20 +97,20 @@ fn take_in<J: Naming, T: Wait, K: Host, W: Write + Drop>(
     match message {
         Message::Ended(ending) => waiting.ending = Some(ending),
         Message::Came(line) => {
-            let job = session.take(rt, alloc, line);
+            let job = scribe.take(rt, alloc, line);
             desk.pass_on(rt, job);
         }
         Message::Hashed(hashed) => {
             if hashed.worked.reply().makes_change() {
                 if let Err(refused) = waiting.changes.push(hashed) {
-                    desk.pass_on(rt, session.commit(rt, refused.value));
+                    desk.pass_on(rt, scribe.commit(rt, refused.value));
                 }
             } else {
-                desk.pass_on(rt, session.commit(rt, hashed));
+                desk.pass_on(rt, scribe.commit(rt, hashed));
             }
         }
         Message::NoMemory(line) => {
-            session.no_memory(line);
+            scribe.no_memory(line);
             desk.pass_on(rt, None);
         }
     }
@@ -120,7 +120,7 @@ fn take_in<J: Naming, T: Wait, K: Host, W: Write + Drop>(
 fn commit<J: Naming, T: Wait, K: Host, W: Write + Drop>(
     rt: &T,
     alloc: Global,
-    session: &mut Session<J, K, W>,
+    scribe: &mut Scribe<J, K, W>,
     desk: &Desk<J>,
     changes: Vec<Hashed<J>>,
 ) {
@@ -128,13 +128,13 @@ fn commit<J: Naming, T: Wait, K: Host, W: Write + Drop>(
     let others = if lines < 2 {
         changes
     } else {
-        session.commit_together(alloc, changes)
+        scribe.commit_together(alloc, changes)
     };
     for _ in others.len()..lines {
         desk.pass_on(rt, None);
     }
     for hashed in others {
-        desk.pass_on(rt, session.commit(rt, hashed));
+        desk.pass_on(rt, scribe.commit(rt, hashed));
     }
 }
 

@@ -25,8 +25,8 @@ mod open;
 mod outlet;
 mod output;
 mod reading;
+mod scribe;
 mod service;
-mod session;
 mod source;
 
 pub use costs::Costs;

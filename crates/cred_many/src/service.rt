@@ -19,7 +19,7 @@ use crate::naming::Naming;
 use crate::open::{MOST_OPEN, OpenLines};
 use crate::outlet::Outlet;
 use crate::reading::Reading;
-use crate::session::Session;
+use crate::scribe::Scribe;
 use crate::source::Source;
 use cred_cli::{Tools, Watched};
 use crossbeam_channel::{Receiver, Sender, bounded};
@@ -112,21 +112,21 @@ where
     ensures all { result.fault ≡ None → result.reading ≡ None
         → IfSome J.service.input (λ all. result.lines ≡ length (lines_of all)) }
 {
-    let mut session: Session<J, K, W> = Session::new(OpenLines::new(tools.alloc), keeper, writer);
+    let mut scribe: Scribe<J, K, W> = Scribe::new(OpenLines::new(tools.alloc), keeper, writer);
     let intake: Intake<J, G> = Intake::new(means, salts);
     let ending = match make_channels(tools.rt, tools.alloc) {
         Ok((channels, outlet)) => {
             let reading = Reading::new(source, intake, outlet);
-            run(tools, means, &mut session, reading, channels)
+            run(tools, means, &mut scribe, reading, channels)
         }
         Err(fault) => Ending::cut(0, fault),
     };
-    concluded(session, ending)
+    concluded(scribe, ending)
 }
 
 /// What is left, once nobody else works.
 fn concluded<J: Naming, K: Host, W: Write + Drop>(
-    mut session: Session<J, K, W>,
+    mut scribe: Scribe<J, K, W>,
     ending: Ending<J>,
 ) -> Served<K, W>
     ensures served { ∥ HasServed K.capacity J.service
@@ -134,32 +134,32 @@ fn concluded<J: Naming, K: Host, W: Write + Drop>(
     ensures all { result.fault ≡ None → result.reading ≡ None
         → IfSome J.service.input (λ all. result.lines ≡ length (lines_of all)) }
 {
-    if !session.pending.is_empty() || ending.lines != session.came {
-        session.lose();
-        return left(session, ending.fault);
+    if !scribe.pending.is_empty() || ending.lines != scribe.came {
+        scribe.lose();
+        return left(scribe, ending.fault);
     }
-    left(session, ending.fault)
+    left(scribe, ending.fault)
 }
 
-/// What is left of a session, after the reading ended so.
+/// What is left of a scribe, after the reading ended so.
 fn left<J: Naming, K: Host, W: Write + Drop>(
-    session: Session<J, K, W>,
+    scribe: Scribe<J, K, W>,
     reading: Option<ServiceFault>,
 ) -> Served<K, W>
-    requires { session.output.fault ≡ None → session.pending ≡ [] }
+    requires { scribe.output.fault ≡ None → scribe.pending ≡ [] }
     ensures served { ∥ HasServed K.capacity J.service
         (W.contents (inner_of result.writer)) (K.book result.keeper) result.fault result.lines ∥₁ }
-    ensures lines { result.lines ≡ session.came }
-    ensures fault { result.fault ≡ session.output.fault }
+    ensures lines { result.lines ≡ scribe.came }
+    ensures fault { result.fault ≡ scribe.output.fault }
     ensures reading { result.reading ≡ reading }
 {
-    let Session {
+    let Scribe {
         keeper,
         output,
         pending: _pending,
         came,
         of: _,
-    } = session;
+    } = scribe;
     Served {
         keeper,
         writer: output.writer,
@@ -211,7 +211,7 @@ fn make_channels<J: Naming, T: Wait>(
 fn run<J, T, S, G, K, W>(
     tools: &Tools<'_, T>,
     means: &Means,
-    session: &mut Session<J, K, W>,
+    scribe: &mut Scribe<J, K, W>,
     reading: Reading<J, S, G>,
     channels: Channels<J>,
 ) -> Ending<J>
@@ -261,7 +261,7 @@ where
         if !started {
             return Ending::cut(0, ServiceFault::Threads);
         }
-        attend(rt, tools.alloc, session, &Desk { inbox, jobs, room })
+        attend(rt, tools.alloc, scribe, &Desk { inbox, jobs, room })
     })
 }
 
