@@ -179,20 +179,16 @@ impl<S: Alter> Keeper for FileBook<S> {
             (FailsToPut S.Store self.old.conn self.new.conn false name None)
             self.old self.new result }
     {
-        self.enter(name, None)
+        FileBook::admit(self, name)
     }
 
-    #[tactic(auto, using(crate::proofs::Keeping::shown_there))]
     fn load<R: Wait>(&mut self, _rt: &R, name: &Name, stored: Record) -> Result<(), BookError>
         ensures done { Loads self.old.book self.new.book name.now stored result }
         ensures remembers { Remembers (Edit.Put name.now (Some stored))
             (FailsToPut S.Store self.old.conn self.new.conn true name.now (Some stored))
             self.old self.new result }
     {
-        if self.book.show(name).is_err() {
-            return Err(BookError::NoAccount);
-        }
-        self.replace(name, Some(stored))
+        FileBook::load(self, name, stored)
     }
 
     fn show(&self, name: &Name) -> Result<Option<Record>, BookError> {
@@ -203,7 +199,6 @@ impl<S: Alter> Keeper for FileBook<S> {
         self.book.begin(request)
     }
 
-    #[tactic(auto, using(crate::proofs::Judged::judged))]
     fn commit<R: Wait>(&mut self, _rt: &R, worked: Worked) -> Result<Reply, (Worked, BookError)>
         ensures done { Commits self.old.book self.new.book worked result }
         ensures refused { IfSome self.old.lost (λ _.
@@ -213,13 +208,6 @@ impl<S: Alter> Keeper for FileBook<S> {
             (FailsToPut S.Store self.old.conn self.new.conn true (name_of worked.0)
             (judgement self.old.book worked).1) self.old self.new }
     {
-        let (reply, after, changes) = self.book.judge(&worked);
-        if !changes {
-            return Ok(reply);
-        }
-        match self.replace(&worked.request().name(), after) {
-            Ok(()) => Ok(reply),
-            Err(_) => Err((worked, BookError::Memory)),
-        }
+        FileBook::commit(self, worked)
     }
 }

@@ -1,12 +1,15 @@
 //! The changes of a kept book. What needs memory is had before the row is written, so nothing can
 //! fail after that; if the database refuses, the book is as it was.
 
-ghost use Rattle.std.specs.Prelude.{◌≡◌, true, false, IfErr, None, OnOk};
+ghost use Rattle.std.specs.Prelude.{◌≡◌, true, false, IfErr, IfSome, None, OnOk, Some, is_ok, not};
 ghost use Rattle.std.specs.FinMap as fin;
 ghost use Rattle.cred_book.specs.Accounts.{register_capacity};
-ghost use Rattle.cred_book.specs.Calls.{EntersWithin};
+ghost use Rattle.cred_book.specs.Calls.{AdmitsWithin, EntersWithin, Loads};
+ghost use Rattle.cred_book.specs.Commits.{Commits, judgement};
+ghost use Rattle.cred_book.specs.Works.{name_of};
 ghost use Rattle.cred_file.specs.Edits.{Deletes, PutsEntry, Renames};
-ghost use Rattle.cred_file.specs.Failures.{FailsToDelete, FailsToPut, FailsToRename, Remembers};
+ghost use Rattle.cred_file.specs.Failures.{FailsToDelete, FailsToPut, FailsToRename, Loses};
+ghost use Rattle.cred_file.specs.Failures.{Remembers};
 ghost use Rattle.cred_file.specs.Table.{Tells};
 ghost use Rattle.cred_file.specs.declared.fault.Edit.TheVariants as Edit;
 ghost use Rattle.sqlite_value.specs.Value.{owned};
@@ -14,12 +17,64 @@ ghost use Rattle.sqlite_value.specs.Value.{owned};
 use super::FileBook;
 use crate::fault::{Edit, Lost};
 use crate::statements::{delete_row, insert_row, rename_row, update_row};
-use cred_book::{BookError, Name};
+use cred_book::{BookError, Name, Reply, Worked};
 use cred_phc::{Record, write_record};
 use sqlite::Alter;
 use sqlite::types::ValueRef;
 
 impl<S: Alter> FileBook<S> {
+    /// Adds a name, with no record.
+    ///
+    /// Errors: `Exists` if the book has the name; `Full` if it has 2^24 names; `Memory` if it runs
+    /// out, if the database fails, and if a change is lost.
+    pub fn admit(&mut self, name: Name) -> Result<(), BookError>
+        ensures done { AdmitsWithin register_capacity self.old.book self.new.book name result }
+        ensures remembers { Remembers (Edit.Put name None)
+            (FailsToPut S.Store self.old.conn self.new.conn false name None)
+            self.old self.new result }
+    {
+        self.enter(name, None)
+    }
+
+    /// Gives the account this record, in place of any other.
+    ///
+    /// Errors: `NoAccount` if the book doesn't have the name; `Memory` as in `admit`.
+    #[tactic(auto, using(crate::proofs::Keeping::shown_there))]
+    pub fn load(&mut self, name: &Name, stored: Record) -> Result<(), BookError>
+        ensures done { Loads self.old.book self.new.book name.now stored result }
+        ensures remembers { Remembers (Edit.Put name.now (Some stored))
+            (FailsToPut S.Store self.old.conn self.new.conn true name.now (Some stored))
+            self.old self.new result }
+    {
+        if self.book.show(name).is_err() {
+            return Err(BookError::NoAccount);
+        }
+        self.replace(name, Some(stored))
+    }
+
+    /// Does the whole operation if the record still equals the copy, and otherwise nothing.
+    ///
+    /// Errors: `Memory` as in `admit`; the work comes back.
+    #[tactic(auto, using(crate::proofs::Judged::judged))]
+    pub fn commit(&mut self, worked: Worked) -> Result<Reply, (Worked, BookError)>
+        ensures done { Commits self.old.book self.new.book worked result }
+        ensures refused { IfSome self.old.lost (λ _.
+            is_ok result ≡ not (judgement self.old.book worked).2) }
+        ensures written { OnOk result (self.new.lost ≡ self.old.lost) }
+        ensures loses { Loses (Edit.Put (name_of worked.0) (judgement self.old.book worked).1)
+            (FailsToPut S.Store self.old.conn self.new.conn true (name_of worked.0)
+            (judgement self.old.book worked).1) self.old self.new }
+    {
+        let (reply, after, changes) = self.book.judge(&worked);
+        if !changes {
+            return Ok(reply);
+        }
+        match self.replace(&worked.request().name(), after) {
+            Ok(()) => Ok(reply),
+            Err(_) => Err((worked, BookError::Memory)),
+        }
+    }
+
     /// Puts a record, or none, at a name, which is added if it isn't there.
     ///
     /// Errors: `Full` if the name isn't there and there are 2^24 others; `Memory` if it runs out,

@@ -47,6 +47,18 @@ impl<S: Alter> FileBook<S> {
         }
     }
 
+    /// Replaces records by one transaction of the database.
+    ///
+    /// Errors: `NoAccount` if the book lacks one of the names; `Memory` as in `take_in`.
+    pub fn replace_all(&mut self, changed: Register) -> Result<(), BookError>
+        ensures done { TakesIn register_capacity self.old.book self.new.book fin.empty changed
+            result }
+        ensures remembers { Remembers (Edit.TakeIn fin.empty changed) (λ _. ⊤)
+            self.old self.new result }
+    {
+        self.take_in(Register::new(self.alloc), changed)
+    }
+
     /// Whether there would be at most 2^24 accounts with these.
     pub fn has_room_for(&self, added: &Register) -> bool
         ensures { MatchBool result
