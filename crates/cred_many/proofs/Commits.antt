@@ -16,7 +16,8 @@ use Rattle.cred_cli.specs.Texts.{reply_line}
 use Rattle.cred_many.specs.declared.ask.Ask.{Ask}
 use Rattle.cred_many.specs.declared.ask.Ask.TheVariants.{Account, Load, Show, Edit, List as Names, Whole, Login, Reset, Bad}
 use Rattle.cred_many.specs.Asks.{Entry, IsJobOf, IsResetOf, IsSound}
-use Rattle.cred_many.specs.Served.{IsChange, Script, done, login_reply, name_asked, reset_at, told_line, told_reply}
+use Rattle.cred_many.specs.Scribe.{IsChange}
+use Rattle.cred_many.specs.Served.{NeedsMemory, Script, done, login_reply, name_asked, reset_at, told_line, told_reply}
 use Rattle.cred_many.specs.Steps.{is_changed}
 use Rattle.cred_many.proofs.Serving.{IsDone, done_at}
 
@@ -104,6 +105,29 @@ job_name (Show name) r job = absurd (job None)
 job_name (Names from most) r job = absurd (job None)
 job_name (Edit edit) r job = absurd (job None)
 job_name (Bad why) r job = absurd (job None)
+
+-- a hash needs memory
+pub job_needs : (ask : Ask) (task : Task) (capacity : ℕ) (book : Accounts) → IsJobOf ask task → NeedsMemory capacity book ask
+job_needs (Whole q) task capacity book job = tt
+job_needs (Login name pw setting) task capacity book job = tt
+job_needs (Reset name pw setting) task capacity book job = tt
+job_needs (Account name) task capacity book job = absurd job
+job_needs (Load name stored) task capacity book job = absurd job
+job_needs (Show name) task capacity book job = absurd job
+job_needs (Names from most) task capacity book job = absurd job
+job_needs (Edit edit) task capacity book job = absurd job
+job_needs (Bad why) task capacity book job = absurd job
+
+pub reset_needs : (ask : Ask) (name : List ℕ) (task : Task) (capacity : ℕ) (book : Accounts) → IsResetOf ask name task → NeedsMemory capacity book ask
+reset_needs (Reset n pw setting) name task capacity book job = tt
+reset_needs (Whole q) name task capacity book job = absurd job
+reset_needs (Login n pw setting) name task capacity book job = absurd job
+reset_needs (Account n) name task capacity book job = absurd job
+reset_needs (Load n stored) name task capacity book job = absurd job
+reset_needs (Show n) name task capacity book job = absurd job
+reset_needs (Names from most) name task capacity book job = absurd job
+reset_needs (Edit edit) name task capacity book job = absurd job
+reset_needs (Bad why) name task capacity book job = absurd job
 
 -- no setting is a record
 no_reset : (name pw : List ℕ) (setting : SettingValue) (r : Request) → ((copy : Option RecordValue) → IsJobOf (Reset name pw setting) (r, copy)) → ⊥

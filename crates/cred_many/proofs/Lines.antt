@@ -1,5 +1,5 @@
 -- The lines that a reader comes to are lines of its input.
-use Rattle.std.proofs.Common.{◌≡◌, ◌≢◌, ℕ, suc, ◌+◌, ◌<◌, ◌≤◌, List, [], ◌∷◌, ◌++◌, length, take, drop, get_or, Option, Some, None, IfSome, true, false, if◌then◌else◌, nat_lt, slice_get, refl, sym, ap, ◌∙◌, arith, append_assoc, append-nil, inl, inr, codes, subst, take-append-drop}
+use Rattle.std.proofs.Common.{◌≡◌, ◌≢◌, ℕ, zero, suc, ◌+◌, ◌<◌, ◌≤◌, List, [], ◌∷◌, ◌++◌, length, take, drop, get_or, Option, Some, None, IfSome, true, false, if◌then◌else◌, nat_lt, slice_get, refl, sym, ap, ◌∙◌, arith, append_assoc, append-nil, inl, inr, codes, subst, take-append-drop}
 use Rattle.std.proofs.lemmas.Bool.Decides.{eqb_tells, nat_tests}
 use Rattle.std.proofs.lemmas.Bool.{cases_lt}
 use Rattle.std.proofs.lemmas.List.{length-append, length-take, take_all, take_more}
@@ -15,8 +15,8 @@ use Rattle.cred_cli.proofs.Lines.{length-whole_from, lines_of-ended, lines_of-li
 use Rattle.cred_cli.proofs.Readings.{if_known}
 use Rattle.cred_many.specs.declared.ask.Ask.TheVariants.{Bad}
 use Rattle.cred_many.specs.Asks.{Tagged, entry_of, tag_of, tagged, tagged_by, tagged_of, untagged, within}
-use Rattle.cred_many.specs.Reading.{GoesOn, HasCome, IsAt, IsAtEnd, IsBefore, IsCome, Place}
-use Rattle.cred_many.specs.Service.{Service, drawn_setting}
+use Rattle.cred_many.specs.Reading.{ComesNext, IsWholeLine, MovesOver, NothingIsLeft, Place, Splits}
+use Rattle.cred_many.specs.Service.{IsLine, Service, asked_from, drawn_setting}
 
 longer : (line : List ℕ) → longest_line < length line → nat_lt longest_line (length line) ≡ true
 longer line long = grind (arith, nat_tests)
@@ -32,12 +32,26 @@ tagged_of-kept drawn line = elim (cases_lt longest_line (length line)) [
   | inr short ↦ ap (tagged_of drawn) (take_all most_kept line (omega (arith, short)))
 ]
 
+-- a line is asked under its number
+asked_at : (s : Service) (n : ℕ) (lines : List (List ℕ)) (i : ℕ) (line : List ℕ) → slice_get lines i ≡ Some line
+    → slice_get (asked_from s n lines) i ≡ Some (entry_of (n + i) s.most (drawn_setting s (n + i)) line)
+unfolding asked_from
+asked_at s n [] i line is = absurd cc
+asked_at s n (l ∷ ls) zero line is =
+    let same : l ≡ line = cc in
+    let here : n ≡ n + 0 = omega arith in
+    ap (λ m. Some (entry_of m s.most (drawn_setting s m) l)) here ∙ ap (λ t. Some (entry_of (n + 0) s.most (drawn_setting s (n + 0)) t)) same
+asked_at s n (l ∷ ls) (suc i) line is =
+    let next : suc n + i ≡ n + suc i = omega arith in
+    asked_at s (suc n) ls i line is ∙ ap (λ m. Some (entry_of m s.most (drawn_setting s m) line)) next
+
 -- so what is kept of the line is read as the line
 pub kept_came : (s : Service) (input : Option (List ℕ)) (at : Place) (most : Option ℕ) (drawn : SettingValue) → most ≡ s.most → drawn ≡ drawn_setting s at.number
-    → IfSome input (λ all. HasCome all at) → IfSome input (λ all. IsCome s all (entry_of at.number most drawn at.start))
+    → IfSome input (λ all. IsWholeLine all at) → IfSome input (λ all. IsLine s all (entry_of at.number most drawn at.start))
 kept_came s None at most drawn same is came = tt
 kept_came s (Some all) at most drawn same is (line, there, kept) =
-    (line, there, ap (entry_of at.number most drawn) kept ∙ entry_kept ∙ ap (λ d. entry_of at.number most d line) is ∙ ap (λ m. entry_of at.number m (drawn_setting s at.number) line) same)
+    asked_at s 0 (lines_of all) at.number line there ∙ ap (λ n. Some (entry_of n s.most (drawn_setting s n) line)) (omega arith)
+    ∙ sym (ap Some (ap (entry_of at.number most drawn) kept ∙ entry_kept ∙ ap (λ d. entry_of at.number most d line) is ∙ ap (λ m. entry_of at.number m (drawn_setting s at.number) line) same))
   where
     entry_kept : entry_of at.number most drawn (take most_kept line) ≡ entry_of at.number most drawn line
     entry_kept = ap (λ t. record { number = at.number; tag = t.0; ask = within most t.1 }) (tagged_of-kept drawn line)
@@ -46,23 +60,23 @@ get_seam : (front : List (List ℕ)) (line : List ℕ) (more : List (List ℕ)) 
 get_seam [] line more = refl
 get_seam (l ∷ ls) line more = get_seam ls line more
 
-come_at : (all : List ℕ) (at : Place) (line : List ℕ) (before more : List (List ℕ)) → lines_of all ≡ before ++ line ∷ more → at.number ≡ length before → at.start ≡ take most_kept line → HasCome all at
+come_at : (all : List ℕ) (at : Place) (line : List ℕ) (before more : List (List ℕ)) → lines_of all ≡ before ++ line ∷ more → at.number ≡ length before → at.start ≡ take most_kept line → IsWholeLine all at
 come_at all at line before more cut number kept =
     (line, ap (λ lines. slice_get lines at.number) cut ∙ ap (slice_get (before ++ line ∷ more)) number ∙ get_seam before line more, kept)
 
 -- the line that ends here has come
-pub line_came : (input : Option (List ℕ)) (at : Place) → IsBefore input at (10 ∷ []) → IfSome input (λ all. HasCome all at)
+pub line_came : (input : Option (List ℕ)) (at : Place) → ComesNext input at (10 ∷ []) → IfSome input (λ all. IsWholeLine all at)
 line_came input at before = if_known input _ (λ all known.
     let (rest, here) = before all known in
     come_at all at (unfinished_from [] here.front) (whole_from [] here.front) (lines_of rest) (ap lines_of here.cut ∙ lines_of-line_end here.front rest)
     (here.number_is ∙ sym (length-whole_from [] here.front)) here.start_is)
 
-module _ (input : Option (List ℕ)) (at : Place) (ended : IsAtEnd input at) where
+module _ (input : Option (List ℕ)) (at : Place) (ended : NothingIsLeft input at) where
   whole_front : (all : List ℕ) (known : input ≡ Some all) → (ended all known).front ≡ all
   whole_front all known = sym ((ended all known).cut ∙ append-nil (ended all known).front)
 
   -- so has the last one, if it has no end
-  pub last_came : 0 < length at.start → IfSome input (λ all. HasCome all at)
+  pub last_came : 0 < length at.start → IfSome input (λ all. IsWholeLine all at)
   last_came some = if_known input _ (λ all known.
       let here = ended all known in
       let whole : here.front ≡ all = whole_front all known in
@@ -111,7 +125,7 @@ line_ends-end (c ∷ cs) = elim (eqb_tells c 10) [
 ]
 
 -- a byte of a line
-pub byte_taken : (input : Option (List ℕ)) (old new : Place) (b : ℕ) → b ≢ 10 → new.start ≡ take most_kept (old.start ++ b ∷ []) → new.number ≡ old.number → GoesOn input old (b ∷ []) new
+pub byte_taken : (input : Option (List ℕ)) (old new : Place) (b : ℕ) → b ≢ 10 → new.start ≡ take most_kept (old.start ++ b ∷ []) → new.number ≡ old.number → MovesOver input old (b ∷ []) new
 byte_taken input old new b ne pushed same = λ all rest known at. record {
   front = at.front ++ b ∷ [];
   cut = at.cut ∙ sym (append_assoc at.front (b ∷ []) rest);
@@ -120,7 +134,7 @@ byte_taken input old new b ne pushed same = λ all rest known at. record {
 }
 
 -- a line end
-pub end_taken : (input : Option (List ℕ)) (old new : Place) → new.start ≡ [] → new.number ≡ old.number + 1 → GoesOn input old (10 ∷ []) new
+pub end_taken : (input : Option (List ℕ)) (old new : Place) → new.start ≡ [] → new.number ≡ old.number + 1 → MovesOver input old (10 ∷ []) new
 end_taken input old new cleared next = λ all rest known at. record {
   front = at.front ++ 10 ∷ [];
   cut = at.cut ∙ sym (append_assoc at.front (10 ∷ []) rest);
@@ -160,21 +174,21 @@ seam bytes rest i within =
     ap (λ xs. xs ++ rest) (sym (take-append-drop i bytes) ∙ ap (λ xs. take i bytes ++ xs) (drop-cons bytes i 0 within))
     ∙ append_assoc (take i bytes) (get_or bytes i 0 ∷ drop (suc i) bytes) rest
 
-module _ (input : Option (List ℕ)) (old now : Place) (bytes : List ℕ) (i : ℕ) (within : i < length bytes) (on : GoesOn input old (take i bytes) now) where
+module _ (input : Option (List ℕ)) (old now : Place) (bytes : List ℕ) (i : ℕ) (within : i < length bytes) (on : MovesOver input old (take i bytes) now) where
   -- the next of some bytes comes next
-  pub bytes_before : IsBefore input old bytes → IsBefore input now (get_or bytes i 0 ∷ [])
+  pub bytes_before : ComesNext input old bytes → ComesNext input now (get_or bytes i 0 ∷ [])
   bytes_before before = λ all known.
       let (rest, at) = before all known in
-      (drop (suc i) bytes ++ rest, on all _ known (subst (IsAt all old) (seam bytes rest i within) at))
+      (drop (suc i) bytes ++ rest, on all _ known (subst (Splits all old) (seam bytes rest i within) at))
 
-  pub bytes_on : (new : Place) → GoesOn input now (get_or bytes i 0 ∷ []) new → GoesOn input old (take (i + 1) bytes) new
+  pub bytes_on : (new : Place) → MovesOver input now (get_or bytes i 0 ∷ []) new → MovesOver input old (take (i + 1) bytes) new
   bytes_on new next = λ all rest known at.
       let cut : take (i + 1) bytes ++ rest ≡ take i bytes ++ ((get_or bytes i 0 ∷ []) ++ rest) =
       ap (λ xs. xs ++ rest) (take_more bytes i 0 within) ∙ append_assoc (take i bytes) (get_or bytes i 0 ∷ []) rest in
-      next all rest known (on all _ known (subst (IsAt all old) cut at))
+      next all rest known (on all _ known (subst (Splits all old) cut at))
 
-pub bytes_all : (input : Option (List ℕ)) (old new : Place) (bytes : List ℕ) (i : ℕ) → length bytes ≤ i → GoesOn input old (take i bytes) new → GoesOn input old bytes new
-bytes_all input old new bytes i whole on = λ all rest known at. on all rest known (subst (λ xs. IsAt all old (xs ++ rest)) (sym (take_all i bytes whole)) at)
+pub bytes_all : (input : Option (List ℕ)) (old new : Place) (bytes : List ℕ) (i : ℕ) → length bytes ≤ i → MovesOver input old (take i bytes) new → MovesOver input old bytes new
+bytes_all input old new bytes i whole on = λ all rest known at. on all rest known (subst (λ xs. Splits all old (xs ++ rest)) (sym (take_all i bytes whole)) at)
 
 -- ---- line ends in turn
 

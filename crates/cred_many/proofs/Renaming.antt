@@ -1,4 +1,4 @@
--- What a keeper answers that renames an account.
+-- What a keeper answers that renames or deletes an account.
 use Rattle.std.proofs.Common.{◌≡◌, ℕ, ◌<◌, ◌≤◌, List, true, false, Option, Some, None, Ok, Err, is_some, refl, ap, arith, nat_lt}
 use Rattle.std.proofs.lemmas.Bool.Decides.{nat_tests}
 use Rattle.std.specs.FinMap as fin
@@ -8,7 +8,7 @@ use Rattle.cred_book.specs.declared.error.BookError.TheVariants as error
 use Rattle.cred_admin.specs.declared.edit_reply.EditReply.TheVariants as reply
 use Rattle.cred_file.specs.Edits.{renamed}
 use Rattle.cred_many.specs.Edits.{EditsWithin}
-use Rattle.cred_many.specs.declared.edit.Edit.TheVariants.{Rename}
+use Rattle.cred_many.specs.declared.edit.Edit.TheVariants.{Delete, Rename}
 
 none_of : (o : Option (Option RecordValue)) → is_some o ≡ false → o ≡ None
 none_of None is = refl
@@ -40,5 +40,16 @@ module _ (room : ℕ) (book : Accounts) (name other : List ℕ) where
       let insert_is : new ≡ fin.insert (fin.remove book name) other v = rw found at is in
       rw (found, absent, tested) (refl, ap (λ b. (reply.Renamed, b)) insert_is)
 
--- the four together
-pub ruleset renaming = (no_name, taken, no_room, moved)
+  pub not_moved : (new : Accounts) → fin.contains_key book name ≡ true → fin.contains_key book other ≡ false → fin.len book < room → new ≡ book → EditsWithin room book new (Rename name other) (Err error.Memory)
+  not_moved new there absent low same =
+      let (v, found) = some_of (fin.get book name) there in
+      let tested : nat_lt (fin.len book) room ≡ true = grind (arith, nat_tests, low) in
+      rw (found, absent, tested) (refl, refl, same)
+
+  pub not_deleted : (new : Accounts) → fin.contains_key book name ≡ true → new ≡ book → EditsWithin room book new (Delete name) (Err error.Memory)
+  not_deleted new there same =
+      let (v, found) = some_of (fin.get book name) there in
+      rw found (refl, refl, same)
+
+-- these together
+pub ruleset renaming = (no_name, taken, no_room, moved, not_moved, not_deleted)

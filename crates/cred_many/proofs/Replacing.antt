@@ -38,9 +38,8 @@ found_taken book changed q =
 abbrev Taken : Accounts → Accounts → Accounts → Result (Unit {0}) BookError → Type 0
 Taken old new changed r = TakesIn register_capacity old new fin.empty changed r
 
-pub replaced : (old new added changed : Accounts) (r : Unit {0}) → added ≡ fin.empty → TakesIn register_capacity old new added changed (Ok r) → ReplacesAll old new changed (Ok r)
-replaced old new added changed r none (may, few, is) =
-    (may.1, λ q. ap (λ (b : Accounts). fin.get b q) (is ∙ ap (λ (a : Accounts). taken_in old a changed) none) ∙ found_taken old changed q)
+pub replaced : (old new changed : Accounts) (r : Unit {0}) → Taken old new changed (Ok r) → ReplacesAll old new changed (Ok r)
+replaced old new changed r (may, few, is) = (may.1, λ q. ap (λ (b : Accounts). fin.get b q) is ∙ found_taken old changed q)
 
 pub missed : (old new changed : Accounts) → Taken old new changed (Err error.NoAccount) → ReplacesAll old new changed (Err error.NoAccount)
 missed old new changed h = h
@@ -54,3 +53,6 @@ refused old new changed error.Full other h = (h.0.1, h.2)
 refused old new changed error.Exists other h = let (q, inside, also) = h.0 in absurd (none_met q inside)
 refused old new changed error.NoAccount other h = absurd (other refl)
 refused old new changed error.Name other h = absurd h
+
+-- these together
+pub ruleset replacing = (missed, refused)

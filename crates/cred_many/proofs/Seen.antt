@@ -12,7 +12,8 @@ use Rattle.cred_many.specs.declared.ask.Ask.{Ask}
 use Rattle.cred_many.specs.declared.open.Open.{Open}
 use Rattle.cred_many.specs.declared.open.Sight.{Sight}
 use Rattle.cred_many.specs.Asks.{Entry}
-use Rattle.cred_many.specs.Served.{AreClosed, IsLooked, IsSeen, IsWatched, IsWorn, book_after, change_from, changes, counted, done, name_asked, numbers, record_at, tries, unseen}
+use Rattle.cred_many.specs.Scribe.{AreClosed, IsBusy, Notes, SightHolds, WasThere, counted, numbers, unseen}
+use Rattle.cred_many.specs.Served.{book_after, change_from, changes, done, name_asked, record_at, tries}
 
 -- ---- how often a record changed
 
@@ -74,7 +75,7 @@ numbers-snoc [] n = refl
 numbers-snoc (o ∷ os) n = ap (λ ns. o.number ∷ ns) (numbers-snoc os n)
 
 module _ (capacity : ℕ) (opening : Accounts) (list : List Entry) where
-  seen_on : (more : List Entry) (o : Option Sight) → IfSome o (IsSeen capacity opening list) → IfSome o (IsSeen capacity opening (list ++ more))
+  seen_on : (more : List Entry) (o : Option Sight) → IfSome o (WasThere capacity opening list) → IfSome o (WasThere capacity opening (list ++ more))
   seen_on more None h = tt
   seen_on more (Some s) h = record {
     before = h.before;
@@ -84,24 +85,24 @@ module _ (capacity : ℕ) (opening : Accounts) (list : List Entry) where
     few = h.few;
   }
 
-  pub watched_on : (more : List Entry) (left : List Open) → All (IsWatched capacity opening list) left → All (IsWatched capacity opening (list ++ more)) left
-  watched_on more left all = All-weaker (IsWatched capacity opening list) (IsWatched capacity opening (list ++ more)) (λ o h. seen_on more o.sight h) left all
+  pub watched_on : (more : List Entry) (left : List Open) → All (SightHolds capacity opening list) left → All (SightHolds capacity opening (list ++ more)) left
+  watched_on more left all = All-weaker (SightHolds capacity opening list) (SightHolds capacity opening (list ++ more)) (λ o h. seen_on more o.sight h) left all
 
-  watched_closed : (left : List Open) (place : ℕ) → All (IsWatched capacity opening list) left → All (IsWatched capacity opening list) (take place left ++ drop (place + 1) left)
+  watched_closed : (left : List Open) (place : ℕ) → All (SightHolds capacity opening list) left → All (SightHolds capacity opening list) (take place left ++ drop (place + 1) left)
   watched_closed left place all =
-      All-append (IsWatched capacity opening list) (take place left) (drop (place + 1) left) (All-take (IsWatched capacity opening list) place left all) (All-drop (IsWatched capacity opening list) (place + 1) left all)
+      All-append (SightHolds capacity opening list) (take place left) (drop (place + 1) left) (All-take (SightHolds capacity opening list) place left all) (All-drop (SightHolds capacity opening list) (place + 1) left all)
 
-  pub watched_rest : (es : List Entry) (left rest : List Open) → AreClosed es left rest → All (IsWatched capacity opening list) left → All (IsWatched capacity opening list) rest
-  watched_rest [] left rest is all = All-same (IsWatched capacity opening list) rest left is all
+  pub watched_rest : (es : List Entry) (left rest : List Open) → AreClosed es left rest → All (SightHolds capacity opening list) left → All (SightHolds capacity opening list) rest
+  watched_rest [] left rest is all = All-same (SightHolds capacity opening list) rest left is all
   watched_rest (e ∷ es) left rest (place, there, more) all = watched_rest es (take place left ++ drop (place + 1) left) rest more (watched_closed left place all)
 
   -- all that was seen to change did
-  seen_few : (s : Sight) → IsSeen capacity opening list s → s.changes ≤ changes capacity opening s.name list
+  seen_few : (s : Sight) → WasThere capacity opening list s → s.changes ≤ changes capacity opening s.name list
   seen_few s h =
       let all = ap (changes capacity opening s.name) h.cut ∙ changes-append capacity s.name opening h.before h.rest in
       omega (arith, all, h.few)
 
-  more_seen : (name : List ℕ) (s : Sight) → IsSeen capacity opening list s → s.name ≡ name
+  more_seen : (name : List ℕ) (s : Sight) → WasThere capacity opening list s → s.name ≡ name
       → s.changes + change_from s.stored (record_at (book_after capacity opening list) name) ≤ changes capacity opening name list
   more_seen name s h is =
       let all = ap (changes capacity opening name) h.cut ∙ changes-append capacity name opening h.before h.rest in
@@ -114,7 +115,7 @@ module _ (capacity : ℕ) (opening : Accounts) (list : List Entry) where
       let change = ap (λ o. change_from o (record_at (book_after capacity opening list) name)) old_is ∙ ap (change_from (record_at there name)) now_is in
       omega (arith, all, few, between, change)
 
-  counted_few : (name : List ℕ) (o : Option Sight) → IfSome o (IsSeen capacity opening list) → counted o name (record_at (book_after capacity opening list) name) ≤ changes capacity opening name list
+  counted_few : (name : List ℕ) (o : Option Sight) → IfSome o (WasThere capacity opening list) → counted o name (record_at (book_after capacity opening list) name) ≤ changes capacity opening name list
   counted_few name None h = omega arith
   counted_few name (Some s) h = by_name (bytes_eq s.name name) refl
     where
@@ -124,33 +125,33 @@ module _ (capacity : ℕ) (opening : Accounts) (list : List Entry) where
       by_name false is = omega arith
 
   -- a line that has seen often enough that its record changed
-  pub worn : (left : List Open) (place : ℕ) (ask : Ask) → All (IsWatched capacity opening list) left → IsWorn left place ask → tries ≤ changes capacity opening (name_asked ask) list
+  pub worn : (left : List Open) (place : ℕ) (ask : Ask) → All (SightHolds capacity opening list) left → IsBusy left place ask → tries ≤ changes capacity opening (name_asked ask) list
   worn left place ask all w =
-      let seen : IfSome w.line.sight (IsSeen capacity opening list) = at_place (IsWatched capacity opening list) left place w.line all w.there in
-      let few = seen_few w.sight (subst (λ o. IfSome o (IsSeen capacity opening list)) w.seen seen) in
+      let seen : IfSome w.line.sight (WasThere capacity opening list) = at_place (SightHolds capacity opening list) left place w.line all w.there in
+      let few = seen_few w.sight (subst (λ o. IfSome o (WasThere capacity opening list)) w.seen seen) in
       let name = ap (λ n. changes capacity opening n list) w.name_is in
       omega (arith, few, name, w.often)
 
-  pub watched_looked : (left rest : List Open) (place : ℕ) (name : List ℕ) (stored : Option RecordValue) (count : ℕ) → IsLooked left place name stored rest count
-      → stored ≡ record_at (book_after capacity opening list) name → All (IsWatched capacity opening list) left → All (IsWatched capacity opening list) rest
+  pub watched_looked : (left rest : List Open) (place : ℕ) (name : List ℕ) (stored : Option RecordValue) (count : ℕ) → Notes left place name stored rest count
+      → stored ≡ record_at (book_after capacity opening list) name → All (SightHolds capacity opening list) left → All (SightHolds capacity opening list) rest
   watched_looked left rest place name stored count l is all =
-      let seen : IfSome l.line.sight (IsSeen capacity opening list) = at_place (IsWatched capacity opening list) left place l.line all l.there in
+      let seen : IfSome l.line.sight (WasThere capacity opening list) = at_place (SightHolds capacity opening list) left place l.line all l.there in
       let few : count ≤ changes capacity opening name list = let most = counted_few name l.line.sight seen in let at = ap (counted l.line.sight name) is in omega (arith, l.few, most, at) in
-      let sees : IsSeen capacity opening list (record { name = name; stored = stored; changes = count }) = record {
+      let sees : WasThere capacity opening list (record { name = name; stored = stored; changes = count }) = record {
         before = list;
         rest = [];
         cut = sym (append-nil list);
         stored_is = is;
         few = few;
       } in
-      All-same (IsWatched capacity opening list) _ _ l.new_is (All-set (IsWatched capacity opening list) left place _ sees all)
+      All-same (SightHolds capacity opening list) _ _ l.new_is (All-set (SightHolds capacity opening list) left place _ sees all)
 
-pub looked_numbers : (left rest : List Open) (place : ℕ) (name : List ℕ) (stored : Option RecordValue) (count : ℕ) → IsLooked left place name stored rest count → numbers rest ≡ numbers left
+pub looked_numbers : (left rest : List Open) (place : ℕ) (name : List ℕ) (stored : Option RecordValue) (count : ℕ) → Notes left place name stored rest count → numbers rest ≡ numbers left
 looked_numbers left rest place name stored count l = ap numbers l.new_is ∙ numbers_set left place l.line _ l.there refl
 
 -- which may be often enough
-pub looked_worn : (left rest : List Open) (place : ℕ) (name : List ℕ) (stored : Option RecordValue) (count : ℕ) (ask : Ask) → IsLooked left place name stored rest count
-    → name ≡ name_asked ask → tries ≤ count → IsWorn rest place ask
+pub looked_worn : (left rest : List Open) (place : ℕ) (name : List ℕ) (stored : Option RecordValue) (count : ℕ) (ask : Ask) → Notes left place name stored rest count
+    → name ≡ name_asked ask → tries ≤ count → IsBusy rest place ask
 looked_worn left rest place name stored count ask l is often = record {
   line = record { number = l.line.number; sight = Some (record { name = name; stored = stored; changes = count }) };
   sight = record { name = name; stored = stored; changes = count };

@@ -23,10 +23,10 @@ use Rattle.cred_many.specs.declared.fault.ServiceFault.{ServiceFault}
 use Rattle.cred_many.specs.declared.open.Open.{Open}
 use Rattle.cred_many.specs.Asks.{Entry, IsJobOf}
 use Rattle.cred_many.specs.Edits.{AreReplaced}
-use Rattle.cred_many.specs.Groups.{IsGroup, lines_of}
-use Rattle.cred_many.specs.Reading.{IsCome}
-use Rattle.cred_many.specs.Served.{AreApart, AreClosed, AreTogether, IsChange, IsServed, answers, book_after, line_at, most_together, name_asked, told_reply}
-use Rattle.cred_many.specs.Service.{Service}
+use Rattle.cred_many.specs.Groups.{IsGroup, entries_of}
+use Rattle.cred_many.specs.Scribe.{AreApart, AreClosed, AreTogether, History, IsChange}
+use Rattle.cred_many.specs.Served.{answers, book_after, line_at, most_together, name_asked, told_reply}
+use Rattle.cred_many.specs.Service.{IsLine, Service}
 use Rattle.cred_many.specs.Steps.{IsConcluded, is_changed}
 use Rattle.cred_many.proofs.Commits.{done_whole, job_change, job_name, whole_unchanged}
 use Rattle.cred_many.proofs.Seen.{book_after-append}
@@ -87,9 +87,9 @@ none_together capacity s book = record {
   text_is = refl;
 }
   where
-    none_came : (input : Option (List ℕ)) → IfSome input (λ bytes. All (IsCome s bytes) [])
+    none_came : (input : Option (List ℕ)) → IfSome input (λ bytes. All (IsLine s bytes) [])
     none_came None = tt
-    none_came (Some bytes) = All-nil (IsCome s bytes)
+    none_came (Some bytes) = All-nil (IsLine s bytes)
 
 pub same_together : (capacity : ℕ) (s : Service) (book changed now : Accounts) (list more : List Entry) (text longer : List ℕ) → IsGroup capacity s book changed list text
     → now ≡ changed → more ≡ list → longer ≡ text → IsGroup capacity s book now more longer
@@ -132,9 +132,9 @@ module _ (capacity : ℕ) (s : Service) (book changed : Accounts) (list : List E
       ap (λ t. t ++ (tag ++ 32 ∷ answer)) g.text_is ∙ ap (λ t. answers capacity book list ++ t) (is_done.text_is ∙ sym (append-nil (line_at capacity here e)))
       ∙ sym (answers-append capacity book list (e ∷ []))
 
-  came_more : (input : Option (List ℕ)) → IfSome input (λ bytes. All (IsCome s bytes) list) → IfSome input (λ bytes. IsCome s bytes e) → IfSome input (λ bytes. All (IsCome s bytes) (list ++ e ∷ []))
+  came_more : (input : Option (List ℕ)) → IfSome input (λ bytes. All (IsLine s bytes) list) → IfSome input (λ bytes. IsLine s bytes e) → IfSome input (λ bytes. All (IsLine s bytes) (list ++ e ∷ []))
   came_more None all one = tt
-  came_more (Some bytes) all one = All-push (IsCome s bytes) list e all one
+  came_more (Some bytes) all one = All-push (IsLine s bytes) list e all one
 
   name_is : name_of work.0 ≡ name_asked e.ask
   name_is = job_name e.ask work.0 job
@@ -170,7 +170,7 @@ module _ (capacity : ℕ) (s : Service) (book changed : Accounts) (list : List E
       now_named
 
   -- a line more, which changes an account that the others don't
-  pub one_together : length list < most_together → IfSome s.input (λ bytes. IsCome s bytes e)
+  pub one_together : length list < most_together → IfSome s.input (λ bytes. IsLine s bytes e)
       → IsGroup capacity s book (fin.insert changed (name_of work.0) stored) (list ++ e ∷ []) (text ++ (tag ++ 32 ∷ answer))
   one_together short came = record {
     came = came_more s.input g.came came;
@@ -189,33 +189,33 @@ same_names = fin.slice_cmp-IsAntisymmetric fin.nat_cmp-IsAntisymmetric
 -- all lines of a group are answered, once the records stand
 pub answered_together : (capacity : ℕ) (s : Service) (old now : Option (List ℕ)) (book later changed : Accounts) (es lines : List Entry) (left rest : List Open) (came : ℕ) (text written : List ℕ) (was f : Option ServiceFault)
     → was ≡ None → IsGroup capacity s book changed es text → AreReplaced book changed later → AreClosed lines left rest → lines ≡ es → IsConcluded written old now f → written ≡ text
-    → ∥ IsServed capacity s old book was left came ∥₁ → ∥ IsServed capacity s now later f rest came ∥₁
+    → ∥ History capacity s old book was left came ∥₁ → ∥ History capacity s now later f rest came ∥₁
 answered_together capacity s old now book later changed es lines left rest came text written was f none g replaced closed same told is served = ∥∥₁_map served (λ h. on (rw none at h))
   where
-    on : IsServed capacity s old book None left came → IsServed capacity s now later f rest came
+    on : History capacity s old book None left came → History capacity s now later f rest came
     on h =
-        served_on capacity s old now book later es left rest came h (owed_each capacity s s.input h.list es h.owed g.came) (record { few = g.few; together = λ more. g.together }) (subst (λ l. AreClosed l left rest) same closed)
+        served_on capacity s old now book later es left rest came h (owed_each capacity s s.input h.list es h.each g.came) (record { few = g.few; together = λ more. g.together }) (subst (λ l. AreClosed l left rest) same closed)
         (same_map nat_list_cmp_total same_names _ _ (λ q. replaced q ∙ sym (g.after q))) f (subst (λ t. IsConcluded t old now f) (is ∙ g.text_is) told)
 
 -- ---- a line is taken into a group, or not
 
-lines_of-snoc : (works : List (Entry × Task)) (w : Entry × Task) → lines_of (works ++ w ∷ []) ≡ lines_of works ++ w.0 ∷ []
-lines_of-snoc [] w = refl
-lines_of-snoc (x ∷ xs) w = ap (λ l. x.0 ∷ l) (lines_of-snoc xs w)
+entries_of-snoc : (works : List (Entry × Task)) (w : Entry × Task) → entries_of (works ++ w ∷ []) ≡ entries_of works ++ w.0 ∷ []
+entries_of-snoc [] w = refl
+entries_of-snoc (x ∷ xs) w = ap (λ l. x.0 ∷ l) (entries_of-snoc xs w)
 
-length-lines_of : (works : List (Entry × Task)) → length (lines_of works) ≡ length works
-length-lines_of [] = refl
-length-lines_of (x ∷ xs) = ap suc (length-lines_of xs)
+length-entries_of : (works : List (Entry × Task)) → length (entries_of works) ≡ length works
+length-entries_of [] = refl
+length-entries_of (x ∷ xs) = ap suc (length-entries_of xs)
 
 pub pushed_together : {E : Type 0} (capacity : ℕ) (s : Service) (book changed now : Accounts) (works more : List (Entry × Task)) (text longer : List ℕ) (w : Entry × Task) (found : Reply) (stored : Option RecordValue) (name answer : List ℕ) (r : Result (Unit {0}) E)
-    → IsGroup capacity s book changed (lines_of works) text → ((copy : Option RecordValue) → IsJobOf w.0.ask (w.1.0, copy)) → judgement book w.1 ≡ (found, stored, true)
-    → name ≡ name_of w.1.0 → answer ≡ reply_line (told_reply w.0.ask found) → length works < most_together → IfSome s.input (λ bytes. IsCome s bytes w.0)
+    → IsGroup capacity s book changed (entries_of works) text → ((copy : Option RecordValue) → IsJobOf w.0.ask (w.1.0, copy)) → judgement book w.1 ≡ (found, stored, true)
+    → name ≡ name_of w.1.0 → answer ≡ reply_line (told_reply w.0.ask found) → length works < most_together → IfSome s.input (λ bytes. IsLine s bytes w.0)
     → OnOk r (more ≡ works ++ w ∷ []) → OnOk r (fin.get changed name ≡ None) → OnOk r (now ≡ fin.insert changed name stored) → OnOk r (longer ≡ (text ++ w.0.tag) ++ (32 ∷ answer))
     → OnErr r (more ≡ works) → OnErr r (now ≡ changed) → OnErr r (longer ≡ text)
-    → IsGroup capacity s book now (lines_of more) longer
+    → IsGroup capacity s book now (entries_of more) longer
 pushed_together capacity s book changed now works more text longer w found stored name answer (Ok x) g job is name_is answer_is short came more_is first now_is longer_is a b c =
-    same_together capacity s book (fin.insert changed (name_of w.1.0) stored) now (lines_of works ++ w.0 ∷ []) (lines_of more) (text ++ (w.0.tag ++ 32 ∷ answer)) longer
-    (one_together capacity s book changed (lines_of works) text w.0 w.1 found stored w.0.tag answer g job is (ap (fin.get changed) (sym name_is) ∙ first) refl answer_is (omega (arith, short, length-lines_of works)) came)
-    (now_is ∙ ap (λ n. fin.insert changed n stored) name_is) (ap lines_of more_is ∙ lines_of-snoc works w) (longer_is ∙ append_assoc text w.0.tag (32 ∷ answer))
+    same_together capacity s book (fin.insert changed (name_of w.1.0) stored) now (entries_of works ++ w.0 ∷ []) (entries_of more) (text ++ (w.0.tag ++ 32 ∷ answer)) longer
+    (one_together capacity s book changed (entries_of works) text w.0 w.1 found stored w.0.tag answer g job is (ap (fin.get changed) (sym name_is) ∙ first) refl answer_is (omega (arith, short, length-entries_of works)) came)
+    (now_is ∙ ap (λ n. fin.insert changed n stored) name_is) (ap entries_of more_is ∙ entries_of-snoc works w) (longer_is ∙ append_assoc text w.0.tag (32 ∷ answer))
 pushed_together capacity s book changed now works more text longer w found stored name answer (Err e) g job is name_is answer_is short came h i j k more_is now_is longer_is =
-    same_together capacity s book changed now (lines_of works) (lines_of more) text longer g now_is (ap lines_of more_is) longer_is
+    same_together capacity s book changed now (entries_of works) (entries_of more) text longer g now_is (ap entries_of more_is) longer_is

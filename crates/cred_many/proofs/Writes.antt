@@ -12,7 +12,7 @@ pub front_more : (a b : Option (List ℕ)) (xs ys : List ℕ) → FrontWritten a
 front_more a b xs ys (n, short, written) =
     (n, omega (arith, short, length-append xs ys), rw (take-append-le n xs ys (omega (arith, short))) written)
 
-take-behind : (xs ys : List ℕ) (n m : ℕ) → m ≡ length xs + n → take m (xs ++ ys) ≡ xs ++ take n ys
+pub take-behind : (xs ys : List ℕ) (n m : ℕ) → m ≡ length xs + n → take m (xs ++ ys) ≡ xs ++ take n ys
 take-behind [] ys n m is = let none : m ≡ n = omega (arith, is) in ap (λ k. take k ys) none
 take-behind (x ∷ xs) ys n zero is = absurd (omega (arith, is))
 take-behind (x ∷ xs) ys n (suc m) is = ap (λ l. x ∷ l) (take-behind xs ys n m (omega (arith, is)))

@@ -9,9 +9,10 @@ use Rattle.cred_book.specs.Accounts.{Accounts}
 use Rattle.cred_book.specs.Names.{name_cmp}
 use Rattle.cred_book.specs.declared.error.BookError.{BookError}
 use Rattle.cred_book.specs.declared.error.BookError.TheVariants as error
-use Rattle.cred_admin.specs.Edits.{deletion, disabling, renaming}
+use Rattle.cred_admin.specs.Edits.{deletion, disabling, edit_status, renaming}
 use Rattle.cred_admin.specs.declared.edit_reply.EditReply.{EditReply}
 use Rattle.cred_admin.specs.declared.edit_reply.EditReply.TheVariants as reply
+use Rattle.cred_admin.specs.declared.status.Status.TheVariants as status
 use Rattle.cred_many.specs.declared.edit.Edit.{Edit}
 use Rattle.cred_many.specs.declared.edit.Edit.TheVariants.{Disable, Delete, Rename}
 
@@ -30,12 +31,13 @@ is_renamed _ = false
 abbrev pub lacks_room : ℕ → Accounts → Edit → Bool
 lacks_room room book edit = is_renamed (edited book edit).0 && not (nat_lt (fin.len book) room)
 
--- what a keeper does
+-- what a keeper does; memory runs out only if the change could have been made
 abbrev pub EditsWithin : ℕ → Accounts → Accounts → Edit → Result EditReply BookError → Type 0
 EditsWithin room old new edit (Ok r) =
     (lacks_room room old edit ≡ false) × ((r, new) ≡ edited old edit)
 EditsWithin room old new edit (Err error.Full) = (lacks_room room old edit ≡ true) × (new ≡ old)
-EditsWithin room old new edit (Err error.Memory) = new ≡ old
+EditsWithin room old new edit (Err error.Memory) = (edit_status (edited old edit).0 ≡ status.Done)
+    × (lacks_room room old edit ≡ false) × (new ≡ old)
 EditsWithin room old new edit (Err error.Name) = ⊥
 EditsWithin room old new edit (Err error.Exists) = ⊥
 EditsWithin room old new edit (Err error.NoAccount) = ⊥

@@ -5,19 +5,19 @@ use Rattle.cred_book.specs.Accounts.{Accounts}
 use Rattle.cred_book.specs.Works.{Task}
 use Rattle.cred_many.specs.Asks.{Entry}
 use Rattle.cred_many.specs.Edits.{AreReplaced}
-use Rattle.cred_many.specs.Reading.{IsCome}
-use Rattle.cred_many.specs.Served.{AreTogether, answers, book_after, most_together, name_asked}
-use Rattle.cred_many.specs.Service.{Service}
+use Rattle.cred_many.specs.Scribe.{AreTogether}
+use Rattle.cred_many.specs.Served.{answers, book_after, most_together, name_asked}
+use Rattle.cred_many.specs.Service.{IsLine, Service}
 
 -- the lines of what is hashed
-abbrev pub lines_of : List (Entry × Task) → List Entry
-lines_of works = map (λ w. w.0) works
+abbrev pub entries_of : List (Entry × Task) → List Entry
+entries_of works = map (λ w. w.0) works
 
 -- Lines that came, a few: changes of different accounts. Done in their order, they give these
 -- accounts their records, and have this text of answers.
 pub record IsGroup (capacity : ℕ) (s : Service) (book changed : Accounts) (list : List Entry)
     (text : List ℕ) : Type 0 where
-  pub came : IfSome s.input (λ bytes. All (IsCome s bytes) list)
+  pub came : IfSome s.input (λ bytes. All (IsLine s bytes) list)
   pub few : length list ≤ most_together
   pub together : AreTogether book list
   pub named : All (λ e. fin.contains_key changed (name_asked e.ask) ≡ true) list

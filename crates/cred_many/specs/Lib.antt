@@ -4,6 +4,7 @@ pub mod Costs
 pub mod Edits
 pub mod Groups
 pub mod Reading
+pub mod Scribe
 pub mod Served
 pub mod Service
 pub mod Steps

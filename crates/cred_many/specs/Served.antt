@@ -1,21 +1,24 @@
--- The history of one thread, which does lines one after another, each whole.
-use Rattle.std.specs.Prelude.{◌≡◌, ◌⊎◌, ℕ, ◌<◌, ◌+◌, ◌==◌, List, [], ◌∷◌, ◌++◌, Bool, true, false}
-use Rattle.std.specs.Prelude.{◌≤◌, ◌≢◌, All, if◌then◌else◌, IfSome, MatchBool, nat_lt, Option, Some}
-use Rattle.std.specs.Prelude.{None, drop, length, map, set, slice_get, take, unwrap_or}
-use Rattle.std.specs.Str.{bytes_eq}
+-- What a service stands for at every moment: one list of lines, each done whole, one after another.
+use Rattle.std.specs.Prelude.{◌≡◌, ◌≢◌, ◌⊎◌, ℕ, ◌<◌, ◌≤◌, ◌+◌, ◌-◌, ◌^◌, List, [], ◌∷◌, ◌++◌, Bool}
+use Rattle.std.specs.Prelude.{true, false, if◌then◌else◌, IfSome, nat_lt, Option, Some, None}
+use Rattle.std.specs.Prelude.{length, map, take, slice_get, unwrap_or}
+use Rattle.std.specs.List.{range_with_len}
+use Rattle.std.specs.List.Sorted.{IsPermutation}
 use Rattle.std.specs.FinMap as fin
 use Rattle.std.specs.Io.KnownBytes.{Appends}
 use Rattle.cred_phc.specs.Values.{RecordValue}
 use Rattle.cred_book.specs.Accounts.{Accounts}
-use Rattle.cred_book.specs.Works.{makes_change, name_of, new_record, same, seq}
+use Rattle.cred_book.specs.Works.{name_of, new_record, same, seq}
 use Rattle.cred_book.specs.declared.error.BookError.TheVariants as error
 use Rattle.cred_book.specs.declared.reply.Reply.{Reply}
 use Rattle.cred_book.specs.declared.reply.Reply.TheVariants as reply
 use Rattle.cred_book.specs.declared.request.Request.TheVariants as request
 use Rattle.cred_cli.specs.History.{Answer, Done, Replied, Refused, show_answer}
+use Rattle.cred_cli.specs.Script.{lines_of}
 use Rattle.cred_cli.specs.Texts.{text_of}
-use Rattle.cred_admin.specs.Edits.{edit_word}
+use Rattle.cred_admin.specs.Edits.{edit_status, edit_word}
 use Rattle.cred_admin.specs.declared.edit_reply.EditReply.{EditReply}
+use Rattle.cred_admin.specs.declared.status.Status.TheVariants as status
 use Rattle.cred_cli.specs.declared.refusal.Refusal.TheVariants as refusal
 use Rattle.cred_many.specs.declared.ask.Ask.{Ask}
 use Rattle.cred_many.specs.declared.ask.Ask.TheVariants.{Account, Load, Show, Whole, Login, Reset}
@@ -23,12 +26,9 @@ use Rattle.cred_many.specs.declared.ask.Ask.TheVariants.{Bad, Edit as Change, Li
 use Rattle.cred_many.specs.declared.edit.Edit.{Edit}
 use Rattle.cred_many.specs.declared.fault.ServiceFault.{ServiceFault}
 use Rattle.cred_many.specs.declared.fault.ServiceFault.TheVariants as fault
-use Rattle.cred_many.specs.declared.open.Open.{Open}
-use Rattle.cred_many.specs.declared.open.Sight.{Sight}
 use Rattle.cred_many.specs.Asks.{Entry}
 use Rattle.cred_many.specs.Edits.{edited, lacks_room, names_text, page}
-use Rattle.cred_many.specs.Reading.{IsCome}
-use Rattle.cred_many.specs.Service.{Service}
+use Rattle.cred_many.specs.Service.{Service, asked}
 
 -- ---- what is answered
 
@@ -138,156 +138,104 @@ name_asked (Login name pw setting) = name
 name_asked (Reset name pw setting) = name
 name_asked _ = []
 
--- ---- which lines
+-- ---- lines that are given up
 
--- it changed so often that a line is given up
+-- What is asked needs memory at this book: for a hash, a list, the text of a record or a change. No
+-- line is given up for want of it that would be refused anyway.
+abbrev pub NeedsMemory : ℕ → Accounts → Ask → Type 0
+NeedsMemory capacity book (Account name) =
+    (fin.contains_key book name ≡ false) × (fin.len book < capacity)
+NeedsMemory capacity book (Load name stored) = fin.contains_key book name ≡ true
+NeedsMemory capacity book (Show name) = (stored : RecordValue) × (fin.get book name ≡ Some (Some stored))
+NeedsMemory capacity book (Names from most) = Unit {0}
+NeedsMemory capacity book (Change edit) =
+    (edit_status (edited book edit).0 ≡ status.Done) × (lacks_room capacity book edit ≡ false)
+NeedsMemory capacity book (Whole r) = Unit {0}
+NeedsMemory capacity book (Login name pw setting) = Unit {0}
+NeedsMemory capacity book (Reset name pw setting) = Unit {0}
+NeedsMemory capacity book (Bad why) = ⊥
+
+-- so many changes of its account's record, and a line is given up
 abbrev pub tries : ℕ
 tries = 8
 
--- An entry is for a line: it is the line's, or the line is given up for want of memory, or since
--- the lines before changed the record so often.
-pub record IsFor (capacity : ℕ) (opening : Accounts) (before : List Entry) (line e : Entry) : Type 0
-  where
-    pub number : e.number ≡ line.number
-    pub tag : e.tag ≡ line.tag
-    pub ask : (e.ask ≡ line.ask) ⊎ ((e.ask ≡ Bad (refusal.Book error.Memory))
-        ⊎ ((e.ask ≡ Bad refusal.Busy)
-        × (tries ≤ changes capacity opening (name_asked line.ask) before)))
+-- a line that asks for this is answered so behind these: for want of memory, or since the lines
+-- before changed the record so often
+abbrev pub IsGivenUp : ℕ → Accounts → List Entry → Ask → Ask → Type 0
+IsGivenUp capacity opening before line told =
+    ((told ≡ Bad (refusal.Book error.Memory))
+    × NeedsMemory capacity (book_after capacity opening before) line)
+    ⊎ ((told ≡ Bad refusal.Busy) × (tries ≤ changes capacity opening (name_asked line) before))
 
--- it is for a line that came
-abbrev pub IsOwed : ℕ → Service → List ℕ → List Entry → Entry → Type 0
-IsOwed capacity s bytes before e =
-    (line : Entry) × IsCome s bytes line × IsFor capacity s.opening before line e
+-- ---- at every moment
+
+-- it is for one of the lines that were asked: that line, or that line given up
+pub record IsFor (capacity : ℕ) (opening : Accounts) (lines before : List Entry) (e : Entry) : Type 0
+  where
+    pub line : Entry
+    pub came : slice_get lines e.number ≡ Some line
+    pub tag : e.tag ≡ line.tag
+    pub ask : (e.ask ≡ line.ask) ⊎ IsGivenUp capacity opening before line.ask e.ask
 
 -- so is each of them, behind those before it
-abbrev pub AllOwed : ℕ → Service → List ℕ → List Entry → Type 0
-AllOwed capacity s bytes list = (before rest : List Entry) (e : Entry)
-    → list ≡ before ++ e ∷ rest → IsOwed capacity s bytes before e
-
--- what was seen of an account stood there behind some of the lines, of which so many had changed it
-pub record IsSeen (capacity : ℕ) (opening : Accounts) (list : List Entry) (sight : Sight) : Type 0
-  where
-    pub before : List Entry
-    pub rest : List Entry
-    pub cut : list ≡ before ++ rest
-    pub stored_is : sight.stored ≡ record_at (book_after capacity opening before) sight.name
-    pub few : sight.changes ≤ changes capacity opening sight.name before
-
-abbrev pub IsWatched : ℕ → Accounts → List Entry → Open → Type 0
-IsWatched capacity opening list line = IfSome line.sight (IsSeen capacity opening list)
-
--- a line whose account wasn't looked at
-abbrev pub unseen : ℕ → Open
-unseen number = record { number = number; sight = None }
-
--- how often it was seen to change, where this record stands now
-abbrev pub counted : Option Sight → List ℕ → Option RecordValue → ℕ
-counted None name now = 0
-counted (Some s) name now =
-    if bytes_eq s.name name then s.changes + change_from s.stored now else 0
-
--- the open line at this place has seen that this record stands now
-pub record IsLooked (old : List Open) (place : ℕ) (name : List ℕ) (now : Option RecordValue)
-    (new : List Open) (count : ℕ) : Type 0 where
-  pub line : Open
-  pub there : slice_get old place ≡ Some line
-  pub few : count ≤ counted line.sight name now
-  pub new_is : new ≡ set old place (record {
-    number = line.number;
-    sight = Some (record { name = name; stored = now; changes = count });
-  })
-
--- the open line at this place has seen often enough that the record of what it asks about changed
-pub record IsWorn (left : List Open) (place : ℕ) (ask : Ask) : Type 0 where
-  pub line : Open
-  pub sight : Sight
-  pub there : slice_get left place ≡ Some line
-  pub seen : line.sight ≡ Some sight
-  pub name_is : sight.name ≡ name_asked ask
-  pub often : tries ≤ sight.changes
-
-abbrev pub numbers : List Open → List ℕ
-numbers left = map (λ o. o.number) left
+abbrev pub AreFor : ℕ → Accounts → List Entry → List Entry → Type 0
+AreFor capacity opening lines list = (before rest : List Entry) (e : Entry)
+    → list ≡ before ++ e ∷ rest → IsFor capacity opening lines before e
 
 abbrev pub entry_numbers : List Entry → List ℕ
 entry_numbers list = map (λ e. e.number) list
 
--- how often k stands among the numbers
-abbrev pub times : ℕ → List ℕ → ℕ
-times k [] = 0
-times k (n ∷ ns) = (if n == k then 1 else 0) + times k ns
-
--- once below the bound, and not above
-abbrev pub once_below : ℕ → ℕ → ℕ
-once_below bound k = if nat_lt k bound then 1 else 0
-
--- the lines are open no more
-abbrev pub AreClosed : List Entry → List Open → List Open → Type 0
-AreClosed [] old new = new ≡ old
-AreClosed (e ∷ es) old new = (place : ℕ) × (slice_get (numbers old) place ≡ Some e.number)
-    × AreClosed es (take place old ++ drop (place + 1) old) new
-
--- ---- what is written
-
--- how many changes are made together at most
+-- how many changes are made together, and answered at once, at most
 abbrev pub most_together : ℕ
 most_together = 64
 
--- what is asked makes a change of its account's record at this book
-abbrev pub IsChange : Accounts → Ask → Type 0
-IsChange book (Whole r) = makes_change (seq book r).0 ≡ true
-IsChange book (Login name pw setting) =
-    makes_change (seq book (request.Upgrade name pw setting)).0 ≡ true
-IsChange book _ = ⊥
+-- The answers to these lines are written: all of them, unless the writer failed; then those to the
+-- last lines may be cut off, so many at most.
+pub record IsWritten (capacity : ℕ) (opening : Accounts) (before now : Option (List ℕ))
+    (list : List Entry) (why : Option ServiceFault) : Type 0 where
+  pub bytes : ℕ
+  pub front : Appends before now (take bytes (answers capacity opening list))
+  pub whole : why ≢ Some fault.Write → bytes ≡ length (answers capacity opening list)
+  pub most :
+      length (answers capacity opening (take (length list - most_together) list)) ≤ bytes
 
--- no line has the account of one before it
-abbrev pub AreApart : List Entry → Type 0
-AreApart list = (before rest : List Entry) (e : Entry) → list ≡ before ++ e ∷ rest
-    → All (λ b. name_asked b.ask ≢ name_asked e.ask) before
+-- It answers no more since a call on the writer failed; since the keeper has failed; since as many
+-- lines came as can be counted; or since one that came has no answer. Of memory nothing is said.
+abbrev pub HasCause : Option (List ℕ) → Bool → Bool → List ℕ → ℕ → Option ServiceFault → Type 0
+HasCause input writer_failed keeper_failed pending came None = Unit {0}
+HasCause input writer_failed keeper_failed pending came (Some fault.Write) = writer_failed ≡ true
+HasCause input writer_failed keeper_failed pending came (Some fault.Keeper) = keeper_failed ≡ true
+HasCause input writer_failed keeper_failed pending came (Some fault.TooLong) = came ≡ 2 ^ 64 - 1
+HasCause input writer_failed keeper_failed pending came (Some fault.Lost) =
+    (pending ≢ []) ⊎ IfSome input (λ bytes. came ≢ length (lines_of bytes))
+HasCause input writer_failed keeper_failed pending came (Some fault.Memory) = Unit {0}
+HasCause input writer_failed keeper_failed pending came (Some fault.Read) = ⊥
+HasCause input writer_failed keeper_failed pending came (Some fault.Threads) = ⊥
 
--- changes of different accounts, each of which is one at this book
-pub record AreTogether (book : Accounts) (list : List Entry) : Type 0 where
-  pub changes : All (λ e. IsChange book e.ask) list
-  pub apart : AreApart list
+-- what a scribe has at a moment: the book; what its writer holds, if that is known; whether a call on
+-- the writer or the keeper has failed; why it answers no more; the lines that came and have no answer
+-- yet; and how many came
+pub record Moment : Type 0 where
+  pub book : Accounts
+  pub written : Option (List ℕ)
+  pub writer_failed : Bool
+  pub keeper_failed : Bool
+  pub fault : Option ServiceFault
+  pub pending : List ℕ
+  pub came : ℕ
 
--- what is done at once: one line, or a few changes together
-pub record IsOneGroup (book : Accounts) (list : List Entry) : Type 0 where
-  pub few : length list ≤ most_together
-  pub together : 1 < length list → AreTogether book list
-
--- The answers of the last group are cut, and those before it are whole. A line that changes nothing
--- is done alone.
-pub record IsCut (capacity : ℕ) (opening : Accounts) (before now : Option (List ℕ))
-    (list : List Entry) : Type 0 where
-  pub front : List Entry
-  pub last : List Entry
-  pub split : list ≡ front ++ last
-  pub group : IsOneGroup (book_after capacity opening front) last
-  pub cut : ℕ
-  pub short : cut < length (answers capacity (book_after capacity opening front) last)
-  pub text : Appends before now (answers capacity opening front
-      ++ take cut (answers capacity (book_after capacity opening front) last))
-
-abbrev pub is_torn : Option ServiceFault → Bool
-is_torn None = false
-is_torn (Some fault.Write) = true
-is_torn (Some _) = false
-
--- what is written, and the book, are those of one history of lines that came, in which each that
--- isn't open stands once
-pub record IsServed (capacity : ℕ) (s : Service) (now : Option (List ℕ)) (book : Accounts)
-    (fault : Option ServiceFault) (left : List Open) (came : ℕ) : Type 0 where
+-- There is one list of lines, each for a line of the input. Each line that came stands in it once,
+-- or is pending. The book is the one after the list, and the answers to it are written.
+pub record Stands (capacity : ℕ) (s : Service) (m : Moment) : Type 0 where
   pub list : List Entry
-  pub owed : IfSome s.input (λ bytes. AllOwed capacity s bytes list)
-  pub once : (k : ℕ) → times k (entry_numbers list) + times k (numbers left) ≡ once_below came k
-  pub watched : All (IsWatched capacity s.opening list) left
-  pub book_is : book ≡ book_after capacity s.opening list
-  pub text : MatchBool (is_torn fault) (IsCut capacity s.opening s.before now list)
-      (Appends s.before now (answers capacity s.opening list))
+  pub each : IfSome s.input (λ bytes. AreFor capacity s.opening (asked s bytes) list)
+  pub once : IsPermutation (entry_numbers list ++ m.pending) (range_with_len 0 m.came)
+  pub book : m.book ≡ book_after capacity s.opening list
+  pub text : IsWritten capacity s.opening s.before m.written list m.fault
+  pub cause : HasCause s.input m.writer_failed m.keeper_failed m.pending m.came m.fault
 
--- the same at the end: where nothing failed no line is open
-pub record HasServed (capacity : ℕ) (s : Service) (now : Option (List ℕ)) (book : Accounts)
-    (fault : Option ServiceFault) (came : ℕ) : Type 0 where
-  pub left : List Open
-  pub served : IsServed capacity s now book fault left came
-  pub none_left : fault ≡ None → left ≡ []
+-- so it does at the end, with no line pending unless a fault is told
+pub record StandsAtEnd (capacity : ℕ) (s : Service) (at : List ℕ → Moment) : Type 0 where
+  pub pending : List ℕ
+  pub stands : Stands capacity s (at pending)
+  pub none_pending : (at pending).fault ≡ None → pending ≡ []

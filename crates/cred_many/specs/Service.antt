@@ -1,11 +1,13 @@
 -- Which service it is.
-use Rattle.std.specs.Prelude.{ℕ, zero, suc, List, [], Option, None}
+use Rattle.std.specs.Prelude.{◌≡◌, ℕ, zero, suc, List, [], ◌∷◌, Option, Some, None, slice_get}
 use Rattle.std.specs.FinMap as map
 use Rattle.rand_core.specs.Stream.{Stream, fill_bytes}
 use Rattle.cred_phc.specs.declared.scheme.Scheme.{Scheme}
 use Rattle.cred_phc.specs.declared.scheme.Scheme.TheVariants.{Scrypt}
 use Rattle.cred_phc.specs.Values.{SettingValue, setting_of}
 use Rattle.cred_book.specs.Accounts.{Accounts}
+use Rattle.cred_cli.specs.Script.{lines_of}
+use Rattle.cred_many.specs.Asks.{Entry, entry_of}
 use Rattle.cred_many.specs.declared.service.Means.{Means}
 
 -- the book at first, what the reader has to give, what was written before, with which costs and
@@ -36,6 +38,24 @@ salts_after first (suc n) = (fill_bytes 16 (salts_after first n)).1
 -- the setting that is drawn for the line of this number
 abbrev pub drawn_setting : Service → ℕ → SettingValue
 drawn_setting s n = setting_of s.costs (fill_bytes 16 (salts_after s.salts n)).0
+
+-- ---- what is asked
+
+-- these lines, from this number on, each as what it asks for
+unfoldable pub asked_from : Service → ℕ → List (List ℕ) → List Entry
+asked_from s n [] = []
+asked_from s n (line ∷ lines) =
+    entry_of n s.most (drawn_setting s n) line ∷ asked_from s (suc n) lines
+
+-- the lines of an input
+abbrev pub asked : Service → List ℕ → List Entry
+asked s bytes = asked_from s 0 (lines_of bytes)
+
+-- it is the line of its number
+abbrev pub IsLine : Service → List ℕ → Entry → Type 0
+IsLine s bytes e = slice_get (asked s bytes) e.number ≡ Some e
+
+-- ---- none
 
 -- one that nobody asks
 abbrev pub no_service : Service

@@ -49,9 +49,7 @@ pub(crate) fn attend<J: Naming, T: Wait, K: Host, W: Write + Drop>(
         gather(rt, alloc, scribe, desk, &mut waiting);
         let changes = mem::replace(&mut waiting.changes, Vec::new(alloc));
         commit(rt, alloc, scribe, desk, changes);
-        if scribe.output.fault.is_some()
-            || (waiting.ending.is_some() && scribe.pending.is_empty())
-        {
+        if scribe.is_over() || (waiting.ending.is_some() && scribe.is_idle()) {
             break;
         }
     }
@@ -61,7 +59,7 @@ pub(crate) fn attend<J: Naming, T: Wait, K: Host, W: Write + Drop>(
     } = waiting;
     match ending {
         Some(ending) => ending,
-        None => Ending::cut(scribe.came, ServiceFault::Lost),
+        None => Ending::cut(ServiceFault::Lost),
     }
 }
 
@@ -97,20 +95,20 @@ fn take_in<J: Naming, T: Wait, K: Host, W: Write + Drop>(
     match message {
         Message::Ended(ending) => waiting.ending = Some(ending),
         Message::Came(line) => {
-            let job = scribe.take(rt, alloc, line);
+            let job = scribe.take(alloc, line);
             desk.pass_on(rt, job);
         }
         Message::Hashed(hashed) => {
             if hashed.worked.reply().makes_change() {
                 if let Err(refused) = waiting.changes.push(hashed) {
-                    desk.pass_on(rt, scribe.commit(rt, refused.value));
+                    desk.pass_on(rt, scribe.commit(refused.value));
                 }
             } else {
-                desk.pass_on(rt, scribe.commit(rt, hashed));
+                desk.pass_on(rt, scribe.commit(hashed));
             }
         }
-        Message::NoMemory(line) => {
-            scribe.no_memory(line);
+        Message::NoMemory(job) => {
+            scribe.no_memory(job);
             desk.pass_on(rt, None);
         }
     }
@@ -134,7 +132,7 @@ fn commit<J: Naming, T: Wait, K: Host, W: Write + Drop>(
         desk.pass_on(rt, None);
     }
     for hashed in others {
-        desk.pass_on(rt, scribe.commit(rt, hashed));
+        desk.pass_on(rt, scribe.commit(hashed));
     }
 }
 

@@ -7,17 +7,16 @@ ghost use Rattle.cred_cli.specs.History.{Refused, Replied, Shown};
 ghost use Rattle.cred_cli.specs.Texts.{line_of};
 ghost use Rattle.cred_many.specs.Asks.{NeedsNoHash};
 ghost use Rattle.cred_many.specs.Steps.{text_bytes};
-ghost use Rattle.cred_many.specs.Served.{Script, done, reset_at, told_line};
+ghost use Rattle.cred_many.specs.Served.{NeedsMemory, Script, done, reset_at, told_line};
 
 use crate::ask::Ask;
 use crate::host::Host;
 use crate::listing::names_line;
 use cred_admin::edit_line;
-use cred_book::{BookError, Keeper, Name, Reply};
+use cred_book::{BookError, Name, Reply};
 use cred_cli::Refusal;
 use cred_phc::{Record, write_record};
 use std::alloc::{AllocError, Global};
-use std::sync::Wait;
 
 /// The text of an answer with its line end.
 #[derive(Drop)]
@@ -38,31 +37,29 @@ impl Text {
 }
 
 /// Does what needs no hash. If memory runs out the book stays.
-pub(crate) fn do_ask<T: Wait, K: Host>(
-    rt: &T,
-    alloc: Global,
-    keeper: &mut K,
-    ask: Ask,
-) -> Result<Text, AllocError>
+pub(crate) fn do_ask<K: Host>(alloc: Global, keeper: &mut K, ask: Ask) -> Result<Text, AllocError>
     requires { NeedsNoHash ask }
     ensures answer { IfOk result (λ text.
         text_bytes text ≡ told_line (done K.capacity (K.book keeper.old) ask).0) }
     ensures book { OnOk result (K.book keeper.new ≡ (done K.capacity (K.book keeper.old) ask).1) }
     ensures refused { OnErr result (K.book keeper.new ≡ K.book keeper.old) }
+    ensures needs { OnErr result (NeedsMemory K.capacity (K.book keeper.old) ask) }
 {
     match ask {
-        Ask::Account(name) => match keeper.admit(rt, name) {
+        Ask::Account(name) => match keeper.admit(name) {
             Ok(()) => Ok(Text::Fixed(b"ok\n")),
-            Err(refusal) => refused(refusal),
+            Err(BookError::Memory) => Err(AllocError),
+            Err(refusal) => Ok(bad(Refusal::Book(refusal))),
         },
-        Ask::Load(name, stored) => match keeper.load(rt, &name, stored) {
+        Ask::Load(name, stored) => match keeper.load(&name, stored) {
             Ok(()) => Ok(Text::Fixed(b"ok\n")),
-            Err(refusal) => refused(refusal),
+            Err(BookError::Memory) => Err(AllocError),
+            Err(refusal) => Ok(bad(Refusal::Book(refusal))),
         },
-        Ask::Show(name) => match keeper.show(&name) {
+        Ask::Show(name) => match keeper.accounts().show(&name) {
             Ok(None) => Ok(Text::Fixed(b"none\n")),
             Ok(Some(stored)) => shown(alloc, &stored),
-            Err(refusal) => refused(refusal),
+            Err(refusal) => Ok(bad(Refusal::Book(refusal))),
         },
         Ask::List(from, most) => {
             let line = names_line(alloc, keeper.accounts(), &from, most)?;
@@ -70,7 +67,8 @@ pub(crate) fn do_ask<T: Wait, K: Host>(
         }
         Ask::Edit(edit) => match keeper.edit(&edit) {
             Ok(reply) => Ok(Text::Fixed(edit_line(reply))),
-            Err(refusal) => refused(refusal),
+            Err(BookError::Memory) => Err(AllocError),
+            Err(refusal) => Ok(bad(Refusal::Book(refusal))),
         },
         Ask::Bad(why) => Ok(bad(why)),
         Ask::Whole(_) | Ask::Login(..) | Ask::Reset(..) => unreachable!(),
@@ -79,8 +77,7 @@ pub(crate) fn do_ask<T: Wait, K: Host>(
 
 /// Gives the account this record, in place of any other. If memory runs out the book stays; it runs
 /// out only if the account is there.
-pub(crate) fn put_in_place<T: Wait, K: Keeper>(
-    rt: &T,
+pub(crate) fn put_in_place<K: Host>(
     keeper: &mut K,
     name: &Name,
     stored: Record,
@@ -90,25 +87,14 @@ pub(crate) fn put_in_place<T: Wait, K: Keeper>(
     ensures refused { OnErr result (K.book keeper.new ≡ K.book keeper.old) }
     ensures there { OnErr result (map.contains_key (K.book keeper.old) name.now ≡ true) }
 {
-    let reply = match keeper.show(name) {
+    let reply = match keeper.accounts().show(name) {
         Ok(None) => Reply::Enrolled,
         Ok(Some(_)) => Reply::Replaced,
         Err(_) => return Ok(Reply::NoAccount),
     };
-    match keeper.load(rt, name, stored) {
+    match keeper.load(name, stored) {
         Ok(()) => Ok(reply),
         Err(_) => Err(AllocError),
-    }
-}
-
-fn refused(refusal: BookError) -> Result<Text, AllocError>
-    ensures answer { IfOk result
-        (λ text. text_bytes text ≡ line_of (Refused (Refusal.Book refusal))) }
-    ensures memory { refusal ≡ BookError.Memory → OnOk result ⊥ }
-{
-    match refusal {
-        BookError::Memory => Err(AllocError),
-        _ => Ok(bad(Refusal::Book(refusal))),
     }
 }
 

@@ -2,33 +2,65 @@
 
 use crate::edit::Edit;
 use cred_admin::EditReply;
-use cred_book::{BookError, Keeper, Register};
+use cred_book::{BookError, Name, Register, Reply, Worked};
+use cred_phc::Record;
 
 /// A keeper whose book is served while it is in use, from a register in memory.
-pub trait Host: Keeper {
-    ghost use Rattle.std.specs.Prelude.{◌≡◌};
+///
+/// Its calls return: none of them has a handle by which it may wait. They answer `Memory` if memory
+/// runs out and no other error is due; the book stays then.
+pub trait Host {
+    ghost use Rattle.std.specs.Prelude.{◌≡◌, ℕ, Bool};
+    ghost use Rattle.cred_book.specs.Accounts.{Accounts, most_accounts};
+    ghost use Rattle.cred_book.specs.Calls.{AdmitsWithin, Loads};
+    ghost use Rattle.cred_book.specs.Commits.{Commits};
     ghost use Rattle.cred_many.specs.Edits.{EditsWithin, ReplacesAll};
+
+    ghost book: { Self → Accounts };
+
+    ghost capacity: { ℕ } = { most_accounts };
+
+    /// Whether it has failed for good: no change is made any more, and the one that was under way
+    /// may be kept or not.
+    ghost failed: { Self → Bool };
 
     /// The accounts.
     fn accounts(&self) -> &Register
-        ensures { result.now ≡ Self.book self.now };
+        ensures { result.now ≡ book self.now };
+
+    /// Adds a name, with no record.
+    ///
+    /// Errors: `Exists` if the book has the name; `Full`; `Memory`.
+    fn admit(&mut self, name: Name) -> Result<(), BookError>
+        ensures { AdmitsWithin capacity (book self.old) (book self.new) name result };
+
+    /// Gives the account this record, in place of any other.
+    ///
+    /// Errors: `NoAccount` if the book doesn't have the name; `Memory`.
+    fn load(&mut self, name: &Name, stored: Record) -> Result<(), BookError>
+        ensures { Loads (book self.old) (book self.new) name.now stored result };
+
+    /// Does the whole operation if the record still equals the copy, and otherwise nothing.
+    ///
+    /// Errors: `Memory`; the work comes back.
+    fn commit(&mut self, worked: Worked) -> Result<Reply, (Worked, BookError)>
+        ensures { Commits (book self.old) (book self.new) worked result };
 
     /// Changes an account for which no password is asked.
     ///
     /// Errors: `Full` if an account would be renamed, and there is no room for one more name;
     /// `Memory`. The book stays.
     fn edit(&mut self, edit: &Edit) -> Result<EditReply, BookError>
-        ensures { EditsWithin Self.capacity (Self.book self.old) (Self.book self.new) edit.now
-            result };
+        ensures { EditsWithin capacity (book self.old) (book self.new) edit.now result };
 
     /// Gives each of these accounts its record there, or none, in place of any other: all of them
     /// together, so that a crash leaves the book with all of it, or with none.
     ///
     /// Errors: `NoAccount` if there is no account of one of the names; `Memory`. The book stays.
     fn replace_all(&mut self, changed: Register) -> Result<(), BookError>
-        ensures { ReplacesAll (Self.book self.old) (Self.book self.new) changed result };
+        ensures { ReplacesAll (book self.old) (book self.new) changed result };
 
-    /// Whether it has failed for good: no change is made any more, and the one that was under way
-    /// may be kept or not. An error with which it hasn't failed is want of memory.
-    fn has_failed(&self) -> bool;
+    /// Whether it has failed for good. An error with which it hasn't failed is want of memory.
+    fn has_failed(&self) -> bool
+        ensures { result ≡ failed self.now };
 }

@@ -2,7 +2,7 @@
 
 ghost use Rattle.std.specs.Prelude.{◌≡◌, [], ◌∷◌, ◌+◌, IfOk, IfSome, OnOk, OnErr, length};
 ghost use Rattle.cred_cli.specs.Script.{line_ends, lines_of};
-ghost use Rattle.cred_many.specs.Reading.{GoesOn, HasCome, IsAtEnd, IsBefore, how_many, place};
+ghost use Rattle.cred_many.specs.Reading.{MovesOver, IsWholeLine, NothingIsLeft, ComesNext, how_many, place};
 ghost use Rattle.cred_many.specs.Service.{salts_after};
 
 use crate::costs::Costs;
@@ -55,8 +55,8 @@ impl<J: Naming, G: Rng> Intake<J, G> {
     ///
     /// Errors: `TooLong` after 2^64 - 1 lines, which take centuries to come.
     pub(crate) fn take(&mut self, byte: u8) -> Result<Option<Line<J>>, ServiceFault>
-        requires { IsBefore J.service.input (place self.old.start self.old.number) (byte ∷ []) }
-        ensures on { OnOk result (GoesOn J.service.input (place self.old.start self.old.number)
+        requires { ComesNext J.service.input (place self.old.start self.old.number) (byte ∷ []) }
+        ensures on { OnOk result (MovesOver J.service.input (place self.old.start self.old.number)
             (byte ∷ []) (place self.new.start self.new.number)) }
         ensures next { IfOk result (λ came. IfSome came (λ line. line.number ≡ self.old.number)) }
         ensures ended { IfOk result (λ came. how_many came ≡ line_ends (byte ∷ [])) }
@@ -75,7 +75,7 @@ impl<J: Naming, G: Rng> Intake<J, G> {
     ///
     /// Errors: `TooLong` after 2^64 - 1 lines.
     pub(crate) fn finish(&mut self) -> Result<Option<Line<J>>, ServiceFault>
-        requires { IsAtEnd J.service.input (place self.old.start self.old.number) }
+        requires { NothingIsLeft J.service.input (place self.old.start self.old.number) }
         ensures whole { OnOk result
             (IfSome J.service.input (λ all. self.new.number ≡ length (lines_of all))) }
         ensures next { IfOk result (λ came. IfSome came (λ line. line.number ≡ self.old.number)) }
@@ -92,7 +92,7 @@ impl<J: Naming, G: Rng> Intake<J, G> {
     /// The line that has come, after which the next begins.
     fn end_line(&mut self) -> Result<Line<J>, ServiceFault>
         requires { IfSome J.service.input
-            (λ all. HasCome all (place self.old.start self.old.number)) }
+            (λ all. IsWholeLine all (place self.old.start self.old.number)) }
         ensures next { IfOk result (λ line. line.number ≡ self.old.number) }
         ensures start { OnOk result (self.new.start ≡ []) }
         ensures number { OnOk result (self.new.number ≡ self.old.number + 1) }

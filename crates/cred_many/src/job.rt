@@ -13,7 +13,7 @@ use std::marker::Model;
 
 /// A line with what is to be hashed for it.
 #[derive(Drop)]
-pub(crate) struct Job<J: Naming> {
+pub struct Job<J: Naming> {
     pub(crate) line: Line<J>,
     pub(crate) ticket: Ticket,
 }
@@ -31,7 +31,7 @@ impl<J: Naming> Model for Job<J> {
 
 /// A line whose hashing is done.
 #[derive(Drop)]
-pub(crate) struct Hashed<J: Naming> {
+pub struct Hashed<J: Naming> {
     pub(crate) line: Line<J>,
     pub(crate) worked: Worked,
 }
@@ -59,14 +59,13 @@ impl<J: Naming> Job<J> {
         let Job { line, ticket } = self;
         match ticket.work_in(scratch, alloc, &NoGate) {
             Ok(worked) => Message::Hashed(Hashed::new(line, worked)),
-            Err(_) => Message::NoMemory(line),
+            Err(ticket) => Message::NoMemory(Job::new(line, ticket)),
         }
     }
 
     /// There is no memory to hash it.
     pub(crate) fn without_memory(self) -> Message<J> {
-        let Job { line, .. } = self;
-        Message::NoMemory(line)
+        Message::NoMemory(self)
     }
 }
 

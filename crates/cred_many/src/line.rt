@@ -4,7 +4,7 @@ ghost use Rattle.std.specs.Prelude.{◌≡◌, IfSome, codes, map, true};
 ghost use Rattle.std.specs.List.{list_all};
 ghost use Rattle.cred_phc.specs.Ranges.{is_current};
 ghost use Rattle.cred_many.specs.Asks.{IsSound, entry_of, is_tag_byte, tag_of, tagged, tagged_of};
-ghost use Rattle.cred_many.specs.Reading.{IsCome};
+ghost use Rattle.cred_many.specs.Service.{IsLine};
 
 use crate::ask::Ask;
 use crate::asking::ask_of;
@@ -20,7 +20,7 @@ type Tag = ShortBytes<LONGEST_TAG>;
 
 /// A line that came: its number among the lines, from 0 on, its tag and what it asks for.
 #[derive(Drop)]
-pub(crate) struct Line<J: Naming> {
+pub struct Line<J: Naming> {
     number: u64,
     tag: Tag,
     ask: Ask,
@@ -30,7 +30,7 @@ pub(crate) struct Line<J: Naming> {
 impl<J: Naming> Model for Line<J> {
     ghost use Rattle.std.specs.Prelude.{IfSome};
     ghost use Rattle.cred_many.specs.Asks.{Entry, IsSound, entry};
-    ghost use Rattle.cred_many.specs.Reading.{IsCome};
+    ghost use Rattle.cred_many.specs.Service.{IsLine};
 
     ghost Value = { Entry };
 
@@ -39,7 +39,7 @@ impl<J: Naming> Model for Line<J> {
     ghost invariant = { λ l. record {
       sound : IsSound l.ask;
       came : IfSome J.service.input
-          (λ bytes. IsCome J.service bytes (entry l.number l.tag l.ask));
+          (λ bytes. IsLine J.service bytes (entry l.number l.tag l.ask));
     } };
 }
 
@@ -49,7 +49,7 @@ impl<J: Naming> Line<J> {
     pub(crate) fn read(number: u64, most: Option<u64>, drawn: Setting, line: &[u8]) -> Line<J>
         requires current { is_current drawn.scheme ≡ true }
         requires came { IfSome J.service.input
-            (λ bytes. IsCome J.service bytes (entry_of number most drawn line.now)) }
+            (λ bytes. IsLine J.service bytes (entry_of number most drawn line.now)) }
         ensures { result ≡ entry_of number most drawn line.now }
     {
         let (tag, ask) = parts(drawn, line);
@@ -71,7 +71,7 @@ impl<J: Naming> Line<J> {
     /// Its tag.
     pub(crate) fn tag(&self) -> &[u8]
         ensures tag { result.now ≡ self.now.tag }
-        ensures came { IfSome J.service.input (λ bytes. IsCome J.service bytes self.now) }
+        ensures came { IfSome J.service.input (λ bytes. IsLine J.service bytes self.now) }
     {
         self.tag.as_slice()
     }

@@ -1,10 +1,10 @@
 //! What the other threads tell the one that has the book.
 
-ghost use Rattle.std.specs.Prelude.{◌≡◌, IfSome, None, length};
+ghost use Rattle.std.specs.Prelude.{◌≡◌, IfOk, IfSome, length};
 ghost use Rattle.cred_cli.specs.Script.{lines_of};
 
 use crate::fault::ServiceFault;
-use crate::job::Hashed;
+use crate::job::{Hashed, Job};
 use crate::line::Line;
 use crate::naming::Naming;
 use std::marker::{Model, PhantomData};
@@ -17,31 +17,30 @@ pub(crate) enum Message<J: Naming> {
     /// A line is hashed.
     Hashed(Hashed<J>),
     /// There was no memory to hash a line.
-    NoMemory(Line<J>),
+    NoMemory(Job<J>),
     /// No line comes any more.
     Ended(Ending<J>),
 }
 
 /// How the reading ended.
 #[derive(Drop)]
-pub(crate) struct Ending<J: Naming> {
-    /// How many lines were handed out.
-    pub(crate) lines: u64,
-    pub(crate) fault: Option<ServiceFault>,
-    pub(crate) of: PhantomData<J>,
+pub struct Ending<J: Naming> {
+    /// How many lines were handed out, if those are all lines of the input.
+    lines: Result<u64, ServiceFault>,
+    of: PhantomData<J>,
 }
 
 impl<J: Naming> Model for Ending<J> {
-    ghost use Rattle.std.specs.Prelude.{◌≡◌, IfSome, None, Option, length, ℕ};
+    ghost use Rattle.std.specs.Prelude.{◌≡◌, IfOk, IfSome, Result, length, ℕ};
     ghost use Rattle.cred_cli.specs.Script.{lines_of};
     ghost use Rattle.cred_many.specs.declared.fault.ServiceFault.{ServiceFault};
 
-    ghost Value = { ℕ × Option ServiceFault };
+    ghost Value = { Result ℕ ServiceFault };
 
-    ghost view = { λ e. (e.lines, e.fault) };
+    ghost view = { λ e. e.lines };
 
-    ghost invariant = { λ e. e.fault ≡ None
-        → IfSome J.service.input (λ all. e.lines ≡ length (lines_of all)) };
+    ghost invariant = { λ e. IfOk e.lines
+        (λ n. IfSome J.service.input (λ all. n ≡ length (lines_of all))) };
 }
 
 impl<J: Naming> Ending<J> {
@@ -50,18 +49,24 @@ impl<J: Naming> Ending<J> {
         requires { IfSome J.service.input (λ all. lines ≡ length (lines_of all)) }
     {
         Ending {
-            lines,
-            fault: None,
+            lines: Ok(lines),
             of: PhantomData,
         }
     }
 
-    /// So many lines were handed out before this fault.
-    pub(crate) fn cut(lines: u64, fault: ServiceFault) -> Ending<J> {
+    /// It ended before the input did.
+    pub(crate) fn cut(fault: ServiceFault) -> Ending<J> {
         Ending {
-            lines,
-            fault: Some(fault),
+            lines: Err(fault),
             of: PhantomData,
         }
+    }
+
+    /// How many lines the input has, or why not all of it came.
+    pub(crate) fn lines(&self) -> Result<u64, ServiceFault>
+        ensures { IfOk result
+            (λ n. IfSome J.service.input (λ all. n ≡ length (lines_of all))) }
+    {
+        self.lines
     }
 }

@@ -1,9 +1,9 @@
 //! The lines that have come and aren't answered yet.
 
-ghost use Rattle.std.specs.Prelude.{◌≡◌, ◌≤◌, ◌+◌, ◌<◌, ◌++◌, ◌∷◌, [], IfOk, IfSome, IsTrue, OnErr};
+ghost use Rattle.std.specs.Prelude.{◌≡◌, ◌≤◌, ◌+◌, ◌<◌, ◌++◌, ◌∷◌, [], IfOk, IfSome, MatchBool, OnErr};
 ghost use Rattle.std.specs.Prelude.{OnOk, Some, drop, length, map, slice_get, take};
-ghost use Rattle.cred_many.specs.Groups.{lines_of};
-ghost use Rattle.cred_many.specs.Served.{AreClosed, IsLooked, counted, numbers, unseen};
+ghost use Rattle.cred_many.specs.Groups.{entries_of};
+ghost use Rattle.cred_many.specs.Scribe.{AreClosed, Notes, counted, numbers, unseen};
 
 use crate::job::Hashed;
 use crate::naming::Naming;
@@ -31,7 +31,7 @@ struct Open {
     sight: Option<Sight>,
 }
 
-/// The numbers of the open lines.
+/// The open lines.
 #[derive(Drop)]
 pub(crate) struct OpenLines {
     lines: Vec<Open>,
@@ -56,7 +56,7 @@ impl OpenLines {
     }
 
     pub(crate) fn is_empty(&self) -> bool
-        ensures { IsTrue result → self.now ≡ [] }
+        ensures { MatchBool result (numbers self.now ≡ []) (numbers self.now ≡ [] → ⊥) }
     {
         self.lines.is_empty()
     }
@@ -99,7 +99,7 @@ impl OpenLines {
     /// The lines that are open when these are open no more, or nothing if one of them isn't open or
     /// memory runs out.
     pub(crate) fn without<J: Naming>(&self, works: &[Hashed<J>]) -> Option<OpenLines>
-        ensures { IfSome result (λ left. AreClosed (lines_of works.now) self.now left) }
+        ensures { IfSome result (λ left. AreClosed (entries_of works.now) self.now left) }
     {
         let Ok(lines) = self.lines.clone() else {
             return None;
@@ -116,7 +116,7 @@ impl OpenLines {
     /// the last time.
     pub(crate) fn look(&mut self, place: usize, name: Name, stored: Option<Record>) -> u32
         requires { place < length self.old }
-        ensures { IsLooked self.old place name stored self.new result }
+        ensures { Notes self.old place name stored self.new result }
     {
         let line = self.lines[place];
         let changes = count(&line.sight, &name, &stored);

@@ -1,9 +1,9 @@
 //! Where answers are written.
 
-ghost use Rattle.std.specs.Prelude.{◌≡◌, ◌∷◌, ◌++◌, OnErr, OnOk, None};
+ghost use Rattle.std.specs.Prelude.{◌≡◌, ◌∷◌, ◌++◌, OnErr, OnOk, None, Some, true};
 ghost use Rattle.std.specs.Io.KnownBytes.{Appends};
 ghost use Rattle.cred_cli.specs.Outcome.{FrontWritten};
-ghost use Rattle.cred_cli.specs.Watched.{inner_of};
+ghost use Rattle.cred_cli.specs.Watched.{failed_of, inner_of};
 ghost use Rattle.cred_many.specs.Steps.{IsConcluded};
 
 use crate::fault::ServiceFault;
@@ -21,8 +21,11 @@ impl<W: Write> Output<W> {
     /// Writes an answer under its tag. If that fails nothing more is answered.
     pub(crate) fn conclude(&mut self, tag: &[u8], answer: &[u8])
         requires { self.old.fault ≡ None }
-        ensures { IsConcluded (tag.now ++ 32 ∷ answer.now) (W.contents (inner_of self.old.writer))
-            (W.contents (inner_of self.new.writer)) self.new.fault }
+        ensures done { IsConcluded (tag.now ++ 32 ∷ answer.now)
+            (W.contents (inner_of self.old.writer)) (W.contents (inner_of self.new.writer))
+            self.new.fault }
+        ensures failed { self.new.fault ≡ Some ServiceFault.Write
+            → failed_of self.new.writer ≡ true }
     {
         if write_answer(&mut self.writer, tag, answer).is_err() {
             self.fault = Some(ServiceFault::Write);
@@ -32,8 +35,10 @@ impl<W: Write> Output<W> {
     /// Writes the answers of lines that were done together. If that fails nothing more is answered.
     pub(crate) fn conclude_all(&mut self, answers: &[u8])
         requires { self.old.fault ≡ None }
-        ensures { IsConcluded answers.now (W.contents (inner_of self.old.writer))
+        ensures done { IsConcluded answers.now (W.contents (inner_of self.old.writer))
             (W.contents (inner_of self.new.writer)) self.new.fault }
+        ensures failed { self.new.fault ≡ Some ServiceFault.Write
+            → failed_of self.new.writer ≡ true }
     {
         if write_whole(&mut self.writer, answers).is_err() {
             self.fault = Some(ServiceFault::Write);
@@ -53,6 +58,7 @@ fn write_answer<W: Write>(
     ensures front { OnErr result
         (FrontWritten (W.contents (inner_of writer.old)) (W.contents (inner_of writer.new))
         (tag.now ++ 32 ∷ answer.now)) }
+    ensures failed { OnErr result (failed_of writer.new ≡ true) }
 {
     write_whole(writer, tag)?;
     write_whole(writer, b" ")?;

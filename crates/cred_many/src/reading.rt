@@ -2,7 +2,7 @@
 
 ghost use Rattle.std.specs.Prelude.{◌≡◌, ◌+◌, [], ◌∷◌, OnOk, false};
 ghost use Rattle.cred_cli.specs.Script.{line_ends};
-ghost use Rattle.cred_many.specs.Reading.{GoesOn, IsAtEnd, IsBefore, place};
+ghost use Rattle.cred_many.specs.Reading.{MovesOver, NothingIsLeft, ComesNext, place};
 
 use crate::fault::ServiceFault;
 use crate::intake::Intake;
@@ -79,9 +79,9 @@ fn read_lines<J: Naming, T: Wait, S: Source, G: Rng>(
             Ok(0) => return read_last(rt, intake, outlet),
             Ok(n) => match take_bytes(rt, intake, outlet, &buffer[..n]) {
                 Ok(()) => {}
-                Err(fault) => return Ending::cut(outlet.handed().lines(), fault),
+                Err(fault) => return Ending::cut(fault),
             },
-            Err(_) => return Ending::cut(outlet.handed().lines(), ServiceFault::Read),
+            Err(_) => return Ending::cut(ServiceFault::Read),
         }
     }
     unreachable!()
@@ -93,16 +93,16 @@ fn read_last<J: Naming, T: Wait, G: Rng>(
     intake: &mut Intake<J, G>,
     outlet: &mut Outlet<J>,
 ) -> Ending<J>
-    requires end { IsAtEnd J.service.input (place intake.old.start intake.old.number) }
+    requires end { NothingIsLeft J.service.input (place intake.old.start intake.old.number) }
     requires number { intake.old.number ≡ outlet.old.handed }
 {
     let last = match intake.finish() {
         Ok(last) => last,
-        Err(fault) => return Ending::cut(outlet.handed().lines(), fault),
+        Err(fault) => return Ending::cut(fault),
     };
     if let Some(line) = last {
         if let Err(fault) = outlet.hand_out(rt, line) {
-            return Ending::cut(outlet.handed().lines(), fault);
+            return Ending::cut(fault);
         }
     }
     Ending::whole(outlet.handed().lines())
@@ -115,10 +115,10 @@ fn take_bytes<J: Naming, T: Wait, G: Rng>(
     outlet: &mut Outlet<J>,
     bytes: &[u8],
 ) -> Result<(), ServiceFault>
-    requires before { IsBefore J.service.input (place intake.old.start intake.old.number)
+    requires before { ComesNext J.service.input (place intake.old.start intake.old.number)
         bytes.now }
     requires number { intake.old.number ≡ outlet.old.handed }
-    ensures on { OnOk result (GoesOn J.service.input (place intake.old.start intake.old.number)
+    ensures on { OnOk result (MovesOver J.service.input (place intake.old.start intake.old.number)
         bytes.now (place intake.new.start intake.new.number)) }
     ensures number { OnOk result (intake.new.number ≡ outlet.new.handed) }
     ensures handed { OnOk result
@@ -136,10 +136,10 @@ fn take_byte<J: Naming, T: Wait, G: Rng>(
     outlet: &mut Outlet<J>,
     byte: u8,
 ) -> Result<(), ServiceFault>
-    requires before { IsBefore J.service.input (place intake.old.start intake.old.number)
+    requires before { ComesNext J.service.input (place intake.old.start intake.old.number)
         (byte ∷ []) }
     requires number { intake.old.number ≡ outlet.old.handed }
-    ensures on { OnOk result (GoesOn J.service.input (place intake.old.start intake.old.number)
+    ensures on { OnOk result (MovesOver J.service.input (place intake.old.start intake.old.number)
         (byte ∷ []) (place intake.new.start intake.new.number)) }
     ensures number { OnOk result (intake.new.number ≡ outlet.new.handed) }
     ensures handed { OnOk result

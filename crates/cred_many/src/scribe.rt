@@ -1,13 +1,16 @@
-//! The book that is served, the lines that are open, and the writer of their answers: what one
-//! thread has.
+//! The book that is served, the lines that are open, and the writer of their answers.
 
-ghost use Rattle.std.specs.Prelude.{◌≡◌, [], IsTrue, None, Option, slice_get, Some, true};
-ghost use Rattle.cred_cli.specs.Watched.{inner_of};
+ghost use Rattle.std.specs.Prelude.{◌≡◌, ◌≢◌, ◌<◌, [], IfSome, length, None, OnSome, Option, slice_get};
+ghost use Rattle.std.specs.Prelude.{Some, true};
+ghost use Rattle.cred_cli.specs.Script.{lines_of};
+ghost use Rattle.cred_cli.specs.Watched.{failed_of, inner_of};
 ghost use Rattle.cred_book.specs.Works.{is_for_current, name_of};
 ghost use Rattle.cred_phc.specs.Values.{RecordValue};
 ghost use Rattle.cred_many.specs.Asks.{IsJobOf, IsResetOf, NeedsNoHash};
-ghost use Rattle.cred_many.specs.Groups.{IsGroup, lines_of};
-ghost use Rattle.cred_many.specs.Served.{IsServed, IsWorn, numbers, record_at, told_reply};
+ghost use Rattle.cred_many.specs.Groups.{IsGroup, entries_of};
+ghost use Rattle.cred_many.specs.Scribe.{History, IsBusy, numbers};
+ghost use Rattle.cred_many.specs.Served.{HasCause, NeedsMemory, Stands, StandsAtEnd, record_at};
+ghost use Rattle.cred_many.specs.Served.{told_reply};
 ghost use Rattle.cred_many.specs.Steps.{is_changed};
 
 use crate::ask::Ask;
@@ -17,38 +20,44 @@ use crate::group::{Change, Group, MOST_TOGETHER};
 use crate::host::Host;
 use crate::job::{Hashed, Job};
 use crate::line::Line;
+use crate::message::Ending;
 use crate::naming::Naming;
 use crate::open::OpenLines;
 use crate::output::Output;
+use crate::served::Served;
 use cred_book::{BookError, Name, Reply, Request, Ticket, Worked};
 use cred_cli::{Refusal, Watched, reply_line};
 use std::alloc::Global;
 use std::io::Write;
 use std::marker::PhantomData;
-use std::sync::Wait;
 
 /// After how many commits that found another record a line is given up.
 const TRIES: u32 = 8;
 
-/// What one thread has of a service. Between two calls on it, what is written and the keeper's book
-/// are those of one history, in which each line that came stands once, unless it is open.
+/// The book and the writer of a service, which nobody has beside it.
+///
+/// Between two calls on it, the book and what is written are those of one list of lines that came,
+/// in which each that came stands once, unless it is pending. Who serves is lent it, and can do no
+/// more than its calls do: they take lines that came and what was hashed for them, each once. None
+/// of them has a handle by which it may wait, so each returns, and does what it promises.
 #[derive(Drop)]
-pub(crate) struct Scribe<J: Naming, K: Host, W: Write> {
-    pub(crate) keeper: K,
-    pub(crate) output: Output<W>,
-    pub(crate) pending: OpenLines,
+pub struct Scribe<J: Naming, K: Host, W: Write> {
+    keeper: K,
+    output: Output<W>,
+    pending: OpenLines,
     /// How many lines came.
-    pub(crate) came: u64,
-    pub(crate) of: PhantomData<J>,
+    came: u64,
+    of: PhantomData<J>,
 
-    ghost served: { ∥ IsServed K.capacity J.service (W.contents (inner_of output.writer))
+    ghost history: { ∥ History K.capacity J.service (W.contents (inner_of output.writer))
         (K.book keeper) output.fault pending came ∥₁ },
+    ghost cause: { ∥ HasCause J.service.input (failed_of output.writer) (K.failed keeper)
+        (numbers pending) came output.fault ∥₁ },
 }
 
 impl<J: Naming, K: Host, W: Write> Scribe<J, K, W> {
     /// Before the first line.
-    pub(crate) fn new(pending: OpenLines, keeper: K, writer: Watched<W>) -> Scribe<J, K, W>
-        requires none { pending ≡ [] }
+    pub fn new(alloc: Global, keeper: K, writer: Watched<W>) -> Scribe<J, K, W>
         requires opening { K.book keeper ≡ J.service.opening }
         requires before { W.contents (inner_of writer) ≡ J.service.before }
     {
@@ -58,63 +67,189 @@ impl<J: Naming, K: Host, W: Write> Scribe<J, K, W> {
                 writer,
                 fault: None,
             },
-            pending,
+            pending: OpenLines::new(alloc),
             came: 0,
             of: PhantomData,
         }
     }
 
+    /// What holds of every scribe, at each moment between two calls on it.
+    pub fn holds(&self)
+        ensures { ∥ Stands K.capacity J.service (record {
+          book = K.book self.now.keeper;
+          written = W.contents (inner_of self.now.output.writer);
+          writer_failed = failed_of self.now.output.writer;
+          keeper_failed = K.failed self.now.keeper;
+          fault = self.now.output.fault;
+          pending = numbers self.now.pending;
+          came = self.now.came;
+        }) ∥₁ }
+    {
+        let _came = &self.came;
+    }
+
+    /// Whether nothing is answered any more.
+    pub fn is_over(&self) -> bool {
+        self.output.fault.is_some()
+    }
+
+    /// Whether each line that came is answered.
+    pub fn is_idle(&self) -> bool {
+        self.pending.is_empty()
+    }
+
+    /// What is left of it once no line comes any more. A line that is pending is lost.
+    pub fn end(mut self, ending: Ending<J>) -> Served<K, W>
+        ensures served { ∥ StandsAtEnd K.capacity J.service (λ pending. record {
+          book = K.book result.keeper;
+          written = W.contents (inner_of result.writer);
+          writer_failed = failed_of result.writer;
+          keeper_failed = K.failed result.keeper;
+          fault = result.fault;
+          pending = pending;
+          came = result.lines;
+        }) ∥₁ }
+        ensures all { result.fault ≡ None → result.reading ≡ None
+            → IfSome J.service.input (λ all. result.lines ≡ length (lines_of all)) }
+    {
+        match ending.lines() {
+            Ok(lines) => {
+                if lines != self.came {
+                    self.lose();
+                    return self.left(None);
+                }
+                self.left(None)
+            }
+            Err(fault) => self.left(Some(fault)),
+        }
+    }
+
+    /// What is left of it. A line that is pending is lost.
+    fn left(mut self, reading: Option<ServiceFault>) -> Served<K, W>
+        ensures served { ∥ StandsAtEnd K.capacity J.service (λ pending. record {
+          book = K.book result.keeper;
+          written = W.contents (inner_of result.writer);
+          writer_failed = failed_of result.writer;
+          keeper_failed = K.failed result.keeper;
+          fault = result.fault;
+          pending = pending;
+          came = result.lines;
+        }) ∥₁ }
+        ensures lines { result.lines ≡ self.came }
+        ensures fault { result.fault ≡ None → self.output.fault ≡ None }
+        ensures reading { result.reading ≡ reading }
+    {
+        if self.pending.is_empty() {
+            return self.parts(reading);
+        }
+        self.lose();
+        self.parts(reading)
+    }
+
+    fn parts(self, reading: Option<ServiceFault>) -> Served<K, W>
+        requires { self.output.fault ≡ None → numbers self.pending ≡ [] }
+        ensures served { ∥ StandsAtEnd K.capacity J.service (λ pending. record {
+          book = K.book result.keeper;
+          written = W.contents (inner_of result.writer);
+          writer_failed = failed_of result.writer;
+          keeper_failed = K.failed result.keeper;
+          fault = result.fault;
+          pending = pending;
+          came = result.lines;
+        }) ∥₁ }
+        ensures lines { result.lines ≡ self.came }
+        ensures fault { result.fault ≡ self.output.fault }
+        ensures reading { result.reading ≡ reading }
+    {
+        let Scribe {
+            keeper,
+            output,
+            pending: _pending,
+            came,
+            of: _,
+        } = self;
+        Served {
+            keeper,
+            writer: output.writer,
+            lines: came,
+            fault: output.fault,
+            reading,
+        }
+    }
+
+    /// Notes that a line that came has no answer, unless a fault is told already.
+    fn lose(&mut self)
+        requires { HasCause J.service.input (failed_of self.old.output.writer)
+            (K.failed self.old.keeper) (numbers self.old.pending) self.old.came
+            (Some ServiceFault.Lost) }
+        ensures told { self.new.output.fault ≢ None }
+        ensures came { self.new.came ≡ self.old.came }
+    {
+        if self.output.fault.is_none() {
+            self.output.fault = Some(ServiceFault::Lost);
+        }
+    }
+
     /// Takes a line that came, and answers it if it needs no hash.
-    pub(crate) fn take<T: Wait>(&mut self, rt: &T, alloc: Global, line: Line<J>) -> Option<Job<J>> {
-        if self.output.fault.is_some() || !self.admit(line.number()) {
+    pub fn take(&mut self, alloc: Global, line: Line<J>) -> Option<Job<J>> {
+        if self.output.fault.is_some() {
             return None;
         }
+        let place = self.admit(&line)?;
         match line.ask() {
-            Ask::Whole(request) => self.job(line, request),
-            Ask::Login(name, pw, setting) => self.job(line, Request::Upgrade { name, pw, setting }),
+            Ask::Whole(request) => self.job(place, line, request),
+            Ask::Login(name, pw, setting) => {
+                self.job(place, line, Request::Upgrade { name, pw, setting })
+            }
             Ask::Reset(name, pw, setting) => {
                 let ticket = Ticket::new(Request::Enrol { name, pw, setting }, None);
                 Some(Job::new(line, ticket))
             }
             ask => {
-                self.answer_at_once(rt, alloc, line, ask);
+                self.answer_at_once(alloc, place, line, ask);
                 None
             }
         }
     }
 
-    /// Opens the line of this number, if it is the next one.
-    fn admit(&mut self, number: u64) -> bool
+    /// Opens the next line, and says where it stands.
+    fn admit(&mut self, line: &Line<J>) -> Option<usize>
         requires { self.old.output.fault ≡ None }
-        ensures { IsTrue result → self.new.output.fault ≡ None }
+        ensures going { OnSome result (self.new.output.fault ≡ None) }
+        ensures within { IfSome result (λ place. place < length self.new.pending) }
+        ensures there { IfSome result
+            (λ place. slice_get (numbers self.new.pending) place ≡ Some line.now.number) }
     {
+        let number = line.number();
         let Some(next) = self.came.checked_add(1) else {
             self.output.fault = Some(ServiceFault::TooLong);
-            return false;
+            return None;
         };
+        if number < self.came {
+            return None;
+        }
         if number != self.came {
+            let _tag = line.tag();
             self.output.fault = Some(ServiceFault::Lost);
-            return false;
+            return None;
         }
         if self.pending.push(number).is_err() {
             self.output.fault = Some(ServiceFault::Memory);
-            return false;
+            return None;
         }
         self.came = next;
-        true
+        self.pending.place_of(number)
     }
 
     /// The line with a copy of its account's record, unless there were copies of others often
     /// enough.
-    fn job(&mut self, line: Line<J>, request: Request) -> Option<Job<J>>
+    fn job(&mut self, place: usize, line: Line<J>, request: Request) -> Option<Job<J>>
         requires going { self.old.output.fault ≡ None }
+        requires within { place < length self.old.pending }
+        requires there { slice_get (numbers self.old.pending) place ≡ Some line.number }
         requires current { is_for_current request ≡ true }
         requires asked { (copy : Option RecordValue) → IsJobOf line.ask (request, copy) }
     {
-        let Some(place) = self.pending.place_of(line.number()) else {
-            self.output.fault = Some(ServiceFault::Lost);
-            return None;
-        };
         let ticket = ticket_of(&self.keeper, request);
         let changes = self.pending.look(place, request.name(), ticket.copy());
         if changes >= TRIES {
@@ -125,35 +260,34 @@ impl<J: Naming, K: Host, W: Write> Scribe<J, K, W> {
     }
 
     /// Does what needs no hash.
-    fn answer_at_once<T: Wait>(&mut self, rt: &T, alloc: Global, line: Line<J>, ask: Ask)
+    fn answer_at_once(&mut self, alloc: Global, place: usize, line: Line<J>, ask: Ask)
         requires going { self.old.output.fault ≡ None }
+        requires within { place < length self.old.pending }
+        requires there { slice_get (numbers self.old.pending) place ≡ Some line.number }
         requires asked { ask ≡ line.ask }
         requires light { NeedsNoHash ask }
     {
-        let Some(place) = self.pending.place_of(line.number()) else {
-            self.output.fault = Some(ServiceFault::Lost);
-            return;
-        };
-        match do_ask(rt, alloc, &mut self.keeper, ask) {
+        match do_ask(alloc, &mut self.keeper, ask) {
             Ok(text) => {
                 self.pending.close(place);
                 self.output.conclude(line.tag(), text.bytes());
             }
-            Err(_) => self.refuse(line),
+            Err(_) => self.refuse(place, line),
         }
     }
 
     /// Does the whole operation whose hashing is done, if the record is still the one that was
     /// copied, and answers it. Otherwise the record is copied again.
-    pub(crate) fn commit<T: Wait>(&mut self, rt: &T, hashed: Hashed<J>) -> Option<Job<J>> {
+    pub fn commit(&mut self, hashed: Hashed<J>) -> Option<Job<J>> {
         if self.output.fault.is_some() {
             return None;
         }
         let Hashed { line, worked } = hashed;
+        let place = self.pending.place_of(line.number())?;
         match line.ask() {
-            Ask::Whole(_) | Ask::Login(..) => self.commit_whole(rt, line, worked),
+            Ask::Whole(_) | Ask::Login(..) => self.commit_whole(place, line, worked),
             Ask::Reset(name, _, _) => {
-                self.reset(rt, line, &name, &worked);
+                self.reset(place, line, &name, &worked);
                 None
             }
             Ask::Account(_)
@@ -167,11 +301,7 @@ impl<J: Naming, K: Host, W: Write> Scribe<J, K, W> {
 
     /// Makes the changes of different accounts among these works together, and answers their lines.
     /// The other works come back, in their order.
-    pub(crate) fn commit_together(
-        &mut self,
-        alloc: Global,
-        works: Vec<Hashed<J>>,
-    ) -> Vec<Hashed<J>> {
+    pub fn commit_together(&mut self, alloc: Global, works: Vec<Hashed<J>>) -> Vec<Hashed<J>> {
         let mut group = Group::new(alloc);
         let mut others = Vec::new(alloc);
         for hashed in works {
@@ -179,7 +309,8 @@ impl<J: Naming, K: Host, W: Write> Scribe<J, K, W> {
                 continue;
             };
             if let Err(refused) = others.push(hashed) {
-                self.no_memory(refused.value.line);
+                let Hashed { line, .. } = refused.value;
+                self.starve(line);
             }
         }
         if self.output.fault.is_none() && !group.works.is_empty() {
@@ -192,9 +323,9 @@ impl<J: Naming, K: Host, W: Write> Scribe<J, K, W> {
     /// otherwise gives it back.
     fn gather(&self, group: &mut Group<J>, hashed: Hashed<J>) -> Result<(), Hashed<J>>
         requires { IsGroup K.capacity J.service (K.book self.now.keeper) group.old.changed
-            (lines_of group.old.works.items) group.old.text.items }
+            (entries_of group.old.works.items) group.old.text.items }
         ensures { IsGroup K.capacity J.service (K.book self.now.keeper) group.new.changed
-            (lines_of group.new.works.items) group.new.text.items }
+            (entries_of group.new.works.items) group.new.text.items }
     {
         match hashed.line.ask() {
             Ask::Whole(_) | Ask::Login(..) => self.gather_whole(group, hashed),
@@ -205,9 +336,9 @@ impl<J: Naming, K: Host, W: Write> Scribe<J, K, W> {
     fn gather_whole(&self, group: &mut Group<J>, hashed: Hashed<J>) -> Result<(), Hashed<J>>
         requires asked { (copy : Option RecordValue) → IsJobOf hashed.0.ask (hashed.1.0, copy) }
         requires group { IsGroup K.capacity J.service (K.book self.now.keeper) group.old.changed
-            (lines_of group.old.works.items) group.old.text.items }
+            (entries_of group.old.works.items) group.old.text.items }
         ensures { IsGroup K.capacity J.service (K.book self.now.keeper) group.new.changed
-            (lines_of group.new.works.items) group.new.text.items }
+            (entries_of group.new.works.items) group.new.text.items }
     {
         let (reply, stored, changes) = self.keeper.accounts().judge(&hashed.worked);
         if !changes || group.works.len() >= MOST_TOGETHER {
@@ -226,7 +357,7 @@ impl<J: Naming, K: Host, W: Write> Scribe<J, K, W> {
     fn commit_group(&mut self, group: Group<J>)
         requires going { self.old.output.fault ≡ None }
         requires group { IsGroup K.capacity J.service (K.book self.old.keeper) group.changed
-            (lines_of group.works.items) group.text.items }
+            (entries_of group.works.items) group.text.items }
     {
         let Group {
             works,
@@ -255,29 +386,28 @@ impl<J: Naming, K: Host, W: Write> Scribe<J, K, W> {
             return;
         }
         for hashed in works {
-            self.no_memory(hashed.line);
+            let Hashed { line, .. } = hashed;
+            self.starve(line);
         }
     }
 
-    fn commit_whole<T: Wait>(&mut self, rt: &T, line: Line<J>, worked: Worked) -> Option<Job<J>>
+    fn commit_whole(&mut self, place: usize, line: Line<J>, worked: Worked) -> Option<Job<J>>
         requires going { self.old.output.fault ≡ None }
+        requires within { place < length self.old.pending }
+        requires there { slice_get (numbers self.old.pending) place ≡ Some line.number }
         requires asked { (copy : Option RecordValue) → IsJobOf line.ask (worked.0, copy) }
     {
-        let Some(place) = self.pending.place_of(line.number()) else {
-            self.output.fault = Some(ServiceFault::Lost);
-            return None;
-        };
         let request = worked.request();
-        let reply = match self.keeper.commit(rt, worked) {
+        let reply = match self.keeper.commit(worked) {
             Ok(reply) => reply,
             Err(_) => {
-                self.refuse(line);
+                self.refuse(place, line);
                 return None;
             }
         };
         if is_changed(&reply) {
             let _ask = line.ask();
-            return self.job(line, request);
+            return self.job(place, line, request);
         }
         self.pending.close(place);
         let answer = reply_line(&told_reply(line.ask(), reply));
@@ -286,64 +416,65 @@ impl<J: Naming, K: Host, W: Write> Scribe<J, K, W> {
     }
 
     /// Puts the record that was made in place of any other.
-    fn reset<T: Wait>(&mut self, rt: &T, line: Line<J>, name: &Name, worked: &Worked)
+    fn reset(&mut self, place: usize, line: Line<J>, name: &Name, worked: &Worked)
         requires going { self.old.output.fault ≡ None }
+        requires within { place < length self.old.pending }
+        requires there { slice_get (numbers self.old.pending) place ≡ Some line.number }
         requires asked { IsResetOf line.ask name.now worked.now }
     {
-        let Some(place) = self.pending.place_of(line.number()) else {
-            self.output.fault = Some(ServiceFault::Lost);
-            return;
-        };
         let Some(stored) = worked.after() else {
             unreachable!()
         };
-        match put_in_place(rt, &mut self.keeper, name, stored) {
+        match put_in_place(&mut self.keeper, name, stored) {
             Ok(reply) => {
                 self.pending.close(place);
                 self.output.conclude(line.tag(), reply_line(&reply));
             }
-            Err(_) => self.refuse(line),
+            Err(_) => self.refuse(place, line),
         }
     }
 
-    /// Answers a line for which there was no memory.
-    pub(crate) fn no_memory(&mut self, line: Line<J>)
+    /// Answers a line for whose hash there was no memory.
+    pub fn no_memory(&mut self, job: Job<J>) {
+        let Job { line, .. } = job;
+        self.starve(line);
+    }
+
+    /// Answers that nothing was done for want of memory, unless nothing is answered any more.
+    fn starve(&mut self, line: Line<J>)
+        requires { NeedsMemory K.capacity (K.book self.old.keeper) line.ask }
         ensures { K.book self.new.keeper ≡ K.book self.old.keeper }
     {
-        if self.output.fault.is_none() {
-            self.give_up(line);
+        if self.output.fault.is_some() {
+            return;
+        }
+        if let Some(place) = self.pending.place_of(line.number()) {
+            self.give_up(place, line);
         }
     }
 
     /// Answers a line to which the keeper refused memory, or ends all if it has failed.
-    fn refuse(&mut self, line: Line<J>)
-        requires { self.old.output.fault ≡ None }
+    fn refuse(&mut self, place: usize, line: Line<J>)
+        requires going { self.old.output.fault ≡ None }
+        requires within { place < length self.old.pending }
+        requires there { slice_get (numbers self.old.pending) place ≡ Some line.number }
+        requires needs { NeedsMemory K.capacity (K.book self.old.keeper) line.ask }
     {
         if self.keeper.has_failed() {
             self.output.fault = Some(ServiceFault::Keeper);
             return;
         }
-        self.give_up(line);
-    }
-
-    /// Notes that a line was lost between two threads, unless a fault has ended all already.
-    pub(crate) fn lose(&mut self)
-        ensures fault { self.new.output.fault ≡ None → ⊥ }
-    {
-        if self.output.fault.is_none() {
-            self.output.fault = Some(ServiceFault::Lost);
-        }
+        self.give_up(place, line);
     }
 
     /// Answers that nothing was done for want of memory.
-    fn give_up(&mut self, line: Line<J>)
-        requires { self.old.output.fault ≡ None }
+    fn give_up(&mut self, place: usize, line: Line<J>)
+        requires going { self.old.output.fault ≡ None }
+        requires within { place < length self.old.pending }
+        requires there { slice_get (numbers self.old.pending) place ≡ Some line.number }
+        requires needs { NeedsMemory K.capacity (K.book self.old.keeper) line.ask }
         ensures { K.book self.new.keeper ≡ K.book self.old.keeper }
     {
-        let Some(place) = self.pending.place_of(line.number()) else {
-            self.output.fault = Some(ServiceFault::Lost);
-            return;
-        };
         self.pending.close(place);
         self.output
             .conclude(line.tag(), Refusal::Book(BookError::Memory).line());
@@ -353,7 +484,7 @@ impl<J: Naming, K: Host, W: Write> Scribe<J, K, W> {
     fn give_up_as_busy(&mut self, place: usize, line: Line<J>)
         requires going { self.old.output.fault ≡ None }
         requires there { slice_get (numbers self.old.pending) place ≡ Some line.number }
-        requires worn { IsWorn self.old.pending place line.ask }
+        requires busy { IsBusy self.old.pending place line.ask }
     {
         self.pending.close(place);
         self.output.conclude(line.tag(), Refusal::Busy.line());
@@ -367,7 +498,7 @@ fn ticket_of<K: Host>(keeper: &K, request: Request) -> Ticket
     ensures request { result.0 ≡ request }
     ensures copy { result.1 ≡ record_at (K.book keeper.now) (name_of request) }
 {
-    match keeper.begin(request) {
+    match keeper.accounts().begin(request) {
         Ok(ticket) => ticket,
         Err((request, _)) => Ticket::new(request, None),
     }

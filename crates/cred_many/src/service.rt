@@ -1,9 +1,6 @@
 //! The service: one thread reads, others hash, and this one has the book.
 
-ghost use Rattle.std.specs.Prelude.{◌≡◌, [], false, IfOk, IfSome, None, length};
-ghost use Rattle.cred_cli.specs.Script.{lines_of};
-ghost use Rattle.cred_cli.specs.Watched.{inner_of};
-ghost use Rattle.cred_many.specs.Served.{HasServed};
+ghost use Rattle.std.specs.Prelude.{◌≡◌, false, IfOk};
 ghost use Rattle.cred_many.specs.Service.{service};
 
 use crate::budget::Budget;
@@ -16,17 +13,16 @@ use crate::intake::Intake;
 use crate::job::Job;
 use crate::message::{Ending, Message};
 use crate::naming::Naming;
-use crate::open::{MOST_OPEN, OpenLines};
+use crate::open::MOST_OPEN;
 use crate::outlet::Outlet;
 use crate::reading::Reading;
 use crate::scribe::Scribe;
 use crate::source::Source;
-use cred_cli::{Tools, Watched};
+use cred_cli::Tools;
 use crossbeam_channel::{Receiver, Sender, bounded};
 use rand_core::Rng;
 use std::alloc::Global;
 use std::io::Write;
-use std::marker::Brand;
 use std::sync::Wait;
 use std::thread;
 use std::thread::Threads;
@@ -43,59 +39,23 @@ pub struct Means {
     pub most: Option<u64>,
 }
 
-/// What is left of a service.
-#[derive(Drop)]
-pub struct Served<K: Host, W: Write> {
-    pub keeper: K,
-    pub writer: Watched<W>,
-    /// How many lines came.
-    pub lines: u64,
-    /// Why lines that came weren't answered.
-    pub fault: Option<ServiceFault>,
-    /// Why the reading ended before the input did.
-    pub reading: Option<ServiceFault>,
-}
-
 /// Answers the lines that come, to their end, and hashes in `tools.workers` threads.
+///
+/// It is lent the scribe, and nothing else has the book or the writer: so what `Scribe::holds` says
+/// holds as long as it serves. `Scribe::end` takes what it returns, and says what is left.
 ///
 /// Each line is done whole, and its answer is written whole, at one moment between its coming and
 /// its answer. Salts are drawn in the order of the lines, one for each. A line whose setting or
 /// record asks for more than `means.most` is refused. The source is called again only once each
 /// whole line that it gave was handed on. The writer is one that holds nothing back, as it is never
 /// flushed. At a fault it ends without waiting for the source.
-pub fn serve_tagged<T, S, G, K, W>(
+pub fn serve_tagged<J, T, S, G, K, W>(
     tools: &Tools<'_, T>,
     means: &Means,
-    keeper: K,
+    scribe: &mut Scribe<J, K, W>,
     salts: G,
     source: S,
-    writer: Watched<W>,
-) -> Served<K, W>
-where
-    T: Threads + Wait + Sync + Copy + Send + 'static,
-    S: Source + Send + Drop + 'static,
-    G: Rng + Send + Drop + 'static,
-    K: Host,
-    W: Write + Drop,
-    requires given { S.given source ≡ 0 }
-    requires going { S.ended source ≡ false }
-    ensures served { ∥ HasServed K.capacity (service (K.book keeper) (S.remaining source)
-        (W.contents (inner_of writer)) means.now (G.stream salts))
-        (W.contents (inner_of result.writer)) (K.book result.keeper) result.fault result.lines ∥₁ }
-    ensures all { result.fault ≡ None → result.reading ≡ None
-        → IfSome (S.remaining source) (λ all. result.lines ≡ length (lines_of all)) }
-{
-    serve_named::<Brand, T, S, G, K, W>(tools, means, keeper, salts, source, writer)
-}
-
-fn serve_named<J, T, S, G, K, W>(
-    tools: &Tools<'_, T>,
-    means: &Means,
-    keeper: K,
-    salts: G,
-    source: S,
-    writer: Watched<W>,
-) -> Served<K, W>
+) -> Ending<J>
 where
     J: Naming + Send + Sync + 'static,
     T: Threads + Wait + Sync + Copy + Send + 'static,
@@ -103,69 +63,18 @@ where
     G: Rng + Send + Drop + 'static,
     K: Host,
     W: Write + Drop,
-    requires named { J.service ≡ service (K.book keeper) (S.remaining source)
-        (W.contents (inner_of writer)) means.now (G.stream salts) }
+    requires named { J.service ≡ service J.service.opening (S.remaining source)
+        J.service.before means.now (G.stream salts) }
     requires given { S.given source ≡ 0 }
     requires going { S.ended source ≡ false }
-    ensures served { ∥ HasServed K.capacity J.service
-        (W.contents (inner_of result.writer)) (K.book result.keeper) result.fault result.lines ∥₁ }
-    ensures all { result.fault ≡ None → result.reading ≡ None
-        → IfSome J.service.input (λ all. result.lines ≡ length (lines_of all)) }
 {
-    let mut scribe: Scribe<J, K, W> = Scribe::new(OpenLines::new(tools.alloc), keeper, writer);
     let intake: Intake<J, G> = Intake::new(means, salts);
-    let ending = match make_channels(tools.rt, tools.alloc) {
+    match make_channels(tools.rt, tools.alloc) {
         Ok((channels, outlet)) => {
             let reading = Reading::new(source, intake, outlet);
-            run(tools, means, &mut scribe, reading, channels)
+            run(tools, means, scribe, reading, channels)
         }
-        Err(fault) => Ending::cut(0, fault),
-    };
-    concluded(scribe, ending)
-}
-
-/// What is left, once nobody else works.
-fn concluded<J: Naming, K: Host, W: Write + Drop>(
-    mut scribe: Scribe<J, K, W>,
-    ending: Ending<J>,
-) -> Served<K, W>
-    ensures served { ∥ HasServed K.capacity J.service
-        (W.contents (inner_of result.writer)) (K.book result.keeper) result.fault result.lines ∥₁ }
-    ensures all { result.fault ≡ None → result.reading ≡ None
-        → IfSome J.service.input (λ all. result.lines ≡ length (lines_of all)) }
-{
-    if !scribe.pending.is_empty() || ending.lines != scribe.came {
-        scribe.lose();
-        return left(scribe, ending.fault);
-    }
-    left(scribe, ending.fault)
-}
-
-/// What is left of a scribe, after the reading ended so.
-fn left<J: Naming, K: Host, W: Write + Drop>(
-    scribe: Scribe<J, K, W>,
-    reading: Option<ServiceFault>,
-) -> Served<K, W>
-    requires { scribe.output.fault ≡ None → scribe.pending ≡ [] }
-    ensures served { ∥ HasServed K.capacity J.service
-        (W.contents (inner_of result.writer)) (K.book result.keeper) result.fault result.lines ∥₁ }
-    ensures lines { result.lines ≡ scribe.came }
-    ensures fault { result.fault ≡ scribe.output.fault }
-    ensures reading { result.reading ≡ reading }
-{
-    let Scribe {
-        keeper,
-        output,
-        pending: _pending,
-        came,
-        of: _,
-    } = scribe;
-    Served {
-        keeper,
-        writer: output.writer,
-        lines: came,
-        fault: output.fault,
-        reading,
+        Err(fault) => Ending::cut(fault),
     }
 }
 
@@ -231,7 +140,7 @@ where
     };
     let shared = &hashing;
     if start(rt, reading).is_err() {
-        return Ending::cut(0, ServiceFault::Threads);
+        return Ending::cut(ServiceFault::Threads);
     }
     thread::scope(thread::scope_env(), rt, move |scope| {
         let Channels {
@@ -259,7 +168,7 @@ where
         drop(waiting);
         drop(book);
         if !started {
-            return Ending::cut(0, ServiceFault::Threads);
+            return Ending::cut(ServiceFault::Threads);
         }
         attend(rt, tools.alloc, scribe, &Desk { inbox, jobs, room })
     })

@@ -1,6 +1,11 @@
 //! A book that answers tagged lines of many clients.
 
-ghost use Rattle.std.specs.Prelude.{◌≡◌, false};
+ghost use Rattle.std.specs.Prelude.{◌≡◌, false, IfSome, is_some, length, None};
+ghost use Rattle.cred_book.specs.Accounts.{register_capacity};
+ghost use Rattle.cred_cli.specs.Script.{lines_of};
+ghost use Rattle.cred_cli.specs.Watched.{failed_of, inner_of};
+ghost use Rattle.cred_many.specs.Served.{StandsAtEnd};
+ghost use Rattle.cred_many.specs.Service.{service};
 
 use crate::files::{Access, DamagedLog, look_at, open_file};
 use crate::program::close;
@@ -9,12 +14,13 @@ use cred_admin::Status;
 use cred_cli::{Tools, Watched};
 use cred_file::FileBook;
 use cred_keep::{Failure, explain, refuse};
-use cred_many::{Costs, Means, ServiceFault};
-use cred_serve::{Outcome, serve_file};
+use cred_many::{Costs, Means, Naming, Scribe, Served, ServiceFault, serve_file};
 use rand::make_rng;
 use rand::rngs::StdRng;
+use rand_core::Rng;
 use sqlite::{Alter, Connection};
-use std::io::Write;
+use std::io::{Read, Write};
+use std::marker::Brand;
 use std::sync::Wait;
 use std::thread;
 use std::thread::Threads;
@@ -83,15 +89,9 @@ fn serve_in<T: Threads + Wait + Sync + Copy + Send + 'static, S: Alter>(
         memory: tagged.memory,
         most: tagged.most,
     };
-    let writer = Watched::new(host.stdout());
-    let Outcome {
-        book,
-        writer: _writer,
-        lines: _,
-        fault,
-        reading,
-    } = serve_file(&tools, &means, book, salts, host.stdin(), writer);
-    let status = match fault.or(reading) {
+    let served = serve_book(&tools, &means, book, salts, host.stdin(), host.stdout());
+    let book = served.keeper;
+    let status = match served.fault.or(served.reading) {
         None => Status::Done,
         Some(ServiceFault::Keeper) => {
             explain(&mut host.stderr(), &Failure::Database, book.lost());
@@ -100,6 +100,73 @@ fn serve_in<T: Threads + Wait + Sync + Copy + Send + 'static, S: Alter>(
         Some(fault) => tell(host, fault),
     };
     (book.close(), status)
+}
+
+/// Answers tagged lines on a book, which comes back with the writer.
+fn serve_book<T, S, R, W, G>(
+    tools: &Tools<'_, T>,
+    means: &Means,
+    book: FileBook<S>,
+    salts: G,
+    reader: R,
+    writer: W,
+) -> Served<FileBook<S>, W>
+where
+    T: Threads + Wait + Sync + Copy + Send + 'static,
+    S: Alter,
+    R: Read + Send + Drop + 'static,
+    W: Write + Drop,
+    G: Rng + Send + Drop + 'static,
+    ensures served { ∥ StandsAtEnd register_capacity (service book.book (R.remaining reader)
+        (W.contents writer) means.now (G.stream salts)) (λ pending. record {
+      book = result.keeper.book;
+      written = W.contents (inner_of result.writer);
+      writer_failed = failed_of result.writer;
+      keeper_failed = is_some result.keeper.lost;
+      fault = result.fault;
+      pending = pending;
+      came = result.lines;
+    }) ∥₁ }
+    ensures all { result.fault ≡ None → result.reading ≡ None
+        → IfSome (R.remaining reader) (λ all. result.lines ≡ length (lines_of all)) }
+{
+    serve_named::<Brand, T, S, R, W, G>(tools, means, book, salts, reader, writer)
+}
+
+/// Makes the scribe of the book and the writer, lends it to the service, and takes it back.
+fn serve_named<J, T, S, R, W, G>(
+    tools: &Tools<'_, T>,
+    means: &Means,
+    book: FileBook<S>,
+    salts: G,
+    reader: R,
+    writer: W,
+) -> Served<FileBook<S>, W>
+where
+    J: Naming + Send + Sync + 'static,
+    T: Threads + Wait + Sync + Copy + Send + 'static,
+    S: Alter,
+    R: Read + Send + Drop + 'static,
+    W: Write + Drop,
+    G: Rng + Send + Drop + 'static,
+    requires { J.service ≡ service book.book (R.remaining reader) (W.contents writer)
+        means.now (G.stream salts) }
+    ensures served { ∥ StandsAtEnd register_capacity J.service (λ pending. record {
+      book = result.keeper.book;
+      written = W.contents (inner_of result.writer);
+      writer_failed = failed_of result.writer;
+      keeper_failed = is_some result.keeper.lost;
+      fault = result.fault;
+      pending = pending;
+      came = result.lines;
+    }) ∥₁ }
+    ensures all { result.fault ≡ None → result.reading ≡ None
+        → IfSome (R.remaining reader) (λ all. result.lines ≡ length (lines_of all)) }
+{
+    let mut scribe: Scribe<J, FileBook<S>, W> =
+        Scribe::new(tools.alloc, book, Watched::new(writer));
+    let ending = serve_file(tools, means, &mut scribe, salts, reader);
+    scribe.end(ending)
 }
 
 /// Says what ended a service.

@@ -1,12 +1,12 @@
 use Rattle.std.proofs.Common.{◌≡◌, List, ℕ, Some, false, length}
-use Rattle.cred_many.specs.Reading.{IsAt, place}
+use Rattle.cred_many.specs.Reading.{Splits, place}
 use Rattle.cred_many.proofs.reading.read_lines.Given as goal
 
 -- a front of the input came, and each whole line of it was handed out
 abbrev pub invariant-loop-call : goal.invariant-loop-call
 invariant-loop-call g l = record {
   at : (all : List ℕ) → g.J.Naming.service.input ≡ Some all →
-      (rest : List ℕ) × (g.S.Source.remaining l.source ≡ Some rest) × IsAt all (place l.intake.start l.intake.number) rest;
+      (rest : List ℕ) × (g.S.Source.remaining l.source ≡ Some rest) × Splits all (place l.intake.start l.intake.number) rest;
   handed : l.outlet.handed ≡ g.S.Source.given l.source;
   number : l.intake.number ≡ l.outlet.handed;
   going : g.S.Source.ended l.source ≡ false;

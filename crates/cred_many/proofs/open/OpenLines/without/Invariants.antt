@@ -1,9 +1,9 @@
 use Rattle.std.proofs.Common.{List, drop}
 use Rattle.cred_many.specs.declared.open.Open.{Open}
-use Rattle.cred_many.specs.Groups.{lines_of}
-use Rattle.cred_many.specs.Served.{AreClosed}
+use Rattle.cred_many.specs.Groups.{entries_of}
+use Rattle.cred_many.specs.Scribe.{AreClosed}
 use Rattle.cred_many.proofs.open.OpenLines.without.Given as goal
 
 -- what is left once the others are closed is what is left once all are
 abbrev pub invariant-loop-work : goal.invariant-loop-work
-invariant-loop-work g l = (final : List Open) → AreClosed (lines_of (drop l.work-index l.works)) l.left final → AreClosed (lines_of l.works) l.fn.self final
+invariant-loop-work g l = (final : List Open) → AreClosed (entries_of (drop l.work-index l.works)) l.left final → AreClosed (entries_of l.works) l.fn.self final

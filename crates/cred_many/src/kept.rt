@@ -1,0 +1,156 @@
+//! A kept book that answers tagged lines.
+
+ghost use Rattle.std.specs.Prelude.{◌≡◌};
+ghost use Rattle.cred_book.specs.Accounts.{register_capacity};
+ghost use Rattle.cred_many.specs.Edits.{EditsWithin, ReplacesAll};
+ghost use Rattle.cred_many.specs.Service.{service};
+ghost use Rattle.cred_many.specs.declared.edit.Edit.TheVariants as edit;
+
+use crate::edit::Edit;
+use crate::host::Host;
+use crate::message::Ending;
+use crate::naming::Naming;
+use crate::scribe::Scribe;
+use crate::service::{Means, serve_tagged};
+use crate::source::LineReader;
+use cred_admin::EditReply;
+use cred_book::{BookError, Name, Register, Reply, Worked};
+use cred_cli::Tools;
+use cred_file::FileBook;
+use cred_phc::Record;
+use rand_core::Rng;
+use sqlite::Alter;
+use std::io::{Read, Write};
+use std::sync::Wait;
+use std::thread::Threads;
+
+impl<S: Alter> Host for FileBook<S> {
+    ghost use Rattle.std.specs.Prelude.{is_some};
+    ghost use Rattle.cred_book.specs.Accounts.{register_capacity};
+
+    ghost book = { λ b. b.book };
+
+    ghost capacity = { register_capacity };
+
+    ghost failed = { λ b. is_some b.lost };
+
+    fn accounts(&self) -> &Register {
+        self.book()
+    }
+
+    fn admit(&mut self, name: Name) -> Result<(), BookError> {
+        FileBook::admit(self, name)
+    }
+
+    fn load(&mut self, name: &Name, stored: Record) -> Result<(), BookError> {
+        FileBook::load(self, name, stored)
+    }
+
+    fn commit(&mut self, worked: Worked) -> Result<Reply, (Worked, BookError)> {
+        FileBook::commit(self, worked)
+    }
+
+    fn edit(&mut self, edit: &Edit) -> Result<EditReply, BookError> {
+        match *edit {
+            Edit::Disable(name) => disable(self, &name),
+            Edit::Delete(name) => delete(self, &name),
+            Edit::Rename(name, other) => rename(self, &name, &other),
+        }
+    }
+
+    fn replace_all(&mut self, changed: Register) -> Result<(), BookError> {
+        replace_all(self, changed)
+    }
+
+    fn has_failed(&self) -> bool {
+        self.lost().is_some()
+    }
+}
+
+fn disable<S: Alter>(book: &mut FileBook<S>, name: &Name) -> Result<EditReply, BookError>
+    ensures { EditsWithin register_capacity book.old.book book.new.book
+        (edit.Disable name.now) result }
+{
+    match book.book().show(name) {
+        Ok(Some(_)) => {}
+        Ok(None) => return Ok(EditReply::Absent),
+        Err(_) => return Ok(EditReply::NoAccount),
+    }
+    match book.put(name, None) {
+        Ok(()) => Ok(EditReply::Disabled),
+        Err(_) => Err(BookError::Memory),
+    }
+}
+
+#[tactic(auto, using(crate::proofs::Renaming::renaming))]
+fn delete<S: Alter>(book: &mut FileBook<S>, name: &Name) -> Result<EditReply, BookError>
+    ensures { EditsWithin register_capacity book.old.book book.new.book
+        (edit.Delete name.now) result }
+{
+    match book.delete(name) {
+        Ok(()) => Ok(EditReply::Deleted),
+        Err(BookError::NoAccount) => Ok(EditReply::NoAccount),
+        Err(_) => Err(BookError::Memory),
+    }
+}
+
+#[tactic(auto, using(crate::proofs::Renaming::renaming))]
+fn rename<S: Alter>(
+    book: &mut FileBook<S>,
+    name: &Name,
+    other: &Name,
+) -> Result<EditReply, BookError>
+    ensures { EditsWithin register_capacity book.old.book book.new.book
+        (edit.Rename name.now other.now) result }
+{
+    let accounts = book.book();
+    if !accounts.contains(name) {
+        return Ok(EditReply::NoAccount);
+    }
+    if accounts.contains(other) {
+        return Ok(EditReply::Exists);
+    }
+    if accounts.is_full() {
+        return Err(BookError::Full);
+    }
+    match book.rename(name, other) {
+        Ok(()) => Ok(EditReply::Renamed),
+        Err(_) => Err(BookError::Memory),
+    }
+}
+
+/// Replaces records by one transaction.
+#[tactic(auto, using(crate::proofs::Replacing::replacing))]
+fn replace_all<S: Alter>(book: &mut FileBook<S>, changed: Register) -> Result<(), BookError>
+    ensures { ReplacesAll book.old.book book.new.book changed result }
+{
+    match book.replace_all(changed) {
+        Ok(()) => Ok(()),
+        Err(BookError::NoAccount) => Err(BookError::NoAccount),
+        Err(_) => Err(BookError::Memory),
+    }
+}
+
+/// Answers tagged lines on a kept book, as [`serve_tagged`] does.
+///
+/// Each change is in the database before it is answered. A crash leaves the book after the lines
+/// that were done, perhaps with the change that was under way as the database failed.
+pub fn serve_file<J, T, S, R, W, G>(
+    tools: &Tools<'_, T>,
+    means: &Means,
+    scribe: &mut Scribe<J, FileBook<S>, W>,
+    salts: G,
+    reader: R,
+) -> Ending<J>
+where
+    J: Naming + Send + Sync + 'static,
+    T: Threads + Wait + Sync + Copy + Send + 'static,
+    S: Alter,
+    R: Read + Send + Drop + 'static,
+    W: Write + Drop,
+    G: Rng + Send + Drop + 'static,
+    requires { J.service ≡ service J.service.opening (R.remaining reader)
+        J.service.before means.now (G.stream salts) }
+{
+    serve_tagged(tools, means, scribe, salts, LineReader::new(reader))
+}

@@ -1,0 +1,8 @@
+use Rattle.cred_many.specs.Service.{service}
+use Rattle.credkeep.proofs.tagged.serve_book.Given as goal
+
+-- the service that begins here
+abbrev pub ghosts-serve_named : goal.ghosts-serve_named
+ghosts-serve_named g a = record {
+  service = service a.book.book (g.R.Read.remaining a.reader) (g.W.Write.contents a.writer) a.means.now (g.G.Rng.stream a.salts);
+}
