@@ -67,23 +67,23 @@ pub extern "C" fn cred_argon2(
     let Ok(len) = u32::try_from(out.len()) else {
         return argon_number(ArgonError::TagLen);
     };
-    let params = Params::raw(
+    let params = match Params::raw(
         version,
         kind,
         numbers.memory,
         numbers.passes,
         numbers.lanes,
         len,
-    );
+    ) {
+        Ok(params) => params,
+        Err(error) => return argon_number(error),
+    };
     let mut none = ArgonScratch::new(alloc, 0);
-    match params {
-        Ok(params) => match argon2_in(&mut none, alloc, &NoGate, &params, pw, salt, secret, assoc) {
-            Ok(tag) => {
-                out.copy_from_slice(&tag);
-                DONE
-            }
-            Err(error) => argon_number(error),
-        },
+    match argon2_in(&mut none, alloc, &NoGate, &params, pw, salt, secret, assoc) {
+        Ok(tag) => {
+            out.copy_from_slice(&tag);
+            DONE
+        }
         Err(error) => argon_number(error),
     }
 }
