@@ -18,40 +18,28 @@ const SETTINGS: [&str; 2] = [
     "$argon2id$v=19$m=9,t=1,p=1$c29tZXNhbHQ",
 ];
 
-/// How often each thread does what it does, and what it takes for that.
+/// How often each thread does what it does, and how.
+#[derive(Clone, Copy)]
+pub(crate) struct Turns {
+    pub(crate) verifies: u32,
+    pub(crate) upgrades: u32,
+    /// Whether an upgrade is settled once it is hashed.
+    pub(crate) settles: bool,
+    /// How long each change is kept under the lock, as by a disk that syncs.
+    pub(crate) pause: Option<Duration>,
+}
+
+/// The turns, and what they take.
 #[derive(Drop)]
 pub(crate) struct Load {
+    pub(crate) turns: Turns,
     names: Vec<Name>,
     pw: Password,
     settings: [Setting; 2],
-    pub(crate) verifies: u32,
-    pub(crate) upgrades: u32,
-    pub(crate) beside: Beside,
-}
-
-/// What the thread does that upgrades.
-#[derive(Clone, Copy, Debug, PartialEq, Eq)]
-pub(crate) enum Beside {
-    /// It hashes, and settles nothing.
-    Hashes,
-    /// It settles each upgrade.
-    Settles,
-    /// It settles each upgrade, which is kept before anybody sees it.
-    Keeps,
-}
-
-impl Beside {
-    /// How long a change is kept under the lock: as long as a disk may take to sync.
-    pub(crate) fn pause(self) -> Option<Duration> {
-        match self {
-            Beside::Keeps => Some(Duration::from_millis(1)),
-            Beside::Hashes | Beside::Settles => None,
-        }
-    }
 }
 
 impl Load {
-    pub(crate) fn new(alloc: Global, verifies: u32, upgrades: u32, beside: Beside) -> Option<Load> {
+    pub(crate) fn new(alloc: Global, turns: Turns) -> Option<Load> {
         let mut names = Vec::with_capacity(alloc, ACCOUNTS).ok()?;
         for i in 0..ACCOUNTS {
             let name = format!(in alloc; "account{i}").ok()?;
@@ -59,15 +47,13 @@ impl Load {
         }
         let [first, second] = SETTINGS;
         Some(Load {
+            turns,
             names,
             pw: Password::new(b"password")?,
             settings: [
                 parse_setting(first.as_bytes()).ok()?,
                 parse_setting(second.as_bytes()).ok()?,
             ],
-            verifies,
-            upgrades,
-            beside,
         })
     }
 

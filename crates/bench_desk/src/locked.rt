@@ -2,7 +2,7 @@
 
 use crate::figures::{Figures, Ran};
 use crate::load::Load;
-use crate::store::{Store, keep, upgrade, verify};
+use crate::store::{Store, keep, work};
 use cred_book::{Book, Reply, Request, Ticket, Worked};
 use std::alloc::Global;
 use std::sync::{Mutex, Wait};
@@ -21,7 +21,7 @@ pub(crate) fn run<R: Threads + Wait + Clock + Sync>(
     for _thread in 0..threads {
         figures.push(None).ok()?;
     }
-    let pause = load.beside.pause();
+    let pause = load.turns.pause;
     let book = Mutex::new(Counted {
         book,
         changes: 0,
@@ -31,13 +31,8 @@ pub(crate) fn run<R: Threads + Wait + Clock + Sync>(
         rt,
         &mut figures,
         threads,
-        &|place, came_to: &mut Option<Figures>| {
-            let mut store = Locked { book: &book };
-            *came_to = if place == 0 {
-                upgrade(rt, alloc, &mut store, load)
-            } else {
-                verify(rt, alloc, &mut store, load)
-            };
+        &|thread, came_to: &mut Option<Figures>| {
+            *came_to = work(rt, alloc, thread, &mut Locked { book: &book }, load);
         },
     );
     Ran::of(&figures, book.into_inner().changes)

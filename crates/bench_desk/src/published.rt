@@ -4,7 +4,7 @@ ghost use Rattle.cred_desk.specs.Naming.{IsNamed, StartsAt};
 
 use crate::figures::{Figures, Ran};
 use crate::load::Load;
-use crate::store::{Store, keep, upgrade, verify};
+use crate::store::{Store, keep, work};
 use cred_book::{Book, Reply, Request, Ticket, Worked};
 use cred_desk::{Entry, EntryWriter, KeptDesk, Naming, Opened, Session};
 use std::alloc::Global;
@@ -21,10 +21,7 @@ pub(crate) fn run<R: Threads + Wait + Clock + Sync>(
     readers: u8,
     load: &Load,
 ) -> Option<Ran> {
-    if readers > 31 {
-        return None;
-    }
-    let sessions = readers + 1;
+    let sessions = readers.checked_add(1)?;
     run_named::<Brand, R>(rt, alloc, Opened::new(sessions), book, sessions, load)
 }
 
@@ -42,7 +39,7 @@ fn run_named<J: Naming + Send + Sync, R: Threads + Wait + Clock + Sync>(
     let mut figures = Vec::with_capacity(alloc, usize::from(sessions)).ok()?;
     let mut seats = Vec::with_capacity(alloc, usize::from(sessions)).ok()?;
     let mut back = Vec::with_capacity(alloc, usize::from(sessions)).ok()?;
-    let pause = load.beside.pause();
+    let pause = load.turns.pause;
     let made = KeptDesk::<J, Slow<R>>::new(rt, alloc, opened, book, sessions, Slow { rt, pause });
     let (desk, handed, sessions) = made.ok()?;
     for session in sessions {
@@ -71,16 +68,8 @@ fn work_all<J: Naming + Send + Sync, R: Threads + Wait + Clock + Sync>(
         rt,
         seats,
         threads,
-        &|place, seat: &mut (Session<J>, Option<Figures>)| {
-            let mut store = AtDesk {
-                desk,
-                session: &mut seat.0,
-            };
-            seat.1 = if place == 0 {
-                upgrade(rt, alloc, &mut store, load)
-            } else {
-                verify(rt, alloc, &mut store, load)
-            };
+        &|thread, (session, came_to): &mut (Session<J>, Option<Figures>)| {
+            *came_to = work(rt, alloc, thread, &mut AtDesk { desk, session }, load);
         },
     );
 }

@@ -1,7 +1,7 @@
 //! What one thread does at a book, whatever keeps it.
 
 use crate::figures::Figures;
-use crate::load::{Beside, Load};
+use crate::load::Load;
 use cred_book::{Reply, Request, Ticket, Worked};
 use cred_pool::NoGate;
 use std::alloc::Global;
@@ -20,17 +20,29 @@ pub(crate) trait Store<R> {
     fn commit(&mut self, rt: &R, work: Worked) -> Option<Reply>;
 }
 
-/// Makes all verifies of one thread.
-pub(crate) fn verify<R: Threads + Clock + Sync, S: Store<R>>(
+/// What the thread with this number does at the book: the first upgrades, and the others verify.
+pub(crate) fn work<R: Threads + Clock + Sync, S: Store<R>>(
     rt: &R,
     alloc: Global,
+    thread: usize,
     store: &mut S,
     load: &Load,
 ) -> Option<Figures> {
     let start = Instant::now(rt).ok()?;
+    let is_first = thread == 0;
+    let turns = load.turns;
+    let times = if is_first {
+        turns.upgrades
+    } else {
+        turns.verifies
+    };
     let (mut done, mut worst) = (0u32, 0);
-    for number in 0..load.verifies {
-        worst = verify_once(rt, alloc, store, load.verify(number)?)?.max(worst);
+    for number in 0..times {
+        if is_first {
+            upgrade(rt, alloc, store, load, number)?;
+        } else {
+            worst = verify(rt, alloc, store, load.verify(number)?)?.max(worst);
+        }
         done = done.saturating_add(1);
     }
     Some(Figures {
@@ -40,8 +52,8 @@ pub(crate) fn verify<R: Threads + Clock + Sync, S: Store<R>>(
     })
 }
 
-/// How long the begin took, in nanoseconds.
-fn verify_once<R: Threads + Clock + Sync, S: Store<R>>(
+/// How long the begin of a verify took, in nanoseconds.
+fn verify<R: Threads + Clock + Sync, S: Store<R>>(
     rt: &R,
     alloc: Global,
     store: &mut S,
@@ -55,36 +67,16 @@ fn verify_once<R: Threads + Clock + Sync, S: Store<R>>(
     matches!(reply, Reply::Yes | Reply::Changed { .. }).then_some(took)
 }
 
-/// Makes all upgrades.
-pub(crate) fn upgrade<R: Threads + Clock + Sync, S: Store<R>>(
+fn upgrade<R: Threads + Sync, S: Store<R>>(
     rt: &R,
     alloc: Global,
     store: &mut S,
     load: &Load,
-) -> Option<Figures> {
-    let start = Instant::now(rt).ok()?;
-    let mut done = 0u32;
-    for number in 0..load.upgrades {
-        upgrade_once(rt, alloc, store, load.upgrade(number)?, load.beside)?;
-        done = done.saturating_add(1);
-    }
-    Some(Figures {
-        done,
-        elapsed: start.elapsed(rt).ok()?.as_nanos(),
-        worst: 0,
-    })
-}
-
-fn upgrade_once<R: Threads + Sync, S: Store<R>>(
-    rt: &R,
-    alloc: Global,
-    store: &mut S,
-    request: Request,
-    beside: Beside,
+    number: u32,
 ) -> Option<()> {
-    let ticket = store.begin(rt, request)?;
+    let ticket = store.begin(rt, load.upgrade(number)?)?;
     let worked = ticket.work(rt, alloc, 1, &NoGate).ok()?;
-    if beside == Beside::Hashes {
+    if !load.turns.settles {
         return Some(());
     }
     matches!(store.commit(rt, worked)?, Reply::Upgraded).then_some(())

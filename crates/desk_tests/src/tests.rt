@@ -7,12 +7,14 @@ mod deleting;
 mod kept;
 mod kept_scene;
 mod lasting;
+mod log;
 mod lost;
 mod many_entries;
 mod refused;
 mod refused_names;
 mod scene;
 mod settling;
+mod soak;
 mod threads;
 mod under_lock;
 

@@ -1,24 +1,24 @@
 //! What a desk of a soak left, and whether it is what its sessions were told.
 
+use super::TURNS;
 use super::seat::Tally;
-use anyhow::{Context, Result, bail};
 use cred_book::Book;
 use cred_desk::{AccountState, Closed, Entry, EntryWriter};
 
 /// The writer refused the entry.
 #[derive(Clone, Copy, Debug, PartialEq, Eq)]
-pub(crate) struct Refused;
+pub(super) struct Refused;
 
 /// Keeps a book of its own, and refuses one entry in five.
 #[derive(Drop)]
-pub(crate) struct Keeper {
+pub(super) struct Keeper {
     book: Book,
     kept: u64,
     refused: u64,
 }
 
 impl Keeper {
-    pub(crate) fn new(book: Book) -> Keeper {
+    pub(super) fn new(book: Book) -> Keeper {
         Keeper {
             book,
             kept: 0,
@@ -26,7 +26,7 @@ impl Keeper {
         }
     }
 
-    pub(crate) fn book(&self) -> &Book {
+    pub(super) fn book(&self) -> &Book {
         &self.book
     }
 }
@@ -68,29 +68,28 @@ fn is_same(one: &Book, other: &Book) -> bool {
 
 /// A desk that was ended.
 #[derive(Drop)]
-pub(crate) struct Ended {
+pub(super) struct Ended {
     /// The whole journal, what was handed out before the end too, and what each session counted.
-    pub(crate) closed: Closed,
-    /// How many entries each session added; none at a plain desk.
-    pub(crate) additions: Vec<u64>,
+    pub(super) closed: Closed,
+    /// How many entries each session added.
+    pub(super) additions: Vec<u64>,
     /// What each session counted.
-    pub(crate) tallies: Vec<Tally>,
-    /// None at a plain desk.
-    pub(crate) keeper: Option<Keeper>,
+    pub(super) tallies: Vec<Tally>,
+    pub(super) keeper: Keeper,
     /// How many entries a lost session made, and how many the desk missed.
-    pub(crate) lost: u64,
-    pub(crate) missing: u64,
+    pub(super) lost: u64,
+    pub(super) missing: u64,
 }
 
 impl Ended {
-    pub(crate) fn into_book(self) -> Book {
+    pub(super) fn into_book(self) -> Book {
         let Ended { closed, .. } = self;
         let Closed { book, .. } = closed;
         book
     }
 
     /// What all sessions counted.
-    pub(crate) fn total(&self) -> Tally {
+    pub(super) fn total(&self) -> Tally {
         let mut total = Tally::NONE;
         for tally in &self.tallies {
             total = total.plus(tally);
@@ -101,62 +100,55 @@ impl Ended {
     /// Compares the journal, the book and the counts.
     ///
     /// Errors: what isn't as the sessions were told.
-    pub(crate) fn judge(&self, opening: &Book, turns: u64) -> Result<()> {
-        if self.total().done != turns {
-            bail!("a session failed");
+    pub(super) fn judge(&self, opening: &Book) -> Result<(), &'static str> {
+        if self.total().done != TURNS {
+            return Err("a session failed");
         }
         self.judge_journal(opening)?;
         self.judge_counts()?;
-        match &self.keeper {
-            Some(keeper) => self.judge_keeper(keeper),
-            None => Ok(()),
-        }
+        self.judge_keeper()
     }
 
     /// The journal leads from the opening book to the one that is left.
-    fn judge_journal(&self, opening: &Book) -> Result<()> {
-        let mut book = opening.copy().context("copying the book")?;
+    fn judge_journal(&self, opening: &Book) -> Result<(), &'static str> {
+        let mut book = opening.copy().map_err(|_| "no memory")?;
         for entry in &self.closed.journal {
             make_change(&mut book, entry);
         }
         if !is_same(&book, &self.closed.book) {
-            bail!("the journal leads to another book");
+            return Err("the journal leads to another book");
         }
         Ok(())
     }
 
     /// The desk counted what each session was told, and that is the journal.
-    fn judge_counts(&self) -> Result<()> {
-        let counts = &self.closed.counts;
-        if counts.len() != self.tallies.len() {
-            bail!("a session isn't counted");
-        }
-        for (place, (tally, count)) in self.tallies.iter().zip(counts.iter()).enumerate() {
-            let additions = self.additions.get(place).copied().unwrap_or(0);
-            if tally.changes != *count || tally.additions != additions {
-                bail!("a session was told of other entries than are counted");
+    fn judge_counts(&self) -> Result<(), &'static str> {
+        let counts = self.closed.counts.iter().zip(self.additions.iter());
+        for (tally, (count, additions)) in self.tallies.iter().zip(counts) {
+            if tally.changes != *count || tally.additions != *additions {
+                return Err("a session was told of other entries than are counted");
             }
         }
         let total = self.total();
         if total.changes.saturating_add(total.additions) != self.closed.journal.len() as u64 {
-            bail!("the counts don't add up to the journal");
+            return Err("the counts don't add up to the journal");
         }
         if self.missing != self.lost {
-            bail!("the desk missed another number of entries than a lost session made");
+            return Err("the desk missed other entries than a lost session made");
         }
         Ok(())
     }
 
     /// The writer keeps the book, and refused what sessions were told that it did.
-    fn judge_keeper(&self, keeper: &Keeper) -> Result<()> {
-        if !is_same(&keeper.book, &self.closed.book) {
-            bail!("the writer keeps another book");
+    fn judge_keeper(&self) -> Result<(), &'static str> {
+        if !is_same(&self.keeper.book, &self.closed.book) {
+            return Err("the writer keeps another book");
         }
-        if keeper.kept != self.closed.journal.len() as u64 {
-            bail!("the writer kept another number of entries");
+        if self.keeper.kept != self.closed.journal.len() as u64 {
+            return Err("the writer kept another number of entries");
         }
-        if keeper.refused != self.total().unkept {
-            bail!("sessions were told of another number of refusals");
+        if self.keeper.refused != self.total().unkept {
+            return Err("sessions were told of another number of refusals");
         }
         Ok(())
     }

@@ -5,9 +5,9 @@ ghost use Rattle.cred_desk.specs.Naming.{IsNamed, StartsAt};
 
 use super::ended::{Ended, Keeper, Refused};
 use super::pool::{Addition, Pool};
-use super::seat::{Seat, Settle, Settled, Tally, hand_in, seats};
-use super::{Ending, Round, SESSIONS};
-use cred_book::{Book, BookError, Worked};
+use super::seat::{Seat, Tally, hand_in, seats};
+use super::{Ending, Round, SESSIONS, TURNS};
+use cred_book::{Book, BookError};
 use cred_desk::{
     Closed, Entry, Handed, KeepError, Kept, KeptDesk, Naming, Opened, Remains, Session, Unclosed,
 };
@@ -20,7 +20,7 @@ use std::thread::{Threads, for_each_mut, join};
 const PIECES: u64 = 32;
 
 /// None if the desk or memory failed.
-pub(crate) fn serve<R: Threads + Wait + Sync>(
+pub(super) fn serve<R: Threads + Wait + Sync>(
     rt: &R,
     alloc: Global,
     book: &Book,
@@ -73,7 +73,7 @@ fn operate_all<J: Naming + Send + Sync, R: Threads + Wait + Sync>(
 ) -> Option<Served<J>>
     requires { J.loads ≡ true }
 {
-    let seats = seats(alloc, sessions, round.seed, round.turns)?;
+    let seats = seats(alloc, sessions, round.seed)?;
     let floor = Floor {
         rt,
         alloc,
@@ -188,7 +188,7 @@ fn end<J: Naming, R: Wait>(
         },
         additions,
         tallies,
-        keeper: Some(keeper),
+        keeper,
         lost,
         missing,
     })
@@ -254,7 +254,7 @@ impl<'a, J: Naming, R: Threads + Wait + Sync> Floor<'a, J, R> {
     /// Does a session's turns, up to one that fails. Three kinds of eight are additions. Now and
     /// then the session is told the desk's list.
     fn serve(&self, seat: &mut Seat<J>) {
-        for _turn in 0..seat.turns {
+        for _turn in 0..TURNS / u64::from(SESSIONS) {
             if seat.draws.next() % 64 == 0 && !self.tell(&mut seat.session) {
                 return;
             }
@@ -299,17 +299,5 @@ impl<'a, J: Naming, R: Threads + Wait + Sync> Floor<'a, J, R> {
             Err(KeepError::Book(_)) => return None,
         }
         Some(())
-    }
-}
-
-impl<J: Naming, R: Wait> Settle<J, R> for KeptDesk<J, Keeper> {
-    fn try_settle(&self, rt: &R, session: &mut Session<J>, work: Worked) -> Settled {
-        match self.settle(rt, session, work) {
-            Ok((reply, _told)) => Settled::Replied(reply),
-            Err(unsettled) => match unsettled.into_parts() {
-                (_work, KeepError::Writer(Refused)) => Settled::Unkept,
-                (_work, KeepError::Book(_)) => Settled::Failed,
-            },
-        }
     }
 }

@@ -17,7 +17,7 @@ const SETTINGS: [&str; 2] = [
 
 /// Names, two passwords with a record of each, and two settings.
 #[derive(Drop)]
-pub(crate) struct Pool {
+pub(super) struct Pool {
     names: Vec<Name>,
     passwords: [Password; 2],
     records: [Record; 2],
@@ -26,7 +26,7 @@ pub(crate) struct Pool {
 
 /// What whoever keeps the book adds.
 #[derive(Clone, Copy)]
-pub(crate) enum Addition {
+pub(super) enum Addition {
     Admit(Name),
     Load(Name, Record),
     Delete(Name),
@@ -34,7 +34,7 @@ pub(crate) enum Addition {
 
 impl Pool {
     /// None if there is no memory.
-    pub(crate) fn new<R: Threads + Sync>(rt: &R, alloc: Global) -> Option<Pool> {
+    pub(super) fn new<R: Threads + Sync>(rt: &R, alloc: Global) -> Option<Pool> {
         let mut names = Vec::with_capacity(alloc, NAMES).ok()?;
         for place in 0..NAMES {
             let name = format!(in alloc; "name{place}").ok()?;
@@ -74,7 +74,7 @@ impl Pool {
     }
 
     /// An operation of any kind.
-    pub(crate) fn request(&self, draws: &mut Draws) -> Option<Request> {
+    pub(super) fn request(&self, draws: &mut Draws) -> Option<Request> {
         let name = self.name(draws)?;
         let pw = self.password(draws);
         let setting = self.setting(draws);
@@ -93,7 +93,7 @@ impl Pool {
     }
 
     /// An addition of any kind.
-    pub(crate) fn addition(&self, draws: &mut Draws) -> Option<Addition> {
+    pub(super) fn addition(&self, draws: &mut Draws) -> Option<Addition> {
         let name = self.name(draws)?;
         Some(match draws.next() % 3 {
             0 => Addition::Admit(name),
@@ -105,19 +105,19 @@ impl Pool {
 
 /// Numbers that look drawn, and are the same in each run: a congruence of Knuth's.
 #[derive(Clone, Copy)]
-pub(crate) struct Draws {
+pub(super) struct Draws {
     state: u64,
 }
 
 impl Draws {
-    pub(crate) fn new(seed: u64) -> Draws {
+    pub(super) fn new(seed: u64) -> Draws {
         let mut draws = Draws { state: seed };
         let _first = draws.next();
         draws
     }
 
     /// A number below 2^31.
-    pub(crate) fn next(&mut self) -> usize {
+    pub(super) fn next(&mut self) -> usize {
         self.state = self
             .state
             .wrapping_mul(6_364_136_223_846_793_005)

@@ -1,43 +1,44 @@
 //! What a session of a soak does, and what it counts.
 
+use super::SESSIONS;
+use super::ended::{Keeper, Refused};
 use super::pool::Draws;
-use cred_book::{Reply, Request, Worked};
-use cred_desk::{DeskError, Naming, Session};
+use cred_book::{Request, Worked};
+use cred_desk::{DeskError, KeepError, KeptDesk, Naming, Session};
 use cred_pool::NoGate;
 use std::alloc::Global;
+use std::sync::Wait;
 use std::thread::Threads;
 
 /// A session, with what its operations are drawn by.
 #[derive(Drop)]
-pub(crate) struct Seat<J: Naming> {
-    pub(crate) session: Session<J>,
-    pub(crate) draws: Draws,
-    pub(crate) tally: Tally,
-    /// How many operations it is to do.
-    pub(crate) turns: u64,
+pub(super) struct Seat<J: Naming> {
+    pub(super) session: Session<J>,
+    pub(super) draws: Draws,
+    pub(super) tally: Tally,
 }
 
 /// What a session was answered.
 #[derive(Clone, Copy, Debug, PartialEq, Eq)]
-pub(crate) struct Tally {
-    pub(crate) done: u64,
+pub(super) struct Tally {
+    pub(super) done: u64,
     /// How many settles made a change.
-    pub(crate) changes: u64,
+    pub(super) changes: u64,
     /// How many names were admitted and deleted, and records loaded.
-    pub(crate) additions: u64,
+    pub(super) additions: u64,
     /// How often the writer refused.
-    pub(crate) unkept: u64,
+    pub(super) unkept: u64,
 }
 
 impl Tally {
-    pub(crate) const NONE: Tally = Tally {
+    pub(super) const NONE: Tally = Tally {
         done: 0,
         changes: 0,
         additions: 0,
         unkept: 0,
     };
 
-    pub(crate) fn plus(&self, other: &Tally) -> Tally {
+    pub(super) fn plus(&self, other: &Tally) -> Tally {
         Tally {
             done: self.done.saturating_add(other.done),
             changes: self.changes.saturating_add(other.changes),
@@ -47,29 +48,14 @@ impl Tally {
     }
 }
 
-/// What became of work at a desk.
-#[derive(Clone, Copy)]
-pub(crate) enum Settled {
-    Replied(Reply),
-    /// The writer refused.
-    Unkept,
-    /// There was no memory.
-    Failed,
-}
-
-/// A desk of either kind.
-pub(crate) trait Settle<J: Naming, R> {
-    fn try_settle(&self, rt: &R, session: &mut Session<J>, work: Worked) -> Settled;
-}
-
 impl<J: Naming> Seat<J> {
     /// Begins, hashes with nothing held, and settles; a verify is closed without the lock. None if
     /// the desk or memory failed.
-    pub(crate) fn operate<R: Threads + Sync, D: Settle<J, R>>(
+    pub(super) fn operate<R: Threads + Wait + Sync>(
         &mut self,
         rt: &R,
         alloc: Global,
-        desk: &D,
+        desk: &KeptDesk<J, Keeper>,
         request: Request,
     ) -> Option<()> {
         if !request.is_for_current() {
@@ -84,50 +70,43 @@ impl<J: Naming> Seat<J> {
         match work.into_verify() {
             Ok(verify) => {
                 let _reply = self.session.close_verify(verify).ok()?;
+                Some(())
             }
-            Err(work) => match desk.try_settle(rt, &mut self.session, work) {
-                Settled::Replied(reply) => self.count(reply),
-                Settled::Unkept => self.tally.unkept = self.tally.unkept.saturating_add(1),
-                Settled::Failed => return None,
-            },
+            Err(work) => self.settle(rt, desk, work),
         }
-        Some(())
     }
 
-    fn count(&mut self, reply: Reply) {
-        if reply.makes_change() {
-            self.tally.changes = self.tally.changes.saturating_add(1);
+    fn settle<R: Wait>(&mut self, rt: &R, desk: &KeptDesk<J, Keeper>, work: Worked) -> Option<()> {
+        match desk.settle(rt, &mut self.session, work) {
+            Ok((reply, _told)) => {
+                let change = u64::from(reply.makes_change());
+                self.tally.changes = self.tally.changes.saturating_add(change);
+                Some(())
+            }
+            Err(unsettled) => match unsettled.into_parts() {
+                (_work, KeepError::Writer(Refused)) => {
+                    self.tally.unkept = self.tally.unkept.saturating_add(1);
+                    Some(())
+                }
+                (_work, KeepError::Book(_)) => None,
+            },
         }
     }
 }
 
 /// A seat for each session, which share the turns.
-pub(crate) fn seats<J: Naming>(
+pub(super) fn seats<J: Naming>(
     alloc: Global,
     sessions: Vec<Session<J>>,
     seed: u64,
-    turns: u64,
 ) -> Option<Vec<Seat<J>>> {
     let mut seats = Vec::with_capacity(alloc, sessions.len()).ok()?;
-    let share = turns / u64::from(super::SESSIONS);
-    let mut left = turns;
     for session in sessions {
-        let place = seats.len() as u64 + 1;
-        let turns = if place == u64::from(super::SESSIONS) {
-            left
-        } else {
-            share
-        };
-        left = left.saturating_sub(turns);
-        let draws = Draws::new(
-            seed.wrapping_mul(u64::from(super::SESSIONS))
-                .wrapping_add(place),
-        );
+        let place = seats.len() as u64;
         let seat = Seat {
             session,
-            draws,
+            draws: Draws::new(seed.wrapping_mul(u64::from(SESSIONS)).wrapping_add(place)),
             tally: Tally::NONE,
-            turns,
         };
         seats.push(seat).ok()?;
     }
@@ -135,7 +114,7 @@ pub(crate) fn seats<J: Naming>(
 }
 
 /// The sessions, and what each counted.
-pub(crate) fn hand_in<J: Naming>(
+pub(super) fn hand_in<J: Naming>(
     alloc: Global,
     seats: Vec<Seat<J>>,
 ) -> Option<(Vec<Session<J>>, Vec<Tally>)> {

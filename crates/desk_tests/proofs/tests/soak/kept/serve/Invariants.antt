@@ -1,5 +1,5 @@
 use Rattle.std.proofs.Common.{true}
-use Rattle.bench_desk.proofs.soak.kept.serve.Given as goal
+use Rattle.desk_tests.proofs.tests.soak.kept.serve.Given as goal
 
 -- the list that was just opened, from this book
 abbrev pub ghosts-serve_named-J-Naming : goal.ghosts-serve_named-J-Naming

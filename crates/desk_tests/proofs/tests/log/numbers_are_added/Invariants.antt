@@ -1,4 +1,4 @@
-use Rattle.log_tests.proofs.tests.numbers_are_added.Given as goal
+use Rattle.desk_tests.proofs.tests.log.numbers_are_added.Given as goal
 
 -- the log that was just made, of whose entries nothing has to hold
 abbrev pub ghosts-grow_new : goal.ghosts-grow_new
