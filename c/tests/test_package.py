@@ -85,11 +85,9 @@ class Package(unittest.TestCase):
         """A program built by pkg-config over what `make install` put there."""
         need("pkg-config")
         prefix = ROOM / "installed"
-        said = run("sh", "-c", f"umask 077; make install PREFIX={prefix}")
+        run("sh", "-c", f"umask 077; make install PREFIX={prefix}")
         if files_below(prefix) != INSTALLED:
             self.fail(f"not the same: {files_below(prefix) ^ INSTALLED}")
-        if "run ldconfig" not in said:
-            self.fail(said)
         for it in prefix.rglob("*"):  # everybody may read it, whoever installed it
             wanted = 0o755 if it.is_dir() else 0o644
             if stat.S_IMODE(it.stat().st_mode) != wanted:
@@ -118,19 +116,18 @@ class Package(unittest.TestCase):
             run(room / "out" / f"threads-{kind}")
 
     def test_debian_symbols(self):
-        """dpkg finds the symbols that Debian's package says, each since its version."""
-        need("dpkg-gensymbols")
-        room = ROOM / "symbols"
-        (room / "debian").mkdir(parents=True)
-        (room / "debian/control").write_text("Source: rigzumal\n\nPackage: librigzumal1\n")
-        words = ("-c4", "-plibrigzumal1", f"-v{VERSION}", f"-e{OUT / 'librigzumal.so.1'}")
-        run(
-            "dpkg-gensymbols",
-            *words,
-            f"-I{TOP.parent / 'packaging/librigzumal1/symbols'}",
-            "-Osymbols",
-            at=room,
+        """Debian's package says the library's symbols, each since a version that there was."""
+        said = (TOP.parent / "packaging/librigzumal1/symbols").read_text().splitlines()
+        self.assertEqual(said[0], "librigzumal.so.1 librigzumal1 #MINVER#")
+        since = dict(re.fullmatch(r" (\S+) (\d+\.\d+\.\d+)", line).groups() for line in said[1:])
+        shown = run("nm", "-D", "--defined-only", OUT / "librigzumal.so.1").split()[2::3]
+        self.assertEqual(
+            set(since), {it.replace("@@", "@") if "@" in it else f"{it}@{it}" for it in shown}
         )
+        for version in since.values():
+            self.assertLessEqual(
+                *([int(it) for it in text.split(".")] for text in (version, VERSION))
+            )
 
     def test_symbols_are_bound_within(self):
         """A program's own functions with names of libargon2's aren't called by the library."""
