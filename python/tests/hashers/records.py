@@ -1,0 +1,35 @@
+"""What the tests of the hashers share: records of other programs, a hasher that is quick, and the
+calls of the library counted."""
+
+import here  # noqa: F401 (before rigzumal)
+import rigzumal
+from rigzumal import PasswordHasher
+
+# Of the reference library's own tests, and one of passlib.
+ARGON2 = "$argon2id$v=19$m=256,t=2,p=1$c29tZXNhbHQ$nf65EOgLrQMR/uIPnA4rEsF5h7TKyQwu9U1bMCHGi/4"
+OLD = "$argon2i$m=256,t=2,p=1$c29tZXNhbHQ$/U3YPXYsSb3q9XxHvc0MLxur+GP960kN9j7emXX8zwY"
+SMALL = PasswordHasher(time_cost=2, memory_cost=256, parallelism=1)
+
+
+class Calls:
+    """The library, with the name and the last argument of each call noted."""
+
+    def __init__(self):
+        self.library, self.made = rigzumal._library._library, []
+
+    def __enter__(self):
+        rigzumal._library._library = self
+        return self
+
+    def __exit__(self, *_):
+        rigzumal._library._library = self.library
+
+    def names(self):
+        return [name for name, _ in self.made]
+
+    def __getattr__(self, name):
+        def call(*given):
+            self.made.append((name, given[-1]))
+            return getattr(self.library, name)(*given)
+
+        return call

@@ -1,0 +1,199 @@
+"""Tests of hashers as values: their defaults, what makes them equal, and their secrets."""
+
+import copy
+import os
+import pathlib
+import pickle
+import subprocess
+import sys
+import unittest
+
+from records import ARGON2, SMALL, Calls
+
+import rigzumal
+from rigzumal import PasswordHasher, ScryptHasher, Type
+
+
+class Defaults(unittest.TestCase):
+    """What a user has who names nothing."""
+
+    def test_of_hashers(self):
+        argon2 = PasswordHasher()
+        self.assertEqual(argon2.costs, "$argon2id$v=19$m=65536,t=3,p=4")
+        self.assertEqual(ScryptHasher().costs, "$scrypt$ln=17,r=8,p=1")
+        for hasher, front in (
+            (argon2, "$argon2id$v=19$m=65536,t=3,p=4$"),
+            (ScryptHasher(), "$scrypt$ln=17,r=8,p=1$"),
+        ):
+            record = hasher.hash("x")
+            self.assertTrue(record.startswith(front), record)
+            parts = rigzumal.parts(record)
+            self.assertEqual((parts.salt_size, parts.tag_size), (16, 32))
+            self.assertFalse(hasher.check_needs_rehash(record))
+        self.assertEqual((argon2.threads, argon2.secret, argon2.secrets), (1, None, ()))
+        self.assertEqual((argon2.type, int(argon2.type)), (Type.ID, 2))
+
+    def test_of_the_functions(self):
+        costs = {"time_cost": 1, "memory_cost": 8, "parallelism": 1}
+        named = {"hash_len": 32, "type": Type.ID, "version": 0x13, "secret": b"", "threads": 1}
+        tag = rigzumal.argon2("x", b"somesalt", **costs)
+        self.assertEqual(tag, rigzumal.argon2("x", b"somesalt", **costs, **named, associated=b""))
+        key = rigzumal.scrypt("x", b"somesalt", log2_n=1, r=1, p=1)
+        self.assertEqual(key, rigzumal.scrypt("x", b"somesalt", log2_n=1, r=1, p=1, length=32))
+
+    def test_of_what_is_kept(self):
+        script = "import rigzumal; print(rigzumal.keep(0), rigzumal.keep(2**21), rigzumal.keep(0))"
+        for bound, wanted in (({}, 2**26), ({"RIGZUMAL_KEEP": str(2**25)}, 2**25)):
+            env = {**os.environ, **bound}
+            done = subprocess.run([sys.executable, "-c", script], capture_output=True, env=env)
+            self.assertEqual(done.stdout.decode(), f"{wanted} 0 {2**21}\n")
+        for wrong, kind in ((-1, OverflowError), (2**63, OverflowError), ("0", TypeError)):
+            self.assertRaises(kind, rigzumal.keep, wrong)
+
+    def test_modules_that_take_long_are_not_imported(self):
+        """Beside ctypes and enum all are small: twice argon2-cffi's time at most."""
+        package = str(pathlib.Path(rigzumal.__file__).parents[1])
+        script = (
+            f"import sys; sys.path.insert(0, {package!r}); import rigzumal; print(*sys.modules)"
+        )
+        done = subprocess.run([sys.executable, "-I", "-S", "-c", script], capture_output=True)
+        found = set(done.stdout.decode().split())
+        self.assertIn("rigzumal._hashers", found)
+        slow = {"argparse", "ast", "dataclasses", "getpass", "inspect", "pathlib", "re", "typing"}
+        self.assertEqual(found & slow, set())
+
+
+class Values(unittest.TestCase):
+    """Hashers and parts are values."""
+
+    def test_they_do_not_change(self):
+        for value, name in ((SMALL, "time_cost"), (ScryptHasher(), "log2_n")):
+            for name in (name, "hash_len", "another"):
+                with self.assertRaises(AttributeError):
+                    setattr(value, name, 1)
+                with self.assertRaises(AttributeError):
+                    delattr(value, name)
+        with self.assertRaises(AttributeError):
+            rigzumal.parts(ARGON2).memory = 1
+
+    def test_equal_ones_are_equal_in_each_number(self):
+        self.assertEqual(SMALL, PasswordHasher(2, 256, 1))
+        self.assertEqual(hash(SMALL), hash(PasswordHasher(2, 256, 1)))
+        self.assertNotEqual(ScryptHasher(), PasswordHasher())
+        self.assertNotEqual(SMALL, "another")
+        self.assertEqual(rigzumal.parts(ARGON2), rigzumal.parts(ARGON2))
+        others = [
+            SMALL.replace(**{name: number})
+            for name, number in (
+                ("time_cost", 3),
+                ("memory_cost", 257),
+                ("parallelism", 2),
+                ("hash_len", 31),
+                ("salt_len", 15),
+                ("type", Type.I),
+                ("secret", b""),
+                ("secret", b"pepper"),
+                ("secrets", [b"pepper"]),
+                ("secrets", [b"pepper", b"salt"]),
+                ("secrets", [b"salt", b"pepper"]),
+                ("threads", 2),
+            )
+        ]
+        self.assertEqual(len({SMALL, *others}), 13)
+
+    def test_a_change_leaves_the_others(self):
+        hasher = PasswordHasher(1, 16, 2, 33, 17, Type.D, b"pepper", 3)
+        self.assertEqual(hasher.replace(hash_len=32).replace(hash_len=33), hasher)
+        self.assertEqual(hasher.replace(time_cost=2).time_cost, 2)
+        with self.assertRaises(rigzumal.InvalidNumbersError):
+            hasher.replace(time_cost=0)
+
+    def test_they_are_shown_without_a_secret(self):
+        shown = "PasswordHasher(time_cost=1, memory_cost=8, parallelism=1, hash_len=32, salt_len=16"
+        shown += ", type=<Type.ID: 2>, threads=1)"
+        for hasher in (
+            PasswordHasher(1, 8, 1),
+            PasswordHasher(1, 8, 1, secret=b"pepper"),
+            PasswordHasher(1, 8, 1, secrets=[b"pepper", b"older"]),
+        ):
+            self.assertEqual(repr(hasher), shown)
+        shown = "ScryptHasher(log2_n=4, block_size=8, parallelism=1, hash_len=32, salt_len=16)"
+        self.assertEqual(repr(ScryptHasher(4)), shown)
+
+    def test_copies_are_equal(self):
+        for value in (SMALL.replace(secrets=[b"a", b"b"]), ScryptHasher(4), rigzumal.parts(ARGON2)):
+            for made in (copy.copy(value), copy.deepcopy(value), pickle.loads(pickle.dumps(value))):
+                self.assertEqual(made, value)
+
+
+class Rotation(unittest.TestCase):
+    """Peppers that change: verified with any, made with the first."""
+
+    OLD, NEW = (SMALL.replace(secret=it) for it in (b"old", b"new"))
+    BOTH = SMALL.replace(secrets=[b"new", bytearray(b"old")])
+
+    def test_records_of_each_are_verified(self):
+        for hasher in (self.OLD, self.NEW, self.BOTH):
+            self.assertIs(self.BOTH.verify(hasher.hash("x"), "x"), True)
+        for record in (self.OLD.hash("y"), self.NEW.hash("y"), SMALL.hash("x")):
+            with self.assertRaises(rigzumal.VerifyMismatchError):
+                self.BOTH.verify(record, "x")
+
+    def test_records_are_of_the_first(self):
+        record = self.BOTH.hash("x")
+        self.assertIs(self.NEW.verify(record, "x"), True)
+        with self.assertRaises(rigzumal.VerifyMismatchError):
+            self.OLD.verify(record, "x")
+
+    def test_those_of_older_ones_are_made_anew(self):
+        self.assertIsNone(self.BOTH.verify_and_rehash(self.NEW.hash("x"), "x"))
+        made = self.BOTH.verify_and_rehash(self.OLD.hash("x"), "x")
+        self.assertIs(self.NEW.verify(made, "x"), True)
+        self.assertIsNone(self.BOTH.verify_and_rehash(made, "x"))
+        for record in (self.NEW.hash("y"), self.OLD.hash("y")):
+            with self.assertRaises(rigzumal.VerifyMismatchError):
+                self.BOTH.verify_and_rehash(record, "x")
+
+    def test_those_of_other_costs_are_made_anew(self):
+        for hasher in (SMALL, self.NEW, ScryptHasher(log2_n=4)):
+            self.assertIsNone(hasher.verify_and_rehash(hasher.hash("x"), "x"))
+            old = hasher.replace(salt_len=17).hash("x")
+            made = hasher.verify_and_rehash(old, "x")
+            self.assertFalse(hasher.check_needs_rehash(made))
+            self.assertIs(hasher.verify(made, "x"), True)
+        with self.assertRaises(rigzumal.InvalidRecordError):
+            SMALL.verify_and_rehash("x", "x")
+
+    def test_a_hash_for_each_that_is_tried(self):
+        for record, tried in ((self.NEW.hash("x"), 1), (self.OLD.hash("x"), 2), (ARGON2, 2)):
+            with Calls() as calls:
+                try:
+                    self.BOTH.verify(record, "x")
+                except rigzumal.VerifyMismatchError:
+                    pass
+            self.assertEqual(calls.names().count("rigzumal_check_with_secret_threads"), tried)
+        with Calls() as calls:
+            with self.assertRaises(rigzumal.InvalidRecordError):
+                self.BOTH.verify(ARGON2[:-1], "x")
+        self.assertEqual(calls.names().count("rigzumal_check_with_secret_threads"), 1)
+
+    def test_the_first_is_the_secret(self):
+        """So that who refuses hashers with a secret refuses these."""
+        self.assertEqual((self.BOTH.secret, self.BOTH.secrets), (b"new", (b"new", b"old")))
+        again = self.BOTH.replace(secrets=[b"newer", b"new"])
+        self.assertEqual((again.secret, again.secrets), (b"newer", (b"newer", b"new")))
+        self.assertEqual(self.BOTH.replace(time_cost=1).secrets, (b"new", b"old"))
+        self.assertEqual(self.BOTH.replace(secrets=()).secret, None)
+
+    def test_bad_secrets(self):
+        with self.assertRaises(ValueError):
+            PasswordHasher(secret=b"", secrets=[b"x"])
+        with self.assertRaises(ValueError):
+            self.BOTH.replace(secret=b"other")
+        for wrong in ([None], ["x"], 5):
+            with self.assertRaises(TypeError):
+                PasswordHasher(secrets=wrong)
+
+
+if __name__ == "__main__":
+    unittest.main()
