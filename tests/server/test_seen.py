@@ -154,7 +154,13 @@ class Audited(Case):
             text = path.read_text()
             lines = [json.loads(line) for line in text.splitlines()]
             ours: dict[str, object] = {"uid": os.getuid(), "pid": os.getpid()}
-            whole: dict[str, object] = {"door": "admin", **ours, "operation": "account", "name": "ada", "answer": "ok"}
+            whole: dict[str, object] = {
+                "door": "admin",
+                **ours,
+                "operation": "account",
+                "name": "ada",
+                "answer": "ok",
+            }
             self.assertEqual(lines[0], {"time": lines[0]["time"], **whole})
             self.assertRegex(lines[0]["time"], r"^\d{4}-\d\d-\d\dT\d\d:\d\d:\d\dZ$")
             self.assertEqual(

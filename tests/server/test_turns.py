@@ -1,10 +1,13 @@
-"""Tests of the server's places and turns, by themselves."""
+"""Tests of the server's places, turns and rounds, by themselves."""
 
 from __future__ import annotations
 
+import asyncio
+import time
 import unittest
 
 from served import Case
+from daemon.rounds import Rounds
 from daemon.turns import Turns
 
 
@@ -108,6 +111,98 @@ class Places(Case):
         self.assertEqual(turns.rest(), [])
         turns.give_back(1.0)
         self.assertEqual(self.new(), ["a"])
+
+
+class RoundsOfChanges(Case):
+    """Whether somebody logs in is set by hand; each change that is sent is noted."""
+
+    def setUp(self) -> None:
+        super().setUp()
+        self.sent: list[str] = []
+        self.is_busy = True
+        self.rounds = Rounds(lambda: self.is_busy)
+
+    def take(self, names: str, is_alone: bool = False) -> None:
+        for name in names:
+            self.rounds.take(lambda name=name: self.sent.append(name), is_alone)  # type: ignore[misc]
+
+    async def rested(self, count: int) -> None:
+        """Waits until so many were sent, and for nothing else."""
+        end = time.monotonic() + 10
+        while len(self.sent) < count and time.monotonic() < end:
+            await asyncio.sleep(0.001)
+        self.assertEqual(len(self.sent), count)
+
+    def test_nobody_logs_in(self) -> None:
+        """Each goes at once."""
+        self.is_busy = False
+        self.take("abc")
+        self.take("de", is_alone=True)
+        self.assertEqual(self.sent, list("abcde"))
+
+    def test_rounds(self) -> None:
+        """Those that come meanwhile go together in the next round, behind a rest."""
+
+        async def run() -> None:
+            self.take("abcd")
+            self.assertEqual(self.sent, ["a"])
+            await asyncio.sleep(0.02)
+            self.rounds.done()
+            self.assertEqual(self.sent, ["a"], "there is no rest")
+            begun = time.monotonic()
+            await self.rested(4)
+            self.assertGreater(time.monotonic() - begun, 0.02, "the rest is shorter than the round")
+            self.take("e")
+            for _ in range(2):
+                self.rounds.done()
+            await asyncio.sleep(0.05)
+            self.assertEqual(len(self.sent), 4, "the round isn't over")
+            self.rounds.done()
+            await self.rested(5)
+
+        asyncio.run(run())
+
+    def test_alone(self) -> None:
+        """Of those that are a sync each, one goes in a round."""
+
+        async def run() -> None:
+            self.take("ab", is_alone=True)
+            self.take("xyz")
+            self.rounds.done()
+            await self.rested(5)
+            self.assertEqual(self.sent, ["a", "x", "y", "z", "b"])
+            self.take("cd", is_alone=True)
+            for _ in range(4):
+                self.rounds.done()
+            await self.rested(6)
+
+        asyncio.run(run())
+
+    def test_a_rest_for_nobody(self) -> None:
+        """A rest follows a round also if nothing waits; a long round has a bounded rest."""
+
+        async def run() -> None:
+            self.take("a")
+            self.rounds.began -= 60
+            self.rounds.done()
+            self.take("b")
+            self.assertEqual(self.sent, ["a"])
+            begun = time.monotonic()
+            await self.rested(2)
+            self.assertLess(time.monotonic() - begun, 5)
+
+        asyncio.run(run())
+
+    def test_the_last_login_ends(self) -> None:
+        """What waits goes on at once when nobody logs in any more."""
+
+        async def run() -> None:
+            self.take("abc")
+            self.is_busy = False
+            self.rounds.done()
+            self.assertEqual(self.sent, ["a", "b", "c"])
+
+        asyncio.run(run())
 
 
 if __name__ == "__main__":

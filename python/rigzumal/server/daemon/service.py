@@ -20,6 +20,7 @@ from .book import UNAVAILABLE, Book
 from .doors import Client, Guests
 from .log import Seldom, log, log_fault, notify
 from .options import OPERATIONS, Operation, Options
+from .rounds import Rounds
 from .tally import Tally
 from .turns import Turns
 
@@ -44,6 +45,7 @@ class Line:
     turns: Turns[Line]
     share: float
     began: float  # to wait for its turn, or for the book
+    is_in_round: bool = False
 
     @property
     def name(self) -> str:
@@ -58,6 +60,7 @@ class Service:
         self.places = float(options.workers() + 1)
         self.hashes = Turns(self.places, self.start)
         self.others = Turns(float(OTHERS), self.start)
+        self.logins, self.rounds = 0, Rounds(lambda: self.logins > 0)
         self.hash_seconds = float("inf")  # what a hash takes if nothing else waits
         self.guests = [Guests(door) for door in options.doors]
         self.audit = Audit(options.audit) if options.audit else None
@@ -144,11 +147,25 @@ class Service:
         if self.is_early(line):
             line.client.answer(line.tag, b"later")
             return False
-        asked = b"show" if line.words[0] == b"known" else line.words[0]
-        self.book.ask([asked, *line.words[1:]], partial(self.answered, line))
+        hashes, changes = line.operation.hashes, line.operation.changes
+        self.logins += hashes and not changes
+        line.is_in_round = changes and not (hashes and self.hash_seconds > SYNC)
+        if line.is_in_round:
+            self.rounds.take(partial(self.send, line), not hashes)
+        else:
+            self.send(line)
         return True
 
+    def send(self, line: Line) -> None:
+        line.began = time.monotonic()
+        asked = b"show" if line.words[0] == b"known" else line.words[0]
+        self.book.ask([asked, *line.words[1:]], partial(self.answered, line))
+
     def answered(self, line: Line, said: bytes) -> None:
+        is_login = line.operation.hashes and not line.operation.changes
+        self.logins -= is_login
+        if line.is_in_round:
+            self.rounds.done()
         line.turns.give_back(line.share)
         if line.words[0] == b"known":
             said = b"yes" if said[:1] == b"$" else KNOWN.get(said, said)
@@ -158,8 +175,7 @@ class Service:
             self.note(line, said, partial(self.answer_written, line, said))
         else:
             line.client.answer(line.tag, said)
-        hashes_alone = line.operation.hashes and not line.operation.changes
-        if hashes_alone and said in HASHED:
+        if is_login and said in HASHED:
             self.measure(time.monotonic() - line.began)
         if said == b"yes" and line.operation.tries:
             self.note(line, said)
