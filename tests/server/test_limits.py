@@ -123,6 +123,9 @@ class Limits(Case):
         """Where a change mostly waits for the disk, many are at the book at once, and leave room for others."""
         with serving("--at-once", "4", faults="mute=change") as service:
             service.enrol(ada="secret")
+            client = service.client()
+            for _ in range(100):  # the quickest of these is what a hash takes
+                self.assertEqual(client.ask(f"verify ada {SECRET}"), "yes")
             clients = [service.client() for _ in range(16)]
             for client in clients:
                 client.send(f"a change ada {SECRET} {SECRET}\n".encode())
