@@ -24,6 +24,7 @@ FAST_BOOK = HERE / "fast_book.py"
 CREDKEEP = pathlib.Path(os.environ.get("CREDKEEP", TOP / "crates/credkeep/out/credkeep"))
 CHEAP = "$argon2id$v=19$m=64,t=1,p=1"
 PYTHON = os.environ.get("SERVER_PYTHON", "/usr/bin/python3")
+os.environ.setdefault("RIGZUMAL_LIBRARY", str(TOP / "c/out/librigzumal.so.1"))
 sys.path.insert(0, str(TOP / "python/rigzumal/server"))  # as the server's program does
 
 

@@ -1,7 +1,7 @@
 """64 clients on 8 accounts through the server's sockets, while the server and the book are killed.
 
 Every new password is another one, so an answer that lets a password in names the record that stood.
-rigzumal.accounts.history judges these, and those without an answer as made once or never. An answer
+rigzumal.accounts.torture judges these, and those without an answer as made once or never. An answer
 that doesn't let a password in is judged apart: it must not lie within the time in which that password
 surely stood. What was answered before a kill has to be there after it. TORTURE_SECONDS in the
 environment is how long it goes on (60, with a kill every three), TORTURE_SEED its seed.
@@ -38,9 +38,12 @@ from served import (
     until,
 )
 
-# The checker alone: its package needs the built library.
-sys.path.insert(0, str(TOP / "python/rigzumal/accounts"))
-from history import Account, Attempt, Illegal, Operation, check  # noqa: E402
+sys.path.insert(0, str(TOP / "python"))
+try:
+    from rigzumal.accounts.torture._order import Attempt, Operation  # noqa: E402
+    from rigzumal.accounts.torture.history import Account, Illegal, check  # noqa: E402
+except ImportError as fault:
+    raise unittest.SkipTest(str(fault).partition(":")[0]) from None
 
 NAMES = [f"user{number}" for number in range(8)]
 MIX = {"verify": 8, "login": 3, "change": 4, "enrol": 3, "remove": 1, "upgrade": 2}

@@ -78,7 +78,9 @@ def debs() -> list[pathlib.Path]:
         if not (TOP / f"crates/{name}/out/{name}").exists():
             raise unittest.SkipTest(f"{name} isn't built")
     subprocess.run(
-        ["make", "-s", "-C", TOP / "c/pam", "all", "deb", "CPU="], check=True, stdout=subprocess.DEVNULL
+        ["make", "-s", "-C", TOP / "c/pam", "all", "deb", "CPU="],
+        check=True,
+        stdout=subprocess.DEVNULL,
     )
     found = sorted((TOP / "c/pam/out").glob("*.deb"))
     same([it.name.partition("_")[0] for it in found], ["libpam-rigzumal", "rigzumal-tools"])
