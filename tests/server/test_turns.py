@@ -80,11 +80,13 @@ class Places(Case):
         self.assertEqual(self.new(), list("abcd"))
         turns.take(2, "two", 1.0, "whole")
         turns.give_back(0.25)
+        turns.give_back(0.25)
         self.assertEqual(self.new(), ["e"])
         turns.take(3, "three", 0.25, "small")
-        for _ in range(3):
-            turns.give_back(0.25)
         self.assertEqual(self.new(), [], "a small one came before the whole one's turn")
+        for _ in range(2):
+            turns.give_back(0.25)
+        self.assertEqual(self.new(), [])
         turns.give_back(0.25)
         self.assertEqual(self.new(), ["whole"])
         turns.give_back(1.0)
