@@ -233,7 +233,7 @@ class Units(Case):
         self.assertTrue(families <= {"AF_UNIX"}, f"{families}")
 
     def test_packages(self) -> None:
-        """lintian has nothing against them, and each file of units/, completions/ and man/ is in one."""
+        """lintian has nothing against them, and each unit, page and module of the server is in one."""
         found = debs()
         listed = "".join(
             subprocess.run(
@@ -241,11 +241,9 @@ class Units(Case):
             ).stdout
             for it in found
         )
-        for path in [*(TOP / "units").iterdir(), *(TOP / "completions").iterdir()]:
-            self.assertTrue(
-                path.name in listed or f"completions/{path.stem}\n" in listed,
-                f"{path.name} is in no package",
-            )
+        modules = (TOP / "python/rigzumal/server/daemon").glob("*.py")
+        for path in [*(TOP / "units").iterdir(), *modules]:
+            self.assertIn(f"/{path.name}\n", listed)
         for path in (TOP / "man").iterdir():
             self.assertTrue(
                 f"/man{path.suffix[1:]}/{path.name}.gz" in listed, f"{path.name} is in no package"
