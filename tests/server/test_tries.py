@@ -184,6 +184,30 @@ class Tries(Case):
                 limiter.fail(name)
             self.assertEqual((list(limiter.many), list(limiter.few)), ([], ["one", "two"]))
 
+    def test_swept(self) -> None:
+        """A sweep forgets what is an hour old, and nothing else; the end of a wait is logged."""
+        clock, limiter = 0.0, Limiter(2)
+        with mock.patch.object(time, "monotonic", lambda: clock):
+            with self.assertLogs(log, "INFO") as logged:
+                for clock, name in (
+                    (0.0, "a"),
+                    (0.0, "w"),
+                    (0.0, "w"),
+                    (1800.0, "b"),
+                    (3000.0, "v"),
+                ):
+                    limiter.fail(name)
+                limiter.fail("v")
+                clock = 3600.5
+                limiter.drop_expired()
+                self.assertEqual((list(limiter.few), list(limiter.many)), (["b"], ["w", "v"]))
+                clock = 3601.5
+                limiter.drop_expired()
+                self.assertEqual((list(limiter.few), list(limiter.many)), (["b"], ["v"]))
+        said = [it.getMessage() for it in logged.records]
+        begun = [f"{name} has to wait after 2 failed tries" for name in "wv"]
+        self.assertEqual(said, [*begun, "w has to wait no more: no failed try for an hour"])
+
     def test_tries_are_forgotten(self) -> None:
         """An hour after a wait was over its tries are forgotten, and not before; a wait has a bound."""
         limiter, clock = Limiter(3), 0.0
