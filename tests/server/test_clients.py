@@ -425,6 +425,26 @@ class Clients(Case):
 
             asyncio.run(waits())
 
+    def test_python_sample(self) -> None:
+        """The Python of docs/SERVERS.md, as it is printed there."""
+        server, _ = ours()
+        found = re.search(r"```python\n(.*?)```", (TOP / "docs/SERVERS.md").read_text(), re.S)
+        assert found
+        with serving("--tries", "2") as service:
+            service.enrol(ada="secret")
+            sample: dict[str, Any] = {}
+            exec(found[1].replace("Client()", f"Client({str(service.path())!r})"), sample)
+            asked = [
+                sample["may_log_in"](*it)
+                for it in (("ada", "secret"), ("zoe", "x"), ("a b", "x" * 300))
+            ]
+            self.assertEqual(asked, [True, False, False])
+            self.assertEqual([sample["may_log_in"]("ada", "guess") for _ in range(2)], [False] * 2)
+            with self.assertRaises(server.Later):
+                sample["may_log_in"]("ada", "secret")
+        with self.assertRaises(server.Unavailable):
+            sample["may_log_in"]("ada", "secret")
+
     def test_php_client(self) -> None:
         """The PHP function of docs/SERVERS.md, as it is printed there."""
         need("php")
