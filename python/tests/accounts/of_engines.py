@@ -400,7 +400,7 @@ class OnServers:
         """It is no answer that was lost, though the statement may have been sent."""
         self.table()
         self.put(LOW.hash("one"))
-        for name in ("put_at_once", "commit"):
+        for name in ("put_at_once", "commit") if self.dialect.at_once else ("commit",):
             for error in (AttributeError("mine"), TypeError("mine"), NameError("mine")):
                 dialect = type(self.dialect)("users", "name", "record")
                 if name == "commit":

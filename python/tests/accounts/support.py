@@ -18,7 +18,7 @@ os.environ["PYTHONPATH"] = os.pathsep.join(filter(None, _PATHS))
 import rigzumal
 from rigzumal import PasswordHasher
 from rigzumal.accounts import Accounts, PerThread, Sqlite, _judgement
-from rigzumal.accounts._session import BlockingSession
+from rigzumal.accounts._session import BlockingSession, run  # noqa: F401: of each test
 from rigzumal.accounts.parts import Kind
 
 

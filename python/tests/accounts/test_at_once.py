@@ -9,9 +9,9 @@ from unittest import mock
 import engines
 import servers
 import support
-from engines import HIGH, LOW
+from support import HIGH, LOW
 from rigzumal.accounts import Accounts, MariaDB, OutcomeUnknown, Postgres, Reply, StoreFault
-from rigzumal.accounts.parts import Kind
+from rigzumal.accounts.parts import Kind, Request, Ticket
 
 
 class AtOnce:
@@ -157,7 +157,7 @@ class AtOnce:
             self.execute("INSERT INTO users VALUES ('ann', %s)", record)
         accounts = self.accounts()
         worked = accounts.work(
-            engines.Ticket(engines.Request(Kind.CHANGE, "ann", "one", "two"), record)
+            Ticket(Request(Kind.CHANGE, "ann", "one", "two"), record)
         )
         with self.assertRaises(StoreFault):
             accounts.commit(worked)
@@ -250,8 +250,8 @@ class OnPostgres(AtOnce, engines.Base):
             record = LOW.hash("one")
             self.put(record)
             accounts = self.accounts()
-            request = engines.Request(Kind.CHANGE, "ann", "one", "two")
-            worked = accounts.work(engines.Ticket(request, record))
+            request = Request(Kind.CHANGE, "ann", "one", "two")
+            worked = accounts.work(Ticket(request, record))
             if is_fit:
                 self.assertIs(accounts.commit(worked).reply, Reply.REPLACED)
                 continue
@@ -323,8 +323,8 @@ class OnMariaDB(AtOnce, engines.Base):
         record = LOW.hash("one")
         self.put("short")
         accounts = self.accounts(connect=lambda: self.server.connect(sql_mode=""))
-        request = engines.Request(Kind.RESET, "ann", "", "two")
-        worked = accounts.work(engines.Ticket(request, "short"))
+        request = Request(Kind.RESET, "ann", "", "two")
+        worked = accounts.work(Ticket(request, "short"))
         self.assertGreater(len(record), 90)
         with self.assertRaises(StoreFault):
             accounts.commit(worked)

@@ -5,12 +5,15 @@ import os
 import subprocess
 import sys
 import tempfile
+import threading
 import unittest
 
 import servers
 import support
-from engines import LOW, Base
-from rigzumal.accounts import Accounts, MariaDB, Reply, StoreFault
+from engines import Base
+from support import LOW
+from rigzumal.accounts import Accounts, MariaDB, Reply, StoreFault, Unavailable
+from rigzumal.accounts._session import Result
 from rigzumal.accounts.dialects import mariadb
 from rigzumal.accounts.parts import Kind
 
@@ -103,6 +106,67 @@ class OnMariaDB(Base):
             accounts.remove("ann", "two")
         removal = ["SELECT", "START", "UPDATE", "SELECT", "COMMIT"]
         self.assertEqual(found, ["SELECT"] * 2 + ["BEGIN", *removal])
+
+    def test_another_connection_of_an_old_number(self):
+        """Python gives a new object the number of one that is gone: it is asked anew."""
+        self.table()
+        self.put(LOW.hash("one"))
+        asked = []
+
+        class Session(support.BlockingSession):
+            async def execute(self, sql, *values):
+                asked.append(sql.split()[0])
+                return await super().execute(sql, *values)
+
+        for _ in range(3):
+            conn = self.server.connect()
+            support.run(self.dialect.prepare(Session(conn)))
+            support.run(self.dialect.prepare(Session(conn)))
+            conn.close()
+            del conn
+        self.assertEqual(asked, ["SHOW"] * 3)
+
+    def test_a_statement_that_was_ended_at_its_commit(self):
+        """max_statement_time may be over as the COMMIT is done: what stands tells."""
+        import pymysql
+
+        over = pymysql.err.OperationalError(1969, "max_statement_time exceeded")
+        for stands, expected in (("new", 1), ("old", OSError), ("other", ConnectionError)):
+            session = support.Scripted(over, Result([], 0), Result([(stands,)], 1))
+            put = self.dialect.put_at_once(session, "new", "ann", "old")
+            if expected == 1:
+                self.assertEqual(support.run(put), 1)
+            else:
+                with self.assertRaises(expected) as raised:
+                    support.run(put)
+                is_known = self.dialect.gave_up(raised.exception)
+                self.assertEqual(is_known, stands == "old")
+            self.assertEqual(session.statements[1][0], "ROLLBACK")
+
+    def test_a_server_that_only_reads(self):
+        """As in a failover that is under way: it is waited for, and nothing was done."""
+        self.table()
+        for name, record in (("ann", LOW.hash("one")), ("ben", None)):
+            self.put(record, name)
+        with self.server.root() as conn, conn.cursor() as cursor:
+            cursor.execute("SET GLOBAL read_only = 1")
+            self.addCleanup(self.writable)
+            impatient = self.accounts(patience=0.2)
+            for act in (
+                lambda: impatient.change("ann", "one", "two"),
+                lambda: impatient.enrol("ben", "two"),
+            ):
+                with self.assertRaisesRegex(Unavailable, "1290"):
+                    act()
+            timer = threading.Timer(0.7, self.writable)
+            timer.start()
+            accounts = self.accounts(patience=60.0)
+            self.assertIs(accounts.change("ann", "one", "two"), Reply.REPLACED)
+            timer.join()
+
+    def writable(self):
+        with self.server.root() as conn, conn.cursor() as cursor:
+            cursor.execute("SET GLOBAL read_only = 0")
 
     def test_found_rows(self):
         from pymysql.constants import CLIENT

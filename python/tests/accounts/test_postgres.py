@@ -15,7 +15,8 @@ from unittest import mock
 
 import servers
 import support
-from engines import HIGH, LOW, Base
+from engines import Base
+from support import HIGH, LOW
 from rigzumal import InvalidRecordError
 from rigzumal.accounts import (
     Accounts,
@@ -260,6 +261,75 @@ class OnPostgres(Base):
             caller.execute("SELECT 1 FROM nowhere")
         with self.assertRaisesRegex(StoreFault, "ROLLBACK"):
             run(self.dialect.commit(BlockingSession(caller)))
+
+    def test_a_commit_that_answers_rollback(self):
+        """Who swallows a statement's error has a transaction that has failed: it is said at
+        once, nothing was done, and nothing is looked for."""
+        self.table()
+        self.put(LOW.hash("one"))
+        accounts, calls = self.accounts(patience=60.0), []
+
+        def swallows(conn, reply):
+            calls.append(reply)
+            with contextlib.suppress(Exception):
+                conn.execute("SELECT 1 FROM nowhere")
+
+        with self.assertRaisesRegex(StoreFault, "ROLLBACK"):
+            accounts.change("ann", "one", "two", also=swallows)
+        self.assertEqual(calls, [Reply.REPLACED])
+        self.assertTrue(LOW.verify(self.stands(), "one"))
+
+    def test_an_index_that_is_not_valid(self):
+        """As CREATE UNIQUE INDEX CONCURRENTLY leaves one that found a key twice."""
+        self.execute("DROP TABLE IF EXISTS users")
+        self.execute("CREATE TABLE users (name text, record text)")
+        self.execute("CREATE UNIQUE INDEX one ON users (name)")
+        self.assertEqual(self.accounts().examine(), [])
+        self.execute("UPDATE pg_index SET indisvalid = false WHERE indexrelid = 'one'::regclass")
+        (fault,) = self.accounts().examine()
+        self.assertEqual((fault.code, fault.is_error), ("key-not-unique", True))
+
+    def test_a_trigger_that_notes_the_time(self):
+        """The usual updated_at is no fault: what it does was tried."""
+        self.execute(
+            "CREATE TABLE users (name text PRIMARY KEY, record text, updated_at timestamptz)"
+        )
+        self.execute(
+            "CREATE OR REPLACE FUNCTION touch() RETURNS trigger LANGUAGE plpgsql AS"
+            " 'BEGIN NEW.updated_at = now(); RETURN NEW; END'"
+        )
+        self.execute(
+            "CREATE TRIGGER tr BEFORE UPDATE ON users FOR EACH ROW EXECUTE FUNCTION touch()"
+        )
+        accounts = self.accounts()
+        self.assertEqual(accounts.examine(), [])
+        self.execute("INSERT INTO users (name) VALUES ('ann')")
+        self.assertIs(accounts.enrol("ann", "one"), Reply.ENROLLED)
+        self.assertIs(accounts.change("ann", "one", "two"), Reply.REPLACED)
+
+    def test_a_standby_that_is_promoted_a_moment_later(self):
+        """As an address that moved early leads there: it is waited for."""
+        primary = servers.PostgresServer("of-standby").start()
+        self.addCleanup(primary.kill)
+        with primary.connect() as conn:
+            conn.execute("CREATE TABLE users (name text PRIMARY KEY, record text)")
+            conn.execute("INSERT INTO users VALUES ('ann', %s), ('ben', NULL)", (LOW.hash("one"),))
+        standby = servers.PostgresServer("standby", primary).start()
+        self.addCleanup(standby.kill)
+        accounts = self.accounts(connect=standby.connect, patience=60.0)
+        self.assertIs(accounts.login("ann", "one"), Reply.YES)
+        impatient = self.accounts(connect=standby.connect, patience=0.2)
+        for act in (
+            lambda: impatient.change("ann", "one", "two"),
+            lambda: impatient.enrol("ben", "two"),
+        ):
+            with self.assertRaises(Unavailable):
+                act()
+        timer = threading.Timer(1.0, standby.promote)
+        timer.start()
+        self.assertIs(accounts.change("ann", "one", "two"), Reply.REPLACED)
+        timer.join()
+        self.assertIs(accounts.enrol("ben", "two"), Reply.ENROLLED)
 
     def test_a_trigger_that_swallows(self):
         self.table()

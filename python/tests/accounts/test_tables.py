@@ -55,6 +55,39 @@ class Tables(Base):
         self.assertIn("synchronous", said)
         self.assertIn("busy timeout", said)
 
+    def test_what_is_an_error_and_what_a_warning(self):
+        """Each by its code; samples stop at errors alone."""
+        for sql, code, is_error in (
+            ("CREATE TABLE users (name TEXT, record TEXT)", "key-not-unique", True),
+            ("CREATE TABLE users (name INTEGER PRIMARY KEY, record TEXT)", "key-type", True),
+            ("CREATE TABLE users (login TEXT PRIMARY KEY, record TEXT)", "no-column", True),
+            (
+                "CREATE TABLE users (name TEXT PRIMARY KEY, record TEXT CHECK (record = 'x'))",
+                "no-update",
+                True,
+            ),
+            (
+                "CREATE TABLE users (name TEXT PRIMARY KEY, record TEXT NOT NULL)",
+                "record-not-null",
+                False,
+            ),
+            (
+                "CREATE TABLE users (name TEXT COLLATE NOCASE PRIMARY KEY, record TEXT)",
+                "names-folded",
+                False,
+            ),
+            (
+                "CREATE TABLE users (name TEXT COLLATE RTRIM PRIMARY KEY, record TEXT)",
+                "names-folded",
+                True,
+            ),
+        ):
+            self.table(sql)
+            (fault,) = self.accounts().examine()
+            self.assertEqual((fault.code, fault.is_error), (code, is_error), sql)
+            self.assertEqual(fault.severity.value, "error" if is_error else "warning")
+            self.assertEqual(str(fault), fault.text)
+
     def test_examine_of_schemas_and_spellings(self):
         """As a statement finds the table, so it is examined."""
         self.conn.execute("CREATE TRIGGER tr AFTER UPDATE ON users BEGIN SELECT 1; END")

@@ -177,6 +177,18 @@ class Tortures(Base):
 
     # ---- what is judged
 
+    def test_the_end_is_read_where_it_is_said(self):
+        """After a failover that is another server than the first."""
+        end = pathlib.Path(self.path).with_name("end.db")
+        with contextlib.closing(sqlite3.connect(end)) as conn:
+            conn.execute("CREATE TABLE ended (name TEXT PRIMARY KEY, record TEXT)")
+            conn.executemany("INSERT INTO ended VALUES (?, ?)", [("user0", "x"), ("user1", "y")])
+            conn.commit()
+        given = {"table": "ended", "accounts": 2, "mix": {"verify": 1}, "seconds": 0.2}
+        accounts = self.run_one(end_url=f"sqlite:///{end}", **given)
+        self.assertEqual([it.end.before for it in accounts.values()], ["x", "y"])
+        self.assertIn("nobody put", str(torture.verdict(accounts)))
+
     def test_every_account_is_judged(self):
         def account(end):
             seed = {"answered": -math.inf, "reply": "seed", "after": "x"}
