@@ -110,7 +110,23 @@ def check_changed(user):
     assert type(user).objects.get().check_password("reset")
 
 
+def check_login():
+    """By the page's hashers alone: argon2-cffi isn't there."""
+    from django.contrib.auth import authenticate, get_user_model, hashers
+    from django.core import checks
+
+    for algorithm in ("argon2", "scrypt"):
+        assert type(hashers.get_hasher(algorithm)).__module__ == "rigzumal.django.hashers"
+    get_user_model().objects.create_user("ben", password="of ben")
+    assert authenticate(username="ben", password="of ben").username == "ben"
+    assert authenticate(username="ben", password="another") is None
+    get_user_model().objects.filter(username="ben").delete()
+    errors = [it for it in checks.run_checks() if it.id.startswith("rigzumal")]
+    assert errors == [], errors
+
+
 def main():
+    sys.modules["argon2"] = None  # as where it isn't installed
     settings = settings_by(SETTINGS)
     with tempfile.TemporaryDirectory() as room:
         write_project(pathlib.Path(room))
@@ -119,6 +135,7 @@ def main():
 
         user = get_user_model().objects.create_user("ann", password="first")
         check_urls(user)
+        check_login()
         check_views(user)
         check_changed(get_user_model().objects.get())
 

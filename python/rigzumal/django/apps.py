@@ -10,6 +10,12 @@ from django.contrib.admin import apps as djangos
 from django.core.exceptions import ImproperlyConfigured
 
 
+_MISSING = (
+    "put 'rigzumal.django' into INSTALLED_APPS, before 'django.contrib.auth':"
+    " RIGZUMAL_USER_COMPARES and the checks need it"
+)
+
+
 class RigzumalConfig(AppConfig):
     """The app, which comes before django.contrib.auth: its changepassword is ours."""
 
@@ -17,9 +23,11 @@ class RigzumalConfig(AppConfig):
     label = "rigzumal"
     verbose_name = "Rigzumal"
     default = True
+    has_started = False
 
     def ready(self) -> None:
         """Called by Django when all models are there."""
+        RigzumalConfig.has_started = True
         from django.contrib.auth import get_user_model
 
         from rigzumal.django import checks, users
@@ -37,7 +45,8 @@ class AdminConfig(djangos.AdminConfig):
 
     def ready(self) -> None:
         """Called by Django when all models are there."""
-        require_app()
+        if not apps.is_installed(RigzumalConfig.name):
+            raise ImproperlyConfigured(_MISSING)
         super().ready()
 
 
@@ -48,9 +57,6 @@ def require_app() -> None:
     Raises:
         ImproperlyConfigured: it lacks it.
     """
-    has_users = apps.apps_ready and apps.is_installed("django.contrib.auth")
-    if has_users and not apps.is_installed(RigzumalConfig.name):
-        raise ImproperlyConfigured(
-            f"put {RigzumalConfig.name!r} into INSTALLED_APPS, before"
-            " 'django.contrib.auth': RIGZUMAL_USER_COMPARES and the checks need it"
-        )
+    has_users = apps.ready and apps.is_installed("django.contrib.auth")
+    if has_users and not RigzumalConfig.has_started:
+        raise ImproperlyConfigured(_MISSING)

@@ -64,6 +64,7 @@ settings.configure(
         "django.contrib.admin.apps.SimpleAdminConfig",
         "django.contrib.staticfiles",
         "auth_tests",
+        *([] if DJANGOS else ["rigzumal.django"]),  # behind auth: the command is Django's
     ],
     MIDDLEWARE=[
         "django.contrib.sessions.middleware.SessionMiddleware",
