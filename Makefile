@@ -2,7 +2,7 @@
 #
 #     make build                    the programs, the library for C and Python, libargon2, and the PAM module
 #     make test                     the gate and the tests after it, and those of the library, of the package
-#                                   for Python, of the crate and of the code on the pages
+#                                   for Python, of the crate, of the pages, of the server, of tools and of packages
 #     make deb                      Debian's packages: in c/out, python/out and c/pam/out, with programs that run
 #                                   on every x86-64 processor
 #     make wheel                    the package for Python with the library in it, in python/out
@@ -57,8 +57,8 @@ test:
 	.ci/run
 	$(MAKE) -C c test RT='$(RT)' PYTHON='$(PYTHON)'
 	$(MAKE) -C python test RT='$(RT)' PYTHON='$(PYTHON)'
-	$(PYTHON) -m unittest discover -s rust/tests
-	$(PYTHON) docs/tests/run.py
+	for tests in rust/tests docs/tests tests/server; do $(PYTHON) -m unittest discover -s $$tests || exit 1; done
+	for tests in tools packages; do $(PYTHON) -m unittest discover -t . -s tests/$$tests || exit 1; done
 
 deb: library
 	$(MAKE) programs CPU=x86-64 RT='$(RT)' PYTHON='$(PYTHON)'
