@@ -31,7 +31,7 @@ EVERY = float(os.environ.get("BUILD_SAYS_EVERY", 25))
 RT = os.environ.get("RT", "rt")
 # How long each took on a machine with four processors, beside other work; others count as 60. Only proportions matter.
 SECONDS = {"cred_pool": 44, "cred_blake": 68, "cred_scrypt": 118, "cred_base64": 14, "cred_argon": 132, "cred_phc": 82, "cred_book": 85}
-SECONDS |= {"cred_file": 415, "cred_cli": 509, "cred_admin": 138, "cred_keep": 254, "cred_many": 318, "cred_serve": 96, "credkeep": 900}
+SECONDS |= {"cred_file": 415, "cred_cli": 509, "cred_admin": 138, "cred_keep": 254, "cred_many": 318, "credkeep": 900}
 LEVELS = ("x86-64", "x86-64-v2", "x86-64-v3")
 # Each level's features by the system's names for them, beside those of the levels below.
 FEATURES = {

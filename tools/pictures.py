@@ -177,7 +177,8 @@ DRAWN = {
 def main():
     stale = []
     for name, draw in DRAWN.items():
-        drawn, file = draw(), PICTURES / name
+        # in one line, since nobody reads the text of a picture
+        drawn, file = " ".join(draw().split("\n")).strip() + "\n", PICTURES / name
         if not file.exists() or file.read_text() != drawn:
             stale.append(name)
             if "--check" not in sys.argv:
