@@ -63,7 +63,9 @@ class Program:
         named = {"NAME": self.name, "FUNCTION": "_" + self.name.replace("-", "_"), "ALIASES": self.name}
         if self.name == "credkeep":
             named["ALIASES"] = "credkeep credkeep-ask"
-        named |= {"ACCOUNTS": "|".join(self.with_words("NAME")) or "-", "FILES": "|".join(self.with_words("TO", "FROM")) or "-"}
+        # add is for a name that isn't there yet
+        named["ACCOUNTS"] = "|".join(it for it in self.with_words("NAME") if it != "add") or "-"
+        named["FILES"] = "|".join(self.with_words("TO", "FROM")) or "-"
         return named | {"COMMANDS": " ".join(it.word for it in self.commands)}
 
     def bash(self):
@@ -95,13 +97,13 @@ class Program:
                 value = " -x" if it.value else ""
                 lines.append(f"complete -c {name} -n {quoted(place)} -l {it.name}{value} -d {quoted(short(it.text))}")
         valued = " ".join("--" + it for it in self.valued()) or "-"
-        return {**self.fields(), "WORDS": words, "VALUED": valued, "LINES": "\n".join(lines), "ACCOUNTS": self.fields()["ACCOUNTS"].replace("|", " "),
-                "FILES": self.fields()["FILES"].replace("|", " ")}
+        fields = {name: value.replace("|", " ") for name, value in self.fields().items()}
+        return {**fields, "WORDS": words, "VALUED": valued, "LINES": "\n".join(lines)}
 
 
 def short(text):
     """A description's first part."""
-    return re.split(r"[:;]| \[default", text)[0].strip()
+    return re.split(r"[:;] | \[default", text)[0].strip()
 
 
 def quoted(text):

@@ -77,7 +77,8 @@ class Completions(unittest.TestCase):
             (cls.top / f"crates/{name}/out/{name}").chmod(0o755)
         shutil.copy(TOP / "tools/completions.py", cls.top / "tools")
         shutil.copytree(TOP / "completions", cls.top / "completions")
-        shutil.copytree(TOP / "bin", cls.top / "bin")
+        for folder in ("bin", "python/rigzumal/server/daemon"):
+            shutil.copytree(TOP / folder, cls.top / folder)
         cls.folders = [cls.top / it for it in ("bash", "zsh", "fish")]
         subprocess.run([sys.executable, cls.top / "tools/completions.py", *cls.folders], check=True)
         cls.at.mkdir()
