@@ -169,9 +169,9 @@ class Package(unittest.TestCase):
         run(
             *black, "88", PYTHON / "rigzumal", PYTHON / "build_backend.py", REPOSITORY / "packaging"
         )
-        tests = [REPOSITORY / it for it in ("python/tests", "docs/tests", "rust/tests", "c/tests")]
-        tools = [REPOSITORY / "tools" / it for it in ("testing.py",)]
-        run(*black, "100", *tests, *tools, REPOSITORY / "examples/login_page")
+        parts = ("python/tests", "docs/tests", "rust/tests", "c/tests", "examples/login_page")
+        parts += ("tests/helpers.py", "tests/credbook", "tests/credkeep")
+        run(*black, "100", *(REPOSITORY / it for it in parts))
 
     def test_types(self):
         """mypy takes the package, strictly."""
