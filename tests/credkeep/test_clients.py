@@ -22,13 +22,14 @@ VERBS = ["verify"] * 6 + ["login"] * 4 + ["change"] * 2
 VERBS += ["enrol", "upgrade", "remove", "reset", "disable"]
 
 
-def checker():
+def checker() -> Any:
     """The checker of histories alone: its package needs the built library."""
-    path = TOP / "python" / "rigzumal" / "accounts" / "history.py"
-    spec = importlib.util.spec_from_file_location("history", path)
-    module = importlib.util.module_from_spec(spec)
-    sys.modules["history"] = module
-    spec.loader.exec_module(module)
+    for name in ("_order", "history"):
+        path = TOP / "python" / "rigzumal" / "accounts" / "torture" / f"{name}.py"
+        spec = importlib.util.spec_from_file_location(f"rigzumal.accounts.torture.{name}", path)
+        assert spec and spec.loader
+        module = sys.modules[spec.name] = importlib.util.module_from_spec(spec)
+        spec.loader.exec_module(module)
     return module
 
 
