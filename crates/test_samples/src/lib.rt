@@ -7,7 +7,7 @@ pub use crowd::{Crowd, Visits};
 pub use damaged::{Answer, CUTS_OF_A, Change, DAMAGED_A, DAMAGED_SCRYPT, OTHER_TEXTS};
 pub use meetings::Meetings;
 pub use secrets::{SECRET, shows_secret};
-pub use strings::{A, A_SETTING, B, B_SETTING, OLD, OLD_WRITTEN, SCRYPT};
+pub use strings::{A, A_SETTING, B, B_SETTING, INDEPENDENT, OLD, OLD_WRITTEN, SCRYPT};
 
 mod crowd;
 mod damaged;

@@ -7,7 +7,7 @@ use cred_phc::Record;
 use std::alloc::Global;
 use std::process::Abort;
 use std::thread::Threads;
-use test_samples::{A, A_SETTING, B, B_SETTING, OLD, SCRYPT};
+use test_samples::{A, A_SETTING, B, B_SETTING, INDEPENDENT, OLD, SCRYPT};
 
 const PASSWORD: &str = "password";
 
@@ -16,9 +16,6 @@ const SCRYPT_SETTING: &str = "$scrypt$ln=10,r=8,p=16$c29tZXNhbHQ";
 
 /// What `OLD` becomes in an upgrade.
 const RENEWED_SETTING: &str = "$argon2i$v=19$m=256,t=2,p=1$c29tZXNhbHQ";
-
-const RENEWED: &str =
-    "$argon2i$v=19$m=256,t=2,p=1$c29tZXNhbHQ$iekCn0Y3spW+sCcFanM2xBT63UP2sghkUoHLIUpWRS8";
 
 /// The record of `differentpassword` by the same program.
 const OTHER_SETTING: &str = "$argon2id$v=19$m=65536,t=2,p=1$c29tZXNhbHQ";
@@ -166,7 +163,7 @@ fn upgrades(rt: HostRuntime) {
             Some(OLD),
             upgrade(&rt, PASSWORD, RENEWED_SETTING),
             Reply::Upgraded,
-            Some(RENEWED),
+            Some(INDEPENDENT),
         ),
     ];
     hold(&rt, rt.alloc(), &table);

@@ -1,16 +1,15 @@
 //! Tags that are made one after another in memory that is kept.
 
 use super::stored;
-use super::tags::TWO_LANES;
 use cred_phc::{Record, Scratch, TagError, tag_in};
 use cred_pool::NoGate;
 use std::alloc::Global;
-use test_samples::{A, OLD, SCRYPT};
+use test_samples::{A, B, OLD, SCRYPT};
 
 /// Records of `password` under Argon2 and scrypt, in turn, and how many KiB each keeps.
 const IN_TURN: [(&str, usize); 6] = [
     (A, 256),
-    (TWO_LANES, 384),
+    (B, 384),
     (SCRYPT, 1024),
     (OLD, 256),
     (SCRYPT, 1024),

@@ -6,15 +6,7 @@ use cred_pool::NoGate;
 use std::alloc::Global;
 use std::process::Abort;
 use std::thread::Threads;
-use test_samples::{A, OLD, SCRYPT};
-
-/// By the reference program of Argon2, as A is, with two lanes.
-pub(super) const TWO_LANES: &str =
-    "$argon2id$v=19$m=256,t=2,p=2$c29tZXNhbHQ$bQk8UB/VmZZF4Oo79iDXuL5/0ttZwg2f/5U52iv1cDc";
-
-/// By the same, for `argon2i`.
-const INDEPENDENT: &str =
-    "$argon2i$v=19$m=256,t=2,p=1$c29tZXNhbHQ$iekCn0Y3spW+sCcFanM2xBT63UP2sghkUoHLIUpWRS8";
+use test_samples::{A, B, INDEPENDENT, OLD, SCRYPT};
 
 fn password(rt: &impl Abort) -> Password {
     Password::new(b"password").expect(rt, "a password")
@@ -35,7 +27,7 @@ fn made_again<R: Threads + Sync + Abort>(
 
 #[test]
 fn known_tags(rt: HostRuntime) {
-    for text in [A, TWO_LANES, INDEPENDENT, OLD, SCRYPT] {
+    for text in [A, B, INDEPENDENT, OLD, SCRYPT] {
         let stored = stored(&rt, text);
         for workers in [1, 4] {
             let made = made_again(&rt, rt.alloc(), workers, &stored);
@@ -47,7 +39,7 @@ fn known_tags(rt: HostRuntime) {
 /// Also right if memory is refused, by tools/refuse_memory.py: the tag, or `Memory`.
 #[test]
 fn refused_memory(rt: HostRuntime) {
-    for text in [TWO_LANES, OLD, SCRYPT] {
+    for text in [B, OLD, SCRYPT] {
         let stored = stored(&rt, text);
         let made = made_again(&rt, rt.alloc(), 2, &stored);
         assert!(rt;
