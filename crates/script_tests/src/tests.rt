@@ -1,5 +1,6 @@
 //! What no clause says: worked scripts with their answers, which stand here as text, and what
-//! becomes of a script whose reader, writer, keeper or memory fails. Here are the records and
+//! becomes of a script whose reader, writer, keeper or memory fails; what the orders on a kept book
+//! say on standard error (`keep`). Here are the records and
 //! settings, the runs, and what holds a value against another; each module has the tests of one
 //! matter.
 
@@ -7,6 +8,7 @@ mod committers;
 mod costs;
 mod dialogue;
 mod faults;
+mod keep;
 mod keepers;
 mod memory;
 mod operations;
@@ -14,7 +16,6 @@ mod program;
 mod readers;
 mod refusals;
 mod scripts;
-mod strings;
 mod watched;
 mod writers;
 
@@ -26,19 +27,20 @@ use std::io::Read;
 use std::process::Abort;
 use std::sync::Wait;
 use std::thread::Threads;
-use test_samples::{A, A_SETTING, B, B_SETTING, OLD, SCRYPT};
+use test_samples::{A, A_SETTING, B, B_SETTING, OLD, OLD_WRITTEN, SCRYPT};
 
 /// The password `password`.
 const PA: &str = "cGFzc3dvcmQ";
 
 /// The names that stand for these in scripts and answers.
-static PLACES: [(&str, &str); 7] = [
+static PLACES: [(&str, &str); 8] = [
     ("{PA}", PA),
     ("{SA}", A_SETTING),
     ("{SB}", B_SETTING),
     ("{A}", A),
     ("{B}", B),
     ("{OLD}", OLD),
+    ("{OLD_WRITTEN}", OLD_WRITTEN),
     ("{SCRYPT}", SCRYPT),
 ];
 

@@ -4,7 +4,7 @@ use std::alloc::Global;
 use std::process::Abort;
 
 /// Each after `account a`.
-static REFUSALS: [Case; 4] = [
+static REFUSALS: [Case; 5] = [
     Case {
         name: "operations_and_counts_come_before_fields",
         lines: &[
@@ -52,6 +52,20 @@ static REFUSALS: [Case; 4] = [
             ("begin 2 verify a -", "begun"),
             ("commit 1", "absent"),
             ("commit 2", "absent"),
+        ],
+    },
+    Case {
+        name: "records_are_loaded_and_shown",
+        lines: &[
+            ("load a {A}", "ok"),
+            ("show a", "{A}"),
+            ("load a {OLD}", "ok"),
+            ("show a", "{OLD_WRITTEN}"),
+            ("load a {SCRYPT}", "ok"),
+            ("load a {SA}", "bad 1 shape"),
+            ("load a $argon2x", "bad 2 scheme"),
+            ("load a {A}!", "bad 7 tag"),
+            ("show a", "{SCRYPT}"),
         ],
     },
     Case {
