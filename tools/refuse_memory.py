@@ -4,7 +4,7 @@
     python3 tools/refuse_memory.py [CRATE [WORD]]
 
 The tests are those with the word in their names, `::refused` if none is given, in the program that `rt test` or `rt ci` built
-last (crates/CRATE/out/CRATE_tests); with no crate, of every crate of tests of a library that takes memory. Each is run with its Nth request for memory refused,
+last (crates/CRATE/out/CRATE_tests); with no crate, of every crate of tests. Each is run with its Nth request for memory refused,
 for N from 1 to the first N that refuses nothing. A line for each test has how many requests were refused, and the numbers at which
 the test failed; the last line is `N passed, M failed`. `rt try --test --fail-alloc N` does the same for one N, and builds each time.
 It needs the toolchain alone, whose compiler builds the shim that refuses.
@@ -20,8 +20,6 @@ TOP = pathlib.Path(__file__).resolve().parent.parent
 sys.path.insert(0, str(TOP))
 from tests.helpers import shim  # noqa: E402
 
-# Tests of calls none of which takes memory.
-TAKES_NO_MEMORY = {"keep_tests", "log_tests"}
 
 SECONDS = 60
 
@@ -62,8 +60,7 @@ def tests_of(crate, word):
 def main():
     if len(sys.argv) > 3:
         sys.exit(__doc__)
-    every = {it.name for it in TOP.glob("crates/*_tests")} - TAKES_NO_MEMORY
-    crates = [pathlib.Path(it).name for it in sys.argv[1:2]] or sorted(every)
+    crates = [pathlib.Path(it).name for it in sys.argv[1:2]] or sorted(it.name for it in TOP.glob("crates/*_tests"))
     word = sys.argv[2] if len(sys.argv) > 2 else "::refused"
     tests = [it for crate in crates for it in tests_of(crate, word)]
     passed = 0
