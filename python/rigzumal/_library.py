@@ -279,9 +279,11 @@ def check(
 
 
 def parts(text: Secret) -> Parts:
-    """rigzumal_parts."""
+    """rigzumal_parts of a record: costs, which have no tag, are none."""
     found = Parts()
     raise_fault(_library.rigzumal_parts(ctypes.byref(found), text_bytes(text)))
+    if found.tag_size == 0:
+        raise InvalidRecordError(1)
     return found
 
 

@@ -301,10 +301,13 @@ class Refusals(unittest.TestCase):
             (ARGON2.replace("m=256", "m=7"), "range"),
             (ARGON2.replace("c29tZXNhbHQ", "c29t"), "salt"),
             (ARGON2[:-1], "tag"),
+            (ARGON2.rsplit("$", 1)[0], "shape"),
+            (SMALL.costs, "shape"),
             (ARGON2 * 9, "toolong"),
         ):
             self.refused(rigzumal.InvalidRecordError, word, SMALL.verify, text, "password")
             self.refused(rigzumal.InvalidRecordError, word, SMALL.check_needs_rehash, text)
+            self.refused(rigzumal.InvalidRecordError, word, rigzumal.parts, text)
 
     def test_numbers_of_a_hasher(self):
         """Each is refused as the hasher is made, by its name, its range and its fault."""
