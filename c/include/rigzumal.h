@@ -185,8 +185,8 @@ struct rigzumal_parts {
     uint32_t tag_size;  /* 0 of costs */
 };
 
-/* Reads the numbers of a record, or of costs, with or without a salt after them.
- * Faults: SHAPE to TOO_LONG. */
+/* Reads the numbers of a record, or of costs, with or without a salt after them: what has no tag is
+ * no record. Faults: SHAPE to TOO_LONG. */
 int rigzumal_parts(struct rigzumal_parts *parts, const char *text);
 
 /* Whether a record is to be made again, because its scheme, costs, or the sizes of its salt and tag
