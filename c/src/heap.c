@@ -174,7 +174,12 @@ static area new_area(size_t size) {
     area it = map_area(size);
     size_t most = atomic_load(&most_kept);
     area kept_one = it != 0 && most > 0 && size > most ? take_kept(most) : 0;
-    return kept_one == 0 ? it : grown_area(it, kept_one);
+    if (kept_one == 0)
+        return it;
+    if (size_of(kept_one) < size)
+        return grown_area(it, kept_one);
+    unmap_area(it); /* one that was kept until the bound was lowered is enough */
+    return kept_one;
 }
 
 /* A kept area, or a new one; if need be one in the place of all that are kept. */
