@@ -5,6 +5,7 @@ from __future__ import annotations
 import ctypes
 import os
 
+# typing takes longer to import than all else here, so it is left to those who check types.
 TYPE_CHECKING = False
 if TYPE_CHECKING:
     from typing import Any, Final, Optional, Union
