@@ -203,6 +203,11 @@ class Service:
                 same(admin.ask(f"account {name}"), "ok")
                 same(admin.ask(f"enrol {name} {field_of(password.encode())}"), "enrolled")
 
+    def set_clock(self, seconds: float) -> None:
+        """The time by which failed tries wait, of a server that is clocked."""
+        (self.folder / "clock.new").write_text(str(seconds))
+        (self.folder / "clock.new").rename(self.folder / "clock")
+
     def stop(self, number: int = signal.SIGTERM) -> int:
         self.process.send_signal(number)
         return self.process.wait(timeout=40)
@@ -224,6 +229,7 @@ class Given:
     environment: dict[str, str] = field(default_factory=dict)
     folder: Optional[pathlib.Path] = None
     waits: bool = True
+    clocked: bool = False
 
 
 def command(given: Given, folder: pathlib.Path) -> list[str]:
@@ -235,6 +241,7 @@ def command(given: Given, folder: pathlib.Path) -> list[str]:
         ):
             sockets += ["--socket", name, str(folder / f"{name}.sock"), mode, "-", allowed]
     server = os.environ.get("CREDKEEP_SERVER", str(TOP / "bin/credkeep-server"))
+    server = str(HERE / "clocked.py") if given.clocked else server
     words = [*given.before, PYTHON, server, "--credkeep", str(given.program), *sockets]
     return [*words, *given.options, str(folder / "users.db")]
 
@@ -253,6 +260,8 @@ def serving(*options: str, **fields: object) -> Iterator[Service]:
         **given.environment,
     }
     (folder / "log").write_text("")
+    environment["CLOCK"] = str(folder / "clock")
+    (folder / "clock").write_text("0.0")
     with open(folder / "log", "ab") as log:
         process = subprocess.Popen(
             command(given, folder), stderr=log, env={**os.environ, **environment}

@@ -207,7 +207,7 @@ class Records(Case):
 
     def test_later_by_the_books_name(self) -> None:
         """Failed tries count by the name in the book, however its address is typed."""
-        with serving("--mail-names", "--tries", "4") as service:
+        with serving("--mail-names", "--tries", "4", clocked=True) as service:
             client = service.client()
             self.assertEqual(service.client("admin").ask("account ada@example.org"), "ok")
             self.assertEqual(

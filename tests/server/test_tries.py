@@ -18,28 +18,28 @@ from daemon.log import log
 class Tries(Case):
     def test_later(self) -> None:
         """After so many failed tries each doubles the wait; the right password is let in after it."""
-        with serving("--tries", "2") as service:
+        with serving("--tries", "2", clocked=True) as service:
             service.enrol(ada="secret", bob="secret")
             client = service.client()
-            self.assertEqual([client.ask(f"verify ada {WRONG}") for _ in range(2)], ["no"] * 2)
-            asked = len(service.asked())
-            self.assertEqual(
-                [client.ask(f"verify ada {password}") for password in (WRONG, SECRET)],
-                ["later"] * 2,
-            )
-            self.assertEqual(len(service.asked()), asked, "it came to the book")
-            self.assertEqual(client.ask(f"verify bob {SECRET}"), "yes")
-            time.sleep(1.1)
-            self.assertEqual(client.ask(f"verify ada {WRONG}"), "no")
-            time.sleep(1.1)
-            self.assertEqual(
-                client.ask(f"verify ada {SECRET}"), "later", "the second wait is longer"
-            )
-            time.sleep(1.2)
-            self.assertEqual(client.ask(f"verify ada {SECRET}"), "yes")
-            self.assertEqual(
-                [client.ask(f"verify ada {WRONG}") for _ in range(3)], ["no", "no", "later"]
-            )
+            for now, password, ought in (
+                (0, WRONG, "no"),
+                (0, WRONG, "no"),
+                (0.9, WRONG, "later"),
+                (0.9, SECRET, "later"),
+                (1, WRONG, "no"),
+                (2.9, SECRET, "later"),
+                (3, WRONG, "no"),
+                (6.9, SECRET, "later"),
+                (7, SECRET, "yes"),
+                (7, WRONG, "no"),
+                (7, WRONG, "no"),
+                (7, WRONG, "later"),
+            ):
+                service.set_clock(now)
+                asked = len(service.asked())
+                self.assertEqual(client.ask(f"verify ada {password}"), ought, f"at {now} s")
+                self.assertEqual(len(service.asked()) - asked, ought != "later", "at the book")
+                self.assertEqual(client.ask(f"verify bob {SECRET}"), "yes")
 
     def test_names_that_the_book_lacks(self) -> None:
         """A name that the book lacks, whose user another module may know, never has to wait."""
@@ -51,7 +51,7 @@ class Tries(Case):
 
     def test_later_for_each_operation(self) -> None:
         """Each operation that takes the old password counts; a reset by the admin ends the wait."""
-        with serving("--tries", "5") as service:
+        with serving("--tries", "5", clocked=True) as service:
             service.enrol(ada="secret")
             admin, login = service.client("admin"), service.client()
             self.assertEqual(admin.ask(f"login ada {WRONG}"), "no")
@@ -74,7 +74,7 @@ class Tries(Case):
 
     def test_what_counts(self) -> None:
         """Each answer that a try failed counts, and after each that one was right, or is made so, none does."""
-        with serving("--tries", "2") as service:
+        with serving("--tries", "2", clocked=True) as service:
             service.enrol(ada="secret")
             admin = service.client("admin")
             for line, said in (
@@ -99,7 +99,7 @@ class Tries(Case):
 
     def test_guesses_at_once(self) -> None:
         """Guesses that are sent together are stopped too, but for those that the book has already."""
-        with serving("--tries", "3", "--at-once", "4", faults="slow=0.05") as service:
+        with serving("--tries", "3", "--at-once", "4", faults="slow=0.05", clocked=True) as service:
             service.enrol(ada="secret")
             enrolled = len(service.asked())
             clients = [service.client() for _ in range(10)]
@@ -117,9 +117,8 @@ class Tries(Case):
         need_root()
         with tempfile.TemporaryDirectory() as room:
             os.chmod(room, 0o755)
-            with serving(
-                "--socket", "a", f"{room}/s", "0666", "-", "verify", "--uid-tries", "4"
-            ) as service:
+            socket = f"--socket a {room}/s 0666 - verify --uid-tries 4".split()
+            with serving(*socket, clocked=True) as service:
                 service.enrol(ada="secret")
                 path = pathlib.Path(room, "s")
                 guesses = [f"verify n{number} {SECRET}" for number in range(6)]
@@ -128,8 +127,8 @@ class Tries(Case):
                     as_user(4711, 4712, path, *guesses[:4], right), "noaccount " * 4 + "later"
                 )
                 self.assertEqual(as_user(33, 33, path, *guesses, right), "noaccount " * 6 + "yes")
-                for wait in (1.1, 2.1):  # so that the next wait is four seconds
-                    time.sleep(wait)
+                for now in (1, 3):
+                    service.set_clock(now)
                     self.assertEqual(
                         as_user(4711, 4712, path, *guesses[:1], right), "noaccount later"
                     )
