@@ -141,6 +141,13 @@ class Limits(Case):
             service.enrol(ada="secret", bob="secret")
             for client in (service.client(), service.client("admin")):
                 client.send(f"a verify ada {SECRET}\n".encode() * 32)
+            until(lambda: len(service.asked()) == 7, "three places are taken")
+            fresh = field_of(b"fresh")
+            hashing = [
+                f"{it} ada {SECRET}" for it in ("login", "upgrade", "remove", "enrol", "reset")
+            ]
+            for line in [*hashing, f"change ada {SECRET} {fresh}", f"verify bob {SECRET}"]:
+                service.client("admin").send(f"a {line}\n".encode())
             login, admin = service.client(), service.client("admin")
             for client, line, ought in (
                 (login, "known ada", "yes"),
@@ -153,6 +160,9 @@ class Limits(Case):
                 (admin, "show dan", "$fast$c=1$x$y"),
             ):
                 self.assertEqual(client.ask(line), ought)
+            asked = {line.partition(" ")[0] for line in service.asked()[7:]}
+            without = "show list disable rename delete account load"
+            self.assertEqual(asked, set(without.split()), "what was asked beside full places")
             begun = time.monotonic()
             self.assertEqual(service.stop(), 0)
             self.assertTrue(15 < time.monotonic() - begun < 35, "20 s")

@@ -143,6 +143,10 @@ class Audited(Case):
                     (admin, "list - 5"),
                     (admin, "show ada"),
                     (login, "delete ada"),
+                    (admin, f"upgrade ada {WRONG} $fast$c=2"),
+                    (admin, f"remove ada {WRONG}"),
+                    (admin, f"reset ada {SECRET}"),
+                    (admin, f"login ada {SECRET}"),
                     (admin, "load ada $fast$c=1$x$y"),
                     (admin, "rename ada bob"),
                     (admin, "disable bob"),
@@ -172,13 +176,17 @@ class Audited(Case):
                     ("login", "change", "ada", "replaced"),
                     ("login", "verify", "ada", "yes"),
                     ("login", "change", None, "noaccount"),
+                    ("admin", "upgrade", "ada", "upgraded"),
+                    ("admin", "remove", "ada", "removed"),
+                    ("admin", "reset", "ada", "enrolled"),
+                    ("admin", "login", "ada", "yes"),
                     ("admin", "load", "ada", "ok"),
                     ("admin", "rename", "ada", "renamed"),
                     ("admin", "disable", "bob", "disabled"),
                     ("admin", "delete", "bob", "deleted"),
                 ],
             )
-            self.assertEqual(lines[7]["new_name"], "bob")
+            self.assertEqual(lines[11]["new_name"], "bob")
             for secret in (SECRET, WRONG, "secret", "guess", "$fast$", "hunter2"):
                 self.assertNotIn(secret, text)
 
