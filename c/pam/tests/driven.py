@@ -1,0 +1,223 @@
+"""The PAM module in a driver of its own, and a peer that answers it."""
+
+from __future__ import annotations
+
+import atexit
+import base64
+import os
+import pathlib
+import shutil
+import signal
+import socket
+import subprocess
+import tempfile
+import threading
+import time
+import unittest
+from collections.abc import Callable, Iterator, Sequence
+from contextlib import contextmanager
+from dataclasses import dataclass, field
+
+HERE = pathlib.Path(__file__).resolve().parent
+TOP = HERE.parent
+ROOM = pathlib.Path(tempfile.mkdtemp(prefix="rigzumal-pam-"))
+atexit.register(shutil.rmtree, ROOM, ignore_errors=True)
+SOURCES = ["pam_rigzumal.c", "../src/base64.c"]
+WARNINGS = os.environ.get("TEST_WARNINGS", "-Wall -Wextra -Wpedantic -Werror").split()
+SANITIZED = "-O1 -fsanitize=address,undefined -fno-sanitize-recover=all".split()
+
+# Results of pam(3), by Linux-PAM's numbers.
+INCOMPLETE = 31
+SUCCESS, SERVICE_ERR, AUTH_ERR, AUTHINFO_UNAVAIL, USER_UNKNOWN, MAXTRIES = 0, 3, 7, 9, 10, 11
+ACCT_EXPIRED, CONV_ERR, AUTHTOK_ERR, AUTHTOK_RECOVERY_ERR, TRY_AGAIN, IGNORE = (
+    13,
+    19,
+    20,
+    21,
+    24,
+    25,
+)
+
+
+class Case(unittest.TestCase):
+    """A test that ends: after five minutes it fails, wherever it waits."""
+
+    def setUp(self) -> None:
+        def too_long(*_: object) -> None:
+            raise TimeoutError("over five minutes")
+
+        signal.signal(signal.SIGALRM, too_long)
+        signal.alarm(300)
+        self.addCleanup(signal.alarm, 0)
+
+
+def same(is_: object, ought: object, said: str = "") -> None:
+    if is_ != ought:
+        raise AssertionError(f"{said}: {is_!r} instead of {ought!r}")
+
+
+def compiled(name: str, flags: Sequence[str], *sources: str) -> pathlib.Path:
+    out = ROOM / name
+    if not out.exists():
+        command = [os.environ.get("CC", "cc"), "-std=c11", "-g", "-I../src", *WARNINGS, *flags]
+        done = subprocess.run(
+            [*command, *sources, "-o", out, "-lpam"], cwd=TOP, capture_output=True, text=True
+        )
+        if done.returncode:
+            raise AssertionError(f"error: {done.stderr}")
+    return out
+
+
+@dataclass(frozen=True)
+class Build:
+    """The module and the driver, built with some flags, and what runs the driver."""
+
+    name: str
+    flags: tuple[str, ...]
+    runner: tuple[str, ...] = ()
+
+    def module(self) -> pathlib.Path:
+        return compiled(f"{self.name}.so", [*self.flags, "-fPIC", "-shared"], *SOURCES)
+
+    def driver(self) -> pathlib.Path:
+        return compiled(
+            f"driver-{self.name}", [*self.flags, "-pthread", "-rdynamic"], "tests/driver.c"
+        )
+
+
+CHECKED = Build("checked", tuple(SANITIZED))
+PLAIN = Build("plain", ("-O2",))
+VALGRIND = Build(
+    "valgrind", ("-O1",), ("valgrind", "-q", "--error-exitcode=9", "--leak-check=full")
+)
+
+
+@dataclass
+class Said:
+    """What a run of the driver printed."""
+
+    results: list[tuple[str, int]] = field(default_factory=list)
+    prompts: list[str] = field(default_factory=list)
+    logs: list[str] = field(default_factory=list)
+    numbers: dict[str, int] = field(default_factory=dict)
+    seconds: float = 0.0
+
+    @property
+    def codes(self) -> list[int]:
+        return [number for _, number in self.results]
+
+
+@dataclass
+class Question:
+    """A service with our module in it, and a user's words."""
+
+    user: str = "ada"
+    tasks: str = "authenticate"
+    answers: Sequence[bytes] = (b"secret",)
+    options: str = ""
+    stack: str = "required"
+    environment: dict[str, str] = field(default_factory=dict)
+    build: Build = CHECKED
+    service: str = ""
+
+
+def asked(question: Question, path: pathlib.Path) -> Said:
+    """What the driver says of a question at a socket."""
+    module = question.build.module()
+    options = f"socket={path} timeout=5 {question.options}"
+    default = "".join(
+        f"{kind} {question.stack} {module} {options}\n" for kind in ("auth", "account", "password")
+    )
+    folder = pathlib.Path(tempfile.mkdtemp(dir=ROOM))
+    (folder / "other").write_text("auth required pam_deny.so\n")
+    (folder / "test").write_text(question.service.format(module=f"{module} {options}") or default)
+    command = [
+        *question.build.runner,
+        str(question.build.driver()),
+        str(folder),
+        "test",
+        question.user,
+    ]
+    before = time.monotonic()
+    done = subprocess.run(
+        [*command, *question.tasks.split()],
+        input="".join(f"{it.hex()}\n" for it in question.answers).encode(),
+        capture_output=True,
+        env={**os.environ, "ASAN_OPTIONS": "detect_leaks=1", **question.environment},
+        timeout=120,
+    )
+    text = done.stdout.decode(errors="replace")
+    same(done.returncode, 0, f"{text}{done.stderr.decode(errors='replace')}")
+    said = Said(seconds=time.monotonic() - before)
+    for line in text.splitlines():
+        word, _, rest = line.partition(" ")
+        if word in ("prompt", "log"):
+            (said.prompts if word == "prompt" else said.logs).append(rest)
+        elif word in ("open", "found", "inside"):
+            said.numbers[word] = int(rest)
+        else:
+            said.results.append((word, int(rest)))
+    same(said.numbers["open"], 0, "files that stay open, or that a child's program has")
+    return said
+
+
+class Peer:
+    """A socket at which a thread takes connections, and answers each as it is told to."""
+
+    def __init__(self, reply: Callable[[bytes, socket.socket], None], backlog: int = 16) -> None:
+        self.reply, self.lines = reply, list[bytes]()
+        self.path = pathlib.Path(tempfile.mkdtemp(dir=ROOM)) / "socket"
+        self.listener = socket.socket(socket.AF_UNIX)
+        self.listener.bind(str(self.path))
+        self.listener.listen(backlog)
+        self.lock = threading.Lock()
+
+    def take(self) -> None:
+        while True:
+            try:
+                client, _ = self.listener.accept()
+            except OSError:
+                return
+            threading.Thread(target=self.answer, args=(client,), daemon=True).start()
+
+    def answer(self, client: socket.socket) -> None:
+        with client:
+            line = b""
+            while not line.endswith(b"\n"):
+                more = client.recv(4096)
+                if not more:
+                    break
+                line += more
+            with self.lock:
+                self.lines.append(line)
+            try:
+                self.reply(line, client)
+            except OSError:
+                pass
+
+
+@contextmanager
+def peer(reply: Callable[[bytes, socket.socket], None]) -> Iterator[Peer]:
+    made = Peer(reply)
+    threading.Thread(target=made.take, daemon=True).start()
+    try:
+        yield made
+    finally:
+        made.listener.shutdown(socket.SHUT_RDWR)
+        made.listener.close()
+
+
+def sends(answer: bytes) -> Callable[[bytes, socket.socket], None]:
+    return lambda line, client: client.sendall(answer)
+
+
+def said_at(answer: bytes, question: Question) -> tuple[Said, list[bytes]]:
+    """What a question comes to if each line gets the same answer, and the lines."""
+    with peer(sends(answer)) as it:
+        return asked(question, it.path), it.lines
+
+
+def line_of(word: str, name: str, *passwords: bytes) -> bytes:
+    """The line that ought to be sent."""
+    fields = [base64.b64encode(it).rstrip(b"=") or b"-" for it in passwords]
+    return b" ".join([b"1", word.encode(), name.encode(), *fields]) + b"\n"
