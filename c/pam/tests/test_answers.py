@@ -81,10 +81,11 @@ class Answers(Case):
         verify = {b"yes": SUCCESS, b"no": AUTH_ERR, b"absent": AUTH_ERR, b"noaccount": USER_UNKNOWN}
         verify |= {b"later": MAXTRIES, b"bad 3 name": USER_UNKNOWN}
         known = {b"yes": SUCCESS, b"absent": ACCT_EXPIRED, b"noaccount": USER_UNKNOWN}
-        for task, word, passwords, table in (
+        cases: list[tuple[str, str, list[bytes], dict[bytes, int]]] = [
             ("authenticate", "verify", [b"secret"], verify),
             ("account", "known", [], known),
-        ):
+        ]
+        for task, word, passwords, table in cases:
             for answer, ought in table.items():
                 said, lines = said_at(b"1 " + answer + b"\n", Question(tasks=task))
                 self.assertEqual(
