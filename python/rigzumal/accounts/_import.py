@@ -8,6 +8,8 @@ import time
 from collections.abc import Callable, Iterable, Iterator, Sequence
 from typing import Optional
 
+from rigzumal._library import InvalidRecordError
+from rigzumal._parts import none_of_ours, parts
 from rigzumal.accounts._accounts import Accounts
 from rigzumal.accounts._session import BlockingSession, run
 from rigzumal.accounts._values import Copy, Key, Reply
@@ -99,6 +101,31 @@ def shown(name: object) -> str:
     """A name as it may stand on a terminal: who chose it may have meant to write there."""
     text = str(name)
     return text if text.isprintable() else ascii(text)
+
+
+def is_foreign(record: str) -> bool:
+    """Whether a column of ours holds it: 1 to 512 letters of ASCII without blanks."""
+    return 0 < len(record) <= 512 and all("!" <= it <= "~" for it in record)
+
+
+def made_by(record: Optional[str]) -> str:
+    if record is None:
+        return "no record"
+    try:
+        found = parts(record)
+    except InvalidRecordError:
+        return "another scheme"
+    names = ("ln", "r", "p") if found.scheme == "scrypt" else ("m", "t", "p")
+    values = (found.memory, found.passes, found.lanes)
+    numbers = ",".join(f"{name}={value}" for name, value in zip(names, values))
+    version = f" v={found.version}" if found.version else ""
+    return f"{found.scheme}{version} {numbers}"
+
+
+def why(record: object, fault: InvalidRecordError) -> str:
+    """What is wrong with a record, with the scheme of another program's."""
+    scheme = none_of_ours(record) if isinstance(record, str) else ""
+    return f"{scheme}, and {fault}" if scheme else str(fault)
 
 
 def _progress(done: int, total: int, begun: float) -> None:

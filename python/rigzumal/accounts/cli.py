@@ -32,9 +32,9 @@ from typing import Any, Optional, Union
 from rigzumal import PasswordHasher, RigzumalError, ScryptHasher
 from rigzumal._library import InvalidRecordError, bytes_of
 from rigzumal._newline import hint
-from rigzumal._parts import none_of_ours, parts
+from rigzumal._parts import parts
 from rigzumal.accounts._accounts import Accounts
-from rigzumal.accounts._import import Import, Refusal, shown
+from rigzumal.accounts._import import Import, Refusal, is_foreign, made_by, shown, why
 from rigzumal.accounts._session import BlockingSession, run
 from rigzumal.accounts._values import LONGEST_PASSWORD, AccountsError, Key, Reply
 from rigzumal.accounts.database import Database
@@ -193,7 +193,7 @@ class _Command:
             reply = accounts.verify(key, password)
         except InvalidRecordError as fault:
             copy = accounts.begin(Request(Kind.VERIFY, key)).copy
-            raise Refusal(_why(copy, fault)) from None
+            raise Refusal(why(copy, fault)) from None
         if reply is Reply.NO and len(password) < LONGEST_PASSWORD:
             said = hint(password, lambda it: accounts.verify(key, it) is Reply.YES)
             if said:
@@ -222,7 +222,7 @@ class _Command:
                 row = cursor.fetchone()
                 if row is None:
                     break
-                print(shown(row[0]), _made_by(row[1]))
+                print(shown(row[0]), made_by(row[1]))
             cursor.close()
         return 0
 
@@ -240,8 +240,8 @@ class _Command:
         try:
             parts(record)
         except InvalidRecordError as fault:
-            if not (self.given.foreign and _is_foreign(record)):
-                return _why(record, fault)
+            if not (self.given.foreign and is_foreign(record)):
+                return why(record, fault)
         return None
 
     def torture(self) -> int:
@@ -272,35 +272,10 @@ class _Command:
         return 0
 
 
-def _is_foreign(record: str) -> bool:
-    """Whether a column of ours holds it: 1 to 512 letters of ASCII without blanks."""
-    return 0 < len(record) <= 512 and all("!" <= it <= "~" for it in record)
-
-
 def _said(reply: Reply, *good: Reply) -> int:
     words = {Reply.NO_ACCOUNT: "no account", Reply.ABSENT: "no record"}
     print(words.get(reply, reply.value))
     return 0 if reply in good else 1
-
-
-def _made_by(record: Optional[str]) -> str:
-    if record is None:
-        return "no record"
-    try:
-        found = parts(record)
-    except InvalidRecordError:
-        return "another scheme"
-    names = ("ln", "r", "p") if found.scheme == "scrypt" else ("m", "t", "p")
-    values = (found.memory, found.passes, found.lanes)
-    numbers = ",".join(f"{name}={value}" for name, value in zip(names, values))
-    version = f" v={found.version}" if found.version else ""
-    return f"{found.scheme}{version} {numbers}"
-
-
-def _why(record: object, fault: InvalidRecordError) -> str:
-    """What is wrong with a record, with the scheme of another program's."""
-    scheme = none_of_ours(record) if isinstance(record, str) else ""
-    return f"{scheme}, and {fault}" if scheme else str(fault)
 
 
 def _password(twice: bool = False) -> bytes:

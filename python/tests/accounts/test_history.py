@@ -323,6 +323,16 @@ class Said(unittest.TestCase):
         said = self.refused(Account(seed("x"), end("w"), [*ops, told]))
         self.assertIn("both replaced x", str(said))
 
+    def test_what_stands_at_the_end_was_not_replaced(self):
+        """Whether the answer of what replaced it came or not."""
+        told = operation("c", "verify", 3, 4, "yes", "y", "y")
+        lost = self.lost("a", "change", 1, "x", "y")
+        answered = operation("b", "change", 1, 2, "replaced", "x", "y", "one", "one")
+        for replaces in (lost, answered):
+            said = self.refused(Account(seed("x"), end("x"), [replaces, told]))
+            self.assertIn(f"{replaces.id} replaced x, which stands at the end", str(said))
+        history.check(Account(seed("x"), end("y"), [answered, told]))
+
     def test_what_was_told_of_wants_all_before_it(self):
         ops = [
             self.lost("a", "change", 1, "x", "y"),

@@ -15,7 +15,7 @@ from support import Base
 from rigzumal.accounts import Reply, StoreFault, cli, torture
 from rigzumal.accounts._table import Table
 from rigzumal.accounts.parts import Answer, Kind
-from rigzumal.accounts.torture import _torture, _worker
+from rigzumal.accounts.torture import _logged, _torture
 from rigzumal.accounts.torture._order import Operation
 from rigzumal.accounts.torture.history import Account
 
@@ -64,7 +64,7 @@ class Tortures(Base):
     def test_a_kill_that_kills_nobody(self):
         with mock.patch.object(_torture.os, "kill"):
             with mock.patch.object(_torture, "RISK", 0):
-                with mock.patch.object(_worker.Log, "_dare"):
+                with mock.patch.object(_logged.Log, "_dare"):
                     said = self.command("--processes=2", "--kill", status=2)
         self.assertIn("no process was killed", said)
 
@@ -91,8 +91,8 @@ class Tortures(Base):
             told(log, *given)
             log.risk = 1.0
 
-        told = _worker.Log.tried
-        with mock.patch.object(_worker.Log, "tried", tried):
+        told = _logged.Log.tried
+        with mock.patch.object(_logged.Log, "tried", tried):
             with mock.patch.object(_torture, "RISK", 1.0):
                 accounts = self.run_one(kill=True)
         self.assertGreater(self.torture.killed, 0)

@@ -21,7 +21,8 @@ from rigzumal.accounts.dialects import Dialect
 from rigzumal.accounts.parts import Kind, Request
 from rigzumal.accounts.pools import PerThread
 from rigzumal.accounts.torture import history, logs
-from rigzumal.accounts.torture._worker import LOW, LoggedAccounts, Worker, hasher
+from rigzumal.accounts.torture._logged import LOW, LoggedAccounts
+from rigzumal.accounts.torture._worker import Worker, hasher
 
 MIX = {
     **{"enrol": 2, "verify": 6, "login": 4, "change": 4},

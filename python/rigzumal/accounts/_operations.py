@@ -1,0 +1,219 @@
+"""How the operations are done, as coroutines.
+
+An operation begins by reading the record (the copy), works with no connection held, and
+is committed by an UPDATE that asks whether the copy still stands. Its reply is what the
+whole operation answers at one record that stood between its call and its answer: at its
+commit, or if it changes nothing, as the primary was read. What a replica was read for
+is looked at once more at the primary.
+"""
+
+from __future__ import annotations
+
+from collections.abc import Callable, Iterable
+from typing import Any, ClassVar, Optional, Union
+
+from rigzumal.accounts._connections import Connections, Waits
+from rigzumal.accounts._judgement import Foreign, Hasher, Judge
+from rigzumal.accounts._session import Asynchronous, Job, Runtime, Session
+from rigzumal.accounts._table import Also, Broken, Table, Undone, judged
+from rigzumal.accounts._values import (
+    NO_ROW,
+    Answer,
+    Copy,
+    Key,
+    OutcomeUnknown,
+    Reply,
+    Request,
+    Ticket,
+    Worked,
+)
+from rigzumal.accounts.dialects._dialect import Dialect
+from rigzumal.accounts.pools import AsyncPool, Pool
+
+Hook = Optional[Callable[[Any, Reply], Any]]
+"""A caller's own statements: called with the driver's connection and the reply."""
+
+
+class Operations:
+    """What accounts do, over any runtime."""
+
+    _runtime: ClassVar[Runtime] = Asynchronous()
+
+    def __init__(
+        self,
+        pool: Union[Pool, AsyncPool],
+        dialect: Dialect,
+        hasher: Hasher,
+        *,
+        replica: Union[Pool, AsyncPool, None] = None,
+        foreign: Optional[Foreign] = None,
+        upgrade_from: Iterable[str] = (),
+        tries: int = 8,
+        patience: float = 10.0,
+        confirm: bool = False,
+    ) -> None:
+        if tries < 1 or not patience >= 0:
+            raise ValueError("tries is 1 or more, and patience 0 or more")
+        self._judge = Judge(hasher, foreign, upgrade_from)
+        self._dialect, self._tries = dialect, tries
+        self._table = Table(dialect, confirm, self._before_commit)
+        self._connections = Connections(
+            self._runtime, pool, replica, self._table, patience
+        )
+
+    def _before_commit(self, worked: Worked) -> None:
+        """Called before each COMMIT of a change is sent."""
+
+    def _told(self, also: Hook) -> Optional[Also]:
+        """A caller's hook as a job."""
+        if also is None:
+            return None
+        hook = also
+
+        async def done(session: Session, reply: Reply) -> None:
+            await self._runtime.told(hook(session.conn, reply))
+
+        return done
+
+    async def _perform(
+        self,
+        request: Request,
+        also: Optional[Also] = None,
+        patience: Optional[float] = None,
+    ) -> Answer:
+        """The whole operation, done again if another record stands at its commit."""
+        copy, is_settled = await self._first_copy(request, patience)
+        answer = Answer(Reply.CHANGED, copy, copy)
+        for _ in range(self._tries):
+            worked = await self._work(Ticket(request, copy))
+            if is_settled and also is None and not self._table.writes(worked):
+                return Answer(worked.reply, copy, copy)
+            answer = await self._commit(worked, also, patience)
+            if answer.reply is not Reply.CHANGED:
+                break
+            # What stands is the next copy: no replica has to come up to it.
+            copy, is_settled = answer.after, True
+        return answer
+
+    async def _work(self, ticket: Ticket) -> Worked:
+        return await self._runtime.call(self._judge.work, ticket)
+
+    async def _first_copy(
+        self, request: Request, patience: Optional[float] = None
+    ) -> tuple[Copy, bool]:
+        """A copy to work at, and whether it is what stood at the primary."""
+        self._dialect.check_key(request.key)
+        if self._dialect.can_stand(request.key):
+            found = await self._connections.at_replica(self._looking(request.key))
+            if not isinstance(found, Undone):
+                return found, False
+        # There is no replica, or it is away: logins go on.
+        return await self._look(request.key, patience), True
+
+    async def _look(self, key: Key, patience: Optional[float] = None) -> Copy:
+        """What stands at the primary."""
+        if not self._dialect.can_stand(key):
+            return NO_ROW
+        copy: Copy = await self._connections.patiently(self._looking(key), patience)
+        return copy
+
+    def _looking(self, key: Key) -> Job[Any]:
+        return lambda session: self._table.look(session, key)
+
+    async def _commit(
+        self,
+        worked: Worked,
+        also: Optional[Also] = None,
+        patience: Optional[float] = None,
+    ) -> Answer:
+        """Compares and puts, at once or in a transaction of its own."""
+        key = worked.ticket.request.key
+        if also is None and not self._dialect.can_stand(key):
+            return Answer(Reply.NO_ACCOUNT, NO_ROW, NO_ROW)
+        if also is None and not self._table.writes(worked):
+            return judged(worked, await self._look(key, patience))
+        try:
+            answer: Optional[Answer] = None
+            if also is None and self._is_of_one_statement(worked):
+                answer = await self._connections.patiently(
+                    lambda session: self._table.change_at_once(session, worked),
+                    patience,
+                )
+            if answer is None:
+                answer = await self._change(worked, also, patience)
+            return answer
+        except Broken:
+            pass
+        return await self._settled(worked, also)
+
+    def _is_of_one_statement(self, worked: Worked) -> bool:
+        """Whether one statement does it, if the engine has such a one.
+
+        Of NULL to a record, and of a record to NULL, what stands doesn't tell whether it
+        was put. There a connection that breaks before COMMIT has to be known.
+        """
+        copy, after = worked.ticket.copy, worked.after
+        both = isinstance(copy, str) and isinstance(after, str)
+        return bool(self._dialect.at_once) and both and copy != after
+
+    async def _change(
+        self, worked: Worked, also: Optional[Also], patience: Optional[float] = None
+    ) -> Answer:
+        answer: Answer = await self._connections.patiently(
+            lambda session: self._table.change(session, worked, also), patience
+        )
+        return answer
+
+    async def _settled(self, worked: Worked, also: Optional[Also]) -> Answer:
+        """Finds out whether a change stands whose COMMIT had no answer.
+
+        A record is put once, since its salt is fresh. So if the new one stands, it was
+        put. It may not have come to the disk or to the standby, so it is put over
+        itself: that COMMIT waits for both, where a look wouldn't.
+
+        If the copy stands, the change wasn't made so far, and the same is sent again:
+        once is all that both can do, since a record that was replaced never stands
+        again. That isn't so of NULL. To enrol again might bring back what another has
+        removed since.
+        """
+        waits, why = Waits(self._connections.patience, 0.01), ""
+        while worked.reply.makes_change:
+            try:
+                if await self._put_again(worked, also):
+                    return Answer(worked.reply, worked.ticket.copy, worked.after)
+            except Broken:
+                pass
+            except OutcomeUnknown:
+                raise
+            except Exception as error:
+                # What fails by now says nothing of the COMMIT that had no answer.
+                why = f" ({self._table.name(error)})"
+                break
+            if waits.are_over:
+                break
+            await self._runtime.pause(waits.next())
+        raise _unknown(worked, why)
+
+    async def _put_again(self, worked: Worked, also: Optional[Also]) -> bool:
+        """Whether the change stands, for good; False if another turn may tell.
+
+        Raises:
+            OutcomeUnknown: neither the copy nor the new record stands.
+        """
+        copy, after, request = worked.ticket.copy, worked.after, worked.ticket.request
+        now = await self._look(request.key)
+        if now == after and after is not None:
+            again = Worked(Ticket(request, after), worked.reply, after)
+            also = None  # they were committed with it
+        elif now == copy and copy is not None:
+            again = worked
+        else:
+            raise _unknown(worked)
+        sent = await self._change(again, also)
+        return sent.reply is worked.reply
+
+
+def _unknown(worked: Worked, why: str = "") -> OutcomeUnknown:
+    request = worked.ticket.request
+    what = f"the {request.kind.value} of {request.key!r} may have been done"
+    return OutcomeUnknown(f"COMMIT had no answer: {what}{why}")
