@@ -70,8 +70,10 @@ class Database:
             return self._sqlite()
         if self.kind == "postgresql":
             psycopg = importlib.import_module("psycopg")
-            given = {} if "connect_timeout" in self.url else {"connect_timeout": 5}
-            return psycopg.connect(self.url, autocommit=True, **given)
+            given: dict[str, Any] = {"autocommit": True, "prepare_threshold": None}
+            if "connect_timeout" not in self.url:
+                given["connect_timeout"] = 5
+            return psycopg.connect(self.url, **given)
         return self._mysql()
 
     @property

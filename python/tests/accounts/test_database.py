@@ -45,11 +45,21 @@ class MySQL(unittest.TestCase):
             given = Database("mariadb://ada@db/d").connect()
             self.assertEqual((given["user"], given["password"]), ("ada", "from outside"))
             self.assertEqual(Database("mysql://ada:own@db/d").connect()["password"], "own")
+        with mock.patch.dict(os.environ, {"MYSQL_PWD": "a%41b"}):  # no part of a URL
+            self.assertEqual(Database("mysql://db/d").connect()["password"], "a%41b")
         with mock.patch.dict(os.environ):
             os.environ.pop("MYSQL_PWD", None)
             given = Database("mysql://db/d").connect()
         self.assertEqual((given["user"], given["password"]), ("", ""))
-        self.assertEqual(self.tried, [("db", 3306)] * 3)
+        self.assertEqual(self.tried, [("db", 3306)] * 4)
+
+    def test_the_server_says_whether_it_is_mysql(self):
+        for said, kind in (("5.5.5-10.11.19-MariaDB", "MariaDB"), ("9.7.4", "MySQL")):
+            conn = mock.Mock()
+            conn.get_server_info.return_value = said
+            with mock.patch.object(Database, "connect", return_value=conn):
+                self.assertEqual(Database("mysql://db/d").dialect_kind().__name__, kind)
+            conn.close.assert_called_once_with()
 
     def test_hosts_are_tried_in_turn(self):
         database = Database("mysql://one,two:7,three/d")
@@ -87,11 +97,12 @@ class PostgreSQL(unittest.TestCase):
             ):
                 Database(url).connect()
         first, second = given
-        wanted = {"autocommit": True, "connect_timeout": 5}
+        plain = {"autocommit": True, "prepare_threshold": None}
+        wanted = {**plain, "connect_timeout": 5}
         self.assertEqual(
             first, (("postgresql://ada@one,two/d?target_session_attrs=read-write",), wanted)
         )
-        self.assertEqual(second, (("postgres:///d?connect_timeout=9",), {"autocommit": True}))
+        self.assertEqual(second, (("postgres:///d?connect_timeout=9",), plain))
 
 
 class SQLite(unittest.TestCase):

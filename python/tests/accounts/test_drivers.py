@@ -2,6 +2,8 @@
 
 import asyncio
 import contextlib
+import pathlib
+import tempfile
 import threading
 import unittest
 from collections import Counter
@@ -20,6 +22,7 @@ from rigzumal.accounts import (
     StoreFault,
     of_engine,
 )
+from rigzumal.accounts import torture
 from rigzumal.accounts.parts import Kind, Request
 
 
@@ -260,6 +263,16 @@ class Pooler(unittest.TestCase):
             conn.execute(self.dialect.create())
             for number in range(4):
                 conn.execute("INSERT INTO bounced (name) VALUES (%s)", (f"user{number}",))
+
+    def test_a_torture_through_it(self):
+        """Of more accounts than a statement may be used without being prepared."""
+        with tempfile.TemporaryDirectory() as folder:
+            given = {"processes": 4, "accounts": 8, "seconds": 2.0, "patience": 5.0}
+            run = torture.Torture(self.bouncer.url, folder=pathlib.Path(folder), **given)
+            accounts = run.run()
+        run.drop()
+        self.assertIsNone(torture.verdict(accounts))
+        self.assertTrue(any(it.operations for it in accounts.values()))
 
     def test_no_statement_is_prepared(self):
         """By psycopg's defaults, which prepare a statement at its sixth use."""
