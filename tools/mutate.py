@@ -332,7 +332,9 @@ def verdicts(top, file, mutants, asked):
         free, began = queue.Queue(), time.monotonic()
         if {*pool.map(lambda it: it.verdict(it.original, asked, asked.limit), made)} != {"survived"}:
             sys.exit("the tests fail with nothing changed")
-        limit = asked.limit or max(10, 5 * (time.monotonic() - began))
+        took = time.monotonic() - began
+        print(f"the tests pass with nothing changed, in {took:.0f} s; {len(mutants)} mutants to try", flush=True)
+        limit = asked.limit or max(10, 5 * took)
         for it in made:
             free.put(it)
 
