@@ -107,7 +107,7 @@ fn base_app<'a>(alloc: Global) -> Result<Command<'a>, AllocError>
 {
     let run = run(alloc)?;
     Command::new(alloc, "credbook")
-        .version("0.1.0")
+        .version("0.2.0")
         .about(ABOUT)
         .after_help(AFTER_HELP)
         .no_binary_name(true)

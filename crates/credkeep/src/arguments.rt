@@ -297,7 +297,7 @@ fn top<'a>(alloc: Global) -> Result<Command<'a>, AllocError> {
         .help("The database file")
         .required(true);
     Command::new(alloc, "credkeep")
-        .version("0.1.0")
+        .version("0.2.0")
         .about(ABOUT)
         .after_help(AFTER_HELP)
         .subcommand_required(true)

@@ -254,7 +254,7 @@ static UNREAD: [(&[&str], &str); 6] = [
             [subcommands: run, hash, check, help]\n\n\
             Usage: credbook <COMMAND>\n\nFor more information, try '--help'.\n",
     ),
-    (&["--version"], "credbook 0.1.0\n"),
+    (&["--version"], "credbook 0.2.0\n"),
     (
         &["walk"],
         "error: unrecognized subcommand 'walk'\n\n\
