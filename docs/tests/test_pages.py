@@ -32,6 +32,7 @@ FROM_FILE = re.compile(r"^<!-- from \S+ -->\n```.*?^```$", re.MULTILINE | re.DOT
 # with that file by tools/pages.py.
 TESTED = {
     "README.md": (
+        ("python", "test_sample_of_hashing"),
         ("c", "test_sample_of_c"),
         ("python", "test_sample_of_accounts"),
     ),
@@ -94,6 +95,14 @@ class PagesTest(unittest.TestCase):
         for page, test in ((page, test) for page, tests in TESTED.items() for _, test in tests):
             if not hasattr(self, test):
                 self.assertIn(pathlib.Path(page).name, (REPOSITORY / test).read_text(), test)
+
+    def test_sample_of_hashing(self):
+        """The page's Python, whose record has the costs of a new one."""
+        (code,) = sample_for("README.md", "test_sample_of_hashing")
+        wrong = code.replace('verify(record, "correct horse")', 'verify(record, "another")')
+        for text, said in ((code, ""), (wrong, "another password\n")):
+            kept = f'{text}\nassert hasher.verify(record, "correct horse")\n'
+            self.assertEqual(run(sys.executable, "-c", kept, env=OVER_PACKAGE), said)
 
     def test_sample_of_c(self):
         """The page's C, built with the flags of `make install`, makes a record and checks it."""
