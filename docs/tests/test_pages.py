@@ -44,6 +44,7 @@ TESTED = {
         ("python", "test_samples_of_django"),
         ("python", "test_django_page"),
     ),
+    "docs/SERVERS.md": (("python", "tests/server/test_clients.py"),),
     "docs/SERVING.md": (
         ("python", "tests/credkeep/test_tagged.py"),
         ("python", "test_sample_of_a_co_process"),
