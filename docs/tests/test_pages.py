@@ -49,6 +49,7 @@ TESTED = {
         ("python", "tests/credkeep/test_tagged.py"),
         ("python", "test_sample_of_a_co_process"),
     ),
+    "python/README.md": (("python", "tests/packages/test_install.py"),),
     "rust/README.md": (("rust", "test_sample_of_rust"),),
 }
 
