@@ -305,6 +305,31 @@ class Clients(Case):
                         self.assertTrue(time.monotonic() - begun < timeout + 7, "the timeout")
                         self.assertTrue(time.monotonic() - begun < 30, "it is read to its end")
 
+    def test_full_backlog(self) -> None:
+        """While too many wait to be let in a call waits too, for its time and no longer."""
+        server, _ = ours()
+        with tempfile.TemporaryDirectory() as room, socket.socket(socket.AF_UNIX) as listener:
+            listener.bind(f"{room}/s")
+            listener.listen(0)
+            with socket.socket(socket.AF_UNIX) as first:
+                first.connect(f"{room}/s")
+                begun = time.monotonic()
+                with self.assertRaises(server.Unavailable):
+                    server.Client(f"{room}/s", timeout=0.3).verify("ada", "x")
+                self.assertGreaterEqual(time.monotonic() - begun, 0.29)
+
+                def take() -> None:
+                    for said in (b"", b"1 yes\n"):
+                        client, _ = listener.accept()
+                        client.recv(100 if said else 0)
+                        client.sendall(said)
+                        client.close()
+
+                later = threading.Timer(0.2, take)
+                later.start()
+                self.assertIs(server.Client(f"{room}/s").verify("ada", "x"), server.Reply.YES)
+                later.join()
+
     def test_calls_without_an_answer(self) -> None:
         """Who waits is told of the connection's end, and what came too late is nobody's."""
         server, aio = ours()

@@ -108,7 +108,7 @@ class Client:
         try:
             with socket.socket(socket.AF_UNIX) as connection:
                 connection.settimeout(self._timeout)
-                connection.connect(self._path)
+                self._connect(connection, until)
                 connection.sendall(asked.line(TAG))
                 while b"\n" not in line and len(line) < LONGEST_ANSWER:
                     connection.settimeout(max(until - time.monotonic(), 0.001))
@@ -119,3 +119,13 @@ class Client:
         except OSError as fault:
             raise Unavailable(f"{self._path}: {fault.strerror or fault}") from None
         return answer_of(TAG, line)
+
+    def _connect(self, connection: socket.socket, until: float) -> None:
+        """Connects, and waits while too many others wait to be let in."""
+        while True:
+            try:
+                return connection.connect(self._path)
+            except BlockingIOError:
+                if time.monotonic() >= until:
+                    raise
+                time.sleep(0.005)
