@@ -109,6 +109,13 @@ def web_logins(port: int, server: Server) -> None:
     holds(got("ada", "fresh") in (401, 403, 500, 503), "the server is down")
 
 
+def install_stack(*more: str) -> None:
+    """The stack beside pam_unix, as the service `both`."""
+    install("/etc/pam.d/common-auth", "/etc/pam.d/common-account", *more)
+    both = "@include common-auth\n@include common-account\n"
+    pathlib.Path("/etc/pam.d/both").write_text(both)
+
+
 def pictures() -> None:
     for path in pathlib.Path("/etc/nginx/sites-enabled").glob("default"):
         path.unlink()
@@ -195,10 +202,7 @@ class Programs(Case):
         """The stack before pam_unix: by the book where it has the name, otherwise by /etc/shadow."""
         need("pamtester")
         server = started(room)
-        install("/etc/pam.d/common-auth", "/etc/pam.d/common-account")
-        pathlib.Path("/etc/pam.d/both").write_text(
-            "@include common-auth\n@include common-account\n"
-        )
+        install_stack()
         both = "authenticate acct_mgmt"
         pamtester("both", "ada", both, "secret\n", 0, "successfully authenticated")
         pamtester("both", "ada", both, "unixword\n", 1, "Authentication failure")
@@ -219,10 +223,7 @@ class Programs(Case):
         """Who isn't in the book and types the right password is let in each time, and logged as no failed try."""
         need("pamtester")
         started(room)
-        install("/etc/pam.d/common-auth", "/etc/pam.d/common-account")
-        pathlib.Path("/etc/pam.d/both").write_text(
-            "@include common-auth\n@include common-account\n"
-        )
+        install_stack()
         with logged() as lines:
             for _ in range(24):
                 pamtester("both", "eve", "authenticate acct_mgmt", "unixword\n", 0, "successfully")
@@ -237,10 +238,7 @@ class Programs(Case):
         """A local user may have a password that no book takes."""
         need("pamtester")
         started(room)
-        install("/etc/pam.d/common-auth", "/etc/pam.d/common-account")
-        pathlib.Path("/etc/pam.d/both").write_text(
-            "@include common-auth\n@include common-account\n"
-        )
+        install_stack()
         long = "x" * 300
         crypted = f"import crypt; print(crypt.crypt('{long}', '$6$saltsalt'))"
         shell(f'usermod -p "$({PYTHON} -W ignore -c "{crypted.replace("$", chr(92) + "$")}")" eve')
@@ -255,10 +253,7 @@ class Programs(Case):
         """root's passwd, chpasswd and adduser set a local user's password; one in the book changes by the old one."""
         need("passwd", "chpasswd", "adduser")
         server = started(room)
-        install("/etc/pam.d/common-auth", "/etc/pam.d/common-account", "/etc/pam.d/common-password")
-        pathlib.Path("/etc/pam.d/both").write_text(
-            "@include common-auth\n@include common-account\n"
-        )
+        install_stack("/etc/pam.d/common-password")
         own = "setpriv --reuid eve --regid people --clear-groups passwd"
         for words, typed, status in (
             ("passwd eve", ["fresh word1"] * 2, 0),
@@ -288,10 +283,7 @@ class Programs(Case):
         """A service that holds all its connections, and floods, doesn't make the book unavailable to others."""
         need("pamtester", "setpriv")
         started(room)
-        install("/etc/pam.d/common-auth", "/etc/pam.d/common-account")
-        pathlib.Path("/etc/pam.d/both").write_text(
-            "@include common-auth\n@include common-account\n"
-        )
+        install_stack()
         script = (
             "import socket, sys, time\nheld = []\nfor _ in range(1100):\n"
             "    it = socket.socket(socket.AF_UNIX)\n    it.connect(sys.argv[1])\n    held.append(it)\n"
@@ -313,7 +305,7 @@ class Programs(Case):
         """su, by a user who can't reach the socket: the book's password; /etc/shadow's while it is down."""
         need("su", "setpriv")
         server = started(room)
-        install("/etc/pam.d/common-auth", "/etc/pam.d/common-account")
+        install_stack()
         pathlib.Path("/etc/pam.d/su").write_text(
             "auth sufficient pam_rootok.so\n@include common-auth\n@include common-account\n@include common-session-noninteractive\n"
         )
