@@ -85,7 +85,7 @@ def prepared(room: pathlib.Path) -> None:
     shell(f"mkdir {room}/pts && mount --bind /dev/pts {room}/pts")
     private(room, "/etc", "/var", "/dev", "/home", str(SECURITY))
     shell(f"mkdir -p /dev/pts && mount --bind {room}/pts /dev/pts")
-    pathlib.Path("/var/lib/rigzumal").mkdir()
+    shell("mkdir -p /var/lib/rigzumal && mount -t tmpfs none /var/lib/rigzumal")
     shell(
         "mount -t tmpfs none /run && mkdir -p /run/sshd /run/lock /run/apache2 /run/dovecot && ip link set lo up"
     )

@@ -122,9 +122,9 @@ class Asking(Case):
         with tempfile.TemporaryDirectory() as room:
             words = " ".join(command(Given(sockets=False), pathlib.Path("FOLDER")))
             script = f"""set -e
-                mount -t tmpfs none /run && mkdir -p /run/rigzumal/users /var/lib/rigzumal && cp /etc/group {room}/group
+                for it in /run /var/lib; do mount -t tmpfs none $it; done; mkdir -p /run/rigzumal/users /var/lib/rigzumal; cp /etc/group {room}/group
                 echo rigzumal:x:64999: >> {room}/group && mount --bind {room}/group /etc/group
-                mount -t tmpfs none /var/lib/rigzumal && mkdir {room}/a.b
+                mkdir {room}/a.b
                 {words.replace("FOLDER", "/var/lib/rigzumal")} 2> {room}/log1 & {words.replace("FOLDER", f"{room}/a.b")} 2> {room}/log2 &
                 for log in log1 log2; do until grep -q start: {room}/$log; do sleep 0.05; done; done
                 stat -c '%n %a %g' /run/rigzumal/*/*.sock; kill %1 %2; wait"""
