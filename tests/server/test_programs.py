@@ -373,6 +373,8 @@ class Programs(Case):
         before = server.stats()
         self.assertEqual(fetched("ada:secret", 8081), {200: 40})
         self.assertEqual(fetched("ada:guess", 8081), {401: 40})
+        asked = shell("curl -s -o /dev/null -D - http://127.0.0.1:8081/1.png")
+        self.assertIn('WWW-Authenticate: Basic realm="book"', asked)
         after = server.stats()
         self.assertEqual(after["yes"] - before["yes"], 1)
         self.assertTrue(after["no"] + after["later"] - before["no"] - before["later"] >= 40)
