@@ -231,6 +231,21 @@ class Limits(Case):
                 for client in flood:
                     client.close()
 
+    def test_turns_of_sockets(self) -> None:
+        """Thirty clients that flood one socket take one turn with a client of another, of whatever uid."""
+        with serving("--at-once", "2", "--tries", "0", faults="slow=0.02") as service:
+            flood = [service.client() for _ in range(30)]
+            for client in flood:
+                client.send(b"a verify flood -\n" * 100)
+            until(lambda: len(service.asked()) > 10, "the flood")
+            admin, before = service.client("admin"), len(service.asked())
+            for _ in range(5):
+                self.assertEqual(admin.ask("verify zoe -"), "noaccount")
+            asked = service.asked()[before:]
+            ours = [at for at, line in enumerate(asked) if line.startswith("verify zoe")]
+            between = [later - at - 1 for at, later in zip(ours, ours[1:])]
+            self.assertTrue(max(between) <= 10, f"{between} lines of the flood between its own")
+
     def test_idle_clients(self) -> None:
         """After the idle time a client is closed, also in the midst of a line; one that asks isn't."""
         with serving("--idle", "1") as service:

@@ -125,7 +125,7 @@ class Service:
             client.write(tag, b"later")
         else:
             client.running += 1
-            turns.take(client.uid, client, share, line)
+            turns.take((client.door.name, client.uid), client, share, line)
 
     def share(self) -> float:
         """The share of a place for hashes that a change takes: as much as of its time it hashes."""

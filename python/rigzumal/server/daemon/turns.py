@@ -18,10 +18,12 @@ class Turns(Generic[Line]):
 
     def __init__(self, places: float, start: Callable[[Line], bool]) -> None:
         self.free, self.start = places, start
-        self.users: OrderedDict[int, OrderedDict[Hashable, deque[tuple[float, Line]]]]
+        self.users: OrderedDict[
+            Hashable, OrderedDict[Hashable, deque[tuple[float, Line]]]
+        ]
         self.users = OrderedDict()
 
-    def take(self, user: int, client: Hashable, share: float, line: Line) -> None:
+    def take(self, user: Hashable, client: Hashable, share: float, line: Line) -> None:
         """Starts a line once it is its turn, which may be now."""
         if not self.users and self.free >= share:
             self.begin(share, line)
