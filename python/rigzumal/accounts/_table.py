@@ -138,8 +138,7 @@ class Table:
     async def commit_in(self, session: Session, worked: Worked) -> Answer:
         """The same within a transaction that another has begun, and ends."""
         self.dialect.check_key(worked.ticket.request.key)
-        if self.dialect.can_stand(worked.ticket.request.key):
-            await self.dialect.within(session)
+        await self.dialect.within(session)
         return await self._answer(session, worked)
 
     async def _answer(self, session: Session, worked: Worked) -> Answer:

@@ -156,9 +156,7 @@ class AtOnce:
         for _ in range(2):
             self.execute("INSERT INTO users VALUES ('ann', %s)", record)
         accounts = self.accounts()
-        worked = accounts.work(
-            Ticket(Request(Kind.CHANGE, "ann", "one", "two"), record)
-        )
+        worked = accounts.work(Ticket(Request(Kind.CHANGE, "ann", "one", "two"), record))
         with self.assertRaises(StoreFault):
             accounts.commit(worked)
         rows = self.execute("SELECT record FROM users")

@@ -10,7 +10,7 @@ PORT = os.environ.get("FRAMEWORKS_POSTGRES")
 def _database(name):
     if PORT:
         engine = {"ENGINE": "django.db.backends.postgresql", "HOST": "127.0.0.1"}
-        return {**engine, "PORT": PORT, "USER": "postgres", "NAME": name}
+        return {**engine, "PORT": PORT, "USER": "store", "NAME": name}
     sqlite = {"ENGINE": "django.db.backends.sqlite3", "NAME": f"{ROOM}/{name}.db"}
     return {**sqlite, "OPTIONS": {"timeout": 60}, "TEST": {"NAME": f"{ROOM}/test-{name}.db"}}
 

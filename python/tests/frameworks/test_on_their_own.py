@@ -1,19 +1,19 @@
 """What wants a process or a server of its own: the tests of Django on PostgreSQL, random
 histories, Django's own tests and passlib's own, and the login page on PostgreSQL."""
 
-import contextlib
+import functools
 import os
 import pathlib
-import shutil
-import socket
 import subprocess
 import sys
 import tempfile
-import time
 import unittest
 
 HERE = pathlib.Path(__file__).resolve().parent
 PACKAGE = HERE.parent.parent
+sys.path.insert(0, str(HERE.parent / "accounts"))
+
+import servers
 
 
 def need(*modules):
@@ -24,43 +24,18 @@ def need(*modules):
             raise unittest.SkipTest(f"Python's {module} is not there")
 
 
-@contextlib.contextmanager
+@functools.cache
+def server():
+    return servers.PostgresServer("frameworks").start()
+
+
 def postgres():
-    """The port of a server of PostgreSQL with databases one and two, in a folder of its own."""
-    programs = sorted(pathlib.Path("/usr/lib/postgresql").glob("*/bin/initdb"))
-    if not programs:
-        raise unittest.SkipTest("postgresql is not there")
-    tools = programs[-1].parent
-    folder = pathlib.Path(tempfile.mkdtemp(prefix="rigzumal-pg-"))
-    own = ["runuser", "-u", "postgres", "--"] if os.geteuid() == 0 else []
-    if own:
-        shutil.chown(folder, "postgres")
-    with socket.socket() as found:
-        found.bind(("127.0.0.1", 0))
-        port = found.getsockname()[1]
-    quiet = {"check": True, "stdout": subprocess.DEVNULL, "cwd": folder}
-    make = [tools / "initdb", "-D", folder / "data", "-U", "postgres", "-A", "trust"]
-    subprocess.run([*own, *make, "--no-sync"], **quiet)
-    options = ["-c", "listen_addresses=127.0.0.1", "-c", f"port={port}"]
-    options += ["-c", f"unix_socket_directories={folder}"]
-    words = [*own, tools / "postgres", "-D", folder / "data", *options]
-    server = subprocess.Popen(words, cwd=folder, stderr=subprocess.DEVNULL)
-    try:
-        reach = ["-h", "127.0.0.1", "-p", str(port), "-U", "postgres"]
+    """The port of a server of PostgreSQL with empty databases one and two."""
+    with server().connect() as conn:
         for name in ("one", "two"):
-            for _ in range(300):
-                done = subprocess.run([tools / "createdb", *reach, name], capture_output=True)
-                if not done.returncode:
-                    break
-                time.sleep(0.1)
-            else:
-                raise AssertionError(f"no database {name}: {done.stderr.decode()}")
-        yield port
-    finally:
-        stop = [tools / "pg_ctl", "-D", folder / "data", "-m", "fast", "stop"]
-        subprocess.run([*own, *stop], **quiet)
-        server.wait()
-        shutil.rmtree(folder, ignore_errors=True)
+            conn.execute(f"DROP DATABASE IF EXISTS {name}")
+            conn.execute(f"CREATE DATABASE {name}")
+    return str(server().port)
 
 
 class Runs(unittest.TestCase):
@@ -86,8 +61,7 @@ class Runs(unittest.TestCase):
     def test_django_on_postgres(self):
         need("django", "psycopg2")
         words = ("-m", "unittest", "discover", "-p", "test_django*.py")
-        with postgres() as port:
-            self.run_python(*words, FRAMEWORKS_POSTGRES=str(port))
+        self.run_python(*words, FRAMEWORKS_POSTGRES=postgres())
 
     def test_histories(self):
         """1,000 random interleavings in threads have one legal order each."""
@@ -97,10 +71,10 @@ class Runs(unittest.TestCase):
 
     def test_histories_on_postgres(self):
         need("django", "psycopg2")
-        with postgres() as port:
-            for words in ((), ("--mixin",)):
-                said = self.run_python("django_histories.py", *words, FRAMEWORKS_POSTGRES=str(port))
-                self.assertIn("legal rounds on postgresql", said)
+        port = postgres()
+        for words in ((), ("--mixin",)):
+            said = self.run_python("django_histories.py", *words, FRAMEWORKS_POSTGRES=port)
+            self.assertIn("legal rounds on postgresql", said)
 
     def test_histories_without_comparison_are_refused(self):
         need("django")
@@ -118,9 +92,8 @@ class Runs(unittest.TestCase):
 
     def test_the_login_page_on_postgres(self):
         need("psycopg", "flask", "waitress", "django")
-        with postgres() as port:
-            url = f"postgresql://postgres@127.0.0.1:{port}/one"
-            self.run_python("test_login_page.py", DATABASE=url)
+        url = f"postgresql://store@127.0.0.1:{postgres()}/one"
+        self.run_python("test_login_page.py", DATABASE=url)
 
 
 def djangos_source():
