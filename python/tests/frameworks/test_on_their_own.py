@@ -109,12 +109,12 @@ def djangos_source():
 
     folder = kept / "rigzumal" / f"django-{django.__version__}"
     if not (folder / "tests").is_dir():
-        fetch_source(folder)
+        fetch_source(folder, django.__version__)
     return folder
 
 
-def fetch_source(folder):
-    """Debian's source package of Django, by an apt of its own; a skipped test without a network."""
+def fetch_source(folder, version):
+    """Debian's source package of this Django, by an apt of its own; a skipped test without it."""
     release = dict(
         line.split("=", 1) for line in pathlib.Path("/etc/os-release").read_text().splitlines()
     )
@@ -137,7 +137,7 @@ def fetch_source(folder):
         try:
             subprocess.run([*apt, "update"], **quiet)
             subprocess.run([*apt, "source", "--download-only", "python-django"], **quiet)
-            (archive,) = room.glob("python-django_*.orig.tar.*")
+            (archive,) = room.glob(f"python-django_{version}*.orig.tar.*")
         except (OSError, subprocess.SubprocessError, ValueError):
             raise unittest.SkipTest("Django's source can't be fetched: DJANGO_SOURCE") from None
         folder.mkdir(parents=True)
