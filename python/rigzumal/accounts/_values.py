@@ -5,7 +5,7 @@ from __future__ import annotations
 import enum
 import uuid
 from dataclasses import dataclass, field
-from typing import Final, NoReturn, Union
+from typing import TYPE_CHECKING, Final, Union
 
 from rigzumal._library import Secret, bytes_of
 
@@ -33,9 +33,14 @@ class Reply(enum.Enum):
     CHANGED = "changed"
     NO_ACCOUNT = "noaccount"
 
-    def __bool__(self) -> NoReturn:
-        """Refuses `if accounts.login(..)`, which would let everybody in."""
-        raise TypeError("a Reply is no truth value: compare with Reply.YES or the like")
+    # Hidden from mypy, whose `truthy-bool` then names each place where it is missing.
+    if not TYPE_CHECKING:
+
+        def __bool__(self) -> bool:
+            """Refuses `if accounts.login(..)`, which would let everybody in."""
+            raise TypeError(
+                "a Reply is no truth value: compare with Reply.YES or the like"
+            )
 
     @property
     def makes_change(self) -> bool:

@@ -2,11 +2,16 @@
 
 import contextlib
 import enum
+import os
+import shutil
 import sqlite3
+import subprocess
+import tempfile
 import traceback
 import unittest
 from unittest import mock
 
+import support
 from support import HIGH, LOW, Base, counted
 from rigzumal.accounts import (
     Accounts,
@@ -307,6 +312,30 @@ class Refusals(Base):
         for reply in Reply:
             self.assertRaises(TypeError, bool, reply)
             self.assertRaises(TypeError, lambda: not reply)
+
+    @unittest.skipUnless(shutil.which("mypy"), "mypy is not there")
+    def test_mypy_finds_a_reply_that_is_not_compared(self):
+        code = (
+            "from rigzumal.accounts import Accounts, Reply\n"
+            "def let_in(accounts: Accounts) -> bool:\n"
+            "    if accounts.login('ann', 'x') is Reply.YES:\n"
+            "        return True\n"
+            "    if accounts.login('ann', 'x'):\n"
+            "        return True\n"
+            "    return False\n"
+        )
+        with tempfile.NamedTemporaryFile("w", suffix=".py") as file:
+            file.write(code)
+            file.flush()
+            done = subprocess.run(
+                ["mypy", "--enable-error-code=truthy-bool", "--cache-dir=/dev/null", file.name],
+                capture_output=True,
+                text=True,
+                env={**os.environ, "MYPYPATH": str(support.PACKAGE), "PYTHONPATH": ""},
+            )
+        found = [line for line in done.stdout.splitlines() if "[truthy-bool]" in line]
+        self.assertEqual(len(found), 1, done.stdout + done.stderr)
+        self.assertIn(":5: error:", found[0])
 
     def test_a_new_record(self):
         """For an INSERT of one's own; each has a salt of its own."""
