@@ -18,7 +18,7 @@ class Runtime:
     """Answers each use by what it is given; a pause is noted, and passes at once."""
 
     def __init__(self, *answers):
-        self.answers, self.used, self.pauses, self.now = list(answers), [], [], 0.0
+        self.answers, self.used, self.pauses, self.now = list(answers), [], [], 100.0
 
     async def use(self, pool, job):
         self.used.append(pool)
