@@ -8,9 +8,11 @@ from __future__ import annotations
 
 import asyncio
 import time
-from collections.abc import Awaitable, Callable, Coroutine, Mapping
+from collections.abc import Awaitable, Callable, Coroutine, Iterable, Mapping
 from types import TracebackType
 from typing import Any, Generic, NamedTuple, Optional, Protocol, TypeVar
+
+from rigzumal.accounts._values import StoreFault
 
 T = TypeVar("T")
 
@@ -149,6 +151,8 @@ def row_values(row: Any) -> tuple[Any, ...]:
     """A row's values, whether the driver makes tuples of rows or dictionaries."""
     if type(row) is tuple:
         return row
+    if not isinstance(row, Iterable):
+        raise StoreFault(f"a row is {type(row).__name__}, and no tuple or dictionary")
     return tuple(row.values() if isinstance(row, Mapping) else row)
 
 

@@ -323,6 +323,15 @@ class OnServers:
         self.assertIs(accounts.change("ann", "one", "two"), Reply.REPLACED)
         self.assertIs(accounts.verify("ann", "two"), Reply.YES)
 
+    def test_sessions_that_are_ended(self):
+        """By the server, between operations: no visitor sees it."""
+        self.table()
+        self.put(LOW.hash("one"))
+        accounts = self.accounts()
+        for _ in range(5):
+            self.assertIs(accounts.change("ann", "one", "one"), Reply.REPLACED)
+            self.end_sessions()
+
     def held(self, seconds):
         """Another's transaction holds the row for so long."""
         holder = self.server.connect()

@@ -97,6 +97,13 @@ class Refused(unittest.TestCase):
 
         asyncio.run(act())
 
+    def test_sqlalchemys_own_connections(self):
+        """They are named with what makes a pool of their engine."""
+        connection = type("Connection", (), {"__module__": "sqlalchemy.pool", "info": {}})
+        for dialect in (Sqlite, MariaDB, Postgres):
+            accounts = self.accounts(connection(), dialect("users", "name", "record"))
+            self.assert_refused(accounts, "the driver is sqlalchemy, .* of_engine")
+
     def test_others(self):
         for dialect in (Sqlite, MariaDB, Postgres):
             accounts = self.accounts(object(), dialect("users", "name", "record"))

@@ -291,18 +291,6 @@ class OnMariaDB(Base):
             with self.assertRaises(TypeError):
                 accounts.login("7x", "one")
 
-    def test_threads_that_are_ended(self):
-        self.table()
-        self.put(LOW.hash("one"))
-        accounts = self.accounts()
-        for turn in range(5):
-            self.assertIs(accounts.change("ann", "one", "one"), Reply.REPLACED)
-            for (number,) in self.execute(
-                "SELECT id FROM information_schema.processlist"
-                " WHERE id <> CONNECTION_ID() AND user = 'store'"
-            ):
-                self.execute(f"KILL {number}")
-
 
 if __name__ == "__main__":
     unittest.main()

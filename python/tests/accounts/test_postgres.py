@@ -380,17 +380,6 @@ class OnPostgres(Base):
         self.assertIs(accounts.change("ann", "one", "two"), Reply.REPLACED)
         self.assertEqual(accounts.examine(), [])
 
-    def test_backends_that_are_ended(self):
-        self.table()
-        self.put(LOW.hash("one"))
-        accounts = self.accounts()
-        for turn in range(5):
-            self.assertIs(accounts.change("ann", "one", "one"), Reply.REPLACED)
-            self.execute(
-                "SELECT pg_terminate_backend(pid) FROM pg_stat_activity"
-                " WHERE pid <> pg_backend_pid() AND datname = 'store'"
-            )
-
     def test_what_is_sent_and_left(self):
         """No statement too many, and no handler of notices on the connection."""
         self.table()

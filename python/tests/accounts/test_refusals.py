@@ -400,6 +400,17 @@ class Refusals(Base):
             self.assertIs(accounts.change("ann", "one", "one"), Reply.REPLACED)
             self.assertEqual(accounts.examine(), [])
 
+    def test_rows_that_nobody_knows(self):
+        self.put("ann", LOW.hash("one"))
+
+        def connect():
+            conn = self.connect()
+            conn.row_factory = lambda cursor, row: object()
+            return conn
+
+        with self.assertRaisesRegex(StoreFault, "a row is object"):
+            self.accounts(connect=connect).verify("ann", "one")
+
     def test_a_blob_is_no_record(self):
         self.put("ann", LOW.hash("one").encode())
         with counted() as hashes, self.assertRaises(StoreFault) as raised:

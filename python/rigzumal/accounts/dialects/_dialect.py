@@ -93,7 +93,8 @@ def is_of_driver(raised: BaseException) -> bool:
 def other_driver(conn: Any, wanted: str) -> StoreFault:
     """What is said of a connection of another driver."""
     found = type(conn).__module__.partition(".")[0]
-    return StoreFault(f"the driver is {found}, and {wanted} is wanted")
+    more = ": of its engine, of_engine makes a pool" if found == "sqlalchemy" else ""
+    return StoreFault(f"the driver is {found}, and {wanted} is wanted{more}")
 
 
 class Dialect:

@@ -66,7 +66,9 @@ class Postgres(Dialect):
             raise StoreFault(NOT_AUTOCOMMIT)
 
     def _check_driver(self, conn: Any) -> None:
-        if not hasattr(conn, "prepare_threshold"):
+        # SQLAlchemy's own connections have an `info` of theirs.
+        is_psycopgs = hasattr(getattr(conn, "info", None), "transaction_status")
+        if not (is_psycopgs and hasattr(conn, "prepare_threshold")):
             raise other_driver(conn, "psycopg 3")
         # PgBouncer may give the next statement to a session that hasn't prepared it.
         conn.prepare_threshold = None
