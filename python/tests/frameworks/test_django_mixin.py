@@ -11,7 +11,7 @@ from django.contrib.auth import authenticate, hashers
 from django.contrib.auth.models import AbstractUser, User
 from django.core import serializers
 from django.db import IntegrityError, OperationalError, transaction
-from django.db.migrations.state import ModelState
+from django.db.migrations.state import ModelState, ProjectState
 from django.db.migrations.writer import MigrationWriter
 from django.db.models.signals import post_save, pre_save
 from django.test import TestCase, TransactionTestCase, override_settings
@@ -607,6 +607,21 @@ class AsDjangos(Cheap, TransactionTestCase):
             return text, state.options.get("verbose_name")
 
         self.assertNotIn("rigzumal", self.outcomes(scenario)[0])
+
+    def test_a_migration_that_names_the_mixin_is_read(self):
+        """As those of a project whose model had it before it was an abstract model."""
+
+        def scenario(model, ann):
+            name = model._meta.model_name
+            state = ProjectState()
+            state.add_model(ModelState.from_model(model))
+            mixed = state.models["users_app", name]
+            if model is Person:
+                mixed.bases = (users.CompareAndSetMixin, *mixed.bases)
+            rendered = state.apps.get_model("users_app", name)
+            return rendered.objects.get(pk=ann.pk).password == ann.password
+
+        self.assertIs(self.outcomes(scenario), True)
 
 
 class OwnMethods(Cheap, TransactionTestCase):
