@@ -415,6 +415,19 @@ class CallersTransactions(Base):
         self.assertIs(accounts.commit_in(self.conn, worked).reply, Reply.YES)
         self.conn.execute("COMMIT")
 
+    def test_a_change_of_a_name_that_no_column_holds(self):
+        """It is asked of no server, whatever its copy is said to be."""
+
+        def connect():
+            raise AssertionError("a connection was asked for")
+
+        accounts, record = self.accounts(connect=connect), LOW.hash("one")
+        ticket = Ticket(Request(Kind.RESET, "a\0b", "", "x"), record)
+        answer = accounts.commit(Worked(ticket, Reply.REPLACED, LOW.hash("two")))
+        self.assertEqual(
+            (answer.reply, answer.before, answer.after), (Reply.NO_ACCOUNT, NO_ROW, NO_ROW)
+        )
+
     def test_names_that_no_column_holds(self):
         """They are asked of no server, as in the operations."""
         accounts = self.accounts()
