@@ -9,18 +9,8 @@ from rigzumal.accounts import _examine
 from rigzumal.accounts._operations import Hook, Operations
 from rigzumal.accounts._session import Session
 from rigzumal.accounts._table import Also
-from rigzumal.accounts._values import (
-    Answer,
-    Key,
-    Kind,
-    OutcomeUnknown,
-    Reply,
-    Request,
-    StoreFault,
-    Ticket,
-    Unavailable,
-    Worked,
-)
+from rigzumal.accounts._values import Answer, Key, Kind, OutcomeUnknown, Reply, Request
+from rigzumal.accounts._values import StoreFault, Ticket, Unavailable, Worked
 from rigzumal.accounts.dialects._dialect import Fault
 
 AS_A_VERIFY: Final = {

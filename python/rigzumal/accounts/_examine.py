@@ -12,15 +12,8 @@ from typing import Optional
 
 from rigzumal.accounts._session import Session
 from rigzumal.accounts._table import Table
-from rigzumal.accounts._values import (
-    Key,
-    Kind,
-    Reply,
-    Request,
-    StoreFault,
-    Ticket,
-    Worked,
-)
+from rigzumal.accounts._values import Key, Kind, Reply, Request, StoreFault, Ticket
+from rigzumal.accounts._values import Worked
 from rigzumal.accounts.dialects._dialect import Dialect, Fault, error
 
 

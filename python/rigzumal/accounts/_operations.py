@@ -16,17 +16,8 @@ from rigzumal.accounts._connections import Connections, Waits
 from rigzumal.accounts._judgement import Foreign, Hasher, Judge
 from rigzumal.accounts._session import Asynchronous, Job, Runtime, Session
 from rigzumal.accounts._table import Also, Broken, Table, Undone, judged
-from rigzumal.accounts._values import (
-    NO_ROW,
-    Answer,
-    Copy,
-    Key,
-    OutcomeUnknown,
-    Reply,
-    Request,
-    Ticket,
-    Worked,
-)
+from rigzumal.accounts._values import NO_ROW, Answer, Copy, Key, OutcomeUnknown, Reply
+from rigzumal.accounts._values import Request, Ticket, Worked
 from rigzumal.accounts.dialects._dialect import Dialect
 from rigzumal.accounts.pools import AsyncPool, Pool
 

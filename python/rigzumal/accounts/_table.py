@@ -12,15 +12,8 @@ from dataclasses import dataclass
 from typing import Any, NoReturn, Optional, Union
 
 from rigzumal.accounts._session import Session
-from rigzumal.accounts._values import (
-    NO_ROW,
-    Answer,
-    Copy,
-    Key,
-    Reply,
-    StoreFault,
-    Worked,
-)
+from rigzumal.accounts._values import NO_ROW, Answer, Copy, Key, Reply, StoreFault
+from rigzumal.accounts._values import Worked
 from rigzumal.accounts.dialects._dialect import Dialect, Verdict, is_of_driver
 
 Also = Callable[[Session, Reply], Awaitable[None]]

@@ -8,19 +8,10 @@ from typing import Any, Final, Optional
 from rigzumal.accounts._session import Result, Session
 from rigzumal.accounts._values import Copy, Key, StoreFault
 from rigzumal.accounts.dialects import _faults
-from rigzumal.accounts.dialects._dialect import (
-    LONGEST_RECORD,
-    NO_TRANSACTION,
-    NOT_AUTOCOMMIT,
-    TRANSACTION_OPEN,
-    Dialect,
-    Fault,
-    Findings,
-    Verdict,
-    error,
-    other_driver,
-    warning,
-)
+from rigzumal.accounts.dialects._dialect import LONGEST_RECORD, NO_TRANSACTION
+from rigzumal.accounts.dialects._dialect import NOT_AUTOCOMMIT, TRANSACTION_OPEN
+from rigzumal.accounts.dialects._dialect import Dialect, Fault, Findings, Verdict, error
+from rigzumal.accounts.dialects._dialect import other_driver, warning
 
 NOBODYS_RECORD: Final = (
     "$argon2id$v=19$m=8,t=1,p=1$bm9ib2R5J3M$"

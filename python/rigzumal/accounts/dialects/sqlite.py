@@ -9,18 +9,10 @@ from typing import Any, Final
 from rigzumal.accounts._session import Session
 from rigzumal.accounts._values import StoreFault
 from rigzumal.accounts.dialects import _faults
-from rigzumal.accounts.dialects._dialect import (
-    NO_TRANSACTION,
-    NOT_AUTOCOMMIT,
-    TRANSACTION_OPEN,
-    Dialect,
-    Fault,
-    Findings,
-    Verdict,
-    error,
-    other_driver,
-    warning,
-)
+from rigzumal.accounts.dialects._dialect import NO_TRANSACTION, NOT_AUTOCOMMIT
+from rigzumal.accounts.dialects._dialect import TRANSACTION_OPEN, Dialect, Fault
+from rigzumal.accounts.dialects._dialect import Findings, Verdict, error, other_driver
+from rigzumal.accounts.dialects._dialect import warning
 
 
 class Sqlite(Dialect):

@@ -14,14 +14,8 @@ from typing import Any, Optional, Union
 from rigzumal.accounts._accounts import Accounts, BlockingOperations
 from rigzumal.accounts._async_accounts import AsyncAccounts
 from rigzumal.accounts._table import Also
-from rigzumal.accounts._values import (
-    NO_ROW,
-    AccountsError,
-    Answer,
-    OutcomeUnknown,
-    Request,
-    Worked,
-)
+from rigzumal.accounts._values import NO_ROW, AccountsError, Answer, OutcomeUnknown
+from rigzumal.accounts._values import Request, Worked
 
 LOW, HIGH = 64, 72
 """KiB of the two costs between which upgrades go."""

@@ -13,27 +13,13 @@ from typing import TYPE_CHECKING, Any
 
 from rigzumal._hashers import PasswordHasher
 from rigzumal.accounts._session import AsyncSession, BlockingSession, Session, run
-from rigzumal.accounts._values import (
-    AccountsError,
-    Answer,
-    Kind,
-    OutcomeUnknown,
-    Reply,
-    Request,
-    Unavailable,
-    Worked,
-)
+from rigzumal.accounts._values import AccountsError, Answer, Kind, OutcomeUnknown, Reply
+from rigzumal.accounts._values import Request, Unavailable, Worked
 from rigzumal.accounts.database import Database
 from rigzumal.accounts.dialects._dialect import Verdict, is_of_driver
 from rigzumal.accounts.pools import PerThread, PerUse
-from rigzumal.accounts.torture._logged import (
-    HIGH,
-    LOW,
-    AnyAccounts,
-    Log,
-    Logged,
-    LoggedAccounts,
-)
+from rigzumal.accounts.torture._logged import HIGH, LOW, AnyAccounts, Log, Logged
+from rigzumal.accounts.torture._logged import LoggedAccounts
 
 if TYPE_CHECKING:
     from rigzumal.accounts.torture._torture import Torture

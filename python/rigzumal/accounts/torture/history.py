@@ -33,13 +33,8 @@ from collections.abc import Iterable, Sequence
 from dataclasses import dataclass, field
 from typing import NamedTuple
 
-from rigzumal.accounts.torture._order import (
-    Attempt,
-    Operation,
-    Record,
-    conflict,
-    possible,
-)
+from rigzumal.accounts.torture._order import Attempt, Operation, Record, conflict
+from rigzumal.accounts.torture._order import possible
 
 NO_EFFECT = frozenset({"failed", "changed"})
 
