@@ -126,33 +126,21 @@ class FormatTest(BookTest):
         self.assertFails(self.book("list"), 5, "open it with sqlite3 first")
 
     def test_damaged(self) -> None:
-        """A file that is cut is refused. One with a bit turned is refused, or is the same book, or
-        one in which one account differs: SQLite's format has no sum over a row."""
+        """A file that is cut is refused. One with a bit turned is refused, or hardly differs."""
         chance = random.Random(17)
         self.begun({**{f"a{at}": "" for at in range(200)}, "ann": RECORD})
-        whole, accounts = self.book.path.read_bytes(), set(self.book.accounts().items())
+        whole, accounts = self.book.path.read_bytes(), self.book.accounts()
+        for _ in range(60):
+            self.assertTrue(self.is_refused(whole[: chance.randrange(1, len(whole))], accounts))
         first = whole.index(RECORD.encode())
-        cut = [whole[: chance.randrange(1, len(whole))] for _ in range(60)]
         places = [chance.randrange(len(whole) * 8) for _ in range(200)]
         places += [chance.randrange(first * 8, (first + len(RECORD)) * 8) for _ in range(40)]
-        hurt, refused = self.file("hurt.db"), 0
-        pieces = list(cut)
+        refused = 0
         for place in places:
             turned = bytearray(whole)
             turned[place // 8] ^= 1 << place % 8
-            pieces.append(bytes(turned))
-        for at, piece in enumerate(pieces):
-            hurt.remove()
-            hurt.path.write_bytes(piece)
-            done = hurt("export")
-            if done.status:
-                self.assertFails(done, 5)
-                refused += 1
-            else:
-                self.assertGreaterEqual(at, len(cut), "a cut file opened")
-                found = {tuple(line.split(":", 1)) for line in done.written.splitlines()}
-                self.assertLessEqual(len(accounts ^ found), 2, "another book")
-        self.assertGreater(refused, len(cut))
+            refused += self.is_refused(bytes(turned), accounts)
+        self.assertTrue(0 < refused < len(places), refused)
 
 
 class NamesTest(BookTest):

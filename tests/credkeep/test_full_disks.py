@@ -4,6 +4,7 @@ named."""
 import shutil
 
 from tests.credkeep.books import (
+    EDITS,
     EMPTY_LOG,
     RECORD,
     Accounts,
@@ -15,43 +16,25 @@ from tests.credkeep.books import (
 )
 from tests.helpers import Ended, need_root, small_files
 
-# A book, an order on it with its input, the book after it, and what may be kept or not.
-ORDERS: list[tuple[Accounts, list[str], str, Accounts, str]] = [
-    (
-        {"ann": RECORD, "cat": ""},
-        ["rename", "ann", "bob"],
-        "",
-        {"bob": RECORD, "cat": ""},
-        "the change of ann",
-    ),
-    (
-        {"ann": RECORD, "cat": ""},
-        ["disable", "ann"],
-        "",
-        {"ann": "", "cat": ""},
-        "the change of ann",
-    ),
-    ({"ann": RECORD, "cat": ""}, ["delete", "ann"], "", {"cat": ""}, "the change of ann"),
-]
 # How many accounts a script adds, far more than there is room for.
 COUNT = 4000
-LINES = "".join(f"account n{at}\n" for at in range(COUNT))
+LINES = "".join(f"account new{at}\n" for at in range(COUNT))
 
 
 class OrdersTest(BookTest):
     def test_orders(self) -> None:
         """A file whose log can't be begun isn't opened. If the log can't grow, the change is named,
         and what is kept is the book before it or the one after it."""
-        for before, words, given, after, named in ORDERS:
+        for before, words, after in EDITS:
             for size in (0, EMPTY_LOG - 1, EMPTY_LOG, 4096):
                 with self.subTest(words=words, size=size):
                     book = self.begun(before)
-                    done = book(*words, given=given, **small_files(size))
+                    done = book(*words, **small_files(size))
                     if size < EMPTY_LOG:
                         self.assertEqual(done, fails(5, "disk I/O error"))
                         self.assertEqual(book.accounts(), before)
                     else:
-                        text = f"{named} may be kept or not"
+                        text = "the change of ann may be kept or not"
                         self.assertFails(done, 5, "credkeep: the database failed: ", text)
                         self.assertIn(book.accounts(), (before, after))
 
@@ -68,23 +51,26 @@ class OrdersTest(BookTest):
         self.assertEqual(self.book.names(), ["ann"])
 
 
-class ScriptsTest(BookTest):
-    def assertLost(self, done: Ended, book: Book) -> None:
+class LostTest(BookTest):
+    def assertLost(self, done: Ended, book: Book, before: Accounts) -> None:
         """The change that failed is named, and every one before it is there."""
         answered = done.written.count("ok\n")
         self.assertEqual((done.status, done.written), (5, "ok\n" * answered), done.faults)
         self.assertTrue(0 < answered < COUNT, f"{answered} answered")
         first = done.faults.splitlines()[0]
-        lost = f"; the change of n{answered} may be kept or not"
+        lost = f"; the change of new{answered} may be kept or not"
         self.assertRegex(first, rf"\Acredkeep: the database failed: .*{lost}\Z")
-        found, kept = set(book.names()), {f"n{at}" for at in range(answered)}
-        self.assertIn(found, (kept, kept | {f"n{answered}"}))
+        kept = {**before, **{f"new{at}": "" for at in range(answered)}}
+        found = book.accounts()
+        self.assertTrue(found in (kept, {**kept, f"new{answered}": ""}), "another book")
         self.assertSound(book)
 
+
+class ScriptsTest(LostTest):
     def test_lost_change(self) -> None:
         for order in ("run", "serve"):
             book = self.begun()
-            self.assertLost(book(order, given=LINES, **small_files(100_000)), book)
+            self.assertLost(book(order, given=LINES, **small_files(100_000)), book, {})
 
     def test_full_disk(self) -> None:
         need_root()
@@ -93,4 +79,4 @@ class ScriptsTest(BookTest):
             self.assertEqual(book("init").status, 0)
             done = book("run", given=LINES)
             book.move_to(copy)
-        self.assertLost(done, copy)
+        self.assertLost(done, copy, {})

@@ -6,6 +6,7 @@ import time
 
 from tests.credkeep.books import (
     DONE,
+    EDITS,
     OTHER,
     RECORD,
     SETTING,
@@ -22,10 +23,8 @@ SIX = {f"n{at:04}": OTHER for at in range(6000)}
 
 # A book, an order on it with its input, the book after it, and how often it is killed.
 ORDERS: list[tuple[Accounts, list[str], str, Accounts, int]] = [
+    *((before, words, "", after, 10) for before, words, after in EDITS),
     ({"ann": OTHER}, ["reset", "ann", "--setting", SETTING], "password\n", {"ann": RECORD}, 12),
-    ({"ann": RECORD, "cat": ""}, ["rename", "ann", "bob"], "", {"bob": RECORD, "cat": ""}, 10),
-    ({"ann": RECORD, "cat": ""}, ["disable", "ann"], "", {"ann": "", "cat": ""}, 10),
-    ({"ann": RECORD, "cat": ""}, ["delete", "ann"], "", {"cat": ""}, 10),
     ({"ann": RECORD}, ["import"], lines_of(FOUR), {"ann": RECORD, **FOUR}, 50),
     ({name: RECORD for name in list(SIX)[::2]}, ["import", "--update"], lines_of(SIX), SIX, 20),
 ]
@@ -41,7 +40,7 @@ class OrdersTest(BookTest):
                 start = time.monotonic()
                 self.assertEqual(self.book(*words, given=given).status, 0)
                 took = time.monotonic() - start
-                self.assertEqual(self.book.accounts() == after, True)
+                self.assertTrue(self.book.accounts() == after)
                 for turn in range(kills * TIMES):
                     self.book.remove()
                     self.book.path.write_bytes(whole)

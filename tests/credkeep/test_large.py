@@ -11,7 +11,9 @@ import time
 import unittest
 from concurrent.futures import ThreadPoolExecutor
 
-from tests.credkeep.books import OTHER, RECORD, Accounts, Book, BookTest, rows, small_disk
+from tests.credkeep.books import OTHER, RECORD, Accounts, Book, rows, small_disk
+from tests.credkeep.test_full_disks import LINES as ADDED
+from tests.credkeep.test_full_disks import LostTest
 from tests.helpers import TIMES, Ended, need_root, without_request
 
 COUNT = int(os.environ.get("RIGZUMAL_ACCOUNTS", "0"))
@@ -20,26 +22,23 @@ LINES = 400
 
 
 @unittest.skipUnless(COUNT, "RIGZUMAL_ACCOUNTS isn't set")
-class LargeTest(BookTest):
+class LargeTest(LostTest):
     def setUp(self) -> None:
         """Names come in random order; every third has no record."""
         super().setUp()
         names = [f"n{it:07x}" for it in random.Random(COUNT).sample(range(16**7), COUNT)]
         self.accounts = {name: "" if at % 3 == 0 else RECORD for at, name in enumerate(names)}
-        self.write("INSERT INTO account VALUES (?, nullif(?, ''))")
-
-    def write(self, statement: str) -> None:
         with contextlib.closing(sqlite3.connect(self.book.path)) as connection, connection:
+            statement = "INSERT INTO account VALUES (?, nullif(?, ''))"
             connection.executemany(statement, self.accounts.items())
 
-    def assertKept(self, book: Book, *may: Accounts) -> None:
-        found = book.accounts()
-        self.assertTrue(any(found == it for it in may), "another book")
-        self.assertSound(book)
+    def assertKept(self, accounts: Accounts) -> None:
+        self.assertTrue(self.book.accounts() == accounts, "another book")
+        self.assertSound(self.book)
 
     def test_changes(self) -> None:
         """Changes are made beside statistics, which stay."""
-        self.assertKept(self.book, self.accounts)
+        self.assertKept(self.accounts)
         rows(self.book.path, "ANALYZE")
         statistics = rows(self.book.path, "SELECT * FROM sqlite_stat1")
         self.assertEqual(statistics, [("account", "sqlite_autoindex_account_1", f"{COUNT} 1")])
@@ -47,7 +46,7 @@ class LargeTest(BookTest):
         given = f"account new\nshow new\nload {name} {OTHER}\nshow {name}\n"
         done = self.book("serve", given=given)
         self.assertEqual(done, Ended(0, f"ok\nnone\nok\n{OTHER}\n"))
-        self.assertKept(self.book, {**self.accounts, "new": "", name: OTHER})
+        self.assertKept({**self.accounts, "new": "", name: OTHER})
         self.assertEqual(rows(self.book.path, "SELECT * FROM sqlite_stat1"), statistics)
 
     def test_kills(self) -> None:
@@ -74,23 +73,17 @@ class LargeTest(BookTest):
                 shown = self.book("serve", given=f"show {name}\n").written.strip()
                 if shown == (record or "none"):
                     self.accounts[name] = record
-        self.assertKept(self.book, self.accounts)
+        self.assertKept(self.accounts)
 
     def test_full_disk(self) -> None:
-        """The change that fails is named, and every one before it is there."""
         need_root()
         size = self.book.path.stat().st_size + 400 * 1024
         with small_disk(self.room / "small", size) as folder:
             book, copy = Book(folder / "users.db"), self.file("copy.db")
             shutil.copy(self.book.path, book.path)
-            done = book("serve", given="".join(f"account t{at}\n" for at in range(4000)))
+            done = book("serve", given=ADDED)
             book.move_to(copy)
-        answered = done.written.count("ok\n")
-        self.assertEqual(done.status, 5)
-        self.assertTrue(0 < answered < 4000)
-        self.assertIn(f"the change of t{answered} may be kept or not", done.faults)
-        kept = {**self.accounts, **{f"t{at}": "" for at in range(answered)}}
-        self.assertKept(copy, kept, {**kept, f"t{answered}": ""})
+        self.assertLost(done, copy, self.accounts)
 
     def test_bad_rows(self) -> None:
         """A row that is no account is named by its number, wherever it is."""
@@ -108,21 +101,12 @@ class LargeTest(BookTest):
                 self.assertEqual(done, Ended(5, "", f"credkeep: row {row}: {why}\n"))
 
     def test_damaged(self) -> None:
-        """A file with a bit turned is refused, or is the same book, or one in which one account
-        differs."""
-        whole, chance, hurt = self.book.path.read_bytes(), random.Random(17), self.file("hurt.db")
+        """A file with a bit turned is refused, or hardly differs."""
+        whole, chance = self.book.path.read_bytes(), random.Random(17)
         for _ in range(30):
             turned = bytearray(whole)
             turned[chance.randrange(len(whole))] ^= 1 << chance.randrange(8)
-            hurt.remove()
-            hurt.path.write_bytes(turned)
-            hurt.path.chmod(0o600)
-            done = hurt("export")
-            if done.status:
-                self.assertFails(done, 5)
-            else:
-                found = {tuple(line.split(":")) for line in done.written.splitlines()}
-                self.assertLessEqual(len(found ^ set(self.accounts.items())), 2)
+            self.is_refused(bytes(turned), self.accounts)
 
     def test_refused_memory(self) -> None:
         """Requests for memory of a service's run are refused: the first ones, and some of all."""

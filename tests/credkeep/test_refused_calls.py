@@ -6,7 +6,7 @@ import shutil
 from collections.abc import Iterator
 from typing import NamedTuple
 
-from tests.credkeep.books import DONE, RECORD, Accounts, Book, BookTest, lines_of
+from tests.credkeep.books import DONE, EDITS, RECORD, Accounts, Book, BookTest, lines_of
 from tests.helpers import Ended, ended, in_turn, need
 
 # The calls that change files or make changes last, and those between them. strace counts each by
@@ -18,7 +18,6 @@ CHANGES = (
 CALLS = CHANGES + "openat newfstatat fstat readlink read pread64 fcntl clock_nanosleep".split()
 WRITES = "pwrite64 write fsync fdatasync ftruncate".split()
 
-PAIR = {"ann": RECORD, "cat": ""}
 MANY = {f"n{at:03}": RECORD for at in range(200)}
 
 
@@ -99,12 +98,8 @@ class RefusedCallsTest(BookTest):
         return Scene(folder, [*words], given, before=accounts, after=after)
 
     def test_orders(self) -> None:
-        for words, after in (
-            (["rename", "ann", "bob"], {"bob": RECORD, "cat": ""}),
-            (["disable", "ann"], {"ann": "", "cat": ""}),
-            (["delete", "ann"], {"cat": ""}),
-        ):
-            self.assertEach(self.scene(PAIR, *words, after=after), WRITES, "error=EIO")
+        for before, words, after in EDITS:
+            self.assertEach(self.scene(before, *words, after=after), WRITES, "error=EIO")
 
     def test_imports(self) -> None:
         scene = self.scene({}, "import", given=lines_of(MANY), after=MANY)
