@@ -14,7 +14,7 @@ from typing import Any
 
 from tests.credkeep.books import CHEAP, DONE, RECORD, SALT, Book, BookTest
 from tests.credkeep.doors import in_base64
-from tests.helpers import TOP, limited, small_files
+from tests.helpers import LONGEST, TOP, limited, small_files
 
 ONE, TWO = in_base64("one"), in_base64("two")
 WIDER = "$argon2id$v=19$m=16,t=1,p=1"
@@ -170,7 +170,8 @@ class LinesTest(BookTest):
             finally:
                 await book.close()
 
-        self.assertEqual(asyncio.run(use()), ["yes", "no"] * 10)
+        found = asyncio.run(asyncio.wait_for(use(), LONGEST))
+        self.assertEqual(found, ["yes", "no"] * 10)
 
 
 class HashesTest(BookTest):

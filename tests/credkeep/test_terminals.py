@@ -2,8 +2,9 @@
 
 import os
 import pty
+import signal
 import termios
-import time
+import threading
 
 from tests.credkeep.books import CHEAP, BookTest, says
 from tests.helpers import LONGEST, TOP, program
@@ -17,9 +18,10 @@ def at_a_terminal(
     pid, terminal = pty.fork()
     if pid == 0:
         os.execvpe(command[0], command, {**os.environ, **(env or {})})
+    guard = threading.Timer(LONGEST, os.kill, (pid, signal.SIGKILL))
+    guard.start()
     shown, echo, lines = b"", True, list(typed)
-    end = time.monotonic() + LONGEST
-    while time.monotonic() < end:
+    while True:
         try:
             shown += os.read(terminal, 1000)
         except OSError:
@@ -28,6 +30,7 @@ def at_a_terminal(
             echo = bool(termios.tcgetattr(terminal)[3] & termios.ECHO)
             os.write(terminal, f"{lines.pop(0)}\n".encode())
     os.close(terminal)
+    guard.cancel()
     return os.waitstatus_to_exitcode(os.waitpid(pid, 0)[1]), shown.decode(), echo
 
 
