@@ -10,10 +10,10 @@ import tempfile
 import threading
 import time
 import unittest
-from collections.abc import Iterable, Iterator
+from collections.abc import Callable, Iterable, Iterator
 from typing import Any
 
-from tests.helpers import LONGEST, Ended, ended, program, text_of
+from tests.helpers import LONGEST, Ended, Found, ended, program, text_of
 
 # Costs that a test can afford, and a salt.
 CHEAP = "$argon2id$v=19$m=8,t=1,p=1"
@@ -200,6 +200,7 @@ class BookTest(unittest.TestCase):
         self.addCleanup(shutil.rmtree, self.room, ignore_errors=True)
         self.room.chmod(0o755)
         self.book = self.begun()
+        self.seen: dict[Any, Any] = {}
 
     def file(self, name: str) -> Book:
         """The program on a file of this name, which may not be there."""
@@ -220,6 +221,14 @@ class BookTest(unittest.TestCase):
             for line in lines:
                 self.assertEqual(service.ask(line), "ok")
         self.assertGreater(book.log.stat().st_size, EMPTY_LOG)
+
+    def once(self, folder: pathlib.Path, look: Callable[[], Found]) -> Found:
+        """What a look finds that depends on a folder's files alone: the same are looked at once."""
+        files = [(it.name, it.stat().st_mode, it.read_bytes()) for it in folder.iterdir()]
+        key = tuple(sorted(files))
+        if key not in self.seen:
+            self.seen[key] = look()
+        return self.seen[key]
 
     def assertFails(self, done: Ended, status: int, *texts: str) -> None:
         """It wrote nothing, and each of these texts stands in what it told."""

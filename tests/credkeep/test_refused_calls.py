@@ -50,32 +50,35 @@ class RefusedCallsTest(BookTest):
         on. Afterwards the same order ends well, if it may be given twice."""
 
         def attempt(nth: int) -> Stopped | None:
-            folder = self.room / f"{call}-{nth}"
+            folder, trace = self.room / f"{call}-{nth}", self.room / f"trace-{call}-{nth}"
             shutil.copytree(scene.folder, folder)
-            trace = folder / "trace"
             inject = ["-e", f"trace={call}", "-e", f"inject={call}:{how}:when={nth}"]
             command = Book(folder / "users.db").command(*scene.words)
             strace = ["strace", "-f", "-o", str(trace), *inject]
             done = ended([*strace, *command], scene.given, cwd=folder)
-            text, book = trace.read_text(), Book(folder / scene.file)
-            accounts = book.accounts() if book.path.exists() else {}
-            if scene.words[0] in ("backup", "restore"):
-                self.again(scene, folder, command)
+            text = trace.read_text()
+            if "INJECTED" not in text and "killed by SIGKILL" not in text:
+                return None
+            found = self.once(folder, lambda: self.look(scene, folder, command))
             shutil.rmtree(folder)
-            is_hit = "INJECTED" in text or "killed by SIGKILL" in text
-            return Stopped(f"{call} {nth}", done, accounts) if is_hit else None
+            return Stopped(f"{call} {nth}", done, found)
 
         for call in calls:
             yield from in_turn(attempt)
 
-    def again(self, scene: Scene, folder: pathlib.Path, command: list[str]) -> None:
-        """The next run is done whole, and leaves no file beside the others."""
-        done = ended(command, cwd=folder)
-        assert (done.status, done.faults) == (0, ""), done
-        assert Book(folder / scene.file).accounts() == scene.after
-        names = {it.name for it in scene.folder.iterdir()}
-        left = {it.name.removesuffix("-wal") for it in folder.iterdir()}
-        assert left <= names | {"trace", scene.file}, left
+    def look(self, scene: Scene, folder: pathlib.Path, command: list[str]) -> Accounts:
+        """The book that is there. The next run of a copy is done whole, and leaves no file beside
+        the others."""
+        book = Book(folder / scene.file)
+        accounts = book.accounts() if book.path.exists() else {}
+        if scene.words[0] in ("backup", "restore"):
+            done = ended(command, cwd=folder)
+            assert (done.status, done.faults) == (0, ""), done
+            assert book.accounts() == scene.after
+            names = {it.name for it in scene.folder.iterdir()}
+            left = {it.name.removesuffix("-wal") for it in folder.iterdir()}
+            assert left <= names | {scene.file}, left
+        return accounts
 
     def assertEach(self, scene: Scene, calls: list[str], *hows: str) -> None:
         """Each refusal leaves the book before or after; status 0, and an answer, say which."""

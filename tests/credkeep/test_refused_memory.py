@@ -2,13 +2,11 @@
 what it answered is kept."""
 
 import re
+import shutil
 from collections.abc import Callable
 
-from tests.credkeep.books import CHEAP, RECORD, SALT, TAG, Book, BookTest
+from tests.credkeep.books import CHEAP, RECORD, SALT, TAG, BookTest
 from tests.helpers import Ended, in_turn, without_request
-
-# The files of a book by the ends of their names.
-Files = tuple[tuple[str, bytes], ...]
 
 NAMES = ["a", "b"]
 # A status, and whether all was done.
@@ -24,30 +22,18 @@ SERVED = [
 
 
 class RefusedMemoryTest(BookTest):
-    def setUp(self) -> None:
-        super().setUp()
-        self.known: dict[Files, list[str]] = {}
-
-    def names_of(self, book: Book) -> list[str]:
-        """The names that the program finds: it is asked once for the same bytes of all files."""
-        length = len(book.path.name)
-        paths = self.room.glob(f"{book.path.name}*")
-        files = tuple(sorted((it.name[length:], it.read_bytes()) for it in paths))
-        if files not in self.known:
-            self.known[files] = book.names()
-        return self.known[files]
-
     def assertEach(
         self, words: list[str], given: str, judge: Callable[[Ended, list[str]], None]
     ) -> list[Ended]:
         """Each end of the order passes the judge, who sees the names that are there afterwards."""
 
         def attempt(nth: int) -> tuple[Ended, list[str]] | None:
-            book = self.file(f"{nth}.db")
+            book = self.file(f"{nth}/users.db")
+            book.path.parent.mkdir()
             self.book.move_to(book)
             done = without_request(nth, book.command(*words), given)
-            names = self.names_of(book)
-            book.remove()
+            names = self.once(book.path.parent, book.names)
+            shutil.rmtree(book.path.parent)
             return done and (done, names)
 
         found = []
