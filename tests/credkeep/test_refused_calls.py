@@ -3,6 +3,7 @@ one after."""
 
 import pathlib
 import shutil
+import tempfile
 from collections.abc import Iterator
 from typing import NamedTuple
 
@@ -50,18 +51,18 @@ class RefusedCallsTest(BookTest):
         on. Afterwards the same order ends well, if it may be given twice."""
 
         def attempt(nth: int) -> Stopped | None:
-            folder, trace = self.room / f"{call}-{nth}", self.room / f"trace-{call}-{nth}"
-            shutil.copytree(scene.folder, folder)
-            inject = ["-e", f"trace={call}", "-e", f"inject={call}:{how}:when={nth}"]
-            command = Book(folder / "users.db").command(*scene.words)
-            strace = ["strace", "-f", "-o", str(trace), *inject]
-            done = ended([*strace, *command], scene.given, cwd=folder)
-            text = trace.read_text()
-            if "INJECTED" not in text and "killed by SIGKILL" not in text:
-                return None
-            found = self.once(folder, lambda: self.look(scene, folder, command))
-            shutil.rmtree(folder)
-            return Stopped(f"{call} {nth}", done, found)
+            with tempfile.TemporaryDirectory(dir=self.room) as room:
+                folder, trace = pathlib.Path(room, "files"), pathlib.Path(room, "trace")
+                shutil.copytree(scene.folder, folder)
+                inject = ["-e", f"trace={call}", "-e", f"inject={call}:{how}:when={nth}"]
+                command = Book(folder / "users.db").command(*scene.words)
+                strace = ["strace", "-f", "-o", str(trace), *inject]
+                done = ended([*strace, *command], scene.given, cwd=folder)
+                text = trace.read_text()
+                if "INJECTED" not in text and "killed by SIGKILL" not in text:
+                    return None
+                found = self.once(folder, lambda: self.look(scene, folder, command))
+                return Stopped(f"{call} {nth}", done, found)
 
         for call in calls:
             yield from in_turn(attempt)
