@@ -1,5 +1,5 @@
 -- A text that is written in parts.
-use Rattle.std.proofs.Common.{◌≡◌, ℕ, zero, suc, ◌+◌, List, [], ◌∷◌, ◌++◌, length, take, Option, Bool, Result, Ok, Err, OnErr, IfErr, ap, arith, refl}
+use Rattle.std.proofs.Common.{◌≡◌, ℕ, zero, suc, ◌+◌, List, [], ◌∷◌, ◌++◌, length, take, Option, Bool, Result, Ok, Err, OnErr, OnOk, IfErr, ap, arith, refl}
 use Rattle.std.proofs.lemmas.List.{length-append, take-append-le}
 use Rattle.std.specs.Io.KnownBytes.{Appends}
 use Rattle.std.proofs.KnownBytes.{Appends-trans}
@@ -21,6 +21,11 @@ take-behind (x ∷ xs) ys n (suc m) is = ap (λ l. x ∷ l) (take-behind xs ys n
 pub front_behind : (a b c : Option (List ℕ)) (xs ys : List ℕ) → Appends a b xs → FrontWritten b c ys → FrontWritten a c (xs ++ ys)
 front_behind a b c xs ys first (n, short, written) =
     (length xs + n, omega (arith, short, length-append xs ys), rw (take-behind xs ys n (length xs + n) refl) (Appends-trans a b c xs (take n ys) first written))
+
+-- three parts, one behind another
+pub three_parts : (r : Result (Unit {0}) ScriptFault) (a b c d : Option (List ℕ)) (xs ys zs : List ℕ) → Appends a b xs → Appends b c ys → OnOk r (Appends c d zs) → OnOk r (Appends a d (xs ++ (ys ++ zs)))
+three_parts (Ok x) a b c d xs ys zs first second h = Appends-trans a b d xs (ys ++ zs) first (Appends-trans b c d ys zs second h)
+three_parts (Err e) a b c d xs ys zs first second h = tt
 
 -- what holds anyway holds at an error
 pub on_err_from : {T E : Type 0} (r : Result T E) (P : Type 0) → P → OnErr r P

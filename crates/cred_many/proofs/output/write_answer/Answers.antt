@@ -1,6 +1,10 @@
 use Rattle.std.proofs.Common.{[], ◌∷◌}
-use Rattle.cred_many.proofs.Writes.{front_behind, front_more, on_err_from, on_write_fails}
+use Rattle.cred_many.proofs.Writes.{front_behind, front_more, on_err_from, on_write_fails, three_parts}
 use Rattle.cred_many.proofs.output.write_answer.Goals as goal
+
+pub returns-clause-done : goal.returns-clause-done
+returns-clause-done g c =
+    three_parts _ _ _ _ _ c.args.tag.now (32 ∷ []) c.args.answer.now c.in_ok-write_whole.ensures.done c.in_ok-write_whole-2.ensures.done c.write_whole-3.ensures.done
 
 pub returns-in_err-write_whole-2-clause-front : goal.returns-in_err-write_whole-2-clause-front
 returns-in_err-write_whole-2-clause-front g c =
