@@ -4,10 +4,11 @@
 
 #include <cpuid.h>
 #include <stdatomic.h>
-#include <stdbool.h>
 #include <stdint.h>
 
-enum vectors { SSE = 1, AVX, AVX512 };
+/* With AVX512VL instructions on the upper registers may be narrow: wide ones slow some processors
+ * down for a while. */
+enum vectors { SSE = 1, AVX, AVX512F, AVX512VL };
 
 /* Reads into eax and edx which registers the system keeps of a thread that it interrupts; a test
  * has a system that keeps fewer. */
@@ -15,8 +16,13 @@ enum vectors { SSE = 1, AVX, AVX512 };
 #define READ_KEPT_REGISTERS "xgetbv"
 #endif
 
+/* AVX512VL, of leaf 7, ebx; a test has a processor without it. */
+#ifndef HAS_NARROW_FORMS
+#define HAS_NARROW_FORMS (1u << 31)
+#endif
+
 static enum vectors asked(void) {
-    enum { OSXSAVE = 1 << 27, AVX512F = 1 << 16 }; /* of leaf 1, ecx, and of leaf 7, ebx */
+    enum { OSXSAVE = 1 << 27, HAS_512 = 1 << 16 }; /* of leaf 1, ecx, and of leaf 7, ebx */
     enum { WIDE = 0x6, WIDEST = 0xe6 };            /* the states of SSE and AVX, and of AVX-512 */
     uint32_t a, b, c, d, kept, high;
     if (!__get_cpuid(1, &a, &b, &c, &d) || !(c & OSXSAVE))
@@ -24,8 +30,9 @@ static enum vectors asked(void) {
     __asm__ volatile(READ_KEPT_REGISTERS : "=a"(kept), "=d"(high) : "c"(0));
     if ((kept & WIDE) != WIDE)
         return SSE;
-    bool has_512 = __get_cpuid_count(7, 0, &a, &b, &c, &d) && (b & AVX512F);
-    return has_512 && (kept & WIDEST) == WIDEST ? AVX512 : AVX;
+    if ((kept & WIDEST) != WIDEST || !__get_cpuid_count(7, 0, &a, &b, &c, &d) || !(b & HAS_512))
+        return AVX;
+    return b & HAS_NARROW_FORMS ? AVX512VL : AVX512F;
 }
 
 /* Asked once, since a virtual machine answers slowly; threads that ask at once find the same. */
@@ -40,6 +47,7 @@ static enum vectors vectors(void) {
 }
 
 #define CLEAR(n) "pxor %%xmm" #n ", %%xmm" #n "\n\t"
+#define CLEAR_NARROW(n) "vpxord %%xmm" #n ", %%xmm" #n ", %%xmm" #n "\n\t"
 #define CLEAR_WIDEST(n) "vpxord %%zmm" #n ", %%zmm" #n ", %%zmm" #n "\n\t"
 #define CLEAR_MASK(n) "kxorw %%k" #n ", %%k" #n ", %%k" #n "\n\t"
 #define EIGHT(of) of(0) of(1) of(2) of(3) of(4) of(5) of(6) of(7)
@@ -59,6 +67,8 @@ void clear_vector_registers(void) {
         __asm__ volatile(EIGHT(CLEAR) NEXT_EIGHT(CLEAR)::: CHANGED);
     else
         __asm__ volatile("vzeroall" ::: CHANGED);
-    if (found == AVX512)
+    if (found == AVX512VL)
+        __asm__ volatile(UPPER_SIXTEEN(CLEAR_NARROW) EIGHT(CLEAR_MASK)::);
+    if (found == AVX512F)
         __asm__ volatile(UPPER_SIXTEEN(CLEAR_WIDEST) EIGHT(CLEAR_MASK)::);
 }

@@ -108,6 +108,7 @@ class Secrets(unittest.TestCase):
     def test_registers(self):
         """No vector or mask register holds anything after a call, and none that isn't kept is used."""
         run(built("registers", ["-O2"], REGISTERS))
+        run(built("registers", ["-O2", "-DHAS_NARROW_FORMS=0"], REGISTERS))
         for kept in (0x7, 0x3):  # a system without AVX-512, and without AVX
             system = [f'-DREAD_KEPT_REGISTERS="mov ${kept}, %0; mov $0, %1"', f"-DKEPT={kept}"]
             run(built("registers", ["-O2", *system], REGISTERS))
