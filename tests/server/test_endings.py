@@ -105,13 +105,13 @@ class Endings(Case):
             ours, theirs = socket.socketpair()
             with theirs:
                 theirs.sendall(b"a known ada\n")
-                loop, guests = asyncio.get_running_loop(), mock.Mock()
-                await loop.connect_accepted_socket(lambda: doors.Client(service, guests), ours)
+                loop, listener = asyncio.get_running_loop(), mock.Mock()
+                await loop.connect_accepted_socket(lambda: doors.Client(service, listener), ours)
                 theirs.settimeout(10)
                 said = await loop.run_in_executor(None, theirs.recv, 100)
                 with self.assertRaises(ConnectionError):  # its line was never read
                     await loop.run_in_executor(None, theirs.recv, 100)
-                self.assertEqual(guests.add.mock_calls, [])
+                self.assertEqual(listener.add.mock_calls, [])
                 return said
 
         self.assertEqual(asyncio.run(told()), b"* unavailable\n")

@@ -86,11 +86,11 @@ def prepared(door: Door) -> Callable[[], socket.socket]:
     return lambda: handed or bound(door)
 
 
-class Guests:
+class Listener:
     """The clients of a door: a user has at most half of the places that others leave."""
 
     def __init__(self, door: Door) -> None:
-        self.door, self.listening = door, prepared(door)
+        self.door, self.socket = door, prepared(door)
         self.clients: set[Client] = set()
         self.by_uid: Counter[int] = Counter()
 
@@ -108,7 +108,7 @@ class Guests:
             self.by_uid[client.uid] -= 1
 
 
-class Host(Protocol):
+class Handler(Protocol):
     """Whom a door's clients ask."""
 
     def let_in(self, client: Client) -> bool:
@@ -121,8 +121,8 @@ class Host(Protocol):
 class Client(asyncio.BufferedProtocol):
     """A connection, which hands over its lines, and no more of them than it reads answers."""
 
-    def __init__(self, host: Host, guests: Guests) -> None:
-        self.host, self.guests, self.door = host, guests, guests.door
+    def __init__(self, handler: Handler, listener: Listener) -> None:
+        self.handler, self.listener, self.door = handler, listener, listener.door
         self.pid = self.uid = -1
         self.buffer, self.came = memoryview(bytearray(BUFFER)), bytearray()
         self.running, self.active = 0, time.monotonic()
@@ -133,15 +133,15 @@ class Client(asyncio.BufferedProtocol):
         it = transport.get_extra_info("socket")
         peer = it.getsockopt(socket.SOL_SOCKET, socket.SO_PEERCRED, 12)
         self.pid, self.uid, _ = struct.unpack("3i", peer)
-        if self.host.let_in(self):
-            self.guests.add(self)
+        if self.handler.let_in(self):
+            self.listener.add(self)
         else:
             self.transport.write(b"* unavailable\n")
             self.end()
 
     def connection_lost(self, fault: Optional[Exception]) -> None:
         self.is_gone = True
-        self.guests.remove(self)
+        self.listener.remove(self)
         self.end()
 
     def get_buffer(self, hint: int) -> memoryview:
@@ -178,7 +178,7 @@ class Client(asyncio.BufferedProtocol):
                 self.write(tag[0] if tag else b"*", b"bad 16 long")
             elif not self.is_cutting:
                 self.active = time.monotonic()
-                self.host.take(self, line)
+                self.handler.take(self, line)
             self.is_cutting = size < 0
         if self.is_ending and not self.running and b"\n" not in self.came:
             self.transport.close()

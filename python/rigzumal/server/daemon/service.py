@@ -17,7 +17,7 @@ from typing import Any, Optional
 from . import doors
 from .audit import Audit, Entry, Written
 from .book import UNAVAILABLE, Book
-from .doors import Client, Guests
+from .doors import Client, Listener
 from .log import Seldom, log, log_fault, notify
 from .options import OPERATIONS, Operation, Options
 from .rounds import Rounds
@@ -62,16 +62,16 @@ class Service:
         self.others = Turns(float(OTHERS), self.start)
         self.logins, self.rounds = 0, Rounds(lambda: self.logins > 0)
         self.hash_seconds = float("inf")  # what a hash takes if nothing else waits
-        self.guests = [Guests(door) for door in options.doors]
+        self.listeners = [Listener(door) for door in options.doors]
         self.audit = Audit(options.audit) if options.audit else None
-        self.listeners: list[asyncio.AbstractServer] = []
+        self.servers: list[asyncio.AbstractServer] = []
         self.seldom = Seldom()
         self.is_upgrading = self.is_ending = False
 
     def let_in(self, client: Client) -> bool:
-        if not self.is_ending and not client.guests.has_room(client.uid):
+        if not self.is_ending and not client.listener.has_room(client.uid):
             text = "no more connections at %s for uid %d, which has %d"
-            count = client.guests.by_uid[client.uid]
+            count = client.listener.by_uid[client.uid]
             values = (client.door.name, client.uid)
             self.seldom.log(values, text, *values, count)
             self.tally.counts["refused"] += 1
@@ -230,10 +230,10 @@ class Service:
         if await self.book.answer(b"show", b"-") == UNAVAILABLE:
             return
         loop = asyncio.get_running_loop()
-        for guests in self.guests:
-            client, it = partial(Client, self, guests), guests.listening()
+        for listener in self.listeners:
+            client, it = partial(Client, self, listener), listener.socket()
             made = loop.create_unix_server(client, sock=it, backlog=doors.BACKLOG)
-            self.listeners.append(await made)  # whose end leaves the path
+            self.servers.append(await made)  # whose end leaves the path
         log.info("start: %s", self.options.file)
         notify("READY=1")
         began = time.monotonic()
@@ -251,7 +251,7 @@ class Service:
                 client.end_if_idle(time.monotonic() - idle)
 
     def clients(self) -> list[Client]:
-        return [client for guests in self.guests for client in guests.clients]
+        return [client for listener in self.listeners for client in listener.clients]
 
     async def run(self) -> int:
         """Answers clients until the book ends or a signal comes; returns the status."""
@@ -278,8 +278,8 @@ class Service:
         """Lets the book answer what it has, for twenty seconds, and ends it; returns the status."""
         self.is_ending, until = True, time.monotonic() + LAST_SECONDS
         notify("STOPPING=1")
-        for listener in self.listeners:
-            listener.close()
+        for server in self.servers:
+            server.close()
         if self.book.ended.done():
             for line in self.hashes.rest() + self.others.rest():
                 line.client.answer(line.tag, UNAVAILABLE)
