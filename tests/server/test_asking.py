@@ -265,6 +265,8 @@ class Asking(Case):
                 with concurrent.futures.ThreadPoolExecutor(8) as pool:
                     for done in [pool.submit(many, number) for number in range(8)]:
                         done.result(60)
+                self.assertEqual(service.stop(), 0)
+                self.assertEqual("answers to no line" in service.log(), "garbage" in faults)
 
     def test_answers_that_are_none(self) -> None:
         """A book's answer that isn't printable text is handed on as unavailable."""

@@ -296,6 +296,8 @@ class Service:
             self.book.kill()
             await self.book.ended
             status = 0
+        if self.book.strays:
+            log.error("the book wrote %d answers to no line", self.book.strays)
         log.info("end: status %d, %s", status, self.tally.stats())
         return status
 
