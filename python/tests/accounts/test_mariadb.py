@@ -84,6 +84,11 @@ class OnMariaDB(Base):
                 act("ann", "one")
             self.assertIn("READ UNCOMMITTED", str(raised.exception))
         self.assertIn("READ UNCOMMITTED", self.said(accounts))
+        # A commit asks too, whether of one statement or of a transaction.
+        for kind, new in ((Kind.CHANGE, "two"), (Kind.REMOVE, "")):
+            worked = self.worked(self.accounts(), kind, "one", new)
+            with self.assertRaisesRegex(StoreFault, "READ UNCOMMITTED"):
+                accounts.commit(worked)
         # A pool that keeps a connection after an exception.
         kept = connect()
         self.addCleanup(kept.close)
