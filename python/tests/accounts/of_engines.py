@@ -167,21 +167,25 @@ class RowsOfOnesOwn:
     def test_an_exception_undoes_all(self):
         """It comes through as it is, and nothing stands."""
         record = LOW.hash("one")
-        accounts = self.accounts()
+        accounts = self.accounts(patience=60.0)
+        for error in (KeyError("mine"), FileNotFoundError("mine"), RuntimeError("mine")):
 
-        def raises(conn, reply):
-            self.also(conn, reply)
-            raise KeyError("mine")
+            def raises(conn, reply):
+                self.also(conn, reply)
+                raise error
 
-        for act in (
-            lambda: accounts.change("ann", "one", "two", also=raises),
-            lambda: accounts.login("ann", "one", also=raises),
-            lambda: accounts.remove("ann", "one", also=raises),
-        ):
-            self.put(record)
-            with self.assertRaisesRegex(KeyError, "mine"):
-                act()
-            self.assertEqual((self.rows(), self.stands()), ([], record))
+            for act in (
+                lambda: accounts.change("ann", "one", "two", also=raises),
+                lambda: accounts.login("ann", "one", also=raises),
+                lambda: accounts.remove("ann", "one", also=raises),
+            ):
+                self.put(record)
+                self.calls.clear()
+                with self.assertRaises(type(error)) as raised:
+                    act()
+                self.assertIs(raised.exception, error)
+                self.assertEqual(len(self.calls), 1)
+                self.assertEqual((self.rows(), self.stands()), ([], record))
         self.assertIs(accounts.verify("ann", "one"), Reply.YES)
 
     def test_an_error_of_its_own_statement(self):

@@ -2,6 +2,7 @@
 
 from __future__ import annotations
 
+import socket
 import weakref
 from typing import Any, Final, Optional
 
@@ -32,6 +33,7 @@ _ELSEWHERE: Final = frozenset({1290, 1836, 1040, 1203})
 _LOST: Final = frozenset(
     {0, 2002, 2003, 2006, 2013, 2055, 4031, 1047, 1053, 1317, 1927}
 )
+_BROKEN: Final = (ConnectionError, TimeoutError, socket.timeout)
 # What a COMMIT may answer though it is in the log: 1180, 1181: an error during COMMIT or
 # ROLLBACK; 1021, 1026, 1030: a full disk, an error of writing, an error of the engine.
 _UNKNOWN: Final = frozenset({1021, 1026, 1030, 1180, 1181, _TIME_IS_OVER})
@@ -147,7 +149,7 @@ class MariaDB(Dialect):
             return Verdict.AGAIN
         if number in _ELSEWHERE:
             return Verdict.ELSEWHERE
-        if number in _LOST or isinstance(raised, OSError):
+        if number in _LOST or isinstance(raised, _BROKEN):
             return Verdict.LOST
         return Verdict.REFUSED
 
