@@ -12,6 +12,7 @@ Without --sample it tries all changes. First the tests have to pass in each copy
 took is the limit of a mutant, unless --limit names another. A mutant that ends in time with status 0 survives. One that
 Python can't compile, or that --build refuses (for C `make` and for Rust `cargo test --no-run` in the nearest folder that has
 a Makefile or Cargo.toml), doesn't count as refused. The status is 1 if the tests fail with nothing changed, and otherwise 0.
+See that COMMAND runs tests at all: unittest of Python 3.11 ends with status 0 where -k names none, and then all survive.
 """
 
 import argparse
