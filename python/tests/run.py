@@ -14,7 +14,12 @@ import sys
 
 TESTS = pathlib.Path(__file__).resolve().parent
 # Drivers of databases warn of what is theirs; the tests over SQLite take care of it themselves.
-SUBJECTS = {"hashers": ["-W", "error"], "package": ["-W", "error"], "accounts": [], "frameworks": []}
+SUBJECTS = {
+    "hashers": ["-W", "error"],
+    "package": ["-W", "error"],
+    "accounts": [],
+    "frameworks": [],
+}
 
 
 def main(wanted):
