@@ -76,6 +76,18 @@ class Strings(unittest.TestCase):
         )
         self.assertTrue(ScryptPasswordHasher().verify("lètmein", record))
 
+    def test_scrypts_key_may_have_another_size(self):
+        """It is read as it is; what is no base64 is no record."""
+        for size in (16, 32, 48, 64):
+            key = hashlib.scrypt(b"secret", salt=b"seasalt", n=4, r=8, p=1, dklen=size)
+            record = f"scrypt$4$seasalt$8$1${base64.b64encode(key).decode()}"
+            self.assertIs(ScryptPasswordHasher().verify("secret", record), True, size)
+            self.assertIs(ScryptPasswordHasher().verify("Secret", record), False, size)
+        for key in ("A", "AAAAA", "AB==", "AAA!"):
+            record = f"scrypt$4$seasalt$8$1${key}"
+            self.assertRaises(ValueError, ScryptPasswordHasher().decode, record)
+            self.assertIn("broken record", ScryptPasswordHasher().safe_summary(record))
+
     def test_a_subclass_that_wraps_old_hashes(self):
         """As Django's page "Password management" has it: its algorithm, and its encode."""
 
