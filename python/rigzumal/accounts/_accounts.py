@@ -2,8 +2,8 @@
 
 from __future__ import annotations
 
-from collections.abc import Callable, Iterable
-from typing import Any, ClassVar, Optional
+from collections.abc import Iterable
+from typing import Any, Callable, ClassVar, Optional
 
 from rigzumal._library import Secret
 from rigzumal.accounts._async_accounts import AsyncAccounts

@@ -9,8 +9,8 @@ is looked at once more at the primary.
 
 from __future__ import annotations
 
-from collections.abc import Callable, Iterable
-from typing import Any, ClassVar, Optional, Union
+from collections.abc import Iterable
+from typing import Any, Callable, ClassVar, Optional, Union
 
 from rigzumal.accounts._connections import Connections, Waits
 from rigzumal.accounts._judgement import Foreign, Hasher, Judge
