@@ -226,6 +226,8 @@ class Parts(unittest.TestCase):
         self.assertEqual(found.costs, ("argon2d", 16, 2048, 7, 5))
         found = rigzumal.parts("$scrypt$ln=4,r=3,p=2$YmVucyBzYWx0$nf65EA")
         self.assertEqual(found, rigzumal.Parts("scrypt", 0, 4, 3, 2, 9, 4))
+        for kind, record in RECORDS.items():
+            self.assertEqual(rigzumal.parts(record).scheme, f"argon2{kind.name.lower()}")
 
 
 class Faults(unittest.TestCase):
