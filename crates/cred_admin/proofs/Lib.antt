@@ -1,5 +1,8 @@
+mod Fits
+mod Imported
 mod Reading
 mod Records
 pub mod Tallies
+mod Twice
 pub mod Printed
 mod BeforeSalt

@@ -1,5 +1,5 @@
 -- What a read of one byte makes of a line.
-use Rattle.std.proofs.Common.{◌≡◌, ◌≢◌, ℕ, ◌<◌, List, [], ◌∷◌, ◌++◌, length, take, Option, Some, None, IfSome, IfOk, ◌⊎◌, inl, inr, Result, Ok, Err, subst, false, ◌==◌, if◌then◌else◌, refl, sym, ap, ◌∙◌, arith, append_assoc, append-nil, slice_index_or}
+use Rattle.std.proofs.Common.{◌≡◌, ◌≢◌, ℕ, ◌<◌, List, [], ◌∷◌, ◌++◌, length, take, Option, Some, None, IfSome, IfOk, OnOk, ◌⊎◌, inl, inr, Result, Ok, Err, subst, false, ◌==◌, if◌then◌else◌, refl, sym, ap, ◌∙◌, arith, append_assoc, append-nil, slice_index_or}
 use Rattle.std.proofs.lemmas.Bool.Decides.{eqb_tells}
 use Rattle.std.proofs.lemmas.List.{length-append}
 use Rattle.std.specs.Io.KnownBytes.{Consumes, IsAtEnd}
@@ -96,6 +96,22 @@ more known mid now line line' byte so takes other is = λ bytes k.
   where
     taken : (mid now : Option (List ℕ)) (rest : List ℕ) (byte : ℕ) → mid ≡ Some rest → IfSome mid (λ r. Takes r now (Some byte)) → Takes rest now (Some byte)
     taken mid now rest byte is_rest takes = rw is_rest at takes
+
+pub ended_at : (known mid now : Option (List ℕ)) (line : List ℕ) (byte : Option ℕ) → LineSoFar known mid line → IfSome mid (λ rest. Takes rest now byte) → byte ≡ None → IfSome known (λ bytes. now ≡ Some [])
+ended_at None mid now line byte so takes end = tt
+ended_at (Some bytes) mid now line byte so takes end = let (rest, is_rest, goes) = so bytes refl in (rw end at (rw is_rest at takes)).1
+
+pub on_ok : {T E X : Type 0} (r : Result T E) → X → OnOk r X
+on_ok (Ok t) x = x
+on_ok (Err e) x = tt
+
+-- the input ends with the first line
+pub no_second : (known left : Option (List ℕ)) (line : List ℕ) → IfSome known (λ bytes. ReadsLine bytes left line) → IfSome known (λ bytes. left ≡ Some []) → IfSome known (λ bytes. (0 < length bytes) × (behind_line bytes ≡ []))
+no_second None left line reads end = tt
+no_second (Some bytes) left line reads end = (reads.there, same (behind_line bytes) (sym reads.left_is ∙ end))
+  where
+    same : (xs : List ℕ) → Some xs ≡ Some [] → xs ≡ []
+    same xs is = cc
 
 -- the end before the first byte
 none_at : (bytes line rest : List ℕ) (now : Option (List ℕ)) → GoesOn bytes line rest → length line ≡ 0 → Takes rest now None → bytes ≡ []

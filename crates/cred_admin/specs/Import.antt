@@ -198,11 +198,44 @@ abbrev pub tally_of : Gathered → Tally
 tally_of g =
     record { accounts = g.accounts; changed = g.changed; kept = g.kept; bad = g.bad.items }
 
--- a call on the reader failed, or there was no memory, or there are too many accounts for any book
-abbrev pub GatherFails : Rules → Accounts → Option (List ℕ) → Bool → ImportFault → Type 0
-GatherFails rules book input failed fault.Read = failed ≡ true
-GatherFails rules book input failed fault.Memory = ⊤
-GatherFails rules book input failed fault.Full = (text : List ℕ)
+-- ---- what it comes to, in the words of who wrote the lines
+
+abbrev pub locked_entry : List ℕ → LockedRecords → Option Entry
+locked_entry name locked.Refused = None
+locked_entry name locked.Disabled = Some (name, None)
+
+-- the account of a good line, with its record or none
+abbrev pub entry_with : Rules → Result Said LineFault → Option Entry
+entry_with rules (Ok Nothing) = None
+entry_with rules (Ok (Account name stored)) =
+    if is_costly rules.most stored then None else Some (name, stored)
+entry_with rules (Ok (Locked name)) = locked_entry name rules.locked
+entry_with rules (Err why) = None
+
+abbrev pub entry_of : Rules → List ℕ → Option Entry
+entry_of rules line = entry_with rules (said_of line)
+
+-- none of the good lines is of this name
+abbrev pub HasNone : Rules → List ℕ → List (List ℕ) → Type 0
+HasNone rules name [] = ⊤
+HasNone rules name (line ∷ lines) =
+    ((e : Entry) → entry_of rules line ≡ Some e → name ≡ e.0 → ⊥) × HasNone rules name lines
+
+-- a good line of a text, the first one of its name
+pub record IsFirst (rules : Rules) (text : List ℕ) (e : Entry) : Type 0 where
+  pub front : List (List ℕ)
+  pub line : List ℕ
+  pub rest : List (List ℕ)
+  pub cut : import_lines text ≡ front ++ line ∷ rest
+  pub says : entry_of rules line ≡ Some e
+  pub first : HasNone rules e.0 front
+
+-- A call on the reader failed; or none did, and there was no memory; or there are too many accounts
+-- for any book. A call had failed before, and now.
+abbrev pub GatherFails : Rules → Accounts → Option (List ℕ) → Bool → Bool → ImportFault → Type 0
+GatherFails rules book input before now fault.Read = now ≡ true
+GatherFails rules book input before now fault.Memory = now ≡ before
+GatherFails rules book input before now fault.Full = (text : List ℕ)
     × IfSome input (λ bytes. text ≡ bytes)
     × (register_capacity < map.len (tally rules book text).accounts)
-GatherFails rules book input failed (fault.Lines bad) = ⊥
+GatherFails rules book input before now (fault.Lines bad) = ⊥

@@ -37,21 +37,27 @@ abbrev pub IsAdmitted : EmptyPassword → List ℕ → Type 0
 IsAdmitted Taken pw = ⊤
 IsAdmitted Refused pw = 0 < length pw
 
--- what may go wrong as a line is read, by a reader on which a call failed or none
-abbrev pub ReadFails : Bool → Fault → Type 0
-ReadFails failed fault.Read = failed ≡ true
-ReadFails failed fault.Memory = ⊤
-ReadFails failed fault.Password = ⊤
-ReadFails failed fault.NoPassword = ⊤
-ReadFails failed _ = ⊥
+-- after a byte a reader is at its end if it was before
+abbrev pub IsOpen : Bool → Bool → Option ℕ → Type 0
+IsOpen old new (Some byte) = new ≡ old
+IsOpen old new None = ⊤
+
+-- what may go wrong as a line is read, by a reader on which a call had failed before and now:
+-- memory runs out only where no call on the reader fails
+abbrev pub ReadFails : Bool → Bool → Fault → Type 0
+ReadFails before now fault.Read = now ≡ true
+ReadFails before now fault.Memory = now ≡ before
+ReadFails before now fault.Password = ⊤
+ReadFails before now fault.NoPassword = ⊤
+ReadFails before now _ = ⊥
 
 -- and as that of a new password is read
-abbrev pub NewReadFails : Bool → Fault → Type 0
-NewReadFails failed fault.Empty = ⊤
-NewReadFails failed e = ReadFails failed e
+abbrev pub NewReadFails : Bool → Bool → Fault → Type 0
+NewReadFails before now fault.Empty = ⊤
+NewReadFails before now e = ReadFails before now e
 
 -- and as it is read after the old one
-abbrev pub SecondReadFails : Bool → Fault → Type 0
-SecondReadFails failed fault.NoNewPassword = ⊤
-SecondReadFails failed fault.NoPassword = ⊥
-SecondReadFails failed e = NewReadFails failed e
+abbrev pub SecondReadFails : Bool → Bool → Fault → Type 0
+SecondReadFails before now fault.NoNewPassword = ⊤
+SecondReadFails before now fault.NoPassword = ⊥
+SecondReadFails before now e = NewReadFails before now e

@@ -1,6 +1,9 @@
 -- What is seen of a command.
+use Rattle.std.specs.Prelude.{◌≡◌, List, ◌++◌, ℕ, false}
 use Rattle.cred_book.specs.Accounts.{Accounts}
-use Rattle.cred_cli.specs.Watched.{Reading, Writing}
+use Rattle.cred_cli.specs.Watched.{Basis, Contract, Fits, Reading, Transcript, Writing, ended_of}
+use Rattle.cred_cli.specs.Watched.{given_of}
+use Rattle.cred_cli.specs.declared.watched.Watched.{Watched}
 
 -- its reader, its writer, and the book before and after
 pub record Seen : Type 0 where
@@ -11,3 +14,12 @@ pub record Seen : Type 0 where
 
 abbrev pub seen : Reading → Writing → Accounts → Accounts → Seen
 seen r w old new = record { reading = r; writing = w; old = old; new = new }
+
+-- a transcript tells where lines end only if the reader wasn't at its end before
+abbrev pub FitsSince : Basis → {R : Type 0} → Watched R → Watched R → Type 0
+FitsSince Contract old new = Unit {0}
+FitsSince (Transcript all) old new = (ended_of old ≡ false) × Fits (Transcript all) new
+
+-- it gave some bytes in between
+abbrev pub GivesMore : {R : Type 0} → Watched R → Watched R → Type 0
+GivesMore old new = (bytes : List ℕ) × (given_of new ≡ given_of old ++ bytes)

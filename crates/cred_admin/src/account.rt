@@ -1,15 +1,15 @@
 //! The commands on one account.
 
-ghost use Rattle.std.specs.Prelude.{◌≡◌, ◌⊎◌, ◌≤◌, IfErr, IfOk, None, OnErr, OnOk, Some, false};
-ghost use Rattle.std.specs.Prelude.{true};
+ghost use Rattle.std.specs.Prelude.{◌≡◌, ◌⊎◌, ◌≤◌, ◌&&◌, IfErr, IfOk, None, OnErr, OnOk, Some, false};
+ghost use Rattle.std.specs.Prelude.{not, true};
 ghost use Rattle.std.specs.FinMap as map;
 ghost use Rattle.cred_book.specs.Works.{is_for_current, new_record, seq};
 ghost use Rattle.cred_book.specs.declared.request.Request.TheVariants.{Change, Remove, Upgrade};
 ghost use Rattle.cred_book.specs.declared.request.Request.TheVariants.{Verify};
-ghost use Rattle.cred_cli.specs.Watched.{reading, writing};
+ghost use Rattle.cred_cli.specs.Watched.{Basis, ended_of, reading_on, writing_on};
 ghost use Rattle.cred_admin.specs.Commands.{Adds, Asks, AsksTwice, Does, Enrols, Resets};
 ghost use Rattle.cred_admin.specs.Commands.{reset_step};
-ghost use Rattle.cred_admin.specs.Seen.{seen};
+ghost use Rattle.cred_admin.specs.Seen.{FitsSince, seen};
 
 use crate::answer::status_of;
 use crate::fault::Fault;
@@ -40,8 +40,10 @@ pub fn add<T: Threads + Wait + Sync, K: Keeper, R: Read, W: Write>(
     reader: &mut Watched<R>,
     writer: &mut Watched<W>,
 ) -> Result<Status, Fault>
-    ensures { Adds K.capacity name.now new.now (seen (reading R.remaining reader.old reader.new)
-        (writing W.contents writer.old writer.new) (K.book keeper.old) (K.book keeper.new)) result }
+    ensures { (basis : Basis) → FitsSince basis reader.old reader.new
+        → Adds K.capacity name.now new.now (seen (reading_on basis R.remaining reader.old reader.new)
+        (writing_on basis W.contents writer.old writer.new) (K.book keeper.old) (K.book keeper.new))
+        result }
 {
     let pw = read_new_password(tools.alloc, new.empty, reader)?;
     let reply = enrol(tools, keeper, name, &new.setting, &pw)?;
@@ -62,8 +64,10 @@ pub fn reset<T: Threads + Wait + Sync, K: Keeper, R: Read, W: Write>(
     reader: &mut Watched<R>,
     writer: &mut Watched<W>,
 ) -> Result<Status, Fault>
-    ensures { Resets name.now new.now (seen (reading R.remaining reader.old reader.new)
-        (writing W.contents writer.old writer.new) (K.book keeper.old) (K.book keeper.new)) result }
+    ensures { (basis : Basis) → FitsSince basis reader.old reader.new
+        → Resets name.now new.now (seen (reading_on basis R.remaining reader.old reader.new)
+        (writing_on basis W.contents writer.old writer.new) (K.book keeper.old) (K.book keeper.new))
+        result }
 {
     let pw = read_new_password(tools.alloc, new.empty, reader)?;
     let reply = put_anew(tools, keeper, name, &new.setting, &pw)?;
@@ -82,8 +86,10 @@ pub fn check<T: Threads + Wait + Sync, K: Keeper, R: Read, W: Write>(
     reader: &mut Watched<R>,
     writer: &mut Watched<W>,
 ) -> Result<Status, Fault>
-    ensures { Asks (λ pw. Verify name.now pw) (seen (reading R.remaining reader.old reader.new)
-        (writing W.contents writer.old writer.new) (K.book keeper.old) (K.book keeper.new)) result }
+    ensures { (basis : Basis) → FitsSince basis reader.old reader.new
+        → Asks (λ pw. Verify name.now pw) (seen (reading_on basis R.remaining reader.old reader.new)
+        (writing_on basis W.contents writer.old writer.new) (K.book keeper.old) (K.book keeper.new))
+        result }
 {
     let pw = read_password(tools.alloc, reader)?;
     let hint = hint_of(&pw);
@@ -104,11 +110,17 @@ pub fn change<T: Threads + Wait + Sync, K: Keeper, R: Read, W: Write>(
     reader: &mut Watched<R>,
     writer: &mut Watched<W>,
 ) -> Result<Status, Fault>
-    ensures { AsksTwice new.now (λ pw new_pw. Change name.now pw new_pw new.now.setting)
-        (seen (reading R.remaining reader.old reader.new)
-        (writing W.contents writer.old writer.new) (K.book keeper.old) (K.book keeper.new)) result }
+    ensures { (basis : Basis) → FitsSince basis reader.old reader.new
+        → AsksTwice new.now (λ pw new_pw. Change name.now pw new_pw new.now.setting)
+        (seen (reading_on basis R.remaining reader.old reader.new)
+        (writing_on basis W.contents writer.old writer.new) (K.book keeper.old) (K.book keeper.new))
+        result }
 {
+    let was_ended = reader.ended();
     let pw = read_password(tools.alloc, reader)?;
+    if came_to_end(was_ended, reader) {
+        return Err(Fault::NoNewPassword);
+    }
     let hint = hint_of(&pw);
     let new_pw = read_second_password(tools.alloc, new.empty, reader)?;
     let request = Request::Change {
@@ -118,6 +130,14 @@ pub fn change<T: Threads + Wait + Sync, K: Keeper, R: Read, W: Write>(
         setting: new.setting.setting(),
     };
     act(tools, keeper, request, hint, writer)
+}
+
+/// Whether the reader came to its end since it was asked. No line follows then, whatever a terminal
+/// may give behind its end.
+fn came_to_end<R>(was_ended: bool, reader: &Watched<R>) -> bool
+    ensures { result ≡ (not was_ended && ended_of reader.now) }
+{
+    !was_ended && reader.ended()
 }
 
 /// Makes the account's record anew under the setting, if the reader's first line is its password
@@ -133,9 +153,11 @@ pub fn upgrade<T: Threads + Wait + Sync, K: Keeper, R: Read, W: Write>(
     reader: &mut Watched<R>,
     writer: &mut Watched<W>,
 ) -> Result<Status, Fault>
-    ensures { Asks (λ pw. Upgrade name.now pw setting.now)
-        (seen (reading R.remaining reader.old reader.new)
-        (writing W.contents writer.old writer.new) (K.book keeper.old) (K.book keeper.new)) result }
+    ensures { (basis : Basis) → FitsSince basis reader.old reader.new
+        → Asks (λ pw. Upgrade name.now pw setting.now)
+        (seen (reading_on basis R.remaining reader.old reader.new)
+        (writing_on basis W.contents writer.old writer.new) (K.book keeper.old) (K.book keeper.new))
+        result }
 {
     let pw = read_password(tools.alloc, reader)?;
     let hint = hint_of(&pw);
@@ -158,8 +180,10 @@ pub fn remove<T: Threads + Wait + Sync, K: Keeper, R: Read, W: Write>(
     reader: &mut Watched<R>,
     writer: &mut Watched<W>,
 ) -> Result<Status, Fault>
-    ensures { Asks (λ pw. Remove name.now pw) (seen (reading R.remaining reader.old reader.new)
-        (writing W.contents writer.old writer.new) (K.book keeper.old) (K.book keeper.new)) result }
+    ensures { (basis : Basis) → FitsSince basis reader.old reader.new
+        → Asks (λ pw. Remove name.now pw) (seen (reading_on basis R.remaining reader.old reader.new)
+        (writing_on basis W.contents writer.old writer.new) (K.book keeper.old) (K.book keeper.new))
+        result }
 {
     let pw = read_password(tools.alloc, reader)?;
     let hint = hint_of(&pw);
@@ -176,8 +200,9 @@ fn act<T: Threads + Wait + Sync, K: Keeper, W: Write>(
     writer: &mut Watched<W>,
 ) -> Result<Status, Fault>
     requires { is_for_current request ≡ true }
-    ensures { Does (seq (K.book keeper.old) request) hint (K.book keeper.old) (K.book keeper.new)
-        (writing W.contents writer.old writer.new) result }
+    ensures { (basis : Basis)
+        → Does (seq (K.book keeper.old) request) hint (K.book keeper.old) (K.book keeper.new)
+        (writing_on basis W.contents writer.old writer.new) result }
 {
     let reply = settle(tools, keeper, request)?;
     write_whole(writer, reply_line(&reply))?;

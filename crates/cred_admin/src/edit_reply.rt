@@ -1,7 +1,7 @@
 //! The answer to an order that changes an account without its password.
 
 ghost use Rattle.std.specs.Prelude.{◌≡◌, IfErr, true};
-ghost use Rattle.cred_cli.specs.Watched.{writing};
+ghost use Rattle.cred_cli.specs.Watched.{Basis, writing_on};
 ghost use Rattle.cred_admin.specs.Edits.{edit_line, edit_status, told};
 ghost use Rattle.cred_admin.specs.Listing.{Tells};
 
@@ -32,7 +32,8 @@ pub enum EditReply {
 ///
 /// Errors: `Write`.
 pub fn answer_edit<W: Write>(reply: EditReply, writer: &mut Watched<W>) -> Result<Status, Fault>
-    ensures told { Tells (told reply) (writing W.contents writer.old writer.new) result }
+    ensures told { (basis : Basis) → Tells (told reply)
+        (writing_on basis W.contents writer.old writer.new) result }
     ensures fault { IfErr result (λ e. e ≡ Fault.Write) }
 {
     write_whole(writer, edit_line(reply))?;

@@ -1,20 +1,24 @@
 //! What the lines of a passwd-file come to, before they are taken in.
 
-ghost use Rattle.std.specs.Prelude.{◌≡◌, ◌⊎◌, ◌≤◌, ◌<◌, IfErr, IfOk, IfSome, List};
+ghost use Rattle.std.specs.Prelude.{◌≡◌, ◌⊎◌, ◌≤◌, ◌<◌, ◌++◌, IfErr, IfOk, IfSome, List};
 ghost use Rattle.std.specs.Prelude.{None, OnOk, true, ℕ};
 ghost use Rattle.std.specs.FinMap as map;
 ghost use Rattle.cred_book.specs.Accounts.{register_capacity};
-ghost use Rattle.cred_cli.specs.Watched.{failed_of, inner_of};
+ghost use Rattle.cred_cli.specs.Watched.{Basis, failed_of, left_on};
 ghost use Rattle.cred_admin.specs.Import.{GatherFails, is_costly, nothing_yet, said_of, tally};
 ghost use Rattle.cred_admin.specs.Import.{tally_of, with_bad, with_entry, with_existing};
 ghost use Rattle.cred_admin.specs.Import.{with_line, with_locked, with_said};
+ghost use Rattle.cred_admin.specs.Seen.{FitsSince};
 
 use crate::entry::{LineFault, Said, said_of};
 use cred_book::{BookError, Name, Register};
 use cred_cli::{Watched, exceeds};
 use cred_phc::{Pieces, Record};
 use std::alloc::Global;
-use std::io::{ErrorKind, Read};
+use std::io::Read;
+
+/// How many bytes are asked for at once.
+const CHUNK: usize = 65536;
 
 /// What an import does with a line whose account is there already.
 #[derive(Clone, Copy, Debug, PartialEq, Eq)]
@@ -100,28 +104,46 @@ pub fn gather<R: Read>(
     rules: Rules,
     reader: &mut Watched<R>,
 ) -> Result<Gathered, ImportFault>
-    ensures done { IfOk result (λ g. (text : List ℕ)
-        × IfSome (R.remaining (inner_of reader.old)) (λ bytes. text ≡ bytes)
+    ensures done { (basis : Basis) → FitsSince basis reader.old reader.new
+        → IfOk result (λ g. (text : List ℕ)
+        × IfSome (left_on basis R.remaining reader.old) (λ bytes. text ≡ bytes)
         × (tally_of g ≡ tally rules book.now text)) }
-    ensures fault { IfErr result
-        (GatherFails rules book.now (R.remaining (inner_of reader.old)) (failed_of reader.new)) }
+    ensures kept { OnOk result (failed_of reader.new ≡ failed_of reader.old) }
+    ensures fault { (basis : Basis) → FitsSince basis reader.old reader.new
+        → IfErr result (GatherFails rules book.now (left_on basis R.remaining reader.old)
+        (failed_of reader.old) (failed_of reader.new)) }
 {
     let text = read_all(alloc, reader)?;
     gather_lines(alloc, book, rules, &text)
 }
 
+/// Reads what the reader has to its end.
 fn read_all<R: Read>(alloc: Global, reader: &mut Watched<R>) -> Result<Vec<u8>, ImportFault>
-    ensures text { IfOk result (λ text. IfSome (R.remaining (inner_of reader.old))
+    ensures text { (basis : Basis) → FitsSince basis reader.old reader.new
+        → IfOk result (λ text. IfSome (left_on basis R.remaining reader.old)
         (λ bytes. text.items ≡ bytes)) }
+    ensures kept { OnOk result (failed_of reader.new ≡ failed_of reader.old) }
     ensures fault { IfErr result (λ e. ((e ≡ ImportFault.Read) × (failed_of reader.new ≡ true))
-        ⊎ (e ≡ ImportFault.Memory)) }
+        ⊎ ((e ≡ ImportFault.Memory) × (failed_of reader.new ≡ failed_of reader.old))) }
 {
     let mut text = Vec::new(alloc);
-    match reader.read_to_end(&mut text) {
-        Ok(_) => Ok(text),
-        Err(error) if error.kind() != ErrorKind::OutOfMemory && reader.failed() => {
-            Err(ImportFault::Read)
+    let mut chunk = [0; CHUNK];
+    for _call in 0..u64::MAX {
+        match reader.read(&mut chunk) {
+            Ok(0) => return Ok(text),
+            Ok(n) => keep(&mut text, &chunk[..n])?,
+            Err(_) => return Err(ImportFault::Read),
         }
+    }
+    unreachable!()
+}
+
+fn keep(text: &mut Vec<u8>, bytes: &[u8]) -> Result<(), ImportFault>
+    ensures kept { OnOk result (text.new.items ≡ text.old.items ++ bytes.now) }
+    ensures memory { IfErr result (λ e. e ≡ ImportFault.Memory) }
+{
+    match text.extend_from_slice(bytes) {
+        Ok(()) => Ok(()),
         Err(_) => Err(ImportFault::Memory),
     }
 }

@@ -4,7 +4,7 @@ ghost use Rattle.std.specs.Prelude.{◌≡◌, ◌++◌, ◌<◌, length, IfErr,
 ghost use Rattle.std.specs.FinMap as map;
 ghost use Rattle.cred_phc.specs.Values.{RecordValue};
 ghost use Rattle.cred_cli.specs.Outcome.{FrontWritten};
-ghost use Rattle.cred_cli.specs.Watched.{failed_of, inner_of, writing};
+ghost use Rattle.cred_cli.specs.Watched.{Basis, failed_of, held_on, writing_on};
 ghost use Rattle.cred_admin.specs.Listing.{IsPiece, Prints, costs_line, line_text, name_line};
 ghost use Rattle.cred_admin.specs.Listing.{passwd_line};
 ghost use Rattle.cred_admin.specs.declared.listing.TheConstants.{PIECE};
@@ -46,8 +46,8 @@ pub fn list<W: Write>(
     book: &Register,
     writer: &mut Watched<W>,
 ) -> Result<Status, Fault>
-    ensures { Prints name_line (map.entries book.now)
-        (writing W.contents writer.old writer.new) result }
+    ensures { (basis : Basis) → Prints name_line (map.entries book.now)
+        (writing_on basis W.contents writer.old writer.new) result }
 {
     write_lines(alloc, book, Line::Name, writer)
 }
@@ -62,8 +62,8 @@ pub fn list_costs<W: Write>(
     book: &Register,
     writer: &mut Watched<W>,
 ) -> Result<Status, Fault>
-    ensures { Prints costs_line (map.entries book.now)
-        (writing W.contents writer.old writer.new) result }
+    ensures { (basis : Basis) → Prints costs_line (map.entries book.now)
+        (writing_on basis W.contents writer.old writer.new) result }
 {
     write_lines(alloc, book, Line::Costs, writer)
 }
@@ -77,8 +77,8 @@ pub fn export<W: Write>(
     book: &Register,
     writer: &mut Watched<W>,
 ) -> Result<Status, Fault>
-    ensures { Prints passwd_line (map.entries book.now)
-        (writing W.contents writer.old writer.new) result }
+    ensures { (basis : Basis) → Prints passwd_line (map.entries book.now)
+        (writing_on basis W.contents writer.old writer.new) result }
 {
     write_lines(alloc, book, Line::Passwd, writer)
 }
@@ -90,8 +90,8 @@ fn write_lines<W: Write>(
     line: Line,
     writer: &mut Watched<W>,
 ) -> Result<Status, Fault>
-    ensures { Prints (line_text line) (map.entries book.now)
-        (writing W.contents writer.old writer.new) result }
+    ensures { (basis : Basis) → Prints (line_text line) (map.entries book.now)
+        (writing_on basis W.contents writer.old writer.new) result }
 {
     let mut text = Vec::new(alloc);
     for (name, slot) in book.iter() {
@@ -104,11 +104,11 @@ fn write_lines<W: Write>(
 
 /// Writes the lines that are kept once they come to a piece, and keeps them no longer.
 fn write_piece<W: Write>(writer: &mut Watched<W>, text: &mut Vec<u8>) -> Result<(), Fault>
-    ensures done { OnOk result (IsPiece (W.contents (inner_of writer.old))
-        (W.contents (inner_of writer.new)) text.old.items text.new.items) }
+    ensures done { (basis : Basis) → OnOk result (IsPiece (held_on basis W.contents writer.old)
+        (held_on basis W.contents writer.new) text.old.items text.new.items) }
     ensures small { OnOk result (length text.new.items < PIECE) }
-    ensures cut { OnErr result (FrontWritten (W.contents (inner_of writer.old))
-        (W.contents (inner_of writer.new)) text.old.items) }
+    ensures cut { (basis : Basis) → OnErr result (FrontWritten (held_on basis W.contents writer.old)
+        (held_on basis W.contents writer.new) text.old.items) }
     ensures fault { IfErr result (λ e. (e ≡ Fault.Write) × (failed_of writer.new ≡ true)) }
 {
     if text.len() < PIECE {

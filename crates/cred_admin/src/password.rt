@@ -1,10 +1,11 @@
 //! Passwords as they are read: a line each.
 
 ghost use Rattle.std.specs.Prelude.{◌≡◌, ◌<◌, ◌++◌, ◌∷◌, [], Err, IfErr, IfOk, IfSome, OnOk};
-ghost use Rattle.std.specs.Prelude.{length, true};
-ghost use Rattle.cred_cli.specs.Watched.{failed_of, inner_of};
-ghost use Rattle.cred_admin.specs.Lines.{HasEmptyLine, IsAdmitted, NewReadFails, ReadFails};
+ghost use Rattle.std.specs.Prelude.{Some, false, length, true};
+ghost use Rattle.cred_cli.specs.Watched.{Basis, ended_of, failed_of, left_on};
+ghost use Rattle.cred_admin.specs.Lines.{HasEmptyLine, IsAdmitted, IsOpen, NewReadFails, ReadFails};
 ghost use Rattle.cred_admin.specs.Lines.{ReadsLine, SecondReadFails, Takes, line_before};
+ghost use Rattle.cred_admin.specs.Seen.{FitsSince, GivesMore};
 ghost use Rattle.cred_phc.specs.declared.password.TheConstants.{MAX_PASSWORD};
 
 use crate::fault::Fault;
@@ -23,13 +24,21 @@ pub(crate) fn read_password<R: Read>(
     alloc: Global,
     reader: &mut Watched<R>,
 ) -> Result<Password, Fault>
-    ensures line { IfOk result (λ pw. IfSome (R.remaining (inner_of reader.old))
-        (λ bytes. ReadsLine bytes (R.remaining (inner_of reader.new)) pw)) }
-    ensures none { result ≡ Err Fault.NoPassword → IfSome (R.remaining (inner_of reader.old))
+    ensures line { (basis : Basis) → FitsSince basis reader.old reader.new
+        → IfOk result (λ pw. IfSome (left_on basis R.remaining reader.old)
+        (λ bytes. ReadsLine bytes (left_on basis R.remaining reader.new) pw)) }
+    ensures none { (basis : Basis) → FitsSince basis reader.old reader.new
+        → result ≡ Err Fault.NoPassword → IfSome (left_on basis R.remaining reader.old)
         (λ bytes. bytes ≡ []) }
-    ensures long { result ≡ Err Fault.Password → IfSome (R.remaining (inner_of reader.old))
+    ensures long { (basis : Basis) → FitsSince basis reader.old reader.new
+        → result ≡ Err Fault.Password → IfSome (left_on basis R.remaining reader.old)
         (λ bytes. MAX_PASSWORD < length (line_before bytes)) }
-    ensures faults { IfErr result (ReadFails (failed_of reader.new)) }
+    ensures end { (basis : Basis) → FitsSince basis reader.old reader.new
+        → ended_of reader.old ≡ false → ended_of reader.new ≡ true
+        → OnOk result (IfSome (left_on basis R.remaining reader.old)
+        (λ bytes. left_on basis R.remaining reader.new ≡ Some [])) }
+    ensures given { GivesMore reader.old reader.new }
+    ensures faults { IfErr result (ReadFails (failed_of reader.old) (failed_of reader.new)) }
 {
     let mut line = Vec::new(alloc);
     for taken in 0..=MAX_PASSWORD {
@@ -55,16 +64,21 @@ pub(crate) fn read_new_password<R: Read>(
     empty: EmptyPassword,
     reader: &mut Watched<R>,
 ) -> Result<Password, Fault>
-    ensures line { IfOk result (λ pw. IfSome (R.remaining (inner_of reader.old))
-        (λ bytes. ReadsLine bytes (R.remaining (inner_of reader.new)) pw)) }
+    ensures line { (basis : Basis) → FitsSince basis reader.old reader.new
+        → IfOk result (λ pw. IfSome (left_on basis R.remaining reader.old)
+        (λ bytes. ReadsLine bytes (left_on basis R.remaining reader.new) pw)) }
     ensures admitted { IfOk result (IsAdmitted empty) }
-    ensures none { result ≡ Err Fault.NoPassword → IfSome (R.remaining (inner_of reader.old))
+    ensures none { (basis : Basis) → FitsSince basis reader.old reader.new
+        → result ≡ Err Fault.NoPassword → IfSome (left_on basis R.remaining reader.old)
         (λ bytes. bytes ≡ []) }
-    ensures long { result ≡ Err Fault.Password → IfSome (R.remaining (inner_of reader.old))
+    ensures long { (basis : Basis) → FitsSince basis reader.old reader.new
+        → result ≡ Err Fault.Password → IfSome (left_on basis R.remaining reader.old)
         (λ bytes. MAX_PASSWORD < length (line_before bytes)) }
-    ensures empty { result ≡ Err Fault.Empty → (empty ≡ EmptyPassword.Refused)
-        × IfSome (R.remaining (inner_of reader.old)) HasEmptyLine }
-    ensures faults { IfErr result (NewReadFails (failed_of reader.new)) }
+    ensures empty { (basis : Basis) → FitsSince basis reader.old reader.new
+        → result ≡ Err Fault.Empty → (empty ≡ EmptyPassword.Refused)
+        × IfSome (left_on basis R.remaining reader.old) HasEmptyLine }
+    ensures given { GivesMore reader.old reader.new }
+    ensures faults { IfErr result (NewReadFails (failed_of reader.old) (failed_of reader.new)) }
 {
     let pw = read_password(alloc, reader)?;
     match empty {
@@ -81,16 +95,21 @@ pub(crate) fn read_second_password<R: Read>(
     empty: EmptyPassword,
     reader: &mut Watched<R>,
 ) -> Result<Password, Fault>
-    ensures line { IfOk result (λ pw. IfSome (R.remaining (inner_of reader.old))
-        (λ bytes. ReadsLine bytes (R.remaining (inner_of reader.new)) pw)) }
+    ensures line { (basis : Basis) → FitsSince basis reader.old reader.new
+        → IfOk result (λ pw. IfSome (left_on basis R.remaining reader.old)
+        (λ bytes. ReadsLine bytes (left_on basis R.remaining reader.new) pw)) }
     ensures admitted { IfOk result (IsAdmitted empty) }
-    ensures none { result ≡ Err Fault.NoNewPassword → IfSome (R.remaining (inner_of reader.old))
+    ensures none { (basis : Basis) → FitsSince basis reader.old reader.new
+        → result ≡ Err Fault.NoNewPassword → IfSome (left_on basis R.remaining reader.old)
         (λ bytes. bytes ≡ []) }
-    ensures long { result ≡ Err Fault.Password → IfSome (R.remaining (inner_of reader.old))
+    ensures long { (basis : Basis) → FitsSince basis reader.old reader.new
+        → result ≡ Err Fault.Password → IfSome (left_on basis R.remaining reader.old)
         (λ bytes. MAX_PASSWORD < length (line_before bytes)) }
-    ensures empty { result ≡ Err Fault.Empty → (empty ≡ EmptyPassword.Refused)
-        × IfSome (R.remaining (inner_of reader.old)) HasEmptyLine }
-    ensures faults { IfErr result (SecondReadFails (failed_of reader.new)) }
+    ensures empty { (basis : Basis) → FitsSince basis reader.old reader.new
+        → result ≡ Err Fault.Empty → (empty ≡ EmptyPassword.Refused)
+        × IfSome (left_on basis R.remaining reader.old) HasEmptyLine }
+    ensures given { GivesMore reader.old reader.new }
+    ensures faults { IfErr result (SecondReadFails (failed_of reader.old) (failed_of reader.new)) }
 {
     match read_new_password(alloc, empty, reader) {
         Ok(pw) => Ok(pw),
@@ -101,8 +120,12 @@ pub(crate) fn read_second_password<R: Read>(
 
 /// The next byte, or none at the end.
 fn next_byte<R: Read>(reader: &mut Watched<R>) -> Result<Option<u8>, Fault>
-    ensures byte { IfOk result (λ byte. IfSome (R.remaining (inner_of reader.old))
-        (λ bytes. Takes bytes (R.remaining (inner_of reader.new)) byte)) }
+    ensures byte { (basis : Basis) → FitsSince basis reader.old reader.new
+        → IfOk result (λ byte. IfSome (left_on basis R.remaining reader.old)
+        (λ bytes. Takes bytes (left_on basis R.remaining reader.new) byte)) }
+    ensures goes_on { IfOk result (IsOpen (ended_of reader.old) (ended_of reader.new)) }
+    ensures given { GivesMore reader.old reader.new }
+    ensures kept { OnOk result (failed_of reader.new ≡ failed_of reader.old) }
     ensures fault { IfErr result (λ e. (e ≡ Fault.Read) × (failed_of reader.new ≡ true)) }
 {
     let mut byte = [0];

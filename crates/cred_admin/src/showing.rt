@@ -6,7 +6,7 @@ ghost use Rattle.std.specs.FinMap as map;
 ghost use Rattle.cred_phc.specs.Base64.{base64};
 ghost use Rattle.cred_phc.specs.Text.{scheme_text};
 ghost use Rattle.cred_cli.specs.Texts.{reply_line};
-ghost use Rattle.cred_cli.specs.Watched.{writing};
+ghost use Rattle.cred_cli.specs.Watched.{Basis, writing_on};
 ghost use Rattle.cred_admin.specs.Listing.{Tells, part_text, shown_at};
 ghost use Rattle.cred_admin.specs.Statuses.{status_of};
 
@@ -40,8 +40,8 @@ pub fn show<K: Keeper, W: Write>(
     part: Part,
     writer: &mut Watched<W>,
 ) -> Result<Status, Fault>
-    ensures { Tells (shown_at part (map.get (K.book keeper.now) name.now))
-        (writing W.contents writer.old writer.new) result }
+    ensures { (basis : Basis) → Tells (shown_at part (map.get (K.book keeper.now) name.now))
+        (writing_on basis W.contents writer.old writer.new) result }
 {
     match found(keeper, name) {
         None => answer(&Reply::NoAccount, writer),
@@ -66,8 +66,8 @@ fn found<K: Keeper>(keeper: &K, name: &Name) -> Option<Option<Record>>
 
 /// Writes a reply.
 fn answer<W: Write>(reply: &Reply, writer: &mut Watched<W>) -> Result<Status, Fault>
-    ensures { Tells (reply_line reply.now, status_of reply.now None)
-        (writing W.contents writer.old writer.new) result }
+    ensures { (basis : Basis) → Tells (reply_line reply.now, status_of reply.now None)
+        (writing_on basis W.contents writer.old writer.new) result }
 {
     write_whole(writer, reply_line(reply))?;
     Ok(status_of(reply, None))

@@ -1,4 +1,5 @@
 mod Copied
 mod Edited
 mod NotTaken
+mod OnBasis
 mod Ran

@@ -1,5 +1,5 @@
 -- What an import makes of what its lines come to.
-use Rattle.std.proofs.Common.{◌≡◌, ℕ, ◌+◌, ◌<◌, List, IfSome, Err, subst}
+use Rattle.std.proofs.Common.{◌≡◌, false, ℕ, ◌+◌, ◌<◌, List, IfSome, Err, subst}
 use Rattle.std.specs.FinMap as map
 use Rattle.cred_book.specs.Accounts.{Accounts, register_capacity}
 use Rattle.cred_admin.specs.Import.{tally}
@@ -9,9 +9,9 @@ use Rattle.cred_cli.specs.Watched.{Reading}
 use Rattle.cred_keep.specs.Importing.{Imports, Takes}
 use Rattle.cred_keep.specs.declared.importing.Importing.{Importing}
 
-pub not_taken : (how : Importing) (r : Reading) (old new added changed : Accounts) (text : List ℕ) → IfSome r.input (λ bytes. text ≡ bytes) → added ≡ (tally how.rules old text).accounts → (e : ImportFault)
+pub not_taken : (how : Importing) (r : Reading) (old new added changed : Accounts) (text : List ℕ) → r.failed ≡ false → IfSome r.input (λ bytes. text ≡ bytes) → added ≡ (tally how.rules old text).accounts → (e : ImportFault)
     → Takes how.effect old new added changed (Err e) → Imports how r old new (Err e)
-not_taken how r old new added changed text is same fault.Full h = (text, is, subst (λ (a : Accounts). register_capacity < map.len old + map.len a) same h.0, h.1)
-not_taken how r old new added changed text is same fault.Memory h = h
-not_taken how r old new added changed text is same fault.Read h = absurd h
-not_taken how r old new added changed text is same (fault.Lines bad) h = absurd h
+not_taken how r old new added changed text kept is same fault.Full h = (text, is, subst (λ (a : Accounts). register_capacity < map.len old + map.len a) same h.0, h.1)
+not_taken how r old new added changed text kept is same fault.Memory h = (kept, h)
+not_taken how r old new added changed text kept is same fault.Read h = absurd h
+not_taken how r old new added changed text kept is same (fault.Lines bad) h = absurd h

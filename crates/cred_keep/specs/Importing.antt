@@ -1,5 +1,5 @@
 -- What an import makes of a kept book.
-use Rattle.std.specs.Prelude.{◌≡◌, ℕ, ◌+◌, ◌≤◌, ◌<◌, true, List, [], length}
+use Rattle.std.specs.Prelude.{◌≡◌, ℕ, ◌+◌, ◌≤◌, ◌<◌, true, false, List, [], length}
 use Rattle.std.specs.Prelude.{IfSome, Result, Ok, Err}
 use Rattle.std.specs.FinMap as map
 use Rattle.cred_book.specs.Accounts.{Accounts, register_capacity}
@@ -43,8 +43,8 @@ pub record TakesAll (how : Importing) (old new : Accounts) (t : Tally) (made : I
   pub kept : made.kept ≡ t.kept
   pub bad : made.bad.items ≡ t.bad
 
--- What the lines come to is taken in; or some lines are bad, there would be too many accounts,
--- there was no memory, or a call on the reader failed, and the book is as it was.
+-- What the lines come to is taken in; or some lines are bad, there would be too many accounts, a call
+-- on the reader failed, or none did and there was no memory, and the book is as it was.
 abbrev pub Imports : Importing → Reading → Accounts → Accounts → Result Imported ImportFault
     → Type 0
 Imports how r old new (Ok made) =
@@ -57,5 +57,5 @@ Imports how r old new (Err fault.Full) =
     (text : List ℕ) × IfSome r.input (λ bytes. text ≡ bytes)
     × (register_capacity < map.len old + map.len (tally how.rules old text).accounts)
     × (new ≡ old)
-Imports how r old new (Err fault.Memory) = new ≡ old
+Imports how r old new (Err fault.Memory) = (r.failed ≡ false) × (new ≡ old)
 Imports how r old new (Err fault.Read) = (r.failed ≡ true) × (new ≡ old)

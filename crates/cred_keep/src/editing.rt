@@ -6,7 +6,7 @@ ghost use Rattle.cred_book.specs.Accounts.{register_capacity};
 ghost use Rattle.cred_admin.specs.Edits.{Edits, deletion, disabling, renaming};
 ghost use Rattle.cred_admin.specs.declared.edit_reply.EditReply.TheVariants.{Deleted, Disabled};
 ghost use Rattle.cred_admin.specs.declared.edit_reply.EditReply.TheVariants.{Renamed};
-ghost use Rattle.cred_cli.specs.Watched.{writing};
+ghost use Rattle.cred_cli.specs.Watched.{Basis, writing_on};
 
 use cred_admin::{EditReply, Fault, Status, answer_edit};
 use cred_book::{BookError, Name};
@@ -24,8 +24,9 @@ pub(crate) fn disable<S: Alter, W: Write>(
     name: &Name,
     writer: &mut Watched<W>,
 ) -> Result<Status, Fault>
-    ensures { Edits register_capacity (disabling book.old.book name.now) book.old.book book.new.book
-        (writing W.contents writer.old writer.new) result }
+    ensures { (basis : Basis)
+        → Edits register_capacity (disabling book.old.book name.now) book.old.book book.new.book
+        (writing_on basis W.contents writer.old writer.new) result }
 {
     let reply = take_record(book, name)?;
     answer_edit(reply, writer)
@@ -58,8 +59,9 @@ pub(crate) fn delete<S: Alter, W: Write>(
     name: &Name,
     writer: &mut Watched<W>,
 ) -> Result<Status, Fault>
-    ensures { Edits register_capacity (deletion book.old.book name.now) book.old.book book.new.book
-        (writing W.contents writer.old writer.new) result }
+    ensures { (basis : Basis)
+        → Edits register_capacity (deletion book.old.book name.now) book.old.book book.new.book
+        (writing_on basis W.contents writer.old writer.new) result }
 {
     let reply = take_account(book, name)?;
     answer_edit(reply, writer)
@@ -89,8 +91,9 @@ pub(crate) fn rename<S: Alter, W: Write>(
     other: &Name,
     writer: &mut Watched<W>,
 ) -> Result<Status, Fault>
-    ensures { Edits register_capacity (renaming book.old.book name.now other.now) book.old.book
-        book.new.book (writing W.contents writer.old writer.new) result }
+    ensures { (basis : Basis)
+        → Edits register_capacity (renaming book.old.book name.now other.now) book.old.book
+        book.new.book (writing_on basis W.contents writer.old writer.new) result }
 {
     let reply = change_name(book, name, other)?;
     answer_edit(reply, writer)

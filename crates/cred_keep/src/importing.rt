@@ -1,7 +1,8 @@
 //! Taking in the lines of a passwd-file, all or none.
 
-ghost use Rattle.std.specs.Prelude.{◌≡◌};
-ghost use Rattle.cred_cli.specs.Watched.{reading};
+ghost use Rattle.std.specs.Prelude.{◌≡◌, false};
+ghost use Rattle.cred_admin.specs.Seen.{FitsSince};
+ghost use Rattle.cred_cli.specs.Watched.{Basis, failed_of, reading_on};
 ghost use Rattle.cred_keep.specs.Importing.{Imports, Takes};
 
 use cred_admin::{BadLine, Gathered, ImportFault, Rules, gather};
@@ -62,8 +63,10 @@ pub(crate) fn import<S: Alter, R: Read>(
     how: Importing,
     reader: &mut Watched<R>,
 ) -> Result<Imported, ImportFault>
-    ensures { Imports how (reading R.remaining reader.old reader.new) book.old.book book.new.book
-        result }
+    requires { failed_of reader.old ≡ false }
+    ensures { (basis : Basis) → FitsSince basis reader.old reader.new
+        → Imports how (reading_on basis R.remaining reader.old reader.new) book.old.book
+        book.new.book result }
 {
     let Gathered {
         accounts,

@@ -1,8 +1,9 @@
 //! Doing what is asked of a kept book.
 
-ghost use Rattle.std.specs.Prelude.{◌≡◌, OnOk, true};
-ghost use Rattle.cred_cli.specs.Watched.{IsNew, reading, writing};
-ghost use Rattle.cred_admin.specs.Seen.{seen};
+ghost use Rattle.std.specs.Prelude.{◌≡◌, ℕ, List, OnOk, true};
+ghost use Rattle.cred_cli.specs.Watched.{Basis, IsNew, MayFollow, reading, reading_on};
+ghost use Rattle.cred_cli.specs.Watched.{transcript_reading, transcript_writing, writing, writing_on};
+ghost use Rattle.cred_admin.specs.Seen.{FitsSince, seen};
 ghost use Rattle.cred_file.specs.Keeps.{IsTableOf};
 ghost use Rattle.cred_keep.specs.Orders.{Leaves, Performs, is_unread, status_of_end};
 ghost use Rattle.sqlite.specs.State.{HasCleanDisk};
@@ -41,6 +42,10 @@ pub fn serve<T: Threads + Wait + Sync, S: Alter, R: Read, W: Write, F: Write>(
     ensures done { (ended : _) × Leaves S.Store order.now (seen
         (reading R.remaining reader.old reader.new) (writing W.contents writer.old writer.new)
         book.old.book book.new.book) book.new ended × (result ≡ status_of_end ended) }
+    ensures transcript { (rest : List ℕ) → MayFollow rest reader.new
+        → (ended : _) × Leaves S.Store order.now (seen (transcript_reading rest reader.new)
+        (transcript_writing writer.old writer.new) book.old.book book.new.book) book.new ended
+        × (result ≡ status_of_end ended) }
     ensures unread { is_unread order.now ≡ true → reader.new ≡ reader.old }
 {
     match perform(tools, book, order, reader, writer) {
@@ -70,6 +75,9 @@ pub fn perform<T: Threads + Wait + Sync, S: Alter, R: Read, W: Write>(
     requires new_writer { IsNew writer.old }
     ensures done { Leaves S.Store order.now (seen (reading R.remaining reader.old reader.new)
         (writing W.contents writer.old writer.new) book.old.book book.new.book) book.new result }
+    ensures transcript { (rest : List ℕ) → MayFollow rest reader.new
+        → Leaves S.Store order.now (seen (transcript_reading rest reader.new)
+        (transcript_writing writer.old writer.new) book.old.book book.new.book) book.new result }
     ensures unread { is_unread order.now ≡ true → reader.new ≡ reader.old }
     ensures kept { OnOk result (HasCleanDisk (state S.Store book.new.conn)
         → IsTableOf (state S.Store book.new.conn) book.new.book) }
@@ -91,8 +99,9 @@ fn obey<T: Threads + Wait + Sync, S: Alter, R: Read, W: Write>(
 ) -> Result<Ending, Failure>
     requires new_reader { IsNew reader.old }
     requires new_writer { IsNew writer.old }
-    ensures done { Performs order.now (seen (reading R.remaining reader.old reader.new)
-        (writing W.contents writer.old writer.new) book.old.book book.new.book) result }
+    ensures done { (basis : Basis) → FitsSince basis reader.old reader.new
+        → Performs order.now (seen (reading_on basis R.remaining reader.old reader.new)
+        (writing_on basis W.contents writer.old writer.new) book.old.book book.new.book) result }
     ensures unread { is_unread order.now ≡ true → reader.new ≡ reader.old }
 {
     match order {

@@ -1,9 +1,11 @@
 //! Scripts on a kept book.
 
-ghost use Rattle.std.specs.Prelude.{◌+◌, ◌≤◌, IfSome, length};
+ghost use Rattle.std.specs.Prelude.{◌≡◌, ◌+◌, ◌≤◌, ℕ, List, IfSome, OnOk, length, true};
 ghost use Rattle.cred_admin.specs.Seen.{seen};
 ghost use Rattle.cred_cli.specs.Outcome.{longest_script, most_calls};
-ghost use Rattle.cred_cli.specs.Watched.{IsNew, calls_of, inner_of, reading, writing};
+ghost use Rattle.cred_cli.specs.Watched.{GivesAsContracted, IsNew, MayFollow, TakesAsContracted};
+ghost use Rattle.cred_cli.specs.Watched.{calls_of, ended_of, given_of, inner_of, reading};
+ghost use Rattle.cred_cli.specs.Watched.{transcript_reading, transcript_writing, writing};
 ghost use Rattle.cred_file.specs.Keeps.{Keeps};
 ghost use Rattle.cred_keep.specs.Orders.{RunsWithin, ServesLines};
 
@@ -34,6 +36,13 @@ pub fn run_on_file<T: Threads + Wait + Sync, S: Alter, R: Read, W: Write>(
     ensures calls { calls_of reader.new ≤ most_calls }
     ensures few { IfSome (R.remaining (inner_of reader.old))
         (λ bytes. calls_of reader.new ≤ length bytes + 1) }
+    ensures transcript { (rest : List ℕ) → MayFollow rest reader.new
+        → RunsWithin longest_script (seen (transcript_reading rest reader.new)
+        (transcript_writing writer.old writer.new) book.old.book book.new.book) result }
+    ensures end { OnOk result (ended_of reader.new ≡ true) }
+    ensures reads { calls_of reader.new ≤ length (given_of reader.new) + 1 }
+    ensures gives { GivesAsContracted R.remaining reader.old reader.new }
+    ensures takes { TakesAsContracted W.contents writer.old writer.new }
     ensures keeps { Keeps S.Store book.new.conn book.new.book book.new.lost }
 {
     let result = run_script(rt, alloc, workers, book, reader, writer);
@@ -61,6 +70,13 @@ pub fn serve_on_file<T: Threads + Wait + Sync, S: Alter, R: Read, W: Write>(
         (writing W.contents writer.old writer.new) book.old.book book.new.book) result }
     ensures calls { IfSome (R.remaining (inner_of reader.old))
         (λ bytes. calls_of reader.new ≤ length bytes + 1) }
+    ensures transcript { (rest : List ℕ) → MayFollow rest reader.new → ServesLines most
+        (seen (transcript_reading rest reader.new) (transcript_writing writer.old writer.new)
+        book.old.book book.new.book) result }
+    ensures end { OnOk result (ended_of reader.new ≡ true) }
+    ensures reads { calls_of reader.new ≤ length (given_of reader.new) + 1 }
+    ensures gives { GivesAsContracted R.remaining reader.old reader.new }
+    ensures takes { TakesAsContracted W.contents writer.old writer.new }
     ensures keeps { Keeps S.Store book.new.conn book.new.book book.new.lost }
 {
     let result = serve(tools, most, book, reader, writer);

@@ -1,6 +1,6 @@
 -- Written out, since a search for this takes long.
 use Rattle.cred_admin.specs.Seen.{seen}
-use Rattle.cred_cli.specs.Watched.{reading, writing}
+use Rattle.cred_cli.specs.Watched.{reading, transcript_reading, transcript_writing, writing}
 use Rattle.cred_keep.proofs.Ran.{ran}
 use Rattle.cred_keep.proofs.script.run_on_file.Goals as goal
 
@@ -8,3 +8,9 @@ pub returns-clause-runs : goal.returns-clause-runs
 returns-clause-runs g c =
     let s = seen (reading g.R.Read.remaining c.args.reader.now c.run_script-result.new.reader) (writing g.W.Write.contents c.args.writer.now c.run_script-result.new.writer) c.args.book.now.book c.run_script-result.new.keeper.book in
     ran s c.run_script-result.result c.run_script-result.ensures.done c.run_script-result.ensures.short c.run_script-result.ensures.fault c.run_script-result.ensures.cause c.run_script-result.ensures.prompt
+
+pub returns-clause-transcript : goal.returns-clause-transcript
+returns-clause-transcript g c = λ rest may.
+    let s = seen (transcript_reading rest c.run_script-result.new.reader) (transcript_writing c.args.writer.now c.run_script-result.new.writer) c.args.book.now.book c.run_script-result.new.keeper.book in
+    let ended = c.run_script-result.ensures.transcript rest may in
+    ran s c.run_script-result.result ended.done ended.short ended.fault c.run_script-result.ensures.cause ended.prompt

@@ -1,0 +1,43 @@
+-- What a transcript tells of a reader, cut in two.
+use Rattle.std.proofs.Common.{◌≡◌, ℕ, List, [], ◌++◌, Option, Bool, false, true, not, ◌&&◌, refl, sym, ap, ◌∙◌, append_assoc, append-nil}
+use Rattle.cred_cli.specs.Watched.{Basis, Contract, Fits, Transcript, ended_of, given_of}
+use Rattle.cred_cli.specs.declared.watched.Watched.{Watched}
+use Rattle.cred_cli.proofs.Basis.{fits_before}
+use Rattle.cred_admin.specs.Seen.{FitsSince, GivesMore}
+
+pub gives_nothing : {R : Type 0} (reader : Watched R) → GivesMore reader reader
+gives_nothing reader = ([], sym (append-nil (given_of reader)))
+
+pub gives_more : {R : Type 0} (old mid new : Watched R) → GivesMore old mid → GivesMore mid new → GivesMore old new
+gives_more old mid new (front, given) (bytes, later) = (front ++ bytes, later ∙ ap (λ xs. xs ++ bytes) given ∙ append_assoc (given_of old) front bytes)
+
+module _ {R : Type 0} (remaining : R → Option (List ℕ)) (old mid new : Watched R) (open_ : ended_of old ≡ false → ended_of mid ≡ false) (more : GivesMore mid new) where
+  -- so far
+  pub fits_first : (basis : Basis) → FitsSince basis old new → FitsSince basis old mid
+  fits_first Contract fits = tt
+  fits_first (Transcript all) (was, fits) = (was, fits_before remaining mid new (Transcript all) more.0 more.1 (open_ was) fits)
+
+  -- and from then on
+  pub fits_then : (basis : Basis) → FitsSince basis old new → FitsSince basis mid new
+  fits_then Contract fits = tt
+  fits_then (Transcript all) (was, fits) = (open_ was, fits)
+
+pub fits_now : {R : Type 0} (old new : Watched R) (basis : Basis) → FitsSince basis old new → Fits basis new
+fits_now old new Contract fits = tt
+fits_now old new (Transcript all) (was, fits) = fits
+
+-- ---- whether a reader came to its end meanwhile
+
+pub still_open : (was now ended : Bool) → ended ≡ (not was && now) → ended ≡ false → was ≡ false → now ≡ false
+still_open true now ended is closed open_ = absurd (never open_)
+  where
+    never : true ≡ false → ⊥
+    never e = cc
+still_open false now ended is closed open_ = sym is ∙ closed
+
+pub came : (was now ended : Bool) → ended ≡ (not was && now) → ended ≡ true → (was ≡ false) × (now ≡ true)
+came true now ended is reached = absurd (never (sym is ∙ reached))
+  where
+    never : false ≡ true → ⊥
+    never e = cc
+came false now ended is reached = (refl, sym is ∙ reached)

@@ -1,0 +1,173 @@
+-- What the lines of an import come to, a name at a time.
+use Rattle.std.proofs.Common.{Bool, true, false, cond, if◌then◌else◌, is_some, ◌≡◌, ℕ, ◌+◌, refl, List, [], ◌∷◌, ◌++◌, Option, None, Some, Result, Ok, Err, Ordering, Less, Equal, Greater, sym, ap, ◌∙◌}
+use Rattle.std.specs.FinMap as map
+use Rattle.std.specs.Ordering.{eq_by_cmp, is_eq}
+use Rattle.std.specs.Cmp.{eq_by_cmp_equiv}
+use Rattle.std.specs.Cmp.Lexicographic.{nat_list_cmp_total}
+use Rattle.cred_phc.specs.Values.{RecordValue}
+use Rattle.cred_book.specs.Accounts.{Accounts}
+use Rattle.cred_book.specs.Names.{name_cmp}
+use Rattle.cred_book.specs.declared.error.BookError.TheVariants as error
+use Rattle.cred_admin.specs.declared.entry.LineFault.{LineFault}
+use Rattle.cred_admin.specs.declared.entry.LineFault.TheVariants.{Book, Costly, Locked as IsLocked}
+use Rattle.cred_admin.specs.declared.entry.Said.{Said}
+use Rattle.cred_admin.specs.declared.entry.Said.TheVariants.{Nothing, Account, Locked}
+use Rattle.cred_admin.specs.declared.gathering.Existing.{Existing}
+use Rattle.cred_admin.specs.declared.gathering.Existing.TheVariants.{Refused, Kept, Updated}
+use Rattle.cred_admin.specs.declared.gathering.LockedRecords.{LockedRecords}
+use Rattle.cred_admin.specs.declared.gathering.LockedRecords.TheVariants as locked
+use Rattle.cred_admin.specs.declared.gathering.Rules.{Rules}
+use Rattle.cred_admin.specs.Import.{HasNone, Tally, entry_of, entry_with, is_costly, locked_entry, nothing_yet, said_of, tally_from, with_account, with_bad, with_change, with_entry, with_existing, with_kept, with_line, with_locked}
+use Rattle.cred_admin.specs.Listing.{Entry}
+
+-- ---- a name of a map
+
+equal : (o : Ordering) → is_eq o ≡ true → o ≡ Equal
+equal Less e = cc
+equal Equal e = refl
+equal Greater e = cc
+
+same_name : (name other : List ℕ) → eq_by_cmp name_cmp name other ≡ true → name ≡ other
+same_name name other tie = map.slice_cmp-IsAntisymmetric map.nat_cmp-IsAntisymmetric name other (equal (name_cmp name other) tie)
+
+get_other : (m : Accounts) (key name : List ℕ) (v : Option RecordValue) → (name ≡ key → ⊥) → map.get (map.insert m key v) name ≡ map.get m name
+get_other m key name v other = map.get-insert nat_list_cmp_total m key v name ∙ by_tie (eq_by_cmp name_cmp name key) refl
+  where
+    by_tie : (b : Bool) → eq_by_cmp name_cmp name key ≡ b → cond b (Some v) (map.get m name) ≡ map.get m name
+    by_tie true tie = absurd (other (same_name name key tie))
+    by_tie false tie = refl
+
+get_here : (m : Accounts) (key : List ℕ) (v : Option RecordValue) → map.get (map.insert m key v) key ≡ Some v
+get_here m key v = map.get-insert nat_list_cmp_total m key v key ∙ ap (λ b. cond b (Some v) (map.get m key)) ((eq_by_cmp_equiv nat_list_cmp_total).refl key)
+
+-- what is there isn't another that isn't
+apart : (m : Accounts) (name key : List ℕ) → map.contains_key m name ≡ true → map.contains_key m key ≡ false → name ≡ key → ⊥
+apart m name key there absent same = never (sym there ∙ ap (map.contains_key m) same ∙ absent)
+  where
+    never : true ≡ false → ⊥
+    never e = cc
+
+-- ---- what holds through a line
+
+module _ (P : Tally → Type 0) where
+  if_holds : (x y : Tally) (b : Bool) → (b ≡ true → P x) → (b ≡ false → P y) → P (if b then x else y)
+  if_holds x y true p q = p refl
+  if_holds x y false p q = q refl
+
+  by_locked : (rules : Rules) (book : Accounts) (t : Tally) (n : ℕ) (name : List ℕ) (l : LockedRecords) → rules.locked ≡ l → ((why : LineFault) → P (with_bad t n why))
+      → ((e : Entry) → locked_entry name rules.locked ≡ Some e → P (with_entry rules.existing book t n e)) → P (with_locked rules book t n name l)
+  by_locked rules book t n name locked.Refused is bad good = bad IsLocked
+  by_locked rules book t n name locked.Disabled is bad good = good (name, None) (rw is refl)
+
+  by_line : (rules : Rules) (book : Accounts) (t : Tally) (n : ℕ) (r : Result Said LineFault) → P t → ((why : LineFault) → P (with_bad t n why))
+      → ((e : Entry) → entry_with rules r ≡ Some e → P (with_entry rules.existing book t n e)) → P (with_line rules book t n r)
+  by_line rules book t n (Ok Nothing) same bad good = same
+  by_line rules book t n (Ok (Account name stored)) same bad good =
+      if_holds (with_bad t n Costly) (with_entry rules.existing book t n (name, stored)) (is_costly rules.most stored) (λ costly. bad Costly) (λ cheap. good (name, stored) (rw cheap refl))
+  by_line rules book t n (Ok (Locked name)) same bad good = by_locked rules book t n name rules.locked refl bad good
+  by_line rules book t n (Err why) same bad good = bad why
+
+  by_existing : (how h : Existing) (book : Accounts) (t : Tally) (n : ℕ) (e : Entry) → how ≡ h → ((why : LineFault) → P (with_bad t n why)) → P (with_kept t)
+      → (how ≡ Updated → map.contains_key book e.0 ≡ true → map.contains_key t.changed e.0 ≡ false → P (with_change t e)) → map.contains_key book e.0 ≡ true → P (with_existing h t n e)
+  by_existing how Refused book t n e is bad kept change there = bad (Book error.Exists)
+  by_existing how Kept book t n e is bad kept change there = kept
+  by_existing how Updated book t n e is bad kept change there =
+      if_holds (with_bad t n (Book error.Exists)) (with_change t e) (map.contains_key t.changed e.0) (λ twice. bad (Book error.Exists)) (change is there)
+
+  by_entry : (how : Existing) (book : Accounts) (t : Tally) (n : ℕ) (e : Entry) → ((why : LineFault) → P (with_bad t n why)) → P (with_kept t)
+      → (how ≡ Updated → map.contains_key book e.0 ≡ true → map.contains_key t.changed e.0 ≡ false → P (with_change t e))
+      → (map.contains_key book e.0 ≡ false → map.contains_key t.accounts e.0 ≡ false → P (with_account t e)) → P (with_entry how book t n e)
+  by_entry how book t n e bad kept change add =
+      if_holds (with_existing how t n e) (if map.contains_key t.accounts e.0 then with_bad t n (Book error.Exists) else with_account t e) (map.contains_key book e.0) (by_existing how how book t n e refl bad kept change)
+      (λ new. if_holds (with_bad t n (Book error.Exists)) (with_account t e) (map.contains_key t.accounts e.0) (λ twice. bad (Book error.Exists)) (add new))
+
+-- and so through all
+through : (P : Tally → Type 0) (rules : Rules) (book : Accounts) → ((t : Tally) (n : ℕ) (r : Result Said LineFault) → P t → P (with_line rules book t n r)) → (t : Tally) (n : ℕ) (lines : List (List ℕ)) → P t → P (tally_from rules book t n lines)
+unfolding tally_from
+through P rules book step t n [] holds = holds
+through P rules book step t n (line ∷ lines) holds = through P rules book step (with_line rules book t n (said_of line)) (n + 1) lines (step t n (said_of line) holds)
+
+-- ---- what the book has isn't new, and what it hasn't isn't changed
+
+absent_at : (m : Accounts) (name : List ℕ) → map.get m name ≡ None → map.contains_key m name ≡ false
+absent_at m name none = ap is_some none
+
+not_new : (rules : Rules) (book : Accounts) (name : List ℕ) → map.contains_key book name ≡ true → (t : Tally) (n : ℕ) (r : Result Said LineFault) → map.get t.accounts name ≡ None → map.get (with_line rules book t n r).accounts name ≡ None
+not_new rules book name there t n r holds = by_line (λ u. map.get u.accounts name ≡ None) rules book t n r holds (λ why. holds)
+    (λ e says. by_entry (λ u. map.get u.accounts name ≡ None) rules.existing book t n e (λ why. holds) holds (λ how is new. holds) (λ new here. get_other t.accounts e.0 name e.1 (apart book name e.0 there new) ∙ holds))
+
+pub there_not_new : (rules : Rules) (book : Accounts) (name : List ℕ) (n : ℕ) (lines : List (List ℕ)) → map.contains_key book name ≡ true → map.get (tally_from rules book nothing_yet n lines).accounts name ≡ None
+there_not_new rules book name n lines there = through (λ u. map.get u.accounts name ≡ None) rules book (not_new rules book name there) nothing_yet n lines (map.get-empty name_cmp name)
+
+not_changed : (rules : Rules) (book : Accounts) (name : List ℕ) → map.contains_key book name ≡ false → (t : Tally) (n : ℕ) (r : Result Said LineFault) → map.get t.changed name ≡ None → map.get (with_line rules book t n r).changed name ≡ None
+not_changed rules book name absent t n r holds = by_line (λ u. map.get u.changed name ≡ None) rules book t n r holds (λ why. holds)
+    (λ e says. by_entry (λ u. map.get u.changed name ≡ None) rules.existing book t n e (λ why. holds) holds (λ how there new. get_other t.changed e.0 name e.1 (λ same. apart book e.0 name there absent (sym same)) ∙ holds) (λ new here. holds))
+
+pub absent_not_changed : (rules : Rules) (book : Accounts) (name : List ℕ) (n : ℕ) (lines : List (List ℕ)) → map.contains_key book name ≡ false → map.get (tally_from rules book nothing_yet n lines).changed name ≡ None
+absent_not_changed rules book name n lines absent = through (λ u. map.get u.changed name ≡ None) rules book (not_changed rules book name absent) nothing_yet n lines (map.get-empty name_cmp name)
+
+-- ---- a name that no good line has
+
+abbrev pub IsFree : List ℕ → Tally → Type 0
+IsFree name t = (map.get t.accounts name ≡ None) × (map.get t.changed name ≡ None)
+
+pub free_at_first : (name : List ℕ) → IsFree name nothing_yet
+free_at_first name = (map.get-empty name_cmp name, map.get-empty name_cmp name)
+
+free_line : (rules : Rules) (book : Accounts) (name : List ℕ) (t : Tally) (n : ℕ) (r : Result Said LineFault) → ((e : Entry) → entry_with rules r ≡ Some e → name ≡ e.0 → ⊥) → IsFree name t → IsFree name (with_line rules book t n r)
+free_line rules book name t n r other free = by_line (IsFree name) rules book t n r free (λ why. free)
+    (λ e says. by_entry (IsFree name) rules.existing book t n e (λ why. free) free
+    (λ how there new. (free.0, get_other t.changed e.0 name e.1 (other e says) ∙ free.1)) (λ new here. (get_other t.accounts e.0 name e.1 (other e says) ∙ free.0, free.1)))
+
+pub free_lines : (rules : Rules) (book : Accounts) (name : List ℕ) (t : Tally) (n : ℕ) (lines : List (List ℕ)) → HasNone rules name lines → IsFree name t → IsFree name (tally_from rules book t n lines)
+unfolding tally_from
+free_lines rules book name t n [] none free = free
+free_lines rules book name t n (line ∷ lines) none free =
+    free_lines rules book name (with_line rules book t n (said_of line)) (n + 1) lines none.1 (free_line rules book name t n (said_of line) none.0 free)
+
+-- ---- the first good line of a name
+
+-- what a map has stays
+stays_new : (rules : Rules) (book : Accounts) (name : List ℕ) (v : Option RecordValue) (t : Tally) (n : ℕ) (r : Result Said LineFault) → map.get t.accounts name ≡ Some v → map.get (with_line rules book t n r).accounts name ≡ Some v
+stays_new rules book name v t n r holds = by_line (λ u. map.get u.accounts name ≡ Some v) rules book t n r holds (λ why. holds)
+    (λ e says. by_entry (λ u. map.get u.accounts name ≡ Some v) rules.existing book t n e (λ why. holds) holds (λ how there new. holds) (λ new here. get_other t.accounts e.0 name e.1 (apart t.accounts name e.0 (ap is_some holds) here) ∙ holds))
+
+stays_changed : (rules : Rules) (book : Accounts) (name : List ℕ) (v : Option RecordValue) (t : Tally) (n : ℕ) (r : Result Said LineFault) → map.get t.changed name ≡ Some v → map.get (with_line rules book t n r).changed name ≡ Some v
+stays_changed rules book name v t n r holds = by_line (λ u. map.get u.changed name ≡ Some v) rules book t n r holds (λ why. holds)
+    (λ e says. by_entry (λ u. map.get u.changed name ≡ Some v) rules.existing book t n e (λ why. holds) holds (λ how there new. get_other t.changed e.0 name e.1 (apart t.changed name e.0 (ap is_some holds) new) ∙ holds) (λ new here. holds))
+
+some_same : (x y : Entry) → Some x ≡ Some y → x ≡ y
+some_same x y same = cc
+
+cheap_entry : (rules : Rules) (book : Accounts) (t : Tally) (n : ℕ) (e f : Entry) (b : Bool) → (if b then None else Some f) ≡ Some e
+    → (if b then with_bad t n Costly else with_entry rules.existing book t n f) ≡ with_entry rules.existing book t n e
+cheap_entry rules book t n e f true says = cc
+cheap_entry rules book t n e f false says = ap (with_entry rules.existing book t n) (some_same f e says)
+
+locked_line : (rules : Rules) (book : Accounts) (t : Tally) (n : ℕ) (e : Entry) (name : List ℕ) (l : LockedRecords) → locked_entry name l ≡ Some e → with_locked rules book t n name l ≡ with_entry rules.existing book t n e
+locked_line rules book t n e name locked.Refused says = cc
+locked_line rules book t n e name locked.Disabled says = ap (with_entry rules.existing book t n) (some_same (name, None) e says)
+
+line_of_entry : (rules : Rules) (book : Accounts) (t : Tally) (n : ℕ) (r : Result Said LineFault) (e : Entry) → entry_with rules r ≡ Some e → with_line rules book t n r ≡ with_entry rules.existing book t n e
+line_of_entry rules book t n (Ok Nothing) e says = cc
+line_of_entry rules book t n (Ok (Account name stored)) e says = cheap_entry rules book t n e (name, stored) (is_costly rules.most stored) says
+line_of_entry rules book t n (Ok (Locked name)) e says = locked_line rules book t n e name rules.locked says
+line_of_entry rules book t n (Err why) e says = cc
+
+pub first_new : (rules : Rules) (book : Accounts) (e : Entry) (line : List ℕ) (rest : List (List ℕ)) (t : Tally) (n : ℕ) (front : List (List ℕ)) → entry_of rules line ≡ Some e → HasNone rules e.0 front → map.contains_key book e.0 ≡ false → IsFree e.0 t
+    → map.get (tally_from rules book t n (front ++ line ∷ rest)).accounts e.0 ≡ Some e.1
+unfolding tally_from
+first_new rules book e line rest t n [] says none absent free =
+    through (λ u. map.get u.accounts e.0 ≡ Some e.1) rules book (stays_new rules book e.0 e.1) (with_line rules book t n (said_of line)) (n + 1) rest
+    (rw (line_of_entry rules book t n (said_of line) e says, absent, absent_at t.accounts e.0 free.0) (get_here t.accounts e.0 e.1))
+first_new rules book e line rest t n (l ∷ front) says none absent free =
+    first_new rules book e line rest (with_line rules book t n (said_of l)) (n + 1) front says none.1 absent (free_line rules book e.0 t n (said_of l) none.0 free)
+
+pub first_changed : (rules : Rules) (book : Accounts) (e : Entry) (line : List ℕ) (rest : List (List ℕ)) (t : Tally) (n : ℕ) (front : List (List ℕ)) → entry_of rules line ≡ Some e → HasNone rules e.0 front → map.contains_key book e.0 ≡ true → rules.existing ≡ Updated → IsFree e.0 t
+    → map.get (tally_from rules book t n (front ++ line ∷ rest)).changed e.0 ≡ Some e.1
+unfolding tally_from
+first_changed rules book e line rest t n [] says none there how free =
+    through (λ u. map.get u.changed e.0 ≡ Some e.1) rules book (stays_changed rules book e.0 e.1) (with_line rules book t n (said_of line)) (n + 1) rest
+    (rw (line_of_entry rules book t n (said_of line) e says, there, how, absent_at t.changed e.0 free.1) (get_here t.changed e.0 e.1))
+first_changed rules book e line rest t n (l ∷ front) says none there how free =
+    first_changed rules book e line rest (with_line rules book t n (said_of l)) (n + 1) front says none.1 there how (free_line rules book e.0 t n (said_of l) none.0 free)

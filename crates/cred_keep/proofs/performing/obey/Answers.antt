@@ -1,0 +1,48 @@
+use Rattle.std.proofs.Common.{rules}
+use Rattle.cred_cli.specs.Outcome.{longest_script}
+use Rattle.cred_cli.specs.Watched.{reading_on, writing_on}
+use Rattle.cred_admin.specs.Seen.{seen}
+use Rattle.cred_keep.specs.Orders.{RunsWithin, ServesLines}
+use Rattle.cred_keep.proofs.OnBasis.{on_each}
+use Rattle.cred_keep.proofs.performing.obey.Goals as goal
+
+pub returns-in-Run-clause-done : goal.returns-in-Run-clause-done
+returns-in-Run-clause-done g c = λ basis fits.
+    let reader = c.run_on_file.new.reader in
+    let writer = c.run_on_file.new.writer in
+    let held : RunsWithin longest_script (seen (reading_on basis g.R.Read.remaining c.args.reader.now reader) (writing_on basis g.W.Write.contents c.args.writer.now writer) c.args.book.now.book c.run_on_file.new.book.book) c.run_on_file.result =
+    on_each g.R.Read.remaining g.W.Write.contents c.args.reader.now reader c.args.writer.now writer c.requires.new_reader.given
+    (λ r w. RunsWithin longest_script (seen r w c.args.book.now.book c.run_on_file.new.book.book) c.run_on_file.result) c.run_on_file.ensures.runs c.run_on_file.ensures.transcript basis fits in
+    search (rules, held)
+
+pub returns-in-Serve-clause-done : goal.returns-in-Serve-clause-done
+returns-in-Serve-clause-done g c = λ basis fits.
+    let reader = c.serve_on_file.new.reader in
+    let writer = c.serve_on_file.new.writer in
+    let held : ServesLines c.in-Serve.most (seen (reading_on basis g.R.Read.remaining c.args.reader.now reader) (writing_on basis g.W.Write.contents c.args.writer.now writer) c.args.book.now.book c.serve_on_file.new.book.book) c.serve_on_file.result =
+    on_each g.R.Read.remaining g.W.Write.contents c.args.reader.now reader c.args.writer.now writer c.requires.new_reader.given
+    (λ r w. ServesLines c.in-Serve.most (seen r w c.args.book.now.book c.serve_on_file.new.book.book) c.serve_on_file.result) c.serve_on_file.ensures.runs c.serve_on_file.ensures.transcript basis fits in
+    search (rules, held)
+
+-- ---- orders that read nothing
+
+pub returns-in-Disable-clause-done : goal.returns-in-Disable-clause-done
+returns-in-Disable-clause-done g c = λ basis fits. search (rules, c.disable.ensures basis)
+
+pub returns-in-Delete-clause-done : goal.returns-in-Delete-clause-done
+returns-in-Delete-clause-done g c = λ basis fits. search (rules, c.delete.ensures basis)
+
+pub returns-in-Rename-clause-done : goal.returns-in-Rename-clause-done
+returns-in-Rename-clause-done g c = λ basis fits. search (rules, c.rename.ensures basis)
+
+pub returns-in-Show-clause-done : goal.returns-in-Show-clause-done
+returns-in-Show-clause-done g c = λ basis fits. search (rules, c.show.ensures basis)
+
+pub returns-in-List-clause-done : goal.returns-in-List-clause-done
+returns-in-List-clause-done g c = λ basis fits. search (rules, c.list.ensures basis)
+
+pub returns-in-ListCosts-clause-done : goal.returns-in-ListCosts-clause-done
+returns-in-ListCosts-clause-done g c = λ basis fits. search (rules, c.list_costs.ensures basis)
+
+pub returns-in-Export-clause-done : goal.returns-in-Export-clause-done
+returns-in-Export-clause-done g c = λ basis fits. search (rules, c.export.ensures basis)
