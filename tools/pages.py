@@ -48,6 +48,7 @@ VERSIONED = {
     "c/man/rigzumal.3": r'^\.TH .* "rigzumal (\S+)"',
     "rust/Cargo.toml": r'^version = "(.*)"',
     "CHANGELOG.md": r"^## (\d+\.\d+\.\d+)",
+    "python/rigzumal/server/daemon/options.py": r'^VERSION = "(.*)"',
     "crates/cred_cli/src/arguments.rt": r'\.version\("(.*)"\)',
     "crates/credkeep/src/arguments.rt": r'\.version\("(.*)"\)',
 }
