@@ -116,6 +116,13 @@ class Scrypt(unittest.TestCase):
 
 
 class Registered(unittest.TestCase):
+    def test_there_is_one_backend(self):
+        for handler in (rigzumal.passlib.argon2, rigzumal.passlib.scrypt):
+            self.assertEqual(handler.backends, ("rigzumal",))
+            for name in ("any", "default", "rigzumal"):
+                self.assertIs(handler.has_backend(name), True)
+            self.assertIs(handler.has_backend("argon2_cffi"), False)
+
     def test_by_one_call(self):
         done = subprocess.run(
             [sys.executable, "-c", REGISTERED], capture_output=True, text=True, check=True
