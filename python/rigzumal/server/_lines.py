@@ -5,7 +5,7 @@ from __future__ import annotations
 import base64
 import enum
 from dataclasses import dataclass, replace
-from typing import Final, Optional, Union
+from typing import TYPE_CHECKING, Final, Optional, Union
 
 from rigzumal._library import Secret, bytes_of
 
@@ -45,10 +45,13 @@ class Reply(enum.Enum):
     DELETED = "deleted"
     RENAMED = "renamed"
 
-    def __bool__(self) -> bool:
-        raise TypeError(
-            "an answer is neither true nor false: compare it with Reply.YES"
-        )
+    # Hidden from mypy, whose `truthy-bool` then names each place where it is missing.
+    if not TYPE_CHECKING:
+
+        def __bool__(self) -> bool:
+            raise TypeError(
+                "an answer is neither true nor false: compare it with Reply.YES"
+            )
 
 
 class ServerError(Exception):
