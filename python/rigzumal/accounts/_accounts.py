@@ -56,8 +56,7 @@ class Accounts:
 
     Raises:
         ValueError: a number or the hasher won't do.
-        InvalidRecordError: the hasher's costs are out of range, or no costs stand in
-            `upgrade_from`.
+        InvalidRecordError: one of `upgrade_from` isn't costs.
 
     Each operation takes `also`, a function of the driver's connection and the reply. It
     is called in the operation's transaction before COMMIT, so that rows of one's own,

@@ -40,8 +40,7 @@ class Judge:
     Raises:
         ValueError: the hasher's tags haven't 32 bytes, it has a secret, or its own
             costs are in the list.
-        InvalidRecordError: the hasher's costs are out of range, or one of the list is
-            none.
+        InvalidRecordError: one of the list isn't costs.
     """
 
     def __init__(
