@@ -181,13 +181,10 @@ class Package(unittest.TestCase):
 
     def test_types_of_frameworks(self):
         """mypy --strict, as far as libraries that have no stubs here let it, with the login page."""
-        mypy = (
-            need("mypy"),
-            "--strict",
-            "--ignore-missing-imports",
-            f"--cache-dir={ROOM / 'mypy'}",
-        )
+        need("mypy")
         need_module("django", "passlib", "flask")
+        cache = f"--cache-dir={ROOM / 'mypy'}"
+        mypy = ("mypy", "--strict", "--ignore-missing-imports", cache)
         run(*mypy, "rigzumal/django", "rigzumal/passlib.py", at=PYTHON)
         # Of waitress it knows that there are stubs, which nobody needs to have.
         words = (*mypy, "--disable-error-code=import", "login_page.py")
