@@ -119,14 +119,14 @@ where
     G: Rng + Send + Drop + 'static,
     ensures served { ∥ StandsAtEnd register_capacity (service book.book (R.remaining reader)
         (W.contents writer) means.now (G.stream salts)) (λ pending. record {
-      book = result.keeper.book;
-      written = W.contents (inner_of result.writer);
-      writer_failed = failed_of result.writer;
-      keeper_failed = is_some result.keeper.lost;
-      fault = result.fault;
-      pending = pending;
-      came = result.lines;
-    }) ∥₁ }
+          book = result.keeper.book;
+          written = W.contents (inner_of result.writer);
+          writer_failed = failed_of result.writer;
+          keeper_failed = is_some result.keeper.lost;
+          fault = result.fault;
+          pending = pending;
+          came = result.lines;
+        }) ∥₁ }
     ensures all { result.fault ≡ None → result.reading ≡ None
         → IfSome (R.remaining reader) (λ all. result.lines ≡ length (lines_of all)) }
 {
@@ -163,8 +163,11 @@ where
     ensures all { result.fault ≡ None → result.reading ≡ None
         → IfSome (R.remaining reader) (λ all. result.lines ≡ length (lines_of all)) }
 {
-    let mut scribe: Scribe<J, FileBook<S>, W> =
-        Scribe::new(tools.alloc, book, Watched::new(writer));
+    let mut scribe: Scribe<J, FileBook<S>, W> = Scribe::new(
+        tools.alloc,
+        book,
+        Watched::new(writer),
+    );
     let ending = serve_file(tools, means, &mut scribe, salts, reader);
     scribe.end(ending)
 }
