@@ -7,16 +7,17 @@ ghost use Rattle.cred_cli.specs.Watched.{failed_of, inner_of};
 ghost use Rattle.cred_book.specs.Works.{is_for_current, name_of};
 ghost use Rattle.cred_phc.specs.Values.{RecordValue};
 ghost use Rattle.cred_many.specs.Asks.{IsJobOf, IsResetOf, NeedsNoHash};
-ghost use Rattle.cred_many.specs.Groups.{IsGroup, entries_of};
-ghost use Rattle.cred_many.specs.Scribe.{History, IsBusy, numbers};
-ghost use Rattle.cred_many.specs.Served.{HasCause, NeedsMemory, Stands, StandsAtEnd, record_at};
+ghost use Rattle.cred_many.specs.Scribe.{History, numbers};
+ghost use Rattle.cred_many.specs.Served.{HasCause, Stands, StandsAtEnd, record_at};
 ghost use Rattle.cred_many.specs.Served.{told_reply};
 ghost use Rattle.cred_many.specs.Steps.{is_changed};
+
+mod groups;
+mod refusals;
 
 use crate::ask::Ask;
 use crate::doing::{do_ask, put_in_place};
 use crate::fault::ServiceFault;
-use crate::group::{Change, Group, MOST_TOGETHER};
 use crate::host::Host;
 use crate::job::{Hashed, Job};
 use crate::line::Line;
@@ -25,8 +26,8 @@ use crate::naming::Naming;
 use crate::open::OpenLines;
 use crate::output::Output;
 use crate::served::Served;
-use cred_book::{BookError, Name, Reply, Request, Ticket, Worked};
-use cred_cli::{Refusal, Watched, reply_line};
+use cred_book::{Name, Reply, Request, Ticket, Worked};
+use cred_cli::{Watched, reply_line};
 use std::alloc::Global;
 use std::io::Write;
 use std::marker::PhantomData;
@@ -299,98 +300,6 @@ impl<J: Naming, K: Host, W: Write> Scribe<J, K, W> {
         }
     }
 
-    /// Makes the changes of different accounts among these works together, and answers their lines.
-    /// The other works come back, in their order.
-    pub fn commit_together(&mut self, alloc: Global, works: Vec<Hashed<J>>) -> Vec<Hashed<J>> {
-        let mut group = Group::new(alloc);
-        let mut others = Vec::new(alloc);
-        for hashed in works {
-            let Err(hashed) = self.gather(&mut group, hashed) else {
-                continue;
-            };
-            if let Err(refused) = others.push(hashed) {
-                let Hashed { line, .. } = refused.value;
-                self.starve(line);
-            }
-        }
-        if self.output.fault.is_none() && !group.works.is_empty() {
-            self.commit_group(group);
-        }
-        others
-    }
-
-    /// Takes a line into the group if it changes an account that no other line there does, and
-    /// otherwise gives it back.
-    fn gather(&self, group: &mut Group<J>, hashed: Hashed<J>) -> Result<(), Hashed<J>>
-        requires { IsGroup K.capacity J.service (K.book self.now.keeper) group.old.changed
-            (entries_of group.old.works.items) group.old.text.items }
-        ensures { IsGroup K.capacity J.service (K.book self.now.keeper) group.new.changed
-            (entries_of group.new.works.items) group.new.text.items }
-    {
-        match hashed.line.ask() {
-            Ask::Whole(_) | Ask::Login(..) => self.gather_whole(group, hashed),
-            _ => Err(hashed),
-        }
-    }
-
-    fn gather_whole(&self, group: &mut Group<J>, hashed: Hashed<J>) -> Result<(), Hashed<J>>
-        requires asked { (copy : Option RecordValue) → IsJobOf hashed.0.ask (hashed.1.0, copy) }
-        requires group { IsGroup K.capacity J.service (K.book self.now.keeper) group.old.changed
-            (entries_of group.old.works.items) group.old.text.items }
-        ensures { IsGroup K.capacity J.service (K.book self.now.keeper) group.new.changed
-            (entries_of group.new.works.items) group.new.text.items }
-    {
-        let (reply, stored, changes) = self.keeper.accounts().judge(&hashed.worked);
-        if !changes || group.works.len() >= MOST_TOGETHER {
-            return Err(hashed);
-        }
-        let change = Change {
-            name: hashed.worked.request().name(),
-            stored,
-            answer: reply_line(&told_reply(hashed.line.ask(), reply)),
-        };
-        let _tag = hashed.line.tag();
-        group.push(hashed, &change)
-    }
-
-    /// Makes the changes of a group, and answers its lines. If the keeper refuses none is made.
-    fn commit_group(&mut self, group: Group<J>)
-        requires going { self.old.output.fault ≡ None }
-        requires group { IsGroup K.capacity J.service (K.book self.old.keeper) group.changed
-            (entries_of group.works.items) group.text.items }
-    {
-        let Group {
-            works,
-            changed,
-            text,
-        } = group;
-        let Some(left) = self.pending.without(&works) else {
-            self.refuse_all(works);
-            return;
-        };
-        match self.keeper.replace_all(changed) {
-            Ok(()) => {
-                self.pending = left;
-                self.output.conclude_all(&text);
-            }
-            Err(_) => self.refuse_all(works),
-        }
-    }
-
-    /// Answers lines to whose changes the keeper refused memory, or ends all if it has failed.
-    fn refuse_all(&mut self, works: Vec<Hashed<J>>)
-        requires { self.old.output.fault ≡ None }
-    {
-        if self.keeper.has_failed() {
-            self.output.fault = Some(ServiceFault::Keeper);
-            return;
-        }
-        for hashed in works {
-            let Hashed { line, .. } = hashed;
-            self.starve(line);
-        }
-    }
-
     fn commit_whole(&mut self, place: usize, line: Line<J>, worked: Worked) -> Option<Job<J>>
         requires going { self.old.output.fault ≡ None }
         requires within { place < length self.old.pending }
@@ -438,56 +347,6 @@ impl<J: Naming, K: Host, W: Write> Scribe<J, K, W> {
     pub fn no_memory(&mut self, job: Job<J>) {
         let Job { line, .. } = job;
         self.starve(line);
-    }
-
-    /// Answers that nothing was done for want of memory, unless nothing is answered any more.
-    fn starve(&mut self, line: Line<J>)
-        requires { NeedsMemory K.capacity (K.book self.old.keeper) line.ask }
-        ensures { K.book self.new.keeper ≡ K.book self.old.keeper }
-    {
-        if self.output.fault.is_some() {
-            return;
-        }
-        if let Some(place) = self.pending.place_of(line.number()) {
-            self.give_up(place, line);
-        }
-    }
-
-    /// Answers a line to which the keeper refused memory, or ends all if it has failed.
-    fn refuse(&mut self, place: usize, line: Line<J>)
-        requires going { self.old.output.fault ≡ None }
-        requires within { place < length self.old.pending }
-        requires there { slice_get (numbers self.old.pending) place ≡ Some line.number }
-        requires needs { NeedsMemory K.capacity (K.book self.old.keeper) line.ask }
-    {
-        if self.keeper.has_failed() {
-            self.output.fault = Some(ServiceFault::Keeper);
-            return;
-        }
-        self.give_up(place, line);
-    }
-
-    /// Answers that nothing was done for want of memory.
-    fn give_up(&mut self, place: usize, line: Line<J>)
-        requires going { self.old.output.fault ≡ None }
-        requires within { place < length self.old.pending }
-        requires there { slice_get (numbers self.old.pending) place ≡ Some line.number }
-        requires needs { NeedsMemory K.capacity (K.book self.old.keeper) line.ask }
-        ensures { K.book self.new.keeper ≡ K.book self.old.keeper }
-    {
-        self.pending.close(place);
-        self.output
-            .conclude(line.tag(), Refusal::Book(BookError::Memory).line());
-    }
-
-    /// Answers that nothing was done since others were always faster.
-    fn give_up_as_busy(&mut self, place: usize, line: Line<J>)
-        requires going { self.old.output.fault ≡ None }
-        requires there { slice_get (numbers self.old.pending) place ≡ Some line.number }
-        requires busy { IsBusy self.old.pending place line.ask }
-    {
-        self.pending.close(place);
-        self.output.conclude(line.tag(), Refusal::Busy.line());
     }
 }
 

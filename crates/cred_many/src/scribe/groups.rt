@@ -1,0 +1,111 @@
+//! Changes of different accounts that are made together, and answered at once.
+
+ghost use Rattle.std.specs.Prelude.{◌≡◌, None, Option};
+ghost use Rattle.cred_phc.specs.Values.{RecordValue};
+ghost use Rattle.cred_many.specs.Asks.{IsJobOf};
+ghost use Rattle.cred_many.specs.Groups.{IsGroup, entries_of};
+
+use super::{Scribe, told_reply};
+use crate::ask::Ask;
+use crate::fault::ServiceFault;
+use crate::group::{Change, Group, MOST_TOGETHER};
+use crate::host::Host;
+use crate::job::Hashed;
+use crate::naming::Naming;
+use cred_cli::reply_line;
+use std::alloc::Global;
+use std::io::Write;
+
+impl<J: Naming, K: Host, W: Write> Scribe<J, K, W> {
+    /// Makes the changes of different accounts among these works together, and answers their lines.
+    /// The other works come back, in their order.
+    pub fn commit_together(&mut self, alloc: Global, works: Vec<Hashed<J>>) -> Vec<Hashed<J>> {
+        let mut group = Group::new(alloc);
+        let mut others = Vec::new(alloc);
+        for hashed in works {
+            let Err(hashed) = self.gather(&mut group, hashed) else {
+                continue;
+            };
+            if let Err(refused) = others.push(hashed) {
+                let Hashed { line, .. } = refused.value;
+                self.starve(line);
+            }
+        }
+        if self.output.fault.is_none() && !group.works.is_empty() {
+            self.commit_group(group);
+        }
+        others
+    }
+
+    /// Takes a line into the group if it changes an account that no other line there does, and
+    /// otherwise gives it back.
+    fn gather(&self, group: &mut Group<J>, hashed: Hashed<J>) -> Result<(), Hashed<J>>
+        requires { IsGroup K.capacity J.service (K.book self.now.keeper) group.old.changed
+            (entries_of group.old.works.items) group.old.text.items }
+        ensures { IsGroup K.capacity J.service (K.book self.now.keeper) group.new.changed
+            (entries_of group.new.works.items) group.new.text.items }
+    {
+        match hashed.line.ask() {
+            Ask::Whole(_) | Ask::Login(..) => self.gather_whole(group, hashed),
+            _ => Err(hashed),
+        }
+    }
+
+    fn gather_whole(&self, group: &mut Group<J>, hashed: Hashed<J>) -> Result<(), Hashed<J>>
+        requires asked { (copy : Option RecordValue) → IsJobOf hashed.0.ask (hashed.1.0, copy) }
+        requires group { IsGroup K.capacity J.service (K.book self.now.keeper) group.old.changed
+            (entries_of group.old.works.items) group.old.text.items }
+        ensures { IsGroup K.capacity J.service (K.book self.now.keeper) group.new.changed
+            (entries_of group.new.works.items) group.new.text.items }
+    {
+        let (reply, stored, changes) = self.keeper.accounts().judge(&hashed.worked);
+        if !changes || group.works.len() >= MOST_TOGETHER {
+            return Err(hashed);
+        }
+        let change = Change {
+            name: hashed.worked.request().name(),
+            stored,
+            answer: reply_line(&told_reply(hashed.line.ask(), reply)),
+        };
+        let _tag = hashed.line.tag();
+        group.push(hashed, &change)
+    }
+
+    /// Makes the changes of a group, and answers its lines. If the keeper refuses none is made.
+    fn commit_group(&mut self, group: Group<J>)
+        requires going { self.old.output.fault ≡ None }
+        requires group { IsGroup K.capacity J.service (K.book self.old.keeper) group.changed
+            (entries_of group.works.items) group.text.items }
+    {
+        let Group {
+            works,
+            changed,
+            text,
+        } = group;
+        let Some(left) = self.pending.without(&works) else {
+            self.refuse_all(works);
+            return;
+        };
+        match self.keeper.replace_all(changed) {
+            Ok(()) => {
+                self.pending = left;
+                self.output.conclude_all(&text);
+            }
+            Err(_) => self.refuse_all(works),
+        }
+    }
+
+    /// Answers lines to whose changes the keeper refused memory, or ends all if it has failed.
+    fn refuse_all(&mut self, works: Vec<Hashed<J>>)
+        requires { self.old.output.fault ≡ None }
+    {
+        if self.keeper.has_failed() {
+            self.output.fault = Some(ServiceFault::Keeper);
+            return;
+        }
+        for hashed in works {
+            let Hashed { line, .. } = hashed;
+            self.starve(line);
+        }
+    }
+}
