@@ -12,8 +12,8 @@ import signal
 import sys
 
 from . import metrics
-from .log import begin_logging, log
-from .options import Options, Problem, parse
+from .log import Problem, begin_logging, log
+from .options import Options, parse
 from .service import Service
 
 

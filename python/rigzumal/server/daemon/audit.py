@@ -9,8 +9,7 @@ import time
 from collections.abc import Callable
 from typing import Optional, Union
 
-from .log import Seldom
-from .options import Problem
+from .log import Seldom, problems_at
 
 Written = Callable[[bool], None]
 Entry = dict[str, Union[str, int, None]]
@@ -22,19 +21,17 @@ def utc(seconds: float) -> str:
 
 
 class Audit:
-    """A file that is appended to, and opened for each write: whoever rotates it just renames it."""
+    """A file that is appended to, and opened for each write: to rotate it, rename it."""
 
     def __init__(self, path: str) -> None:
         self.path, self.seldom = path, Seldom()
         self.waiting: list[tuple[bytes, Optional[Written]]] = []
         self.is_writing = self.is_torn = False
-        try:
+        with problems_at(path):
             self.write(b"")
-        except OSError as fault:
-            raise Problem(f"{path}: {fault.strerror}") from None
 
     def add(self, entry: Entry, written: Optional[Written]) -> None:
-        """Appends a line, and tells whether it is on the disk, with those that came with it."""
+        """Appends a line with those that come meanwhile; tells whether it is on the disk."""
         line = json.dumps({"time": utc(time.time()), **entry}).encode() + b"\n"
         self.waiting.append((line, written))
         if not self.is_writing:

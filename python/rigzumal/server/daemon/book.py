@@ -3,12 +3,11 @@
 from __future__ import annotations
 
 import asyncio
-import os
 import re
 from collections.abc import Callable, Sequence
 from typing import Optional
 
-from .options import Problem
+from .log import problems_at
 
 LONGEST_ANSWER = 65536  # bytes
 UNAVAILABLE = b"unavailable"
@@ -27,12 +26,9 @@ class Book(asyncio.SubprocessProtocol):
         self.transport: Optional[asyncio.SubprocessTransport] = None
 
     async def start(self, words: Sequence[str]) -> None:
-        try:  # a session of its own: a terminal's signals are the server's
-            await self.loop.subprocess_exec(
-                lambda: self, *words, stderr=None, start_new_session=True
-            )
-        except OSError as fault:
-            raise Problem(f"{words[0]}: {os.strerror(fault.errno or 0)}") from None
+        run = self.loop.subprocess_exec
+        with problems_at(words[0]):  # in a session of its own: signals are the server's
+            await run(lambda: self, *words, stderr=None, start_new_session=True)
 
     def connection_made(self, transport: asyncio.BaseTransport) -> None:
         assert isinstance(transport, asyncio.SubprocessTransport)

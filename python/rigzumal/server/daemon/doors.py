@@ -12,10 +12,13 @@ import socket
 import struct
 import time
 from collections import Counter
-from collections.abc import Callable
-from typing import Optional, Protocol, cast
+from typing import TYPE_CHECKING, Optional, cast
 
-from .options import Door, Problem
+from .log import Problem, problems_at
+from .options import Door
+
+if TYPE_CHECKING:
+    from .service import Service
 
 LONGEST = 960  # bytes of a line
 IN_FLIGHT, CLIENTS = 32, 1024  # a client's lines at once, a door's clients
@@ -45,27 +48,23 @@ def group_id(door: Door) -> int:
 
 def lock(door: Door) -> None:
     """Takes the lock beside a socket's path, for as long as this process lives."""
-    group_id(door)
-    folder = os.path.dirname(door.path)
-    if not os.path.isdir(folder):
-        try:
+    folder, path = os.path.dirname(door.path), f"{door.path}.lock"
+    with problems_at(f"{folder}, for a socket"):
+        if not os.path.isdir(folder):
             os.mkdir(folder)
             os.chmod(folder, 0o755)
-        except OSError as fault:
-            raise Problem(f"{folder}, for a socket: {fault.strerror}") from None
-    try:
-        it = os.open(f"{door.path}.lock", os.O_RDWR | os.O_CREAT | os.O_CLOEXEC, 0o600)
-        fcntl.flock(it, fcntl.LOCK_EX | fcntl.LOCK_NB)
-    except BlockingIOError:
-        raise Problem(f"another server has {door.path}") from None
-    except OSError as fault:
-        raise Problem(f"{door.path}.lock: {fault.strerror}") from None
+    with problems_at(path):
+        it = os.open(path, os.O_RDWR | os.O_CREAT | os.O_CLOEXEC, 0o600)
+        try:
+            fcntl.flock(it, fcntl.LOCK_EX | fcntl.LOCK_NB)
+        except BlockingIOError:
+            raise Problem(f"another server has {door.path}") from None
 
 
 def bound(door: Door) -> socket.socket:
     """A socket at a path whose lock this server has; its mode is set before it listens."""
     made = socket.socket(socket.AF_UNIX)
-    try:
+    with problems_at(door.path):
         if pathlib.Path(door.path).is_socket():
             if made.connect_ex(door.path) == 0:
                 raise Problem(f"another server listens at {door.path}")
@@ -73,26 +72,22 @@ def bound(door: Door) -> socket.socket:
         made.bind(door.path)
         os.chown(door.path, -1, group_id(door))
         os.chmod(door.path, door.mode)
-    except OSError as fault:
-        raise Problem(f"{door.path}: {fault.strerror}") from None
     return made
 
 
-def prepared(door: Door) -> Callable[[], socket.socket]:
-    """What makes the door's socket once the book answers: systemd's, or one at a locked path."""
-    handed = handed_over(door.name)
-    if handed is None:
-        lock(door)
-    return lambda: handed or bound(door)
-
-
 class Listener:
-    """The clients of a door: a user has at most half of the places that others leave."""
+    """A door's clients: a user has at most half of the places that others leave."""
 
     def __init__(self, door: Door) -> None:
-        self.door, self.socket = door, prepared(door)
-        self.clients: set[Client] = set()
-        self.by_uid: Counter[int] = Counter()
+        self.door, self.handed = door, handed_over(door.name)
+        self.clients, self.by_uid = set[Client](), Counter[int]()
+        if self.handed is None:
+            group_id(door)
+            lock(door)
+
+    def opened(self) -> socket.socket:
+        """Where it listens once the book answers: systemd's socket, or one of its own."""
+        return self.handed or bound(self.door)
 
     def has_room(self, uid: int) -> bool:
         others = len(self.clients) - self.by_uid[uid]
@@ -108,21 +103,11 @@ class Listener:
             self.by_uid[client.uid] -= 1
 
 
-class Handler(Protocol):
-    """Whom a door's clients ask."""
-
-    def let_in(self, client: Client) -> bool:
-        ...
-
-    def take(self, client: Client, line: bytes) -> None:
-        ...
-
-
 class Client(asyncio.BufferedProtocol):
     """A connection, which hands over its lines, and no more of them than it reads answers."""
 
-    def __init__(self, handler: Handler, listener: Listener) -> None:
-        self.handler, self.listener, self.door = handler, listener, listener.door
+    def __init__(self, service: Service, listener: Listener) -> None:
+        self.service, self.listener, self.door = service, listener, listener.door
         self.pid = self.uid = -1
         self.buffer, self.came = memoryview(bytearray(BUFFER)), bytearray()
         self.running, self.active = 0, time.monotonic()
@@ -133,7 +118,7 @@ class Client(asyncio.BufferedProtocol):
         it = transport.get_extra_info("socket")
         peer = it.getsockopt(socket.SOL_SOCKET, socket.SO_PEERCRED, 12)
         self.pid, self.uid, _ = struct.unpack("3i", peer)
-        if self.handler.let_in(self):
+        if self.service.let_in(self):
             self.listener.add(self)
         else:
             self.transport.write(b"* unavailable\n")
@@ -178,7 +163,7 @@ class Client(asyncio.BufferedProtocol):
                 self.write(tag[0] if tag else b"*", b"bad 16 long")
             elif not self.is_cutting:
                 self.active = time.monotonic()
-                self.handler.take(self, line)
+                self.service.take(self, line)
             self.is_cutting = size < 0
         if self.is_ending and not self.running and b"\n" not in self.came:
             self.transport.close()

@@ -24,16 +24,14 @@ class Tries:
 class Limiter:
     """Failed tries at each of many names, or of each of many users.
 
-    From `most` on, each doubles the wait for the next. What is remembered is bounded: then what is
-    forgotten anyway goes first, then those who needn't wait, the oldest first.
+    From `most` on, each doubles the wait for the next. What is remembered is bounded: then
+    what is forgotten anyway goes first, then those who needn't wait, the oldest first.
     """
 
     def __init__(self, most: int) -> None:
         self.most = most
-        self.few: OrderedDict[
-            str, Tries
-        ] = OrderedDict()  # fewer than most, by their last one
-        self.many: OrderedDict[str, Tries] = OrderedDict()
+        # Fewer than most, and those that have to wait, both by their last failed try.
+        self.few, self.many = OrderedDict[str, Tries](), OrderedDict[str, Tries]()
 
     def is_early(self, key: str) -> bool:
         """Whether the next try has to wait."""
@@ -80,12 +78,9 @@ class Limiter:
         if found is None:
             return
         found.count -= 1
-        if (
-            found.count < self.most
-            and self.forgive(key, "right passwords")
-            and found.count
-        ):
-            self.few[key] = Tries(found.count, time.monotonic())
+        if found.count < self.most and self.forgive(key, "right passwords"):
+            if found.count:
+                self.few[key] = Tries(found.count, time.monotonic())
 
     def waits(self) -> Iterator[tuple[str, int, float]]:
         """Who has to wait: with how many failed tries, and for how many seconds more."""

@@ -1,4 +1,4 @@
-"""What is told: lines on standard error, counts, and systemd's notices."""
+"""What is told: problems, lines on standard error, and systemd's notices."""
 
 from __future__ import annotations
 
@@ -6,18 +6,29 @@ import logging
 import os
 import socket
 import time
+from collections.abc import Iterator
+from contextlib import contextmanager
 from typing import Any
 
 log = logging.getLogger("credkeep-server")
 SELDOM = 3600.0  # seconds
 
 
+class Problem(Exception):
+    """Why the server can't start, in a user's words."""
+
+
+@contextmanager
+def problems_at(path: str) -> Iterator[None]:
+    """Makes a problem of what the system refuses at a path."""
+    try:
+        yield
+    except OSError as fault:
+        raise Problem(f"{path}: {fault.strerror or fault}") from None
+
+
 def begin_logging() -> None:
-    handler = logging.StreamHandler()
-    handler.setFormatter(logging.Formatter("credkeep-server: %(message)s"))
-    log.addHandler(handler)
-    log.setLevel(logging.INFO)
-    log.propagate = False
+    logging.basicConfig(format="credkeep-server: %(message)s", level=logging.INFO)
     logging.getLogger("asyncio").disabled = True  # what it says may quote a line
 
 

@@ -6,17 +6,15 @@ import argparse
 import os
 import pathlib
 import re
-from collections.abc import Callable, Mapping, Sequence
+from collections.abc import Callable, Sequence
 from dataclasses import dataclass, field
 from typing import NoReturn
+
+from .log import Problem
 
 VERSION = "0.2.0"
 BOOKS, SOCKETS = pathlib.Path("/var/lib/rigzumal"), pathlib.Path("/run/rigzumal")
 LONGEST_PATH = 107  # bytes of a socket's path: unix(7)
-
-
-class Problem(Exception):
-    """Why the server can't start, in a user's words."""
 
 
 @dataclass(frozen=True)
@@ -29,28 +27,19 @@ class Operation:
     tries: bool = False  # it takes the present password, so it may be a guess
 
 
-OPERATIONS: Mapping[bytes, Operation] = {
-    b"verify": Operation(hashes=True, tries=True),
-    b"login": Operation(hashes=True, tries=True),
-    b"change": Operation(hashes=True, tries=True, changes=True),
-    b"upgrade": Operation(hashes=True, tries=True, changes=True),
-    b"remove": Operation(hashes=True, tries=True, changes=True),
-    b"enrol": Operation(hashes=True, changes=True),
-    b"reset": Operation(hashes=True, changes=True),
-    b"account": Operation(changes=True),
-    b"load": Operation(changes=True),
-    b"disable": Operation(changes=True),
-    b"delete": Operation(changes=True),
-    b"rename": Operation(changes=True, names=2),
-    b"known": Operation(),
-    b"show": Operation(),
-    b"list": Operation(names=0),
+KINDS = {
+    "verify login": Operation(hashes=True, tries=True),
+    "change upgrade remove": Operation(hashes=True, tries=True, changes=True),
+    "enrol reset": Operation(hashes=True, changes=True),
+    "account load disable delete": Operation(changes=True),
+    "rename": Operation(changes=True, names=2),
+    "known show": Operation(),
+    "list": Operation(names=0),
     # These are answered by the server, and not by the book.
-    b"stats": Operation(names=0),
-    b"waits": Operation(names=0),
-    b"forgive": Operation(),
-    b"last": Operation(),
+    "stats waits": Operation(names=0),
+    "forgive last": Operation(),
 }
+OPERATIONS = {word.encode(): it for key, it in KINDS.items() for word in key.split()}
 
 
 @dataclass(frozen=True)
@@ -92,22 +81,15 @@ class Options:
 
     def book_words(self) -> list[str]:
         """The book's command."""
-        words = [
-            self.credkeep,
-            "--wait",
-            str(self.wait),
-            self.file,
-            "serve",
-            "--tagged",
-        ]
         given = {
-            "at-once": self.at_once,
-            "memory": self.memory,
-            "most-memory": self.most_memory,
+            "--at-once": self.at_once,
+            "--memory": self.memory,
+            "--most-memory": self.most_memory,
+            "--setting": self.upgrade or self.setting,
         }
-        for name, value in [*given.items(), ("setting", self.upgrade or self.setting)]:
-            words += [f"--{name}", str(value)] if value else []
-        return words
+        words = [self.credkeep, "--wait", self.wait, self.file, "serve", "--tagged"]
+        words += [word for pair in given.items() if pair[1] for word in pair]
+        return [str(word) for word in words]
 
 
 class Parser(argparse.ArgumentParser):
@@ -120,9 +102,8 @@ def number(least: int, most: int) -> Callable[[str], int]:
 
     def parsed(word: str) -> int:
         if not re.fullmatch("[0-9]{1,9}", word) or not least <= int(word) <= most:
-            raise argparse.ArgumentTypeError(
-                f"{word!r} is no number from {least} to {most}"
-            )
+            text = f"{word!r} is no number from {least} to {most}"
+            raise argparse.ArgumentTypeError(text)
         return int(word)
 
     return parsed
@@ -130,10 +111,8 @@ def number(least: int, most: int) -> Callable[[str], int]:
 
 def costs(word: str) -> str:
     if "=" not in word.rpartition("$")[2]:
-        example = "$argon2id$v=19$m=65536,t=3,p=4"
-        raise argparse.ArgumentTypeError(
-            f"{word!r} isn't costs without a salt, such as {example}"
-        )
+        text = f"{word!r} isn't costs without a salt, such as "
+        raise argparse.ArgumentTypeError(text + "$argon2id$v=19$m=65536,t=3,p=4")
     return word
 
 
@@ -150,51 +129,29 @@ def parser() -> Parser:
     fields = ("NAME", "PATH", "MODE", "GROUP", "OPERATIONS")
     text = "a socket in place of the login and the admin socket; for each one"
     made.add_argument("--socket", nargs=5, action="append", metavar=fields, help=text)
-    whole = number(0, 10**9 - 1)
-    seconds = number(0, 3600)
+    count, seconds = number(0, 10**9 - 1), number(0, 3600)
     words: list[tuple[str, str, Callable[[str], object], str]] = [
-        (
-            "tries",
-            "N",
-            whole,
-            "failed tries at a name until the next waits; 0: no limit",
-        ),
-        (
-            "uid-tries",
-            "N",
-            whole,
-            "the same for a person's uid at any names; 0: no limit",
-        ),
-        ("idle", "SECONDS", whole, "a client that asks nothing is closed; 0: never"),
+        ("tries", "N", count, "failed tries until a name has to wait; 0: no limit"),
+        ("uid-tries", "N", count, "the same for a person's uid at any names"),
+        ("idle", "SECONDS", count, "until a client that asks nothing is closed"),
         ("audit", "LOG", str, "append a JSON line to this file for each change"),
-        ("metrics", "SOCKET", str, "print the counts of this admin socket's server"),
-        (
-            "upgrade",
-            "COSTS",
-            costs,
-            "new costs, to which right verifies upgrade records",
-        ),
+        ("metrics", "SOCKET", str, "print what the server of an admin socket counts"),
+        ("upgrade", "COSTS", costs, "new costs, by which a right verify upgrades"),
         ("setting", "TEXT", str, "for credkeep: the costs of new records"),
-        (
-            "at-once",
-            "N",
-            whole,
-            "for credkeep: lines hashed at once; 0: the processors",
-        ),
+        ("at-once", "N", count, "for credkeep: lines hashed at once; 0: processors"),
         ("memory", "SIZE", str, "for credkeep: memory for hashes, as 512M"),
-        ("most-memory", "SIZE", str, "for credkeep: the bound of a line's own costs"),
+        ("most-memory", "SIZE", str, "for credkeep: the bound of a line's costs"),
         ("wait", "SECONDS", seconds, "for credkeep: how long it waits for FILE"),
         ("credkeep", "PROGRAM", str, "another program than credkeep"),
     ]
     for name, metavar, kind, text in words:
         default = getattr(Options, name.replace("-", "_"))
-        text += f" ({default})" if default else ""
+        text += f" ({default})" if default != "" else ""
         made.add_argument(f"--{name}", metavar=metavar, type=kind, help=text)
-    for name, text in (
-        ("mail-names", "names may be e-mail addresses"),
-        ("fold-local-part", "fold the part before the @ too"),
-    ):
-        made.add_argument(f"--{name}", action="store_true", help=text)
+    text = "names may be e-mail addresses"
+    made.add_argument("--mail-names", action="store_true", help=text)
+    text = "fold the part before the @ too"
+    made.add_argument("--fold-local-part", action="store_true", help=text)
     return made
 
 
@@ -206,20 +163,19 @@ def folder_of(file: str) -> pathlib.Path:
 
 def door(name: str, path: str, mode: str, group: str, operations: str) -> Door:
     if not re.fullmatch("0?[0-7]{3}", mode):
-        raise Problem(
-            f"the mode of the socket {name} is octal, such as 0660, not {mode!r}"
-        )
+        text = f"the mode of the socket {name} is octal, such as 0660, not {mode!r}"
+        raise Problem(text)
     if len(os.fsencode(path)) > LONGEST_PATH:
         raise Problem(f"{path}: a socket's path has up to {LONGEST_PATH} bytes")
-    allowed = (
-        set(OPERATIONS) if operations == "all" else set(operations.encode().split(b","))
-    )
-    if unknown := sorted(allowed.difference(OPERATIONS)):
-        known = ", ".join(it.decode() for it in OPERATIONS)
-        said = unknown[0].decode(errors="replace")
-        raise Problem(
-            f"the socket {name}: {said!r} is no operation; there are all, or of {known}"
-        )
+    words = os.fsencode(operations).split(b",")
+    allowed = OPERATIONS if operations == "all" else words
+    for word in allowed:
+        if word not in OPERATIONS:
+            known = ", ".join(it.decode() for it in OPERATIONS)
+            text = (
+                f"the socket {name}: {word.decode(errors='replace')!r} is no operation"
+            )
+            raise Problem(f"{text}; there are all, or of {known}")
     return Door(name, os.path.abspath(path), int(mode, 8), group, frozenset(allowed))
 
 

@@ -14,14 +14,13 @@ Send = Callable[[], None]
 class Rounds:
     """Beside logins, changes go in rounds, and rest for longer than the round took.
 
-    Changes that hash are synced together, so all that wait go in one round. Each other one is
-    a sync of its own, so one of them does. If nobody logs in, none waits here.
+    Changes that hash are synced together, so all that wait go in one round. Each other one
+    is a sync of its own, so one of them does. If nobody logs in, none waits here.
     """
 
     def __init__(self, is_busy: Callable[[], bool]) -> None:
         self.is_busy = is_busy  # whether somebody logs in
-        self.together: deque[Send] = deque()
-        self.alone: deque[Send] = deque()
+        self.together, self.alone = deque[Send](), deque[Send]()
         self.running, self.is_resting, self.began = 0, False, 0.0
 
     def take(self, send: Send, is_alone: bool) -> None:

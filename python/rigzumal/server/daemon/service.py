@@ -68,15 +68,18 @@ class Service:
         self.seldom = Seldom()
         self.is_upgrading = self.is_ending = False
 
+    # ---- a line, until it is answered
+
     def let_in(self, client: Client) -> bool:
-        if not self.is_ending and not client.listener.has_room(client.uid):
-            text = "no more connections at %s for uid %d, which has %d"
-            count = client.listener.by_uid[client.uid]
-            values = (client.door.name, client.uid)
-            self.seldom.log(values, text, *values, count)
-            self.tally.counts["refused"] += 1
-            return False
-        return not self.is_ending
+        if self.is_ending or client.listener.has_room(client.uid):
+            return not self.is_ending
+        place, count = (client.door.name, client.uid), client.listener.by_uid[
+            client.uid
+        ]
+        text = "no more connections at %s for uid %d, which has %d"
+        self.seldom.log(place, text, *place, count)
+        self.tally.counts["refused"] += 1
+        return False
 
     def take(self, client: Client, line: bytes) -> None:
         """Refuses a line, or has it answered once it is its turn."""
@@ -142,12 +145,12 @@ class Service:
         """Has the book answer a line whose turn it is; false if it needn't any more."""
         began, line.began = line.began, time.monotonic()
         self.tally.waited += line.began - began
-        if line.client.is_gone and not line.operation.changes:
+        hashes, changes = line.operation.hashes, line.operation.changes
+        if line.client.is_gone and not changes:
             return False
         if self.is_early(line):
             line.client.answer(line.tag, b"later")
             return False
-        hashes, changes = line.operation.hashes, line.operation.changes
         self.logins += hashes and not changes
         line.is_in_round = changes and not (hashes and self.hash_seconds > SYNC)
         if line.is_in_round:
@@ -169,8 +172,7 @@ class Service:
         line.turns.give_back(line.share)
         if line.words[0] == b"known":
             said = b"yes" if said[:1] == b"$" else KNOWN.get(said, said)
-        else:
-            self.tally.note(line.operation, line.name, line.client.uid, said.decode())
+        self.tally.note(line.operation, line.name, line.client.uid, said.decode())
         if line.operation.changes and self.audit:
             self.note(line, said, partial(self.answer_written, line, said))
         else:
@@ -231,7 +233,7 @@ class Service:
             return
         loop = asyncio.get_running_loop()
         for listener in self.listeners:
-            client, it = partial(Client, self, listener), listener.socket()
+            client, it = partial(Client, self, listener), listener.opened()
             made = loop.create_unix_server(client, sock=it, backlog=doors.BACKLOG)
             self.servers.append(await made)  # whose end leaves the path
         log.info("start: %s", self.options.file)
@@ -267,11 +269,9 @@ class Service:
         status = await self.end()
         for task in (opening, stopping, sweeping):
             task.cancel()
-        fault = (
-            opening.exception() if opening.done() and not opening.cancelled() else None
-        )
-        if fault:
-            raise fault
+        for it in await asyncio.gather(opening, sweeping, return_exceptions=True):
+            if isinstance(it, Exception):
+                raise it
         return status
 
     async def end(self) -> int:
@@ -288,14 +288,13 @@ class Service:
                 client.end()
             await asyncio.sleep(0.01)
         self.book.close()
-        try:
-            rest = until - time.monotonic()
-            status = await asyncio.wait_for(asyncio.shield(self.book.ended), rest)
-        except asyncio.TimeoutError:
+        await asyncio.wait([self.book.ended], timeout=until - time.monotonic())
+        is_late = not self.book.ended.done()
+        if is_late:
             log.error("the book is killed, which hashed on for %d s", LAST_SECONDS)
             self.book.kill()
-            await self.book.ended
-            status = 0
+        status = await self.book.ended
+        status = 0 if is_late else status
         if self.book.strays:
             log.error("the book wrote %d answers to no line", self.book.strays)
         log.info("end: status %d, %s", status, self.tally.stats())

@@ -1,10 +1,10 @@
-"""What was answered: failed tries, right logins, and counts; and what an administrator asks of these."""
+"""What was answered: failed tries, right logins, counts, and what is asked of these."""
 
 from __future__ import annotations
 
 import time
 from collections import Counter, OrderedDict
-from collections.abc import Callable, Mapping
+from collections.abc import Callable
 
 from .audit import utc
 from .limits import REMEMBERED, Limiter
@@ -27,10 +27,11 @@ class Tally:
 
     def __init__(self, options: Options) -> None:
         self.names, self.users = Limiter(options.tries), Limiter(options.uid_tries)
-        self.logins: OrderedDict[str, float] = OrderedDict()
-        self.counts: Counter[str] = Counter()
+        self.logins = OrderedDict[str, float]()
+        self.counts = Counter[str]()
         self.waited, self.clients = 0.0, 0
-        self.own: Mapping[bytes, Callable[[str], str]] = {
+        # What an administrator asks the server itself for.
+        self.own: dict[bytes, Callable[[str], str]] = {
             b"stats": self.stats,
             b"waits": self.waits,
             b"forgive": self.forgive,
@@ -39,8 +40,7 @@ class Tally:
 
     def is_early(self, name: str, uid: int) -> bool:
         """Whether it isn't time yet for the next try."""
-        by_uid = self.users.most and self.users.is_early(user_of(uid))
-        return bool(by_uid) or self.names.is_early(name)
+        return self.names.is_early(name) or self.users.is_early(user_of(uid))
 
     def note(self, operation: Operation, name: str, uid: int, said: str) -> None:
         """Counts an answer, and the failed try that it may be."""
@@ -70,30 +70,21 @@ class Tally:
 
     def stats(self, _: str = "") -> str:
         waits = sum(1 for _ in self.names.waits())
-        values = [f"{name}={self.counts[name]}" for name in COUNTED]
-        values += [
-            f"clients={self.clients}",
-            f"waits={waits}",
-            f"waited={self.waited:.3f}",
-        ]
-        return " ".join(["stats", *values])
+        words = [f"{name}={self.counts[name]}" for name in COUNTED]
+        words += [f"clients={self.clients}", f"waits={waits}"]
+        return " ".join(["stats", *words, f"waited={self.waited:.3f}"])
 
     def waits(self, _: str) -> str:
         """Who has to wait: KEY:FAILED:SECONDS, a user as uid-1000."""
         found = [*self.names.waits(), *self.users.waits()][:MOST_SHOWN]
-        words = [
-            f"{key.replace(' ', '-')}:{count}:{rest:.0f}" for key, count, rest in found
-        ]
-        return " ".join(["waits", *words])
+        words = [f"{key}:{count}:{rest:.0f}" for key, count, rest in found]
+        return " ".join(["waits", *(word.replace(" ", "-") for word in words)])
 
     def forgive(self, name: str) -> str:
         why = "an administrator forgave it"
         user = name.replace("uid-", "uid ", 1)
-        return (
-            "forgiven"
-            if self.names.forgive(name, why) or self.users.forgive(user, why)
-            else "none"
-        )
+        is_found = self.names.forgive(name, why) or self.users.forgive(user, why)
+        return "forgiven" if is_found else "none"
 
     def last(self, name: str) -> str:
         """When a password was right last, since this server's start."""

@@ -12,16 +12,15 @@ Line = TypeVar("Line")
 class Turns(Generic[Line]):
     """Lines that wait for a place: users take turns, then the clients of each, a line each.
 
-    A line takes a share of the places until it is given back. One that would still fit waits behind
-    those whose turn is before its own.
+    A line takes a share of the places until it is given back. One that would still fit
+    waits behind those whose turn is before its own.
     """
 
     def __init__(self, places: float, start: Callable[[Line], bool]) -> None:
         self.free, self.start = places, start
-        self.users: OrderedDict[
+        self.users = OrderedDict[
             Hashable, OrderedDict[Hashable, deque[tuple[float, Line]]]
-        ]
-        self.users = OrderedDict()
+        ]()
 
     def take(self, user: Hashable, client: Hashable, share: float, line: Line) -> None:
         """Starts a line once it is its turn, which may be now."""
@@ -46,20 +45,16 @@ class Turns(Generic[Line]):
             if self.free < share:
                 return
             lines.popleft()
-            del (
-                self.users[user],
-                clients[client],
-            )  # and behind all others, if there is more
-            if lines:
-                clients[client] = lines
-            if clients:
-                self.users[user] = clients
+            clients.move_to_end(client)
+            self.users.move_to_end(user)
+            if not lines:
+                del clients[client]
+            if not clients:
+                del self.users[user]
             self.begin(share, line)
 
     def rest(self) -> list[Line]:
         """Takes out all lines that wait."""
-        queues = [
-            lines for clients in self.users.values() for lines in clients.values()
-        ]
+        users = list(self.users.values())
         self.users.clear()
-        return [line for lines in queues for _, line in lines]
+        return [it for user in users for lines in user.values() for _, it in lines]
