@@ -18,8 +18,7 @@ your own has to tell. `python3 -m rigzumal accounts` is the command; its `tortur
 a database, and judges what it answered.
 """
 
-from rigzumal.accounts._accounts import Accounts
-from rigzumal.accounts._async_accounts import AsyncAccounts
+from rigzumal.accounts._accounts import Accounts, AsyncAccounts
 from rigzumal.accounts._values import (
     AccountsError,
     OutcomeUnknown,

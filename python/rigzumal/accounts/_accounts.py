@@ -1,26 +1,18 @@
-"""Accounts over blocking drivers: each operation runs its coroutine, which never waits."""
+"""Accounts over blocking drivers, and for asyncio: the operations as callers have them."""
 
 from __future__ import annotations
 
-from collections.abc import Iterable
-from typing import Any, Callable, ClassVar, Optional
+from typing import Any
 
 from rigzumal._library import Secret
-from rigzumal.accounts._async_accounts import AsyncAccounts
-from rigzumal.accounts._judgement import Foreign, Hasher
-from rigzumal.accounts._session import Blocking, run
+from rigzumal.accounts._operations import Hook, Operations
+from rigzumal.accounts._session import AsyncRuntime, Runtime, run
 from rigzumal.accounts._values import Answer, Key, Kind, Reply, Request, Ticket, Worked
-from rigzumal.accounts.dialects._dialect import Dialect, Fault
-from rigzumal.accounts.pools import Pool
-
-Also = Optional[Callable[[Any, Reply], Any]]
+from rigzumal.accounts.dialects._faults import Fault
+from rigzumal.accounts.pools import AsyncPool, Pool
 
 
-class BlockingOperations(AsyncAccounts):
-    _runtime = Blocking()
-
-
-class Accounts:
+class Accounts(Operations[Pool]):
     """Password records in a service's own table.
 
     A row is an account; NULL in its record is an account that has none. The operations
@@ -78,75 +70,50 @@ class Accounts:
         Exception: what the pool raises of its own, or the hooks.
     """
 
-    _kind: ClassVar[type[AsyncAccounts]] = BlockingOperations
+    _runtime = Runtime()
 
-    def __init__(
-        self,
-        pool: Pool,
-        dialect: Dialect,
-        hasher: Hasher,
-        *,
-        replica: Optional[Pool] = None,
-        foreign: Optional[Foreign] = None,
-        upgrade_from: Iterable[str] = (),
-        tries: int = 8,
-        patience: float = 10.0,
-        confirm: bool = False,
-    ) -> None:
-        self._operations = self._kind(
-            pool,
-            dialect,
-            hasher,
-            replica=replica,
-            foreign=foreign,
-            upgrade_from=upgrade_from,
-            tries=tries,
-            patience=patience,
-            confirm=confirm,
-        )
-
-    def enrol(self, key: Key, password: Secret, *, also: Also = None) -> Reply:
+    def enrol(self, key: Key, password: Secret, *, also: Hook = None) -> Reply:
         """ENROLLED; EXISTS if the account has a record; NO_ACCOUNT.
 
         It is for rows that somebody is known to own: `new_record` is for a sign-up.
         """
-        return self.perform(Request(Kind.ENROL, key, password), also=also).reply
+        return run(self._replied(Request(Kind.ENROL, key, password), also))
 
-    def verify(self, key: Key, password: Secret, *, also: Also = None) -> Reply:
+    def verify(self, key: Key, password: Secret, *, also: Hook = None) -> Reply:
         """YES or NO; ABSENT if the account has no record; NO_ACCOUNT."""
-        return self.perform(Request(Kind.VERIFY, key, password), also=also).reply
+        return run(self._replied(Request(Kind.VERIFY, key, password), also))
 
-    def login(self, key: Key, password: Secret, *, also: Also = None) -> Reply:
+    def login(self, key: Key, password: Secret, *, also: Hook = None) -> Reply:
         """A verify that replaces a record of lower costs, answered as a verify.
 
         If the new record can't be put (a full disk, an unknown outcome), the answer is
         that of a verify all the same.
         """
-        return run(self._operations.login(key, password, also=also))
+        return run(self._login(key, password, also))
 
     def change(
-        self, key: Key, password: Secret, new_password: Secret, *, also: Also = None
+        self, key: Key, password: Secret, new_password: Secret, *, also: Hook = None
     ) -> Reply:
         """REPLACED; WRONG if the password is; ABSENT; NO_ACCOUNT; CHANGED as below.
 
         CHANGED, of any operation: `tries` times another record stood at its commit.
         """
         request = Request(Kind.CHANGE, key, password, new_password)
-        return self.perform(request, also=also).reply
+        return run(self._replied(request, also))
 
-    def reset(self, key: Key, new_password: Secret, *, also: Also = None) -> Reply:
+    def reset(self, key: Key, new_password: Secret, *, also: Hook = None) -> Reply:
         """An administrator's: REPLACED, or ENROLLED if no record stood; NO_ACCOUNT."""
         request = Request(Kind.RESET, key, b"", new_password)
-        return self.perform(request, also=also).reply
+        return run(self._replied(request, also))
 
-    def upgrade(self, key: Key, password: Secret, *, also: Also = None) -> Reply:
+    def upgrade(self, key: Key, password: Secret, *, also: Hook = None) -> Reply:
         """UPGRADED if the record is of lower costs, otherwise KEPT; WRONG; ABSENT;
         NO_ACCOUNT."""
-        return self.perform(Request(Kind.UPGRADE, key, password), also=also).reply
+        return run(self._replied(Request(Kind.UPGRADE, key, password), also))
 
-    def remove(self, key: Key, password: Secret, *, also: Also = None) -> Reply:
+    def remove(self, key: Key, password: Secret, *, also: Hook = None) -> Reply:
         """REMOVED; the account stays, with no record. WRONG; ABSENT; NO_ACCOUNT."""
-        return self.perform(Request(Kind.REMOVE, key, password), also=also).reply
+        return run(self._replied(Request(Kind.REMOVE, key, password), also))
 
     def new_record(self, password: Secret) -> str:
         """A record for an INSERT of one's own, which makes an account with its password.
@@ -155,7 +122,7 @@ class Accounts:
             TypeError: the password is neither bytes nor text.
             ValueError: it has over 256 bytes, or no UTF-8.
         """
-        return run(self._operations.new_record(password))
+        return self._judge.new_record(password)
 
     def examine(self) -> list[Fault]:
         """What is wrong with the table and the server; empty if nothing.
@@ -167,28 +134,28 @@ class Accounts:
             StoreFault: the connection isn't in autocommit, or has a transaction open.
             Exception: whatever the driver raises.
         """
-        return run(self._operations.examine())
+        return run(self._examined())
 
     # ---- in parts: see rigzumal.accounts.parts
 
-    def perform(self, request: Request, *, also: Also = None) -> Answer:
+    def perform(self, request: Request, *, also: Hook = None) -> Answer:
         """The whole operation, with the records before and after it."""
-        return run(self._operations.perform(request, also=also))
+        return run(self._performed(request, also))
 
     def begin(self, request: Request) -> Ticket:
         """The first part: reads the record."""
-        return run(self._operations.begin(request))
+        return run(self._begin(request))
 
     def work(self, ticket: Ticket) -> Worked:
         """The second part: hashes, and uses no connection."""
-        return run(self._operations.work(ticket))
+        return run(self._work(ticket))
 
     def commit(self, worked: Worked) -> Answer:
         """The third part: puts the record after, if the copy still stands.
 
         The reply is CHANGED if another stands; its record is `after`.
         """
-        return run(self._operations.commit(worked))
+        return run(self._commit(worked))
 
     def commit_in(self, conn: Any, worked: Worked) -> Answer:
         """The third part within a transaction that the caller has begun, and ends.
@@ -208,4 +175,76 @@ class Accounts:
                 REPEATABLE READ, or the table won't do.
             Exception: whatever the driver raises.
         """
-        return run(self._operations.commit_in(conn, worked))
+        return run(self._commit_in(conn, worked))
+
+
+class AsyncAccounts(Operations[AsyncPool]):
+    """`Accounts` with operations that are awaited, over psycopg's AsyncConnection.
+
+    Arguments, replies and exceptions are the same; `also` may be awaited. A hash is made
+    in a thread, so that it holds up no other task. A task that is cancelled amid a change
+    may leave it done or not done, as after `OutcomeUnknown`.
+    """
+
+    _runtime = AsyncRuntime()
+
+    async def enrol(self, key: Key, password: Secret, *, also: Hook = None) -> Reply:
+        """ENROLLED; EXISTS if the account has a record; NO_ACCOUNT."""
+        return await self._replied(Request(Kind.ENROL, key, password), also)
+
+    async def verify(self, key: Key, password: Secret, *, also: Hook = None) -> Reply:
+        """YES or NO; ABSENT if the account has no record; NO_ACCOUNT."""
+        return await self._replied(Request(Kind.VERIFY, key, password), also)
+
+    async def login(self, key: Key, password: Secret, *, also: Hook = None) -> Reply:
+        """A verify that replaces a record of lower costs, answered as a verify."""
+        return await self._login(key, password, also)
+
+    async def change(
+        self, key: Key, password: Secret, new_password: Secret, *, also: Hook = None
+    ) -> Reply:
+        """REPLACED; WRONG if the password is; ABSENT; NO_ACCOUNT; CHANGED."""
+        request = Request(Kind.CHANGE, key, password, new_password)
+        return await self._replied(request, also)
+
+    async def reset(
+        self, key: Key, new_password: Secret, *, also: Hook = None
+    ) -> Reply:
+        """An administrator's: REPLACED, or ENROLLED if no record stood; NO_ACCOUNT."""
+        return await self._replied(Request(Kind.RESET, key, b"", new_password), also)
+
+    async def upgrade(self, key: Key, password: Secret, *, also: Hook = None) -> Reply:
+        """UPGRADED, or KEPT; WRONG; ABSENT; NO_ACCOUNT."""
+        return await self._replied(Request(Kind.UPGRADE, key, password), also)
+
+    async def remove(self, key: Key, password: Secret, *, also: Hook = None) -> Reply:
+        """REMOVED; the account stays, with no record. WRONG; ABSENT; NO_ACCOUNT."""
+        return await self._replied(Request(Kind.REMOVE, key, password), also)
+
+    async def new_record(self, password: Secret) -> str:
+        """A record for an INSERT of one's own, which makes an account with its password."""
+        return await self._runtime.call(self._judge.new_record, password)
+
+    async def examine(self) -> list[Fault]:
+        """What is wrong with the table and the server; empty if nothing."""
+        return await self._examined()
+
+    async def perform(self, request: Request, *, also: Hook = None) -> Answer:
+        """The whole operation, with the records before and after it."""
+        return await self._performed(request, also)
+
+    async def begin(self, request: Request) -> Ticket:
+        """The first part: reads the record."""
+        return await self._begin(request)
+
+    async def work(self, ticket: Ticket) -> Worked:
+        """The second part: hashes, and uses no connection."""
+        return await self._work(ticket)
+
+    async def commit(self, worked: Worked) -> Answer:
+        """The third part: puts the record after, if the copy still stands."""
+        return await self._commit(worked)
+
+    async def commit_in(self, conn: Any, worked: Worked) -> Answer:
+        """The third part within a transaction that the caller has begun, and ends."""
+        return await self._commit_in(conn, worked)

@@ -3,11 +3,11 @@
 from __future__ import annotations
 
 import random
+import re
 import time
 from dataclasses import dataclass
 from typing import Any, Final, Optional
 
-from rigzumal.accounts._reason import reason
 from rigzumal.accounts._session import Job, Runtime
 from rigzumal.accounts._table import Lost, Table, Undone
 from rigzumal.accounts._values import Unavailable
@@ -15,6 +15,14 @@ from rigzumal.accounts.dialects._dialect import Verdict, is_of_driver
 
 _AT_ONCE: Final = 0.5
 """Seconds in which dead connections of a pool are taken one after another."""
+
+_LONGEST: Final = 400
+"""Letters of a reason."""
+
+_DSN_PASSWORD: Final = re.compile(
+    r"""((?:password|passwd|pwd)\s*=\s*|//[^/@\s:]*:)('[^']*'|"[^"]*"|[^\s@;,]+)""",
+    re.I,
+)
 
 
 @dataclass(frozen=True)
@@ -68,7 +76,7 @@ class Connections:
             except Exception as error:  # of the pool, which makes connections
                 if not self._may_pass(error):
                     raise
-                cause, said = error, reason(error)
+                cause, said = error, _reason(error)
             if waits.are_over:
                 name = self.table.name(cause)
                 raise Unavailable(f"no server took it: {name}{said}") from cause
@@ -101,3 +109,12 @@ class Waits:
         if not is_dead:
             self._next = min(pause * 2, 0.5)
         return pause * random.uniform(0.5, 1.5)
+
+
+def _reason(error: Exception) -> str:
+    """Why there is no connection, in the server's or the system's words.
+
+    Nothing was sent on it, so they have no row; a password of the DSN is left out.
+    """
+    lines = [line.strip() for line in str(error).splitlines()]
+    return ": " + _DSN_PASSWORD.sub(r"\1***", "; ".join(filter(None, lines)))[:_LONGEST]

@@ -14,7 +14,8 @@ from rigzumal.accounts._session import Session
 from rigzumal.accounts._table import Table
 from rigzumal.accounts._values import Key, Kind, Reply, Request, StoreFault, Ticket
 from rigzumal.accounts._values import Worked
-from rigzumal.accounts.dialects._dialect import Dialect, Fault, error
+from rigzumal.accounts.dialects._dialect import Dialect
+from rigzumal.accounts.dialects._faults import Fault, error
 
 
 async def examine(table: Table, session: Session, record: str) -> list[Fault]:

@@ -11,7 +11,7 @@ from typing import Optional
 from rigzumal._library import InvalidRecordError
 from rigzumal._parts import none_of_ours, parts
 from rigzumal.accounts._accounts import Accounts
-from rigzumal.accounts._session import BlockingSession, run
+from rigzumal.accounts._session import Session, run
 from rigzumal.accounts._values import Copy, Key, Reply
 from rigzumal.accounts.dialects._dialect import Dialect
 from rigzumal.accounts.parts import Kind, Request, Ticket, Worked
@@ -75,13 +75,13 @@ class Import:
     def put(self, batch: Sequence[Line]) -> list[tuple[str, Copy]]:
         """Puts a batch in one transaction: "added", "there" or "another" for each."""
         with self.pool() as conn:
-            session = BlockingSession(conn)
+            session = Session(conn)
             run(self.dialect.start(session))
             words = [self._put(session, *line) for line in batch]
             run(self.dialect.commit(session))
         return words
 
-    def _put(self, session: BlockingSession, key: Key, record: str) -> tuple[str, Copy]:
+    def _put(self, session: Session, key: Key, record: str) -> tuple[str, Copy]:
         """An enrolment in the open transaction, of an account that may not be there."""
         if not run(session.execute(self.dialect.select, key)).rows:
             run(session.execute(self.dialect.insert, key))

@@ -10,33 +10,45 @@ is looked at once more at the primary.
 from __future__ import annotations
 
 from collections.abc import Iterable
-from typing import Any, Callable, ClassVar, Optional, Union
+from typing import Any, Callable, ClassVar, Final, Generic, Optional, TypeVar
 
+from rigzumal._library import OutOfMemoryError, Secret
+from rigzumal.accounts import _examine
 from rigzumal.accounts._connections import Connections, Waits
 from rigzumal.accounts._judgement import Foreign, Hasher, Judge
-from rigzumal.accounts._session import Asynchronous, Job, Runtime, Session
+from rigzumal.accounts._session import Job, Runtime, Session
 from rigzumal.accounts._table import Also, Broken, Table, Undone, judged
-from rigzumal.accounts._values import NO_ROW, Answer, Copy, Key, OutcomeUnknown, Reply
-from rigzumal.accounts._values import Request, Ticket, Worked
+from rigzumal.accounts._values import NO_ROW, Answer, Copy, Key, Kind, OutcomeUnknown
+from rigzumal.accounts._values import Reply, Request, StoreFault, Ticket, Unavailable
+from rigzumal.accounts._values import Worked
 from rigzumal.accounts.dialects._dialect import Dialect
-from rigzumal.accounts.pools import AsyncPool, Pool
+from rigzumal.accounts.dialects._faults import Fault
+
+AnyPool = TypeVar("AnyPool")
 
 Hook = Optional[Callable[[Any, Reply], Any]]
 """A caller's own statements: called with the driver's connection and the reply."""
 
+AS_A_VERIFY: Final = {
+    Reply.KEPT: Reply.YES,
+    Reply.UPGRADED: Reply.YES,
+    Reply.WRONG: Reply.NO,
+}
+"""What a login answers for an upgrade's replies."""
 
-class Operations:
-    """What accounts do, over any runtime."""
 
-    _runtime: ClassVar[Runtime] = Asynchronous()
+class Operations(Generic[AnyPool]):
+    """What accounts do, over any runtime: Accounts and AsyncAccounts say it to callers."""
+
+    _runtime: ClassVar[Runtime]
 
     def __init__(
         self,
-        pool: Union[Pool, AsyncPool],
+        pool: AnyPool,
         dialect: Dialect,
         hasher: Hasher,
         *,
-        replica: Union[Pool, AsyncPool, None] = None,
+        replica: Optional[AnyPool] = None,
         foreign: Optional[Foreign] = None,
         upgrade_from: Iterable[str] = (),
         tries: int = 8,
@@ -54,6 +66,42 @@ class Operations:
 
     def _before_commit(self, worked: Worked) -> None:
         """Called before each COMMIT of a change is sent."""
+
+    async def _replied(self, request: Request, also: Hook) -> Reply:
+        return (await self._performed(request, also)).reply
+
+    async def _performed(self, request: Request, also: Hook) -> Answer:
+        return await self._perform(request, self._told(also))
+
+    async def _login(self, key: Key, password: Secret, also: Hook) -> Reply:
+        patience: Optional[float] = None
+        told = self._told(also)
+        as_a_verify = None if told is None else _as_a_verify(told)
+        try:
+            request = Request(Kind.UPGRADE, key, password)
+            answer = await self._perform(request, as_a_verify)
+            return AS_A_VERIFY.get(answer.reply, answer.reply)
+        except OutcomeUnknown:
+            if told is not None:
+                raise  # its rows may stand
+        except (StoreFault, OutOfMemoryError):
+            pass
+        except Unavailable:
+            patience = 0.0  # one look more; but the server was waited for already
+        verify = Request(Kind.VERIFY, key, password)
+        return (await self._perform(verify, told, patience)).reply
+
+    async def _examined(self) -> list[Fault]:
+        def examined(session: Session) -> Any:
+            return _examine.examine(self._table, session, self._judge.sample)
+
+        return await self._runtime.use(self._connections.primary, examined)
+
+    async def _begin(self, request: Request) -> Ticket:
+        return Ticket(request, (await self._first_copy(request))[0])
+
+    async def _commit_in(self, conn: Any, worked: Worked) -> Answer:
+        return await self._table.commit_in(self._runtime.session(conn), worked)
 
     def _told(self, also: Hook) -> Optional[Also]:
         """A caller's hook as a job."""
@@ -202,6 +250,10 @@ class Operations:
             raise _unknown(worked)
         sent = await self._change(again, also)
         return sent.reply is worked.reply
+
+
+def _as_a_verify(also: Also) -> Also:
+    return lambda session, reply: also(session, AS_A_VERIFY.get(reply, reply))
 
 
 def _unknown(worked: Worked, why: str = "") -> OutcomeUnknown:

@@ -10,7 +10,7 @@ import asyncio
 import time
 from collections.abc import Awaitable, Callable, Coroutine, Iterable, Mapping
 from types import TracebackType
-from typing import Any, Generic, NamedTuple, Optional, Protocol, TypeVar
+from typing import Any, Generic, NamedTuple, Optional, TypeVar
 
 from rigzumal.accounts._values import StoreFault
 
@@ -25,36 +25,55 @@ class Result(NamedTuple):
     status: Optional[str] = None
 
 
-class Session(Protocol):
-    """A connection of a driver, and how a statement is done on it."""
+class Session:
+    """A connection of the DB-API (PEP 249), and how a statement is done on it."""
 
-    conn: Any
+    def __init__(self, conn: Any) -> None:
+        self.conn = conn
+
+    async def execute(self, sql: str, *values: object) -> Result:
+        """Does a statement to its end: a cursor that isn't keeps SQLite's snapshot."""
+        cursor = self.conn.cursor()
+        try:
+            cursor.execute(*_given(sql, values))
+            fetched = cursor.fetchall() if cursor.description else ()
+            return _result(cursor, fetched)
+        finally:
+            cursor.close()
+
+
+class AsyncSession(Session):
+    """A connection of psycopg's AsyncConnection, or of a driver with cursors like it."""
 
     async def execute(self, sql: str, *values: object) -> Result:
         """Does a statement to its end."""
+        async with self.conn.cursor() as cursor:
+            await cursor.execute(*_given(sql, values))
+            fetched = await cursor.fetchall() if cursor.description else ()
+            return _result(cursor, fetched)
+
+
+def _given(sql: str, values: tuple[object, ...]) -> tuple[Any, ...]:
+    """A statement without values has none: no driver looks for marks in it then."""
+    return (sql, values) if values else (sql,)
+
+
+def _result(cursor: Any, fetched: Any) -> Result:
+    status = getattr(cursor, "statusmessage", None)
+    return Result([_values(row) for row in fetched], cursor.rowcount, status)
+
+
+def _values(row: Any) -> tuple[Any, ...]:
+    """A row's values, whether the driver makes tuples of rows or dictionaries."""
+    if type(row) is tuple:
+        return row
+    if not isinstance(row, Iterable):
+        raise StoreFault(f"a row is {type(row).__name__}, and no tuple or dictionary")
+    return tuple(row.values() if isinstance(row, Mapping) else row)
 
 
 Job = Callable[[Session], Coroutine[Any, Any, T]]
 """What is done on one connection."""
-
-
-class Runtime(Protocol):
-    """How one waits: for a connection, a time, a hash, and a caller's statements."""
-
-    def session(self, conn: Any) -> Session:
-        """A driver's connection."""
-
-    async def use(self, pool: Any, job: Job[T]) -> T:
-        """Does a job on a connection of a pool."""
-
-    async def pause(self, seconds: float) -> None:
-        """Waits."""
-
-    async def call(self, work: Callable[..., T], *given: Any) -> T:
-        """Does what takes a processor a while."""
-
-    async def told(self, said: Any) -> None:
-        """Waits for a caller's own function, which answered so."""
 
 
 class Ending(Generic[T]):
@@ -105,68 +124,17 @@ def run(coroutine: Coroutine[Any, Any, T]) -> T:
     raise TypeError("a blocking operation has awaited something: take AsyncAccounts")
 
 
-class BlockingSession:
-    """A connection of the DB-API (PEP 249)."""
-
-    def __init__(self, conn: Any) -> None:
-        self.conn = conn
-
-    async def execute(self, sql: str, *values: object) -> Result:
-        """Does a statement to its end: a cursor that isn't keeps SQLite's snapshot."""
-        cursor = self.conn.cursor()
-        try:
-            if values:
-                cursor.execute(sql, values)
-            else:
-                cursor.execute(sql)
-            fetched = cursor.fetchall() if cursor.description else ()
-            return _result(cursor, fetched)
-        finally:
-            cursor.close()
-
-
-class AsyncSession:
-    """A connection of psycopg's AsyncConnection, or of a driver with cursors like it."""
-
-    def __init__(self, conn: Any) -> None:
-        self.conn = conn
-
-    async def execute(self, sql: str, *values: object) -> Result:
-        """Does a statement to its end."""
-        async with self.conn.cursor() as cursor:
-            if values:
-                await cursor.execute(sql, values)
-            else:
-                await cursor.execute(sql)
-            fetched = await cursor.fetchall() if cursor.description else ()
-            return _result(cursor, fetched)
-
-
-def _result(cursor: Any, fetched: Any) -> Result:
-    status = getattr(cursor, "statusmessage", None)
-    return Result([row_values(row) for row in fetched], cursor.rowcount, status)
-
-
-def row_values(row: Any) -> tuple[Any, ...]:
-    """A row's values, whether the driver makes tuples of rows or dictionaries."""
-    if type(row) is tuple:
-        return row
-    if not isinstance(row, Iterable):
-        raise StoreFault(f"a row is {type(row).__name__}, and no tuple or dictionary")
-    return tuple(row.values() if isinstance(row, Mapping) else row)
-
-
-class Blocking:
+class Runtime:
     """Waits as a thread does."""
 
-    def session(self, conn: Any) -> Session:
-        return BlockingSession(conn)
+    session: type[Session] = Session
 
     async def use(self, pool: Any, job: Job[T]) -> T:
+        """Does a job on a connection of a pool."""
         ending: Ending[T] = Ending()
         try:
             with pool() as conn, ending:
-                ending.value = await job(BlockingSession(conn))
+                ending.value = await job(self.session(conn))
         except Exception:
             # What a pool raises after a job has ended changes nothing of how it ended.
             if not ending.has_begun:
@@ -174,30 +142,32 @@ class Blocking:
         return ending.answer()
 
     async def pause(self, seconds: float) -> None:
+        """Waits so long."""
         time.sleep(seconds)
 
     async def call(self, work: Callable[..., T], *given: Any) -> T:
+        """Does what takes a processor a while."""
         return work(*given)
 
     async def told(self, said: Any) -> None:
+        """Waits for a caller's own function, which answered so."""
         if isinstance(said, Coroutine):
             said.close()
         if isinstance(said, Awaitable):
             raise TypeError("`also` has answered a coroutine: take AsyncAccounts")
 
 
-class Asynchronous:
+class AsyncRuntime(Runtime):
     """Waits as a task of asyncio does, and hashes in a thread."""
 
-    def session(self, conn: Any) -> Session:
-        return AsyncSession(conn)
+    session = AsyncSession
 
     async def use(self, pool: Any, job: Job[T]) -> T:
         ending: Ending[T] = Ending()
         try:
             async with pool() as conn:
                 with ending:
-                    ending.value = await job(AsyncSession(conn))
+                    ending.value = await job(self.session(conn))
         except Exception:
             if not ending.has_begun:
                 raise

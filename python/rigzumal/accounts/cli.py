@@ -35,7 +35,7 @@ from rigzumal._newline import hint
 from rigzumal._parts import parts
 from rigzumal.accounts._accounts import Accounts
 from rigzumal.accounts._import import Import, Refusal, is_foreign, made_by, shown, why
-from rigzumal.accounts._session import BlockingSession, run
+from rigzumal.accounts._session import Session, run
 from rigzumal.accounts._values import LONGEST_PASSWORD, AccountsError, Key, Reply
 from rigzumal.accounts.database import Database
 from rigzumal.accounts.parts import Kind, Request
@@ -164,7 +164,7 @@ class _Command:
 
     def execute(self, sql: str, *values: object) -> list[tuple[Any, ...]]:
         with self.pool() as conn:
-            return run(BlockingSession(conn).execute(sql, *values)).rows
+            return run(Session(conn).execute(sql, *values)).rows
 
     def init(self) -> int:
         if self.database.kind == "sqlite":

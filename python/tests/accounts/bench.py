@@ -23,7 +23,7 @@ import support  # noqa: F401: finds the package
 import servers
 from rigzumal import PasswordHasher
 from rigzumal.accounts import Accounts, PerThread
-from rigzumal.accounts._session import BlockingSession
+from rigzumal.accounts._session import Session
 from rigzumal.accounts.database import Database
 
 COUNT = 1000
@@ -159,7 +159,7 @@ def table(engine, url, counts, seconds, turns):
 
 def statements(url):
     """What each operation sends, with the medians of the times that it takes, in ms."""
-    load, execute = Load(url), BlockingSession.execute
+    load, execute = Load(url), Session.execute
     lines = []
 
     async def timed(session, sql, *values):
@@ -168,7 +168,7 @@ def statements(url):
         found.append((sql.split()[0], 1000 * (time.perf_counter() - begun)))
         return result
 
-    BlockingSession.execute = timed
+    Session.execute = timed
     for row in (LOGIN, CHANGE):
         took = collections.defaultdict(list)
         for _ in range(300):
@@ -183,7 +183,7 @@ def statements(url):
             if len(it) > 150
         )
         lines.append(f"{row}: {', '.join(said)}")
-    BlockingSession.execute = execute
+    Session.execute = execute
     load.pool.close()
     return "; ".join(lines)
 
@@ -193,7 +193,7 @@ def share(url):
     load = Load(url)
     accounts = Accounts(load.pool, load.dialect, DEAR)
     accounts.reset("user0", "pw")
-    work, said = accounts._operations._judge.work, {}
+    work, said = accounts._judge.work, {}
 
     def timed(ticket):
         begun = time.perf_counter()
@@ -201,7 +201,7 @@ def share(url):
         hashed.append(time.perf_counter() - begun)
         return worked
 
-    accounts._operations._judge.work = timed
+    accounts._judge.work = timed
     for name, act in (
         ("verify", lambda: accounts.verify("user0", "pw")),
         ("change", lambda: accounts.change("user0", "pw", "pw")),

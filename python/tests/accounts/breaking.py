@@ -9,23 +9,18 @@ from contextlib import asynccontextmanager, contextmanager, suppress
 
 import support  # noqa: F401: finds the package
 from rigzumal.accounts import OutcomeUnknown, PerThread, Postgres, Sqlite
-from rigzumal.accounts._session import BlockingSession, run
+from rigzumal.accounts._session import Session, run
 from rigzumal.accounts.parts import Answer
 
 
-def core(accounts):
-    """The coroutines of accounts, blocking or asyncio's."""
-    return getattr(accounts, "_operations", accounts)
-
-
-def take_pool(operations, pool):
+def take_pool(accounts, pool):
     """Gives accounts another pool."""
-    operations._connections = dataclasses.replace(operations._connections, primary=pool)
+    accounts._connections = dataclasses.replace(accounts._connections, primary=pool)
 
 
 def uncompared(accounts):
     """The UPDATE puts the record whatever stands."""
-    dialect = core(accounts)._dialect
+    dialect = accounts._dialect
     mark = "%s::text" if isinstance(dialect, Postgres) else dialect.mark
     dialect.at_once = ""
     front, _, back = dialect.update.partition(" AND ")
@@ -35,7 +30,7 @@ def uncompared(accounts):
 
 def uncounted(accounts):
     """Nobody asks how many rows were updated."""
-    table = core(accounts)._table
+    table = accounts._table
     table.dialect.at_once = ""
     compare = table.compare
 
@@ -51,8 +46,7 @@ def uncounted(accounts):
 
 def snapshots(accounts):
     """All is read in a transaction of REPEATABLE READ that lasts for twenty reads."""
-    operations, seen = core(accounts), [0, None]
-    table, pool = operations._table, operations._connections.primary
+    table, pool, seen = accounts._table, accounts._connections.primary, [0, None]
 
     async def look(session, key):
         if seen[0] % 20 == 0:
@@ -64,22 +58,21 @@ def snapshots(accounts):
             else:
                 seen[1].begin()
         seen[0] += 1
-        return await table.one(BlockingSession(seen[1]), table.dialect.select, key)
+        return await table.one(Session(seen[1]), table.dialect.select, key)
 
     table.look = look
 
 
 def unlooked(accounts):
     """What makes no change is answered at the copy, with no look at the primary."""
-    operations = core(accounts)
-    commit = operations._commit
+    commit = accounts._commit
 
     async def blind(worked, *given):
         if worked.reply.makes_change:
             return await commit(worked, *given)
         return Answer(worked.reply, worked.ticket.copy, worked.ticket.copy)
 
-    operations._commit = blind
+    accounts._commit = blind
 
 
 class LeavesOpen(PerThread):
@@ -143,9 +136,8 @@ WAYS = ("raises", "swallows", "interrupted", "rolls back")
 def queued(accounts):
     """Answers of COMMITs are lost, and each process has a pool of another way."""
     lossy(accounts, lambda connect: Queue(connect, random.choice(WAYS)))
-    operations = core(accounts)
     for name in ("_perform", "_commit"):
-        setattr(operations, name, unknown_if_left(getattr(operations, name)))
+        setattr(accounts, name, unknown_if_left(getattr(accounts, name)))
 
 
 def unknown_if_left(act):
@@ -163,8 +155,7 @@ def lossy(accounts, pool=LeavesOpen):
 
     A pool that rolls back leaves none of them to come: there the connection breaks.
     """
-    operations = core(accounts)
-    dialect, connect = operations._dialect, operations._connections.primary._connect
+    dialect, connect = accounts._dialect, accounts._connections.primary._connect
     if isinstance(dialect, Sqlite):
         import sqlite3
 
@@ -174,7 +165,7 @@ def lossy(accounts, pool=LeavesOpen):
             given = {"isolation_level": None, "check_same_thread": False}
             return sqlite3.connect(path, timeout=20, **given)
 
-    take_pool(operations, pool(connect))
+    take_pool(accounts, pool(connect))
     for name in ("commit", "put_at_once"):
         setattr(dialect, name, sometimes(getattr(dialect, name), pool is LeavesOpen))
 
@@ -251,19 +242,17 @@ def queued_tasks(accounts):
 def resent(accounts):
     """COMMITs are lost, and what was lost is done again from its beginning."""
     lossy(accounts)
-    operations = core(accounts)
 
     async def again(worked, also):
-        return await operations._perform(worked.ticket.request, also)
+        return await accounts._perform(worked.ticket.request, also)
 
-    operations._settled = again
+    accounts._settled = again
 
 
 def resent_at_none(accounts):
     """An enrolment whose COMMIT was lost is sent again if no record stands."""
     lossy(accounts)
-    operations = core(accounts)
-    settled = operations._settled
+    settled = accounts._settled
 
     async def again(worked, also):
         if worked.ticket.copy is not None:
@@ -271,14 +260,14 @@ def resent_at_none(accounts):
         # Long enough for another to remove what was put.
         time.sleep(0.05)
         while True:
-            now = (await operations.begin(worked.ticket.request)).copy
+            now = (await accounts.begin(worked.ticket.request)).copy
             if now is not None and now != worked.after:
                 return await settled(worked, also)
             if now == worked.after:
                 return Answer(worked.reply, None, worked.after)
             try:
-                await operations._change(worked, also)
+                await accounts._change(worked, also)
             except Exception:
                 pass
 
-    operations._settled = again
+    accounts._settled = again

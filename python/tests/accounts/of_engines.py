@@ -210,15 +210,15 @@ class RowsOfOnesOwn:
         ):
             self.put(LOW.hash("one"))
             self.execute("DELETE FROM sessions")
-            work = accounts._operations._judge.work
+            work = accounts._judge.work
 
             def slowly(ticket):
                 worked = work(ticket)
-                accounts._operations._judge.work = work
+                accounts._judge.work = work
                 owner.reset("ann", "two")
                 return worked
 
-            accounts._operations._judge.work = slowly
+            accounts._judge.work = slowly
             self.assertIs(act(), reply)
             self.assertEqual(self.rows(), rows)
 
@@ -383,8 +383,8 @@ class OnServers:
         async def pause(seconds):
             pauses.append(seconds)
 
-        accounts._operations._connections.runtime.pause = pause
-        self.addCleanup(vars(accounts._operations._connections.runtime).pop, "pause")
+        accounts._connections.runtime.pause = pause
+        self.addCleanup(vars(accounts._connections.runtime).pop, "pause")
         self.assertIs(accounts.login("ann", "one"), Reply.YES)
         self.assertEqual(len(pauses), 40)
         self.assertLess(sum(pauses), 0.5)

@@ -18,7 +18,7 @@ os.environ["PYTHONPATH"] = os.pathsep.join(filter(None, _PATHS))
 import rigzumal
 from rigzumal import PasswordHasher
 from rigzumal.accounts import Accounts, PerThread, Sqlite, _judgement
-from rigzumal.accounts._session import BlockingSession, run  # noqa: F401: of each test
+from rigzumal.accounts._session import Session, run  # noqa: F401: of each test
 from rigzumal.accounts.parts import Kind
 
 
@@ -90,7 +90,7 @@ def losing(before, times=1, kind=sqlite3.OperationalError):
 
 
 @contextlib.contextmanager
-def sent(kind=BlockingSession):
+def sent(kind=Session):
     """The first words of the statements that are sent within."""
     found, execute = [], kind.execute
 

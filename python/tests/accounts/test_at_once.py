@@ -71,7 +71,7 @@ class AtOnce:
         def told(worked):
             seen.append((worked.reply, LOW.verify(self.stands(), "one")))
 
-        accounts._operations._table.before_commit = told
+        accounts._table.before_commit = told
         self.assertIs(accounts.change("ann", "one", "two"), Reply.REPLACED)
         self.assertEqual(seen, [(Reply.REPLACED, True)])
 
@@ -121,13 +121,13 @@ class AtOnce:
         for is_done in (False, True):
             self.put(LOW.hash("one"))
             accounts = self.accounts()
-            settled = accounts._operations._settled
+            settled = accounts._settled
 
             def later(*given):
                 self.put(LOW.hash("another"))
                 return settled(*given)
 
-            accounts._operations._settled = later
+            accounts._settled = later
             with self.lost(is_done), self.assertRaises(OutcomeUnknown):
                 accounts.change("ann", "one", "two")
             self.assertTrue(LOW.verify(self.stands(), "another"))
@@ -192,7 +192,7 @@ class AtOnce:
         self.assertIs(accounts.change("ann", "one", "one"), Reply.REPLACED)
         self.assertIs(accounts.commit(worked).reply, Reply.CHANGED)
         self.execute("ALTER TABLE users ADD CHECK (record LIKE '%%m=64,%%')")
-        dearer = Accounts(accounts._operations._connections.primary, self.dialect, HIGH)
+        dearer = Accounts(accounts._connections.primary, self.dialect, HIGH)
         for _ in range(2):
             with self.assertRaisesRegex(StoreFault, self.check_number):
                 dearer.change("ann", "one", "two")

@@ -89,15 +89,15 @@ class Confirmed:
                 self.assertEqual(answer.after, other)
                 self.assertEqual(self.stands(), other)
                 self.place(stands)
-                work = accounts._operations._judge.work
+                work = accounts._judge.work
 
                 def slowly(ticket):
                     worked = work(ticket)
-                    accounts._operations._judge.work = work
+                    accounts._judge.work = work
                     self.place(other)
                     return worked
 
-                accounts._operations._judge.work = slowly
+                accounts._judge.work = slowly
                 wanted = Reply.ABSENT if other is None else Reply.NO
                 self.assertIs(accounts.verify("ann", "one"), wanted)
                 self.assertEqual(self.stands(), other)

@@ -129,7 +129,7 @@ class OnSqlite(Said, support.Base):
             with self.subTest(mode=mode):
                 accounts = self.with_pragma(f"journal_mode = {mode}")
                 self.assert_faults(["it isn't in WAL"], accounts)
-                accounts._operations._connections.primary.close()
+                accounts._connections.primary.close()
 
     def test_reads_of_what_is_not_committed(self):
         shared = f"file:{self.path}?cache=shared"

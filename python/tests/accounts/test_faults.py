@@ -86,7 +86,7 @@ class Faulty(Base):
         for before in (True, False):
             self.put("ann", LOW.hash("one"))
             accounts = self.losing(before)
-            table, compare = accounts._operations._table, accounts._operations._table.compare
+            table, compare = accounts._table, accounts._table.compare
             fault = sqlite3.OperationalError("database or disk is full")
 
             def once(*given):
@@ -103,7 +103,7 @@ class Faulty(Base):
         """The copy stood as one looked, and no more as the change was sent."""
         self.put("ann", LOW.hash("one"))
         accounts = self.losing(before=True)
-        table, look = accounts._operations._table, accounts._operations._table.look
+        table, look = accounts._table, accounts._table.look
         looks = []
 
         async def slow(session, key):
@@ -138,7 +138,7 @@ class Faulty(Base):
             return made[-1]
 
         accounts = self.accounts(connect=connect)
-        table, compare = accounts._operations._table, accounts._operations._table.compare
+        table, compare = accounts._table, accounts._table.compare
         busy = [sqlite3.OperationalError("database is locked")]
 
         async def once(*given):
@@ -196,7 +196,7 @@ class Faulty(Base):
         """The new record may have stood and been replaced: nobody knows."""
         self.put("ann", LOW.hash("one"))
         accounts = self.losing(before=False)
-        look, reads = accounts._operations._look, []
+        look, reads = accounts._look, []
 
         def looked(*given):
             if reads:
@@ -204,7 +204,7 @@ class Faulty(Base):
             reads.append(1)
             return look(*given)
 
-        accounts._operations._look = looked
+        accounts._look = looked
         with self.assertRaises(OutcomeUnknown):
             accounts.change("ann", "one", "two")
 
@@ -220,18 +220,18 @@ class Faulty(Base):
         async def refuses(*given):
             raise sqlite3.OperationalError("database or disk is full")
 
-        compare = full._operations._table.compare
-        full._operations._table.compare = refuses
+        compare = full._table.compare
+        full._table.compare = refuses
         self.assertIs(full.login("ann", "one"), Reply.YES)
-        full._operations._table.compare = compare
+        full._table.compare = compare
 
         def no_memory(ticket):
             if ticket.request.kind is Kind.UPGRADE:
                 raise rigzumal.OutOfMemoryError(8)
             return work(ticket)
 
-        work = full._operations._judge.work
-        full._operations._judge.work = no_memory
+        work = full._judge.work
+        full._judge.work = no_memory
         self.assertIs(full.login("ann", "one"), Reply.YES)
 
     def test_busy(self):

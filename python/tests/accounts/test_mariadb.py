@@ -118,7 +118,7 @@ class OnMariaDB(Base):
         self.put(LOW.hash("one"))
         asked = []
 
-        class Session(support.BlockingSession):
+        class Session(support.Session):
             async def execute(self, sql, *values):
                 asked.append(sql.split()[0])
                 return await super().execute(sql, *values)

@@ -98,7 +98,7 @@ class Operations(Base):
         """The race: a login with the stolen password, begun before the change."""
         self.put("ann", LOW.hash("stolen"))
         accounts, owner = self.accounts(HIGH), self.accounts(HIGH)
-        work, once = accounts._operations._judge.work, []
+        work, once = accounts._judge.work, []
 
         def slowly(ticket):
             worked = work(ticket)
@@ -106,7 +106,7 @@ class Operations(Base):
                 once.append(owner.change("ann", "stolen", "new"))
             return worked
 
-        accounts._operations._judge.work = slowly
+        accounts._judge.work = slowly
         self.assertIs(accounts.login("ann", "stolen"), Reply.NO)
         self.assertEqual(once, [Reply.REPLACED])
         self.assertFalse(self.is_right("stolen"))
@@ -149,14 +149,14 @@ class Operations(Base):
         for password, reply in (("one", Reply.CHANGED), ("two", Reply.NO)):
             self.put("ann", LOW.hash("one"))
             accounts = self.accounts(HIGH, tries=3)
-            work = accounts._operations._judge.work
+            work = accounts._judge.work
 
             def slowly(ticket):
                 worked = work(ticket)
                 self.put("ann", LOW.hash("one"))
                 return worked
 
-            accounts._operations._judge.work = slowly
+            accounts._judge.work = slowly
             self.assertIs(accounts.login("ann", password), reply)
             self.assertIn("m=64,", self.stands())
 
@@ -211,7 +211,7 @@ class Operations(Base):
     def test_changed_after_so_many_tries(self):
         self.put("ann", LOW.hash("one"))
         accounts = self.accounts(tries=3)
-        work, turns = accounts._operations._judge.work, []
+        work, turns = accounts._judge.work, []
 
         def slowly(ticket):
             worked = work(ticket)
@@ -219,7 +219,7 @@ class Operations(Base):
             self.put("ann", LOW.hash("one"))
             return worked
 
-        accounts._operations._judge.work = slowly
+        accounts._judge.work = slowly
         for kind in (Kind.REMOVE, Kind.CHANGE):
             turns.clear()
             answer = accounts.perform(Request(kind, "ann", "one", "two"))
@@ -233,7 +233,7 @@ class Operations(Base):
 
     def test_no_record_that_came_back(self):
         """The UPDATE found a record, and it was removed before the row was read."""
-        table = self.accounts()._operations._table
+        table = self.accounts()._table
         for copy, stands, reply in (
             (None, None, Reply.CHANGED),
             (None, "other", Reply.CHANGED),
@@ -264,7 +264,7 @@ class Operations(Base):
 
     def test_one_row_is_updated(self):
         """A driver that doesn't count, or a key of more than one row."""
-        table = self.accounts()._operations._table
+        table = self.accounts()._table
         ticket = Ticket(Request(Kind.RESET, "ann", "", "x"), "copy")
         for count in (-1, 2):
             session = Scripted(Result([], count))

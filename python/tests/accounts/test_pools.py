@@ -87,9 +87,6 @@ class Blocking:
     def awaited(self, said):
         return said
 
-    def core(self, accounts):
-        return accounts._operations
-
     def statements(self):
         """The first words of what is sent within."""
         return sent()
@@ -104,9 +101,6 @@ class Asynchronous:
 
     def awaited(self, said):
         return asyncio.run(said)
-
-    def core(self, accounts):
-        return accounts
 
     def statements(self):
         return sent(AsyncSession)
@@ -193,7 +187,7 @@ class LostAnswers:
             def interrupted(worked):
                 raise Alarm
 
-            self.core(accounts)._table.before_commit = interrupted
+            accounts._table.before_commit = interrupted
             with self.subTest(pool=name), self.assertRaises(Alarm):
                 self.awaited(accounts.change("ann", "old", "new"))
             self.assertEqual(self.pool.uses, 2)
@@ -317,15 +311,15 @@ class OpenTransactions(Base):
     def test_after_another_record_was_found(self):
         self.put("ann", LOW.hash("one"))
         accounts = self.kept()
-        work = accounts._operations._judge.work
+        work = accounts._judge.work
 
         def slowly(ticket):
             worked = work(ticket)
-            accounts._operations._judge.work = work
+            accounts._judge.work = work
             self.put("ann", LOW.hash("another"))
             return worked
 
-        accounts._operations._judge.work = slowly
+        accounts._judge.work = slowly
         self.assertIs(accounts.change("ann", "one", "two"), Reply.WRONG)
         self.assertFalse(self.conn.in_transaction)
 
@@ -337,7 +331,7 @@ class OpenTransactions(Base):
         def interrupted(worked):
             raise Alarm
 
-        accounts._operations._table.before_commit = interrupted
+        accounts._table.before_commit = interrupted
         with self.assertRaises(Alarm):
             accounts.change("ann", "one", "two")
         self.assertTrue(self.conn.in_transaction)
@@ -421,7 +415,7 @@ class OnePerThread(Base):
             if alarms:
                 raise alarms.pop()
 
-        accounts._operations._table.before_commit = interrupted
+        accounts._table.before_commit = interrupted
         with self.assertRaises(Alarm):
             accounts.change("ann", "one", "two")
         self.assertIs(accounts.change("ann", "one", "two"), Reply.REPLACED)

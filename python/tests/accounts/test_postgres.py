@@ -30,7 +30,7 @@ from rigzumal.accounts import (
 )
 from rigzumal.accounts.parts import Kind, Request
 from rigzumal.accounts.pools import PerUse
-from rigzumal.accounts._session import BlockingSession, run
+from rigzumal.accounts._session import Session, run
 from rigzumal.accounts.torture import _worker
 
 
@@ -260,7 +260,7 @@ class OnPostgres(Base):
         with self.assertRaises(psycopg.errors.UndefinedTable):
             caller.execute("SELECT 1 FROM nowhere")
         with self.assertRaisesRegex(StoreFault, "ROLLBACK"):
-            run(self.dialect.commit(BlockingSession(caller)))
+            run(self.dialect.commit(Session(caller)))
 
     def test_a_commit_that_answers_rollback(self):
         """Who swallows a statement's error has a transaction that has failed: it is said at

@@ -234,7 +234,7 @@ class Refusals(Base):
         self.put("ann", LOW.hash("one"))
         error = sqlite3.OperationalError("database is locked: (ann, $argon2id$x)")
         accounts = self.accounts(patience=0.0)
-        accounts._operations._table.compare = mock.Mock(side_effect=error)
+        accounts._table.compare = mock.Mock(side_effect=error)
         for verdict in (Verdict.AGAIN, Verdict.LOST):
             with mock.patch.object(self.dialect, "verdict", return_value=verdict):
                 with self.assertRaises(Unavailable) as raised:
@@ -436,7 +436,7 @@ class Refusals(Base):
         ):
             self.put("ann", LOW.hash("secret one"))
             accounts = self.losing(before=False)
-            accounts._operations._put_again = mock.Mock(side_effect=RuntimeError("x"))
+            accounts._put_again = mock.Mock(side_effect=RuntimeError("x"))
             with self.assertRaises(OutcomeUnknown) as raised:
                 act(accounts)
             self.assertIn("'ann'", str(raised.exception))
@@ -462,7 +462,7 @@ class Refusals(Base):
         def refuses(*given):
             raise Refused("Failing row contains (ann, $argon2id$secret)")
 
-        with mock.patch.object(accounts._operations._table, "compare", refuses):
+        with mock.patch.object(accounts._table, "compare", refuses):
             with self.assertRaises(StoreFault) as raised:
                 accounts.change("ann", "one", "two")
         said = "".join(traceback.format_exception(raised.exception))

@@ -137,7 +137,7 @@ class Tortures(Base):
                 await plain(session)
                 raise sqlite3.OperationalError("disk I/O error")
 
-            dialect = accounts._operations._dialect
+            dialect = accounts._dialect
             plain, dialect.commit = dialect.commit, commit
 
         mix = {"enrol": 1, "remove": 2, "reset": 1}

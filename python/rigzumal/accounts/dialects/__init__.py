@@ -3,7 +3,7 @@
 A dialect of one's own is a subclass of `Dialect` with the jobs below. The tests of every
 engine are one class, `python/tests/accounts/of_engines.py`, which it may be run through.
 
-    fresh, within     refuse a connection that is in the wrong mode, or of another driver
+    mode              what a connection is in; refuses one that is of another driver
     start, commit,    a transaction, of a level at which an UPDATE that has waited for a
     undo              row compares what stands then; COMMIT raises unless it surely stands
     put               the UPDATE that compares; its result says how many rows it touched
@@ -12,13 +12,8 @@ engine are one class, `python/tests/accounts/of_engines.py`, which it may be run
     examine           what the catalogue and the settings show
 """
 
-from rigzumal.accounts.dialects._dialect import (
-    Dialect,
-    Fault,
-    Findings,
-    Severity,
-    Verdict,
-)
+from rigzumal.accounts.dialects._dialect import Dialect, Mode, Verdict
+from rigzumal.accounts.dialects._faults import Fault, Findings, Severity
 from rigzumal.accounts.dialects.mariadb import MariaDB
 from rigzumal.accounts.dialects.mysql import MySQL
 from rigzumal.accounts.dialects.postgres import Postgres
@@ -29,6 +24,7 @@ __all__ = [
     "Fault",
     "Findings",
     "MariaDB",
+    "Mode",
     "MySQL",
     "Postgres",
     "Severity",

@@ -3,75 +3,18 @@
 from __future__ import annotations
 
 import enum
-from dataclasses import dataclass
-from typing import Any, ClassVar, Final
+from collections.abc import Callable, Container, Iterable
+from typing import Any, ClassVar, Final, NamedTuple
 
 from rigzumal.accounts._session import Result, Session
 from rigzumal.accounts._values import Copy, Key, StoreFault
+from rigzumal.accounts.dialects._faults import Fault, Findings, error, warning
 
 LONGEST_RECORD: Final = 512
 """Bytes of the longest record."""
 
-NOT_AUTOCOMMIT: Final = "the connections of the pool have to be in autocommit"
-TRANSACTION_OPEN: Final = (
-    "a transaction is open on the connection: after any exception, a pool closes what it"
-    " gave out, or rolls it back"
-)
 NO_TRANSACTION: Final = "no transaction is open on the connection"
 _BIGINT: Final = 2**63
-
-
-class Severity(enum.Enum):
-    """How much a fault matters."""
-
-    ERROR = "error"
-    WARNING = "warning"
-
-
-@dataclass(frozen=True)
-class Fault:
-    """What `examine` has found.
-
-    Attributes:
-        severity: an error takes acknowledged changes, answers wrongly or refuses what
-            should be done; a warning is to be known.
-        code: its name in a word or two, such as "key-not-unique".
-        text: for people.
-    """
-
-    severity: Severity
-    code: str
-    text: str
-
-    @property
-    def is_error(self) -> bool:
-        return self.severity is Severity.ERROR
-
-    def __str__(self) -> str:
-        return self.text
-
-
-def error(code: str, text: str) -> Fault:
-    return Fault(Severity.ERROR, code, text)
-
-
-def warning(code: str, text: str) -> Fault:
-    return Fault(Severity.WARNING, code, text)
-
-
-@dataclass(frozen=True)
-class Findings:
-    """What an engine's catalogue and settings show.
-
-    Attributes:
-        faults: what is wrong.
-        is_usable: something can be tried there, and undone.
-        unless_confirmed: no fault if looks are confirmed by a COMMIT that writes.
-    """
-
-    faults: list[Fault]
-    is_usable: bool = True
-    unless_confirmed: tuple[Fault, ...] = ()
 
 
 class Verdict(enum.Enum):
@@ -95,6 +38,13 @@ def other_driver(conn: Any, wanted: str) -> StoreFault:
     found = type(conn).__module__.partition(".")[0]
     more = ": of its engine, of_engine makes a pool" if found == "sqlalchemy" else ""
     return StoreFault(f"the driver is {found}, and {wanted} is wanted{more}")
+
+
+class Mode(NamedTuple):
+    """What a connection is in."""
+
+    is_autocommit: bool
+    has_transaction: bool
 
 
 class Dialect:
@@ -186,15 +136,28 @@ class Dialect:
 
     # ---- connections
 
-    def fresh(self, conn: Any) -> None:
-        """Refuses a connection that isn't in autocommit or has a transaction open.
+    def mode(self, conn: Any) -> Mode:
+        """Whether a connection is in autocommit, and whether a transaction is open on it.
 
         Raises:
-            StoreFault: it is one, or of another driver. Nothing is done about it:
-                switching to autocommit would commit what is open.
+            StoreFault: it is of another driver.
             ConnectionError: it is closed.
         """
         raise NotImplementedError
+
+    def fresh(self, conn: Any) -> None:
+        """Refuses a connection that isn't in autocommit or has a transaction open.
+
+        Nothing is done about it: switching to autocommit would commit what is open.
+        """
+        mode = self.mode(conn)
+        if mode.has_transaction:
+            raise StoreFault(
+                "a transaction is open on the connection: after any exception, a pool"
+                " closes what it gave out, or rolls it back"
+            )
+        if not mode.is_autocommit:
+            raise StoreFault("the connections of the pool have to be in autocommit")
 
     async def within(self, session: Session) -> None:
         """Refuses a caller's connection on which each statement would be by itself.
@@ -203,7 +166,9 @@ class Dialect:
             StoreFault: it is in autocommit, and no transaction is open on it; or the
                 transaction is of a level that won't do.
         """
-        raise NotImplementedError
+        mode = self.mode(session.conn)
+        if mode.is_autocommit and not mode.has_transaction:
+            raise StoreFault(NO_TRANSACTION)
 
     async def prepare(self, session: Session) -> None:
         """What has to be asked of a session before it is used."""
@@ -266,3 +231,67 @@ class Dialect:
     async def examine(self, session: Session) -> Findings:
         """What the catalogue and the settings show to be wrong."""
         raise NotImplementedError
+
+    # ---- faults that a table of any engine may have
+
+    def missing(
+        self, found: Container[str], spelled: Callable[[str], str] = str
+    ) -> list[Fault]:
+        """Columns that aren't there."""
+        return [
+            error("no-column", f"there is no column {self.table_name}.{name}")
+            for name in (self.key_name, self.record_name)
+            if spelled(name) not in found
+        ]
+
+    def common_faults(self, nullable: bool, unique: bool) -> list[Fault]:
+        """What every engine's table has to be."""
+        faults = []
+        if not nullable:
+            text = f"{self.record_name} is NOT NULL: no account can be without a record"
+            faults.append(warning("record-not-null", text))
+        if not unique:
+            text = f"{self.key_name} has no unique index of its own"
+            faults.append(error("key-not-unique", text))
+        return faults
+
+    def after_triggers(self, names: Iterable[object]) -> list[Fault]:
+        """What a trigger before the write makes of a record shows at the trial."""
+        return [
+            warning("after-trigger", f"the trigger {name} may change what was written")
+            for name in names
+        ]
+
+    def key_faults(self, kind: str, fits: bool) -> list[Fault]:
+        """A column that compares keys otherwise than they are."""
+        if fits:
+            return []
+        wanted = self.key_type.__name__
+        return [error("key-type", f"{self.key_name} is {kind}, and keys are {wanted}")]
+
+    async def folded_names(self, session: Session) -> list[Fault]:
+        """Names that are one account by the key's column, and differ elsewhere.
+
+        As in a service's own limit of attempts, which would count them apart. The column
+        of a union has the collation of its first part, so no row is needed.
+        """
+        faults: list[Fault] = []
+        k, t = self.quoted(self.key_name), self.table
+        for found, how, name in _FOLDED if self.key_type is str else ():
+            sample = f"SELECT {k} FROM {t} WHERE 1 = 0 UNION ALL SELECT 'rigzumal'"
+            sql = f"SELECT {k} = '{name}' FROM ({sample}) AS sample"
+            try:
+                ((is_same,),) = (await session.execute(self.alone(sql))).rows
+            except Exception:
+                continue  # a column in ASCII has no accents
+            if is_same:
+                text = f"{self.key_name} takes names that differ {how} for one account"
+                faults.append(found("names-folded", text))
+        return faults
+
+
+_FOLDED: Final = (
+    (warning, "in case", "RIGZUMAL"),
+    (error, "by blanks at the end", "rigzumal "),
+    (warning, "by accents", "rigzum\u00e1l"),
+)

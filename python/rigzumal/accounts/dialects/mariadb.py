@@ -8,11 +8,10 @@ from typing import Any, Final, Optional
 
 from rigzumal.accounts._session import Result, Session
 from rigzumal.accounts._values import Copy, Key, StoreFault
-from rigzumal.accounts.dialects import _faults
-from rigzumal.accounts.dialects._dialect import LONGEST_RECORD, NO_TRANSACTION
-from rigzumal.accounts.dialects._dialect import NOT_AUTOCOMMIT, TRANSACTION_OPEN
-from rigzumal.accounts.dialects._dialect import Dialect, Fault, Findings, Verdict, error
-from rigzumal.accounts.dialects._dialect import other_driver, warning
+from rigzumal.accounts.dialects._dialect import LONGEST_RECORD, Dialect, Mode, Verdict
+from rigzumal.accounts.dialects._dialect import other_driver
+from rigzumal.accounts.dialects._faults import Fault, Findings, error, not_durable
+from rigzumal.accounts.dialects._faults import warning
 
 NOBODYS_RECORD: Final = (
     "$argon2id$v=19$m=8,t=1,p=1$bm9ib2R5J3M$"
@@ -63,24 +62,13 @@ class MariaDB(Dialect):
         super().__init__(table, key, record, key_type)
         self._prepared: weakref.WeakSet[Any] = weakref.WeakSet()
 
-    def fresh(self, conn: Any) -> None:
-        self._check_driver(conn)
-        if not conn.open:
-            raise ConnectionError("the connection is closed")
-        if not conn.get_autocommit():
-            raise StoreFault(NOT_AUTOCOMMIT)
-        if conn.server_status & 1:  # SERVER_STATUS_IN_TRANS
-            raise StoreFault(TRANSACTION_OPEN)
-
-    def _check_driver(self, conn: Any) -> None:
+    def mode(self, conn: Any) -> Mode:
         if not hasattr(conn, "server_status"):
             raise other_driver(conn, "PyMySQL")
-
-    async def within(self, session: Session) -> None:
-        conn = session.conn
-        self._check_driver(conn)
-        if conn.get_autocommit() and not conn.server_status & 1:
-            raise StoreFault(NO_TRANSACTION)
+        if not conn.open:
+            raise ConnectionError("the connection is closed")
+        is_open = bool(conn.server_status & 1)  # SERVER_STATUS_IN_TRANS
+        return Mode(conn.get_autocommit(), has_transaction=is_open)
 
     async def prepare(self, session: Session) -> None:
         if session.conn in self._prepared:
@@ -175,7 +163,7 @@ class MariaDB(Dialect):
             t,
         )
         columns = {row[0]: row for row in found.rows}
-        missing = _faults.missing(self, columns)
+        missing = self.missing(columns)
         if missing:
             return Findings(missing, is_usable=False)
         unique = await session.execute(
@@ -187,7 +175,7 @@ class MariaDB(Dialect):
             k,
         )
         nullable = columns[r][4] == "YES"
-        faults = _faults.of_table(self, nullable, bool(unique.rows))
+        faults = self.common_faults(nullable, bool(unique.rows))
         faults += self._type_faults(columns[k][1], *columns[r][1:4])
         sql = f"SELECT engine FROM information_schema.tables WHERE {of}"
         ((engine,),) = (await session.execute(sql, schema, t)).rows
@@ -196,7 +184,7 @@ class MariaDB(Dialect):
             faults.append(error("no-transactions", text))
         rows = (await session.execute("SHOW SESSION VARIABLES")).rows
         seen = {name: value for name, value in rows}
-        faults += of_server(seen) + await _faults.folded_names(self, session)
+        faults += of_server(seen) + await self.folded_names(session)
         return Findings(faults, engine == "InnoDB", shown_early(seen))
 
     def _type_faults(
@@ -215,7 +203,7 @@ class MariaDB(Dialect):
             int: ("tinyint", "smallint", "mediumint", "int", "bigint"),
             bytes: ("binary", "varbinary", "blob"),
         }
-        return faults + _faults.key_type(self, key, key in kinds[self.key_type])
+        return faults + self.key_faults(key, key in kinds[self.key_type])
 
 
 def shown_early(seen: dict[str, str]) -> tuple[Fault, ...]:
@@ -239,11 +227,11 @@ def of_server(seen: dict[str, str]) -> list[Fault]:
     for name in ("innodb_flush_log_at_trx_commit", "innodb_doublewrite"):
         if seen.get(name, "1") not in ("1", "ON"):
             text = f"{name} is {seen[name]}: a crash takes acknowledged changes"
-            faults.append(_faults.not_durable(text))
+            faults.append(not_durable(text))
     # With a binary log, what isn't in it after a power cut is rolled back.
     if seen.get("log_bin") == "ON" and seen.get("sync_binlog") != "1":
         text = f"sync_binlog is {seen.get('sync_binlog')}: a power cut takes"
-        faults.append(_faults.not_durable(f"{text} acknowledged changes"))
+        faults.append(not_durable(f"{text} acknowledged changes"))
     if seen.get("wsrep_on") == "ON" and not int(seen["wsrep_sync_wait"]) & 1:
         text = "wsrep_sync_wait has no 1: a node may read what was replaced"
         faults.append(error("no-sync-wait", text))

@@ -7,11 +7,10 @@ from typing import Any, Final
 
 from rigzumal.accounts._session import Result, Session
 from rigzumal.accounts._values import Copy, Key, StoreFault
-from rigzumal.accounts.dialects import _faults
-from rigzumal.accounts.dialects._dialect import LONGEST_RECORD, NO_TRANSACTION
-from rigzumal.accounts.dialects._dialect import NOT_AUTOCOMMIT, TRANSACTION_OPEN
-from rigzumal.accounts.dialects._dialect import Dialect, Fault, Findings, Verdict, error
-from rigzumal.accounts.dialects._dialect import other_driver, warning
+from rigzumal.accounts.dialects._dialect import LONGEST_RECORD, Dialect, Mode, Verdict
+from rigzumal.accounts.dialects._dialect import other_driver
+from rigzumal.accounts.dialects._faults import Fault, Findings, error, not_durable
+from rigzumal.accounts.dialects._faults import warning
 
 SNAPSHOT: Final = (
     "the transaction is of REPEATABLE READ: begin by READ COMMITTED or SERIALIZABLE"
@@ -46,28 +45,20 @@ class Postgres(Dialect):
     _share = " FOR SHARE"
     _same = '{r}::text COLLATE "C" IS NOT DISTINCT FROM {m}::text'
 
-    def fresh(self, conn: Any) -> None:
-        self._check_driver(conn)
-        status = conn.info.transaction_status
-        if status == 4:  # UNKNOWN: it is closed
-            raise ConnectionError("the connection is closed")
-        if status != 0:  # IDLE
-            raise StoreFault(TRANSACTION_OPEN)
-        if not conn.autocommit:
-            raise StoreFault(NOT_AUTOCOMMIT)
-
-    def _check_driver(self, conn: Any) -> None:
+    def mode(self, conn: Any) -> Mode:
         # SQLAlchemy's own connections have an `info` of theirs.
         is_psycopgs = hasattr(getattr(conn, "info", None), "transaction_status")
         if not (is_psycopgs and hasattr(conn, "prepare_threshold")):
             raise other_driver(conn, "psycopg 3")
         # PgBouncer may give the next statement to a session that hasn't prepared it.
         conn.prepare_threshold = None
+        status = conn.info.transaction_status
+        if status == 4:  # UNKNOWN
+            raise ConnectionError("the connection is closed")
+        return Mode(conn.autocommit, has_transaction=status != 0)  # 0: IDLE
 
     async def within(self, session: Session) -> None:
-        self._check_driver(session.conn)
-        if session.conn.autocommit and session.conn.info.transaction_status == 0:
-            raise StoreFault(NO_TRANSACTION)
+        await super().within(session)
         # A change whose snapshot is older than a session's row doesn't see it to end it.
         found = await session.execute("SHOW transaction_isolation")
         if found.rows == [("repeatable read",)]:
@@ -163,12 +154,12 @@ class Postgres(Dialect):
             t,
         )
         columns = {name: more for name, *more in found.rows}
-        missing = _faults.missing(self, columns)
+        missing = self.missing(columns)
         if missing:
             return Findings(missing, is_usable=False)
         unique = await session.execute(_UNIQUE, t, self.key_name)
         kind, bound = columns[self.record_name]
-        faults = _faults.of_table(self, not bound, bool(unique.rows))
+        faults = self.common_faults(not bound, bool(unique.rows))
         faults += self._type_faults(columns[self.key_name][0], kind)
         # An AFTER trigger for each row: bit 0 is ROW, 1 BEFORE, 6 INSTEAD OF.
         triggers = await session.execute(
@@ -176,15 +167,15 @@ class Postgres(Dialect):
             " AND NOT tgisinternal AND tgtype::int & 66 = 0",
             t,
         )
-        faults += _faults.after_triggers(name for (name,) in triggers.rows)
+        faults += self.after_triggers(name for (name,) in triggers.rows)
         wrong, is_table = await self._relation_faults(session, t)
         faults += wrong
         for name, good in _DURABLE:
             ((value,),) = (await session.execute(f"SHOW {name}")).rows
             if value not in good:
                 text = f"{name} is {value}: a crash takes acknowledged changes"
-                faults.append(_faults.not_durable(text))
-        faults += await _faults.folded_names(self, session)
+                faults.append(not_durable(text))
+        faults += await self.folded_names(session)
         return Findings(faults, is_usable=is_table)
 
     async def _relation_faults(
@@ -202,7 +193,7 @@ class Postgres(Dialect):
             faults.append(error("not-a-table", f"{self.table_name} is no table"))
         if persistence != "p":
             text = f"{self.table_name} is unlogged: a crash empties it"
-            faults.append(_faults.not_durable(text))
+            faults.append(not_durable(text))
         if secured:
             text = "row security may show an UPDATE less than a SELECT"
             faults.append(warning("row-security", text))
@@ -224,7 +215,7 @@ class Postgres(Dialect):
             uuid.UUID: ("uuid",),
         }
         is_fit = key.startswith(kinds[self.key_type])
-        return faults + _faults.key_type(self, key, is_fit)
+        return faults + self.key_faults(key, is_fit)
 
 
 def _state(raised: BaseException) -> str:

@@ -8,11 +8,10 @@ from typing import Any, Final
 
 from rigzumal.accounts._session import Session
 from rigzumal.accounts._values import StoreFault
-from rigzumal.accounts.dialects import _faults
-from rigzumal.accounts.dialects._dialect import NO_TRANSACTION, NOT_AUTOCOMMIT
-from rigzumal.accounts.dialects._dialect import TRANSACTION_OPEN, Dialect, Fault
-from rigzumal.accounts.dialects._dialect import Findings, Verdict, error, other_driver
-from rigzumal.accounts.dialects._dialect import warning
+from rigzumal.accounts.dialects._dialect import NO_TRANSACTION, Dialect, Mode, Verdict
+from rigzumal.accounts.dialects._dialect import other_driver
+from rigzumal.accounts.dialects._faults import Fault, Findings, error, not_durable
+from rigzumal.accounts.dialects._faults import warning
 
 
 class Sqlite(Dialect):
@@ -25,22 +24,19 @@ class Sqlite(Dialect):
     key_sql = "TEXT"
     _same = "{r} COLLATE BINARY IS {m}"
 
-    def fresh(self, conn: Any) -> None:
-        self._check_driver(conn)
-        if conn.in_transaction:
-            raise StoreFault(TRANSACTION_OPEN)
-        # From Python 3.12 on there is an attribute; -1 stands for the older way.
-        mode = getattr(conn, "autocommit", -1)
-        if mode is not True and (mode != -1 or conn.isolation_level is not None):
-            raise StoreFault(NOT_AUTOCOMMIT)
-
-    def _check_driver(self, conn: Any) -> None:
+    def mode(self, conn: Any) -> Mode:
         if not hasattr(conn, "in_transaction"):
             raise other_driver(conn, "sqlite3")
+        # From Python 3.12 on there is an attribute; -1 stands for the older way.
+        autocommit = getattr(conn, "autocommit", -1)
+        is_autocommit = autocommit is True or (
+            autocommit == -1 and conn.isolation_level is None
+        )
+        return Mode(is_autocommit, conn.in_transaction)
 
     async def within(self, session: Session) -> None:
-        self._check_driver(session.conn)
-        if not session.conn.in_transaction:
+        # Out of autocommit too, no transaction is open before the first change.
+        if not self.mode(session.conn).has_transaction:
             raise StoreFault(NO_TRANSACTION)
 
     async def undo(self, session: Session) -> None:
@@ -72,15 +68,15 @@ class Sqlite(Dialect):
         )
         # Names of columns are the same in any case.
         columns = {row[0]: row for row in found.rows}
-        missing = _faults.missing(self, columns, str.lower)
+        missing = self.missing(columns, str.lower)
         if missing:
             return Findings(missing, is_usable=False)
         k = self.key_name.lower()
         nullable = not columns[self.record_name.lower()][2]
         unique = [name for name, row in columns.items() if row[3]] == [k]
-        faults = self._key_faults(columns[k][1])
-        faults += _faults.of_table(
-            self, nullable, unique or await self._has_index(session, k, *of)
+        faults = self._type_faults(columns[k][1])
+        faults += self.common_faults(
+            nullable, unique or await self._has_index(session, k, *of)
         )
         master = self.quoted(schema or "main")
         triggers = await session.execute(
@@ -88,12 +84,12 @@ class Sqlite(Dialect):
             " AND lower(tbl_name) = lower(?) AND upper(sql) LIKE '%AFTER%'",
             t,
         )
-        faults += _faults.after_triggers(name for (name,) in triggers.rows)
+        faults += self.after_triggers(name for (name,) in triggers.rows)
         for name, good, fault in _PRAGMAS:
             ((value,),) = (await session.execute(f"PRAGMA {name}")).rows
             if value not in good:
                 faults.append(fault)
-        return Findings(faults + await _faults.folded_names(self, session))
+        return Findings(faults + await self.folded_names(session))
 
     async def _has_index(self, session: Session, key: str, *of: str) -> bool:
         """Whether a unique index is of the key alone, and of all rows."""
@@ -108,7 +104,7 @@ class Sqlite(Dialect):
                 return True
         return False
 
-    def _key_faults(self, declared: str) -> list[Fault]:
+    def _type_faults(self, declared: str) -> list[Fault]:
         """SQLite takes '07' for 7, or 7 for '7', as the column's type has it."""
         words = declared.upper()
         holds: type
@@ -123,14 +119,14 @@ class Sqlite(Dialect):
             int: (int, float, bytes),
         }
         is_fit = holds in fits.get(self.key_type, (holds,))
-        return _faults.key_type(self, declared, is_fit)
+        return self.key_faults(declared, is_fit)
 
 
 _PRAGMAS: Final[tuple[tuple[str, Container[object], Fault], ...]] = (
     (
         "synchronous",
         (2, 3),
-        _faults.not_durable(
+        not_durable(
             "synchronous is below FULL: a power cut takes acknowledged changes"
         ),
     ),

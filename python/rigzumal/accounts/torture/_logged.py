@@ -11,8 +11,8 @@ from collections.abc import Iterator
 from contextlib import contextmanager
 from typing import Any, Optional, Union
 
-from rigzumal.accounts._accounts import Accounts, BlockingOperations
-from rigzumal.accounts._async_accounts import AsyncAccounts
+from rigzumal.accounts._accounts import Accounts, AsyncAccounts
+from rigzumal.accounts._operations import Operations
 from rigzumal.accounts._table import Also
 from rigzumal.accounts._values import NO_ROW, AccountsError, Answer, OutcomeUnknown
 from rigzumal.accounts._values import Request, Worked
@@ -52,6 +52,7 @@ class Log:
             self._dare()
 
     def answered(self, name: str, answer: Answer) -> None:
+        """Writes what was answered, at which record and with which after it."""
         if answer.reply.makes_change:
             self._dare()
         before, after = answer.before, answer.after
@@ -71,7 +72,7 @@ class Log:
         os.write(self._file, (json.dumps(event) + "\n").encode())
 
 
-class Logged(AsyncAccounts):
+class Logged(Operations[Any]):
     """Operations that are written down.
 
     Attributes:
@@ -93,18 +94,17 @@ class Logged(AsyncAccounts):
     def call(self, request: Request) -> Iterator[list[Answer]]:
         """Logs a call, and what is put into the list within as its answer."""
         said: list[Answer] = []
-        log = self.log
-        if log is None:
+        if self.log is None:
             yield said
             return
-        name = self._name = log.begin(request, self.memory)
+        name = self._name = self.log.begin(request, self.memory)
         try:
             yield said
         except AccountsError as fault:
             is_unknown = isinstance(fault, OutcomeUnknown)
-            log.end(name, "unknown" if is_unknown else "failed")
+            self.log.end(name, "unknown" if is_unknown else "failed")
             raise
-        log.answered(name, said[0])
+        self.log.answered(name, said[0])
 
     async def _perform(
         self,
@@ -118,12 +118,12 @@ class Logged(AsyncAccounts):
         return said[0]
 
 
-class LoggedOperations(Logged, BlockingOperations):
-    """The same, blocking."""
+class LoggedAccounts(Logged, Accounts):
+    """Over a blocking driver."""
 
 
-class LoggedAccounts(Accounts):
-    _kind = LoggedOperations
+class LoggedAsyncAccounts(Logged, AsyncAccounts):
+    """For asyncio."""
 
 
-AnyAccounts = Union[LoggedAccounts, Logged]
+AnyAccounts = Union[LoggedAccounts, LoggedAsyncAccounts]

@@ -12,14 +12,14 @@ import time
 from typing import TYPE_CHECKING, Any
 
 from rigzumal._hashers import PasswordHasher
-from rigzumal.accounts._session import AsyncSession, BlockingSession, Session, run
+from rigzumal.accounts._session import AsyncSession, Session, run
 from rigzumal.accounts._values import AccountsError, Answer, Kind, OutcomeUnknown, Reply
 from rigzumal.accounts._values import Request, Unavailable, Worked
 from rigzumal.accounts.database import Database
 from rigzumal.accounts.dialects._dialect import Verdict, is_of_driver
 from rigzumal.accounts.pools import PerThread, PerUse
-from rigzumal.accounts.torture._logged import HIGH, LOW, AnyAccounts, Log, Logged
-from rigzumal.accounts.torture._logged import LoggedAccounts
+from rigzumal.accounts.torture._logged import HIGH, LOW, AnyAccounts, Log
+from rigzumal.accounts.torture._logged import LoggedAccounts, LoggedAsyncAccounts
 
 if TYPE_CHECKING:
     from rigzumal.accounts.torture._torture import Torture
@@ -89,10 +89,9 @@ class Worker:
 
         That is what a verify answers, at the record which it leaves.
         """
-        operations = _operations(accounts)
-        with operations.call(request) as said:
+        with accounts.call(request) as said:
             reply = await done(accounts.login(request.key, request.password))
-            stands = operations.last.after
+            stands = accounts.last.after
             said.append(Answer(reply, stands, stands))
 
     async def _whole(self, accounts: AnyAccounts, request: Request) -> None:
@@ -103,14 +102,13 @@ class Worker:
         await done(accounts.perform(request, also=_looks))
 
     async def _parts(self, accounts: AnyAccounts, request: Request) -> None:
-        with _operations(accounts).call(request) as said:
+        with accounts.call(request) as said:
             worked = await self._worked(accounts, request)
             said.append(await done(accounts.commit(worked)))
 
     async def _within(self, accounts: AnyAccounts, request: Request) -> None:
         """In a transaction of the caller's."""
-        operations = _operations(accounts)
-        dialect, name = operations._dialect, operations._table.name
+        dialect, name = accounts._dialect, accounts._table.name
 
         async def job(session: Session) -> Answer:
             await dialect.start(session)
@@ -119,18 +117,18 @@ class Worker:
                 await dialect.undo(session)
                 return answer
             if worked.reply.makes_change:
-                operations._before_commit(worked)
+                accounts._before_commit(worked)
             try:
                 await dialect.commit(session)
             except Exception as error:
                 raise OutcomeUnknown(name(error)) from error
             return answer
 
-        with operations.call(request) as said:
+        with accounts.call(request) as said:
             worked = await self._worked(accounts, request)
             try:
-                pool = operations._connections.primary
-                said.append(await operations._runtime.use(pool, job))
+                pool = accounts._connections.primary
+                said.append(await accounts._runtime.use(pool, job))
             except Exception as error:
                 # What fails before COMMIT was sent is known to be undone.
                 if not is_of_driver(error) or dialect.verdict(error) is Verdict.REFUSED:
@@ -148,19 +146,18 @@ class Worker:
         made: AnyAccounts
         if self.is_awaited:
             pool = PerUse(self._connect_awaited)
-            made = self.torture.made(Logged, pool, memory)
+            made = self.torture.made(LoggedAsyncAccounts, pool, memory)
         else:
-            replica, threads = self.replica, PerThread(self._connect)
-            made = self.torture.made(LoggedAccounts, threads, memory, replica)
-        operations = _operations(made)
-        operations.log, operations.memory = self.log, memory
+            threads = PerThread(self._connect)
+            made = self.torture.made(LoggedAccounts, threads, memory, self.replica)
+        made.log, made.memory = self.log, memory
         self.torture.alter(made)
         return made
 
     def _connect(self) -> Any:
         conn = self.database.connect()
         for sql in self.torture.settings:
-            run(BlockingSession(conn).execute(sql))
+            run(Session(conn).execute(sql))
         return conn
 
     async def _connect_awaited(self) -> Any:
@@ -178,11 +175,3 @@ def _looks(conn: Any, reply: Reply) -> Any:
     if inspect.isawaitable(said):
         return said
     return cursor.fetchall()
-
-
-def _operations(accounts: AnyAccounts) -> Logged:
-    if isinstance(accounts, Logged):
-        return accounts
-    operations = accounts._operations
-    assert isinstance(operations, Logged)
-    return operations
