@@ -25,6 +25,7 @@ from __future__ import annotations
 import base64
 import fcntl
 import hashlib
+import itertools
 import os
 import queue
 import random
@@ -33,11 +34,34 @@ import signal
 import sys
 import threading
 import time
-from collections.abc import Callable
 from typing import Optional
 
 NAME = re.compile(r"[a-z0-9._-]{1,32}")
 COSTS = "$fast$c=1"
+# How many fields an operation has, how many of them are passwords, and what may have a setting too.
+FIELDS = {"account": 1, "show": 1, "disable": 1, "delete": 1, "load": 2, "rename": 2, "list": 2}
+FIELDS |= dict.fromkeys("verify login remove enrol reset upgrade".split(), 2) | {"change": 3}
+PASSWORDS = dict.fromkeys("verify login remove enrol reset upgrade".split(), 1) | {"change": 2}
+WITH_SETTING = {"enrol", "reset", "upgrade", "change"}
+NOISE = [b"\n", b"yes\n", b"* yes\n", b"0 yes\n", b"-1 yes\n", b"99999999 yes\n", b"\xff\x00 yes\n"]
+
+
+words = os.environ.get("BOOK_FAULTS", "").split(";")
+FAULTS = {word.partition("=")[0]: word.partition("=")[2] for word in words if word}
+
+
+def decoded(text: str) -> Optional[bytes]:
+    """The password of a field, or none."""
+    if text == "-":
+        return b""
+    if not re.fullmatch("[A-Za-z0-9+/]+", text) or len(text) % 4 == 1:
+        return None
+    password = base64.b64decode(text + "=" * (-len(text) % 4))
+    return password if len(password) <= 256 else None
+
+
+def tag_of(password: bytes, salt: str) -> str:
+    return hashlib.blake2b(password, key=salt.encode()[:64], digest_size=12).hexdigest()
 
 
 class Book:
@@ -45,7 +69,7 @@ class Book:
 
     def __init__(self, path: str, costs: str) -> None:
         self.costs, self.records = costs, dict[str, Optional[str]]()
-        self.loses, self.puts = int(Faults().all.get("loses", "0")), 0
+        self.loses, self.puts = int(FAULTS.get("loses", "0")), 0
         self.file = open(path, "a+b", buffering=0)
         fcntl.flock(self.file, fcntl.LOCK_EX)
         self.file.seek(0)
@@ -68,72 +92,42 @@ class Book:
 
     def made(self, password: bytes, setting: str) -> str:
         """A record of a password; the setting may end before its salt."""
-        salt = setting[len(self.costs) + 1 :] if setting.count("$") > 2 else os.urandom(12).hex()
-        costs = "$".join(setting.split("$")[:3]) if setting else self.costs
-        return f"{costs}${salt}${hashlib.blake2b(password, key=salt.encode()[:64], digest_size=12).hexdigest()}"
+        costs, salt = "$".join(setting.split("$")[:3]) or self.costs, os.urandom(12).hex()
+        if setting.count("$") > 2:
+            salt = setting[len(self.costs) + 1 :]
+        return f"{costs}${salt}${tag_of(password, salt)}"
 
     def is_right(self, record: str, password: bytes) -> bool:
         salt, tag = record.split("$")[-2:]
-        return hashlib.blake2b(password, key=salt.encode()[:64], digest_size=12).hexdigest() == tag
+        return tag_of(password, salt) == tag
 
     def answer(self, words: list[str]) -> str:
-        operation, fields = words[0], words[1:]
-        counts = {
-            "account": "1",
-            "show": "1",
-            "disable": "1",
-            "delete": "1",
-            "verify": "2",
-            "login": "2",
-            "remove": "2",
-        }
-        counts |= {
-            "enrol": "23",
-            "reset": "23",
-            "upgrade": "23",
-            "change": "34",
-            "load": "2",
-            "rename": "2",
-            "list": "2",
-        }
-        if operation not in counts or str(len(fields)) not in counts[operation]:
+        operation, *fields = words
+        count = len(fields) - FIELDS.get(operation, -1)
+        if count not in ((0, 1) if operation in WITH_SETTING else (0,)):
             return "bad 11 line"
         if operation == "list":
             names = sorted(it for it in self.records if it >= fields[0])[: int(fields[1])]
             return " ".join(["names", *names])
-        if not NAME.fullmatch(fields[0]) or (
-            operation == "rename" and not NAME.fullmatch(fields[1])
-        ):
+        names = fields if operation == "rename" else fields[:1]
+        if not all(map(NAME.fullmatch, names)):
             return "bad 3 name"
-        passwords = {
-            "verify": 1,
-            "login": 1,
-            "remove": 1,
-            "enrol": 1,
-            "reset": 1,
-            "upgrade": 1,
-            "change": 2,
-        }
-        plain = [decoded(it) for it in fields[1 : 1 + passwords.get(operation, 0)]]
-        if None in plain:
+        passwords = [decoded(it) for it in fields[1 : 1 + PASSWORDS.get(operation, 0)]]
+        if None in passwords:
             return "bad 13 password"
-        if (
-            len(fields) > 1 + len(plain)
-            and operation not in ("load", "rename")
-            and not fields[-1].startswith("$")
-        ):
+        if count and not fields[-1].startswith("$"):
             return "bad 1 shape"
-        return self.done(operation, fields, [it or b"" for it in plain])
+        plain = [it or b"" for it in passwords]
+        return self.done(operation, fields, plain, fields[-1] if count else "")
 
-    def done(self, operation: str, fields: list[str], plain: list[bytes]) -> str:
-        name, there = fields[0], fields[0] in self.records
-        record = self.records.get(name)
-        setting = fields[1 + len(plain)] if len(fields) > 1 + len(plain) else ""
+    def done(self, operation: str, fields: list[str], plain: list[bytes], setting: str) -> str:
+        name, record = fields[0], self.records.get(fields[0])
         if operation == "account":
-            if not there:
-                self.put(name, None)
-            return "bad 1 exists" if there else "ok"
-        if not there:
+            if name in self.records:
+                return "bad 1 exists"
+            self.put(name, None)
+            return "ok"
+        if name not in self.records:
             return "bad 5 noaccount" if operation in ("show", "load") else "noaccount"
         if operation == "show":
             return record or "none"
@@ -180,107 +174,66 @@ class Book:
         return "replaced" if operation == "change" else "upgraded"
 
 
-def decoded(text: str) -> Optional[bytes]:
-    """The password of a field, or none."""
-    if text == "-":
-        return b""
-    if not re.fullmatch("[A-Za-z0-9+/]+", text) or len(text) % 4 == 1:
-        return None
-    password = base64.b64decode(text + "=" * (-len(text) % 4))
-    return password if len(password) <= 256 else None
+WRITTEN = itertools.count()
 
 
-class Faults:
-    """What goes wrong, by BOOK_FAULTS."""
+def write(operation: str, tag: str, said: str) -> None:
+    """Writes an answer, or what comes in its place."""
+    written = next(WRITTEN)
+    for word in FAULTS.keys() & {"dies", "killed"}:
+        if written >= int(FAULTS[word]):
+            os.write(1, f"{tag} {said}".encode())
+            os.kill(os.getpid(), signal.SIGKILL) if word == "killed" else os._exit(5)
+    if "endless" in FAULTS and operation == "verify":
+        os.write(1, b"x" * (4 << 20))
+    if "garbage" in FAULTS:
+        os.write(1, random.choice(NOISE))
+    os.write(1, f"{tag} {said}\n".encode())
 
-    def __init__(self) -> None:
-        words = os.environ.get("BOOK_FAULTS", "").split(";")
-        self.all = {word.partition("=")[0]: word.partition("=")[2] for word in words if word}
-        self.written = 0
 
-    def before(self, operation: str) -> None:
-        if "late" in self.all:
+def work(book: Book, lines: queue.Queue[Optional[str]], output: threading.Lock) -> None:
+    while (line := lines.get()) is not None:
+        tag, _, rest = line.partition(" ")
+        if not re.fullmatch("[a-z0-9]{1,20}", tag) or len(line) > 1024:
+            tag, rest = "*", ""
+        words = rest.split(" ")
+        if "late" in FAULTS:
             time.sleep(random.random() * 0.05)
-        if "slow" in self.all and operation not in ("show", "account", "list"):
-            time.sleep(float(self.all["slow"]))
-
-    def write(self, operation: str, tag: str, said: str) -> None:
-        """Writes an answer, or what comes in its place."""
-        self.written += 1
-        for word, ends in (
-            ("dies", lambda: os._exit(5)),
-            ("killed", lambda: os.kill(os.getpid(), signal.SIGKILL)),
-        ):
-            if word in self.all and self.written > int(self.all[word]):
-                os.write(1, f"{tag} {said}".encode())
-                ends()
-        if "endless" in self.all and operation == "verify":
-            os.write(1, b"x" * (4 << 20))
-        if "garbage" in self.all:
-            os.write(
-                1,
-                random.choice(
-                    [
-                        b"\n",
-                        b"yes\n",
-                        b"* yes\n",
-                        b"0 yes\n",
-                        b"-1 yes\n",
-                        b"99999999 yes\n",
-                        b"\xff\x00 yes\n",
-                    ]
-                ),
-            )
-        os.write(1, f"{tag} {said}\n".encode())
+        if "slow" in FAULTS and words[0] not in ("show", "account", "list"):
+            time.sleep(float(FAULTS["slow"]))
+        if FAULTS.get("mute") == words[0]:
+            continue
+        with output:
+            said = book.answer(words)
+            said = FAULTS.get("answers", said) if words[0] == "verify" else said
+            write(words[0], tag, said)
 
 
 def serve(path: str, options: dict[str, str]) -> None:
-    book, faults, lines = (
+    given = (
         Book(path, options.get("--setting", COSTS)),
-        Faults(),
         queue.Queue[Optional[str]](),
+        threading.Lock(),
     )
-    log = open(os.environ["BOOK_LOG"], "a", buffering=1) if "BOOK_LOG" in os.environ else None
-    output = threading.Lock()
-
-    def work() -> None:
-        while (line := lines.get()) is not None:
-            tag, _, rest = line.partition(" ")
-            if not re.fullmatch("[a-z0-9]{1,20}", tag) or len(line) > 1024:
-                tag, rest = "*", ""
-            words = rest.split(" ")
-            faults.before(words[0])
-            if faults.all.get("mute") == words[0]:
-                continue
-            with output:
-                said = book.answer(words)
-                faults.write(
-                    words[0], tag, faults.all.get("answers", said) if words[0] == "verify" else said
-                )
-
     threads = [
-        threading.Thread(target=work, daemon=True)
+        threading.Thread(target=work, daemon=True, args=given)
         for _ in range(int(options.get("--at-once", "4")))
     ]
     for thread in threads:
         thread.start()
-    time.sleep(float(faults.all.get("opens", "0")))
-    for line in sys.stdin:
-        if log:
+    time.sleep(float(FAULTS.get("opens", "0")))
+    path, any_bytes = os.environ.get("BOOK_LOG", os.devnull), "surrogateescape"
+    sys.stdin.reconfigure(errors=any_bytes)  # type: ignore[attr-defined]
+    with open(path, "a", buffering=1, errors=any_bytes) as log:
+        for line in sys.stdin:
             log.write(line.partition(" ")[2])
-        lines.put(line.rstrip("\n"))
+            given[1].put(line.rstrip("\n"))
     for _ in threads:
-        lines.put(None)
+        given[1].put(None)
     for thread in threads:
         thread.join()
 
 
-def main() -> None:
-    words = sys.argv[1:]
-    at = words.index("serve")
-    serve(words[at - 1], dict(zip(words[at + 2 :: 2], words[at + 3 :: 2])))
-
-
 if __name__ == "__main__":
-    run: Callable[[], None] = main
-    run()
+    at = sys.argv.index("serve")
+    serve(sys.argv[at - 1], dict(zip(sys.argv[at + 2 :: 2], sys.argv[at + 3 :: 2])))

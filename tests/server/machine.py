@@ -9,10 +9,9 @@ import re
 import shutil
 import socket
 import subprocess
-import tempfile
 import unittest
 from collections.abc import Callable
-from typing import TypeVar
+from typing import Any, TypeVar
 
 from served import (
     CHEAP,
@@ -24,7 +23,6 @@ from served import (
     Client,
     chosen_book,
     field_of,
-    holds,
     need,
     need_root,
     same,
@@ -39,9 +37,8 @@ RUN = pathlib.Path("/run/rigzumal/users")
 def on_page(path: str) -> str:
     """The text of a file as the page has it."""
     found = re.search(rf"```\n# {re.escape(path)}\n(.*?)```", PAGE.read_text(), re.S)
-    holds(found is not None, f"{path} isn't on the page")
-    assert found
-    holds(len(found[1].splitlines()) <= 30, f"{path} has over thirty lines")
+    assert found, f"{path} isn't on the page"
+    assert len(found[1].splitlines()) <= 30, f"{path} has over thirty lines"
     return found[1]
 
 
@@ -59,11 +56,10 @@ def commands_on_page(word: str) -> list[str]:
 
 
 def shell(line: str, status: int = 0) -> str:
-    done = subprocess.run(
-        line, shell=True, stdout=subprocess.PIPE, stderr=subprocess.STDOUT, text=True, timeout=60
-    )
+    both: Any = {"stdout": subprocess.PIPE, "stderr": subprocess.STDOUT}
+    done = subprocess.run(line, shell=True, text=True, timeout=280, **both)
     same(done.returncode, status, f"{line}: {done.stdout}")
-    return done.stdout
+    return str(done.stdout)
 
 
 def private(room: pathlib.Path, *paths: str) -> None:
@@ -86,18 +82,17 @@ def prepared(room: pathlib.Path) -> None:
     private(room, "/etc", "/var", "/dev", "/home", str(SECURITY))
     shell(f"mkdir -p /dev/pts && mount --bind {room}/pts /dev/pts")
     shell("mkdir -p /var/lib/rigzumal && mount -t tmpfs none /var/lib/rigzumal")
-    shell(
-        "mount -t tmpfs none /run && mkdir -p /run/sshd /run/lock /run/apache2 /run/dovecot && ip link set lo up"
-    )
+    shell("mount -t tmpfs none /run && ip link set lo up")
+    shell("mkdir -p /run/sshd /run/lock /run/apache2 /run/dovecot")
     shutil.copy(TOP / "c/pam/out/pam_rigzumal.so", SECURITY)
-    with open("/etc/group", "a") as groups, open("/etc/passwd", "a") as users, open(
-        "/etc/shadow", "a"
-    ) as shadow:
-        print("rigzumal:x:64999:www-data\npeople:x:4711:", file=groups)
-        for number, name in enumerate(("ada", "eve"), 4711):
-            users.write(f"{name}:x:{number}:4711::/tmp:/bin/sh\n")
-        crypted = shell("openssl passwd -6 unixword").strip()
-        shadow.write(f"ada:{crypted}:19000:0:99999:7:::\neve:{crypted}:19000:0:99999:7:::\n")
+    crypted = shell("openssl passwd -6 unixword").strip()
+    added = {"group": "rigzumal:x:64999:www-data\npeople:x:4711:\n", "passwd": "", "shadow": ""}
+    for number, name in enumerate(("ada", "eve"), 4711):
+        added["passwd"] += f"{name}:x:{number}:4711::/tmp:/bin/sh\n"
+        added["shadow"] += f"{name}:{crypted}:19000:0:99999:7:::\n"
+    for file, lines in added.items():
+        with open(f"/etc/{file}", "a") as it:
+            it.write(lines)
     RUN.mkdir(parents=True)
     os.chmod(RUN, 0o755)
 
@@ -119,8 +114,8 @@ class Server:
 
     def enrol(self, **passwords: str) -> None:
         for name, password in passwords.items():
-            self.ask(f"account {name.replace('_at_', '@')}", "ok")
-            self.ask(f"enrol {name.replace('_at_', '@')} {field_of(password.encode())}", "enrolled")
+            self.ask(f"account {name}", "ok")
+            self.ask(f"enrol {name} {field_of(password.encode())}", "enrolled")
 
     def ask(self, line: str, ought: str) -> None:
         with Client(RUN / "admin.sock") as admin:
@@ -154,18 +149,10 @@ def is_open(port: int) -> bool:
 
 
 def pamtester(service: str, user: str, tasks: str, typed: str, status: int, text: str) -> None:
-    done = subprocess.run(
-        ["pamtester", service, user, *tasks.split()],
-        input=typed,
-        capture_output=True,
-        text=True,
-        timeout=60,
-    )
-    same(
-        (done.returncode, text in done.stdout + done.stderr),
-        (status, True),
-        f"{tasks}: {done.stdout}{done.stderr}",
-    )
+    words = ["pamtester", service, user, *tasks.split()]
+    done = subprocess.run(words, input=typed, capture_output=True, text=True, timeout=60)
+    said = done.stdout + done.stderr
+    same((done.returncode, text in said), (status, True), f"{tasks}: {said}")
 
 
 Test = TypeVar("Test", bound=Case)
@@ -183,21 +170,16 @@ def in_namespaces(test: Callable[[Test, pathlib.Path], None]) -> Callable[[Test]
         need("unshare", "ip", "make")
         if pathlib.Path("/usr/include/security/pam_modules.h").exists():
             subprocess.run(["make", "-s", "-C", TOP / "c/pam"], check=True, timeout=120)
-        module = pathlib.Path(test.__code__.co_filename).stem
-        with tempfile.TemporaryDirectory(prefix="rigzumal-machine-") as room:
-            os.chmod(room, 0o755)
-            words = "unshare --mount --pid --fork --kill-child --mount-proc --net".split()
-            words += [
-                PYTHON,
-                "-m",
-                "unittest",
-                "-v",
-                f"{module}.{type(self).__name__}.{test.__name__}",
-            ]
-            environment = {**os.environ, "INSIDE": room}
-            done = subprocess.run(
-                words, cwd=HERE, env=environment, capture_output=True, text=True, timeout=280
-            )
+        name = f"{pathlib.Path(test.__code__.co_filename).stem}.{type(self).__name__}"
+        words = f"unshare --mount --pid --fork --kill-child --mount-proc --net {PYTHON} -m unittest"
+        done = subprocess.run(
+            [*words.split(), "-v", f"{name}.{test.__name__}"],
+            cwd=HERE,
+            env={**os.environ, "INSIDE": str(self.room())},
+            capture_output=True,
+            text=True,
+            timeout=280,
+        )
         if skipped := re.search("skipped '(.*)'", done.stderr):
             raise unittest.SkipTest(skipped[1])
         self.assertEqual(done.returncode, 0, f"{done.stdout}{done.stderr}")

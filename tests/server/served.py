@@ -16,16 +16,28 @@ import unittest
 from collections.abc import Callable, Iterator
 from contextlib import contextmanager
 from dataclasses import dataclass, field
-from typing import Optional
+from typing import Any, Optional
 
 HERE = pathlib.Path(__file__).resolve().parent
 TOP = HERE.parent.parent
+sys.path.insert(0, str(TOP))
+os.environ["PATH"] += ":/usr/sbin:/usr/lib/dovecot"
+from tests.helpers import need, need_root, program  # noqa: E402, F401 (for the tests)
+
 FAST_BOOK = HERE / "fast_book.py"
-CREDKEEP = pathlib.Path(os.environ.get("CREDKEEP", TOP / "crates/credkeep/out/credkeep"))
 CHEAP = "$argon2id$v=19$m=64,t=1,p=1"
 PYTHON = os.environ.get("SERVER_PYTHON", "/usr/bin/python3")
+SERVER = os.environ.get("CREDKEEP_SERVER", str(TOP / "bin/credkeep-server"))
 os.environ.setdefault("RIGZUMAL_LIBRARY", str(TOP / "c/out/librigzumal.so.1"))
 sys.path.insert(0, str(TOP / "python/rigzumal/server"))  # as the server's program does
+
+
+def field_of(password: bytes) -> str:
+    """A password as a line has it."""
+    return base64.b64encode(password).decode().rstrip("=") or "-"
+
+
+SECRET, WRONG, FRESH = field_of(b"secret"), field_of(b"guess"), field_of(b"fresh")
 
 
 class Case(unittest.TestCase):
@@ -41,45 +53,35 @@ class Case(unittest.TestCase):
         signal.alarm(self.seconds)
         self.addCleanup(signal.alarm, 0)
 
+    def room(self) -> pathlib.Path:
+        """A folder for this test, which every user may enter."""
+        room = pathlib.Path(self.enterContext(tempfile.TemporaryDirectory(prefix="rigzumal-")))
+        room.chmod(0o755)
+        return room
+
+    def serving(self, *options: str, **fields: Any) -> Service:
+        """A server that runs until the test ends: see `serving`."""
+        return self.enterContext(serving(*options, **fields))
+
 
 def same(is_: object, ought: object, said: str = "") -> None:
     if is_ != ought:
         raise AssertionError(f"{said}: {is_!r} instead of {ought!r}")
 
 
-def holds(fact: bool, said: str) -> None:
-    if not fact:
-        raise AssertionError(said)
-
-
-def need(*programs: str) -> None:
-    for program in programs:
-        if shutil.which(program, path=os.environ["PATH"] + ":/usr/sbin:/usr/lib/dovecot") is None:
-            raise unittest.SkipTest(f"{program} is not there")
-
-
-def need_root() -> None:
-    if os.geteuid() != 0:
-        raise unittest.SkipTest("this isn't root")
-
-
 def real_book() -> pathlib.Path:
-    """The built credkeep, if it knows tagged lines."""
-    if not CREDKEEP.exists():
-        raise unittest.SkipTest(f"{CREDKEEP} is not there")
-    said = subprocess.run([CREDKEEP, "x", "serve", "--help"], capture_output=True, text=True)
-    if "--tagged" not in said.stdout + said.stderr:
-        raise unittest.SkipTest(f"{CREDKEEP} has no --tagged")
-    return CREDKEEP
+    """credkeep, as it is built or as CREDKEEP names it."""
+    try:
+        return pathlib.Path(program("credkeep"))
+    except FileNotFoundError as fault:
+        raise unittest.SkipTest(str(fault)) from None
 
 
 def chosen_book() -> pathlib.Path:
-    """credkeep where it is built, or else the fast book; BOOK=real or BOOK=fast in the environment has that one taken."""
+    """credkeep where it is built, or else the fast book; BOOK=real or BOOK=fast chooses."""
     word = os.environ.get("BOOK", "")
-    if word == "fast":
-        return FAST_BOOK
     try:
-        return real_book()
+        return FAST_BOOK if word == "fast" else real_book()
     except unittest.SkipTest:
         if word == "real":
             raise
@@ -90,7 +92,7 @@ def until(fact: Callable[[], bool], said: str, seconds: float = 20.0) -> None:
     """Waits for something."""
     end = time.monotonic() + seconds
     while not fact():
-        holds(time.monotonic() < end, f"never: {said}")
+        assert time.monotonic() < end, f"never: {said}"
         time.sleep(0.01)
 
 
@@ -99,29 +101,26 @@ def is_listening(path: pathlib.Path) -> bool:
         return it.connect_ex(str(path)) == 0
 
 
-def field_of(password: bytes) -> str:
-    """A password as a line has it."""
-    return base64.b64encode(password).decode().rstrip("=") or "-"
-
-
-SECRET = field_of(b"secret")
-WRONG = field_of(b"guess")
+# A user's client: each line is asked, and what comes is printed.
+ASKING = """import socket, sys
+s = socket.socket(socket.AF_UNIX)
+s.settimeout(20)
+try:
+    s.connect(sys.argv[1])
+except PermissionError:
+    sys.exit("not permitted")
+for line in sys.argv[2:]:
+    s.sendall(b"1 " + line.encode() + b"\\n")
+    print(s.recv(100).decode()[2:].strip(), end=" ")
+"""
 
 
 def as_user(uid: int, gid: int, path: pathlib.Path, *lines: str) -> str:
     """What a user's process is answered at a socket, or the system's refusal."""
-    script = "import socket, sys\ns = socket.socket(socket.AF_UNIX)\ns.settimeout(20)\n"
-    script += "try:\n    s.connect(sys.argv[1])\nexcept PermissionError:\n    print('not permitted')\n    sys.exit()\n"
-    script += "for line in sys.argv[2:]:\n    s.sendall(b'1 ' + line.encode() + b'\\n')\n    print(s.recv(100).decode()[2:].strip())\n"
-    done = subprocess.run(
-        [sys.executable, "-c", script, path, *lines],
-        user=uid,
-        group=gid,
-        extra_groups=[],
-        capture_output=True,
-        text=True,
-    )
-    return " ".join(done.stdout.split("\n")).strip() or done.stderr
+    words = [sys.executable, "-c", ASKING, str(path), *lines]
+    who: dict[str, Any] = {"user": uid, "group": gid, "extra_groups": []}
+    done = subprocess.run(words, capture_output=True, text=True, **who)
+    return (done.stdout or done.stderr).strip()
 
 
 class Client:
@@ -133,15 +132,15 @@ class Client:
         self.socket.connect(str(path))
         self.rest, self.asked = b"", 0
 
-    def send(self, data: bytes) -> None:
-        self.socket.sendall(data)
+    def send(self, data: bytes | str) -> None:
+        self.socket.sendall(data.encode() if isinstance(data, str) else data)
 
     def line(self) -> bytes:
         """The next line, without its end; empty at the end."""
         while b"\n" not in self.rest:
             more = self.socket.recv(65536)
             if not more:
-                holds(not self.rest, f"half an answer: {self.rest!r}")
+                assert not self.rest, f"half an answer: {self.rest!r}"
                 return b""
             self.rest += more
         line, _, self.rest = self.rest.partition(b"\n")
@@ -153,10 +152,16 @@ class Client:
     def ask(self, line: str) -> str:
         """The answer to a line, which gets a tag."""
         self.asked += 1
-        self.send(f"t{self.asked} {line}\n".encode())
+        self.send(f"t{self.asked} {line}\n")
         tag, _, said = self.line().decode().partition(" ")
         same(tag, f"t{self.asked}", f"the tag of {said!r}")
         return said
+
+    def talk(self, table: str) -> None:
+        """Asks each line of a table `LINE -> ANSWER`; {secret}, {wrong} and {fresh} are fields."""
+        for row in table.format(secret=SECRET, wrong=WRONG, fresh=FRESH).strip().splitlines():
+            line, _, ought = row.lstrip().partition(" -> ")
+            same(self.ask(line), ought, line)
 
     def is_ended(self) -> bool:
         try:
@@ -188,6 +193,17 @@ class Service:
     def client(self, name: str = "login") -> Client:
         self.clients.append(Client(self.path(name)))
         return self.clients[-1]
+
+    def both(self) -> tuple[Client, Client]:
+        """A client of the login socket, and one of the admin's."""
+        return self.client(), self.client("admin")
+
+    def talk(self, table: str) -> None:
+        """As a client's, with the socket in front of each line."""
+        clients = {"login": self.client(), "admin": self.client("admin")}
+        for row in table.strip().splitlines():
+            door, _, rest = row.lstrip().partition(" ")
+            clients[door].talk(rest)
 
     def log(self) -> str:
         return (self.folder / "log").read_text()
@@ -233,44 +249,43 @@ class Given:
 
 
 def command(given: Given, folder: pathlib.Path) -> list[str]:
-    sockets = []
+    server = str(HERE / "clocked.py") if given.clocked else SERVER
+    words = [*given.before, PYTHON, server, "--credkeep", str(given.program)]
     if given.sockets:
-        for name, mode, allowed in (
-            ("login", "0660", "verify,change,known"),
-            ("admin", "0600", "all"),
-        ):
-            sockets += ["--socket", name, str(folder / f"{name}.sock"), mode, "-", allowed]
-    server = os.environ.get("CREDKEEP_SERVER", str(TOP / "bin/credkeep-server"))
-    server = str(HERE / "clocked.py") if given.clocked else server
-    words = [*given.before, PYTHON, server, "--credkeep", str(given.program), *sockets]
+        words += ["--socket", "login", f"{folder}/login.sock", "0660", "-", "verify,change,known"]
+        words += ["--socket", "admin", f"{folder}/admin.sock", "0600", "-", "all"]
     return [*words, *given.options, str(folder / "users.db")]
 
 
-@contextmanager
-def serving(*options: str, **fields: object) -> Iterator[Service]:
-    """A server over a fast book, or over the book that is given."""
-    given = Given(tuple(options), **fields)  # type: ignore[arg-type]
-    folder = given.folder or pathlib.Path(tempfile.mkdtemp(prefix="rigzumal-server-"))
-    (folder / "asked").touch()
+def environment_of(given: Given, folder: pathlib.Path) -> dict[str, str]:
+    own = {"BOOK_FAULTS": given.faults, "BOOK_LOG": f"{folder}/asked", "CLOCK": f"{folder}/clock"}
+    return {**os.environ, **own, **given.environment}
+
+
+def initialised(given: Given, folder: pathlib.Path) -> None:
+    """Makes the book's file, and the files that a server of the tests writes to."""
+    for name in ("asked", "log"):
+        (folder / name).touch()
+    (folder / "clock").write_text("0.0")
     if given.program != FAST_BOOK and not (folder / "users.db").exists():
         subprocess.run([given.program, folder / "users.db", "init"], check=True)
-    environment = {
-        "BOOK_FAULTS": given.faults,
-        "BOOK_LOG": str(folder / "asked"),
-        **given.environment,
-    }
+
+
+@contextmanager
+def serving(*options: str, **fields: Any) -> Iterator[Service]:
+    """A server over a fast book, or over the book that is given."""
+    given = Given(tuple(options), **fields)
+    folder = given.folder or pathlib.Path(tempfile.mkdtemp(prefix="rigzumal-server-"))
+    initialised(given, folder)
     (folder / "log").write_text("")
-    environment["CLOCK"] = str(folder / "clock")
-    (folder / "clock").write_text("0.0")
     with open(folder / "log", "ab") as log:
-        process = subprocess.Popen(
-            command(given, folder), stderr=log, env={**os.environ, **environment}
-        )
-    service = Service(folder, process)
+        words, environment = command(given, folder), environment_of(given, folder)
+        service = Service(folder, subprocess.Popen(words, stderr=log, env=environment))
+    process = service.process
     try:
         if given.waits:
             until(lambda: "start: " in service.log() or process.poll() is not None, "start")
-            holds(process.poll() is None, f"it ended: {service.log()}")
+            assert process.poll() is None, f"it ended: {service.log()}"
         yield service
     finally:
         for client in service.clients:

@@ -25,6 +25,7 @@ import unittest
 import urllib.error
 import urllib.request
 from collections.abc import Iterator
+from typing import Any
 
 from machine import (
     PAGE,
@@ -40,11 +41,39 @@ from machine import (
     shell,
     started,
 )
-from served import PYTHON, Case, Client, field_of, holds, need, same, until
+from served import FRESH, PYTHON, Case, Client, need, same, until
 
 
+# Connects 1,100 times, and asks at 400 of these without end.
+FLOOD = """import socket, sys, time
+clients = [socket.socket(socket.AF_UNIX) for _ in range(1100)]
+for it in clients:
+    it.connect(sys.argv[1])
+for it in clients[:400]:
+    it.send(b"a verify ada -\\n" * 30)
+print("connected", flush=True)
+time.sleep(200)
+"""
+POSTFIX = "inet_interfaces=127.0.0.1 inet_protocols=ipv4 alias_maps= myhostname=mail.example.org"
+POSTFIX += " mydestination=localhost maillog_file=/var/log/postfix.log"
 # Without it each wrong password costs its address some seconds more.
 QUICK = "ssl = no\nauth_failure_delay = 0\nservice anvil {\n unix_listener anvil-auth-penalty {\n mode = 0\n }\n}\n"
+
+
+def need_file(path: str, package: str) -> None:
+    if not pathlib.Path(path).exists():
+        raise unittest.SkipTest(f"{package} isn't installed")
+
+
+def need_nginx() -> None:
+    need("nginx", "curl")
+    module = "/usr/lib/nginx/modules/ngx_http_auth_pam_module.so"
+    need_file(module, "libnginx-mod-http-auth-pam")
+
+
+def need_apache() -> None:
+    need("apache2", "curl")
+    need_file("/usr/lib/apache2/modules/mod_authnz_pam.so", "libapache2-mod-authnz-pam")
 
 
 def imap(user: str, password: str) -> bool:
@@ -57,19 +86,13 @@ def imap(user: str, password: str) -> bool:
             return False
 
 
-def run_dovecot(room: pathlib.Path, *changes: tuple[str, str]) -> None:
+def run_dovecot(*changes: tuple[str, str]) -> None:
     need("dovecot")
-    if not pathlib.Path("/usr/lib/dovecot/imap").exists():
-        raise unittest.SkipTest("dovecot-imapd is not there")
+    need_file("/usr/lib/dovecot/imap", "dovecot-imapd")
     install("/etc/pam.d/dovecot", "/etc/pam.d/mail", "/etc/dovecot/local.conf")
     own = pathlib.Path("/etc/dovecot/conf.d/10-auth.conf")
     own.write_text(own.read_text().replace("!include auth-system.conf.ext", ""))
-    local = pathlib.Path("/etc/dovecot/local.conf")
-    for old, new in changes:
-        text = local.read_text()
-        holds(not old or old in text, old)
-        local.write_text(text.replace(old, new) if old else text + new)
-    local.write_text(local.read_text() + QUICK)
+    configure_dovecot(*changes)
     files = "-keyout /etc/dovecot/private/dovecot.key -out /etc/dovecot/private/dovecot.pem"
     shell(f"openssl req -x509 -newkey rsa:2048 -nodes -subj /CN=localhost {files} 2>/dev/null")
     shell("mount -t tmpfs none /srv")
@@ -79,34 +102,40 @@ def run_dovecot(room: pathlib.Path, *changes: tuple[str, str]) -> None:
     until(lambda: is_open(143), "dovecot")
 
 
+def configure_dovecot(*changes: tuple[str, str]) -> None:
+    """Writes the page's file, with some words in place of others, or behind all."""
+    text = on_page("/etc/dovecot/local.conf")
+    for old, new in changes:
+        assert old in text, old
+        text = text.replace(old, new) if old else text + new
+    pathlib.Path("/etc/dovecot/local.conf").write_text(text + QUICK)
+
+
 def web_logins(port: int, server: Server) -> None:
     def got(user: str, password: str) -> int:
         request = urllib.request.Request(f"http://127.0.0.1:{port}/")
         if user:
-            request.add_header(
-                "Authorization", "Basic " + base64.b64encode(f"{user}:{password}".encode()).decode()
-            )
+            basic = base64.b64encode(f"{user}:{password}".encode()).decode()
+            request.add_header("Authorization", f"Basic {basic}")
         try:
             with urllib.request.urlopen(request, timeout=30) as answer:
                 return int(answer.status)
         except urllib.error.HTTPError as fault:
             return fault.code
 
-    same(
-        [got("ada", "secret"), got("ada", "guess"), got("zoe", "secret"), got("", "")],
-        [200, 401, 401, 401],
-    )
-    same(
-        [got("ada", ""), got("ada", "x" * 300), got("ADA", "secret"), got("ada%20", "secret")],
-        [401] * 4,
-    )
-    same(got("bob", "other word"), 200)
+    for user, password, status in (
+        ("ada", "secret", 200),
+        ("bob", "other word", 200),
+        *(("ada", wrong, 401) for wrong in ("guess", "", "x" * 300)),
+        *((unknown, "secret", 401) for unknown in ("zoe", "", "ADA", "ada%20")),
+    ):
+        same(got(user, password), status, f"{user}, {password}")
     server.disable("bob", "other word")
-    holds(got("bob", "other word") in (401, 403), "bob is disabled")
-    server.ask(f"reset ada {field_of(b'fresh')}", "replaced")
+    assert got("bob", "other word") in (401, 403), "bob is disabled"
+    server.ask(f"reset ada {FRESH}", "replaced")
     same([got("ada", "secret"), got("ada", "fresh")], [401, 200])
     server.stop()
-    holds(got("ada", "fresh") in (401, 403, 500, 503), "the server is down")
+    assert got("ada", "fresh") in (401, 403, 500, 503), "the server is down"
 
 
 def install_stack(*more: str) -> None:
@@ -116,12 +145,13 @@ def install_stack(*more: str) -> None:
     pathlib.Path("/etc/pam.d/both").write_text(both)
 
 
-def pictures() -> None:
-    for path in pathlib.Path("/etc/nginx/sites-enabled").glob("default"):
-        path.unlink()
-    pathlib.Path("/var/www/html").mkdir(exist_ok=True)
-    for number in range(1, 41):
-        pathlib.Path(f"/var/www/html/{number}.png").write_text("x")
+def install_pages() -> None:
+    """A page and forty pictures, and nothing of what Debian's nginx serves by itself."""
+    pathlib.Path("/etc/nginx/sites-enabled/default").unlink(missing_ok=True)
+    html = pathlib.Path("/var/www/html")
+    html.mkdir(exist_ok=True)
+    for name in ("index.html", *(f"{number}.png" for number in range(1, 41))):
+        (html / name).write_text("x")
 
 
 def fetched(user: str, port: int, count: int = 40) -> dict[int, int]:
@@ -150,6 +180,14 @@ def logged() -> Iterator[list[str]]:
         reading.join()
 
 
+def lets_in(service: str, user: str, password: str, tasks: str = "authenticate") -> None:
+    pamtester(service, user, tasks, f"{password}\n", 0, "successfully")
+
+
+def keeps_out(service: str, user: str, password: str, text: str = "Authentication failure") -> None:
+    pamtester(service, user, "authenticate", f"{password}\n", 1, text)
+
+
 def at_a_terminal(words: str, typed: list[str]) -> tuple[str, int]:
     """What a program shows at a terminal at which these lines are typed at its prompts, and its status."""
     pid, terminal = pty.fork()
@@ -175,48 +213,43 @@ class Programs(Case):
         need("pamtester")
         server = started(room)
         install("/etc/pam.d/book")
-        pamtester(
-            "book", "ada", "authenticate acct_mgmt", "secret\n", 0, "successfully authenticated"
-        )
-        pamtester("book", "ada", "authenticate", "guess\n", 1, "Authentication failure")
-        pamtester("book", "zoe", "authenticate", "guess\n", 1, "User not known")
-        pamtester("book", "ada lovelace", "authenticate", "guess\n", 1, "User not known")
+        lets_in("book", "ada", "secret", "authenticate acct_mgmt")
+        keeps_out("book", "ada", "guess")
+        keeps_out("book", "zoe", "guess", "User not known")
+        keeps_out("book", "ada lovelace", "guess", "User not known")
         pamtester("book", "zoe", "acct_mgmt", "", 1, "User not known")
         pamtester("book", "ada", "chauthtok", "secret\nfresh\nfresh\n", 0, "successfully")
-        pamtester("book", "ada", "authenticate", "fresh\n", 0, "successfully authenticated")
-        pamtester("book", "ada", "authenticate", "secret\n", 1, "Authentication failure")
+        lets_in("book", "ada", "fresh")
+        keeps_out("book", "ada", "secret")
         pamtester("book", "ada", "chauthtok", "secret\nx\nx\n", 1, "Authentication failure")
         pamtester("book", "ada", "chauthtok", "fresh\nx\ny\n", 1, "")
         server.disable("bob", "other word")
-        pamtester("book", "bob", "authenticate", "other word\n", 1, "Authentication failure")
+        keeps_out("book", "bob", "other word")
         pamtester("book", "bob", "acct_mgmt", "", 1, "expired")
-        for _ in range(10):
-            with Client(RUN / "login.sock") as client:
+        with Client(RUN / "login.sock") as client:
+            for _ in range(10):
                 client.ask("verify ada -")
-        pamtester(
-            "book", "ada", "authenticate", "fresh\n", 1, "Have exhausted maximum number of retries"
-        )
+        keeps_out("book", "ada", "fresh", "Have exhausted maximum number of retries")
 
     @in_namespaces
     def test_stack(self, room: pathlib.Path) -> None:
         """The stack before pam_unix: by the book where it has the name, otherwise by /etc/shadow."""
         need("pamtester")
-        server = started(room)
+        server, both = started(room), "authenticate acct_mgmt"
         install_stack()
-        both = "authenticate acct_mgmt"
-        pamtester("both", "ada", both, "secret\n", 0, "successfully authenticated")
-        pamtester("both", "ada", both, "unixword\n", 1, "Authentication failure")
-        pamtester("both", "bob", both, "other word\n", 0, "successfully authenticated")
-        pamtester("both", "eve", both, "unixword\n", 0, "successfully authenticated")
-        pamtester("both", "eve", both, "secret\n", 1, "Authentication failure")
+        lets_in("both", "ada", "secret", both)
+        keeps_out("both", "ada", "unixword")
+        lets_in("both", "bob", "other word", both)
+        lets_in("both", "eve", "unixword", both)
+        keeps_out("both", "eve", "secret")
         server.stop()
-        pamtester("both", "ada", both, "unixword\n", 0, "successfully authenticated")
-        pamtester("both", "ada", both, "secret\n", 1, "Authentication failure")
+        lets_in("both", "ada", "unixword", both)
+        keeps_out("both", "ada", "secret")
         server = Server(room)
-        pamtester("both", "ada", both, "secret\n", 0, "successfully authenticated")
+        lets_in("both", "ada", "secret", both)
         server.process.kill()
         server.process.wait()
-        pamtester("both", "eve", both, "unixword\n", 0, "successfully authenticated")
+        lets_in("both", "eve", "unixword", both)
 
     @in_namespaces
     def test_local_users(self, room: pathlib.Path) -> None:
@@ -226,9 +259,9 @@ class Programs(Case):
         install_stack()
         with logged() as lines:
             for _ in range(24):
-                pamtester("both", "eve", "authenticate acct_mgmt", "unixword\n", 0, "successfully")
+                lets_in("both", "eve", "unixword", "authenticate acct_mgmt")
             for _ in range(12):
-                pamtester("both", "ada", "authenticate", "guess\n", 1, "")
+                keeps_out("both", "ada", "guess", "")
         ours = [it for it in lines if "pam_rigzumal" in it]
         self.assertEqual(len(ours), 12, f"{ours}")
         self.assertEqual(len([it for it in ours if it.endswith(" user=ada")]), 10)
@@ -240,13 +273,13 @@ class Programs(Case):
         started(room)
         install_stack()
         long = "x" * 300
-        crypted = f"import crypt; print(crypt.crypt('{long}', '$6$saltsalt'))"
-        shell(f'usermod -p "$({PYTHON} -W ignore -c "{crypted.replace("$", chr(92) + "$")}")" eve')
-        pamtester("both", "eve", "authenticate acct_mgmt", f"{long}\n", 0, "successfully")
-        pamtester("both", "eve", "authenticate", f"{long}y\n", 1, "Authentication failure")
+        crypted = f"import crypt; print(crypt.crypt('{long}', '\\$6\\$saltsalt'))"
+        shell(f'usermod -p "$({PYTHON} -W ignore -c "{crypted}")" eve')
+        lets_in("both", "eve", long, "authenticate acct_mgmt")
+        keeps_out("both", "eve", f"{long}y")
         shell("usermod -p '' eve")
-        pamtester("both", "eve", "authenticate acct_mgmt", "\n", 0, "successfully")
-        pamtester("both", "ada", "authenticate", "\n", 1, "Authentication failure")
+        lets_in("both", "eve", "", "authenticate acct_mgmt")
+        keeps_out("both", "ada", "")
 
     @in_namespaces
     def test_passwords_of_local_users(self, room: pathlib.Path) -> None:
@@ -254,51 +287,41 @@ class Programs(Case):
         need("passwd", "chpasswd", "adduser")
         server = started(room)
         install_stack("/etc/pam.d/common-password")
-        own = "setpriv --reuid eve --regid people --clear-groups passwd"
+        own = "setpriv --reuid {} --regid people --clear-groups passwd"
+        one, two, three = "fresh word1", "fresh word2", "fresh word3"
         for words, typed, status in (
-            ("passwd eve", ["fresh word1"] * 2, 0),
-            (own, ["fresh word1", "fresh word2", "fresh word2"], 0),
-            (own, ["fresh word1", "fresh word3", "fresh word3"], 10),
-            ("adduser --gecos x zed", ["fresh word2"] * 2 + ["y"], 0),
-            (
-                "setpriv --reuid ada --regid people --clear-groups passwd",
-                ["secret", "wordy", "wordy"],
-                0,
-            ),
+            ("passwd eve", [one, one], 0),
+            (own.format("eve"), [one, two, two], 0),
+            (own.format("eve"), [one, three, three], 10),
+            ("adduser --gecos x zed", [two, two, "y"], 0),
+            (own.format("ada"), ["secret", "wordy", "wordy"], 0),
             ("passwd ada", ["secret", "wordy", "wordy"], 10),
         ):
             said, ended = at_a_terminal(words, typed)
             self.assertEqual(ended, status, f"{words}: {said}")
-        pamtester("both", "eve", "authenticate", "fresh word2\n", 0, "successfully")
-        pamtester("both", "zed", "authenticate", "fresh word2\n", 0, "successfully")
-        pamtester("both", "ada", "authenticate", "wordy\n", 0, "successfully")
+        lets_in("both", "eve", two)
+        lets_in("both", "zed", two)
+        lets_in("both", "ada", "wordy")
         shell("echo 'eve:fresh word4' | chpasswd")
-        pamtester("both", "eve", "authenticate", "fresh word4\n", 0, "successfully")
+        lets_in("both", "eve", "fresh word4")
         server.stop()
         shell("echo 'eve:fresh word5' | chpasswd")
-        pamtester("both", "eve", "authenticate", "fresh word5\n", 0, "successfully")
+        lets_in("both", "eve", "fresh word5")
 
     @in_namespaces
     def test_a_flooding_service(self, room: pathlib.Path) -> None:
-        """A service that holds all its connections, and floods, doesn't make the book unavailable to others."""
+        """A service that takes all its connections, and floods, doesn't make the book unavailable to others."""
         need("pamtester", "setpriv")
         started(room)
         install_stack()
-        script = (
-            "import socket, sys, time\nheld = []\nfor _ in range(1100):\n"
-            "    it = socket.socket(socket.AF_UNIX)\n    it.connect(sys.argv[1])\n    held.append(it)\n"
-            "for it in held[:400]:\n    it.send(b'a verify ada -\\n' * 30)\n"
-            "print('held', flush=True)\ntime.sleep(200)\n"
-        )
         words = ["setpriv", "--reuid", "33", "--regid", "33", "--groups", "64999"]
-        words += ["sh", "-c", 'ulimit -n 2000; exec "$@"', "sh", PYTHON, "-c", script]
-        shell("ulimit -Hn")
-        with subprocess.Popen([*words, str(RUN / "login.sock")], stdout=subprocess.PIPE) as holding:
-            assert holding.stdout
-            self.assertEqual(holding.stdout.readline(), b"held\n")
-            pamtester("both", "bob", "authenticate", "other word\n", 0, "successfully")
-            pamtester("both", "bob", "authenticate", "unixword\n", 1, "Authentication failure")
-            holding.kill()
+        words += ["prlimit", "--nofile=2000", PYTHON, "-c", FLOOD, str(RUN / "login.sock")]
+        with subprocess.Popen(words, stdout=subprocess.PIPE) as flooding:
+            assert flooding.stdout
+            self.assertEqual(flooding.stdout.readline(), b"connected\n")
+            lets_in("both", "bob", "other word")
+            keeps_out("both", "bob", "unixword")
+            flooding.kill()
 
     @in_namespaces
     def test_su(self, room: pathlib.Path) -> None:
@@ -306,44 +329,18 @@ class Programs(Case):
         need("su", "setpriv")
         server = started(room)
         install_stack()
-        pathlib.Path("/etc/pam.d/su").write_text(
-            "auth sufficient pam_rootok.so\n@include common-auth\n@include common-account\n@include common-session-noninteractive\n"
-        )
+        more = ("auth", "account", "session-noninteractive")
+        lines = ["auth sufficient pam_rootok.so", *(f"@include common-{it}" for it in more)]
+        pathlib.Path("/etc/pam.d/su").write_text("\n".join(lines) + "\n")
 
         def tried(password: str) -> str:
-            words = [
-                "setpriv",
-                "--reuid",
-                "4712",
-                "--regid",
-                "4711",
-                "--clear-groups",
-                "su",
-                "ada",
-                "-c",
-                "id -un",
-            ]
-            return subprocess.run(
-                words, input=f"{password}\n", capture_output=True, text=True, timeout=60
-            ).stdout.strip()
+            words = "setpriv --reuid 4712 --regid 4711 --clear-groups su ada -c".split()
+            given: Any = {"input": f"{password}\n", "capture_output": True, "text": True}
+            return subprocess.run([*words, "id -un"], timeout=60, **given).stdout.strip()
 
         self.assertEqual([tried("secret"), tried("guess"), tried("unixword")], ["ada", "", ""])
         server.stop()
         self.assertEqual([tried("secret"), tried("unixword")], ["", "ada"])
-
-    @in_namespaces
-    def test_nginx(self, room: pathlib.Path) -> None:
-        need("nginx")
-        if not pathlib.Path("/usr/lib/nginx/modules/ngx_http_auth_pam_module.so").exists():
-            raise unittest.SkipTest("libnginx-mod-http-auth-pam is not there")
-        server = started(room)
-        install("/etc/pam.d/nginx", "/etc/nginx/sites-enabled/book")
-        pathlib.Path("/etc/nginx/sites-enabled/default").unlink(missing_ok=True)
-        pathlib.Path("/var/www/html").mkdir(exist_ok=True)
-        pathlib.Path("/var/www/html/index.html").write_text("inside")
-        shell("nginx")
-        until(lambda: is_open(8080), "nginx")
-        web_logins(8080, server)
 
     @in_namespaces
     def test_fail2ban(self, room: pathlib.Path) -> None:
@@ -362,12 +359,22 @@ class Programs(Case):
             self.assertEqual(found.stdout.split(), ["192.0.2.7"], found.stdout + found.stderr)
 
     @in_namespaces
+    def test_nginx(self, room: pathlib.Path) -> None:
+        need_nginx()
+        server = started(room)
+        install("/etc/pam.d/nginx", "/etc/nginx/sites-enabled/book")
+        install_pages()
+        shell("nginx")
+        until(lambda: is_open(8080), "nginx")
+        web_logins(8080, server)
+
+    @in_namespaces
     def test_nginx_cache(self, room: pathlib.Path) -> None:
         """Forty pictures cost one hash; a wrong password isn't kept; what is kept is nginx's alone."""
-        need("nginx", "curl")
+        need_nginx()
         server = started(room)
         install("/etc/pam.d/nginx", "/etc/nginx/sites-enabled/cached")
-        pictures()
+        install_pages()
         shell("nginx")
         until(lambda: is_open(8081), "nginx")
         before = server.stats()
@@ -378,48 +385,44 @@ class Programs(Case):
         after = server.stats()
         self.assertEqual(after["yes"] - before["yes"], 1)
         self.assertTrue(after["no"] + after["later"] - before["no"] - before["later"] >= 40)
-        kept = [it for it in pathlib.Path("/run/nginx-logins").rglob("*") if it.is_file()]
-        self.assertEqual([it.stat().st_mode & 0o77 for it in kept], [0])
-        self.assertEqual(pathlib.Path("/run/nginx-logins").stat().st_mode & 0o77, 0)
+        folder = pathlib.Path("/run/nginx-logins")
+        kept = [folder, *(it for it in folder.rglob("*") if it.is_file())]
+        self.assertEqual([it.stat().st_mode & 0o77 for it in kept], [0, 0])
 
     @in_namespaces
     def test_nginx_htpasswd(self, room: pathlib.Path) -> None:
         """A user of an htpasswd file gets in by it until the name is taken out, and by the book from then on."""
-        need("nginx", "htpasswd", "curl")
+        need_nginx()
+        need("htpasswd")
         server = started(room)
         install("/etc/pam.d/nginx", "/etc/nginx/sites-enabled/both")
-        pictures()
-        for name, word, option in (
-            ("cid", "old", "-B"),
-            ("dan", "old", "-m"),
-            ("eli", "old", "-s"),
-        ):
-            create = "" if pathlib.Path("/etc/nginx/htpasswd").exists() else "-c"
-            shell(f"htpasswd -b {create} {option} /etc/nginx/htpasswd {name} {word}")
+        install_pages()
+        old = pathlib.Path("/etc/nginx/htpasswd")
+        old.touch()
+        for name, scheme in {"cid": "-B", "dan": "-m", "eli": "-s"}.items():
+            shell(f"htpasswd -b {scheme} {old} {name} old")
         shell("nginx")
         until(lambda: is_open(8082), "nginx")
-        for name in ("cid", "dan", "eli"):
-            self.assertEqual(fetched(f"{name}:old", 8082, 1), {200: 1}, name)
-            self.assertEqual(fetched(f"{name}:new", 8082, 1), {401: 1}, name)
-        self.assertEqual(fetched("ada:secret", 8082, 1), {200: 1})
+        for user, status in (
+            *((f"{name}:old", 200) for name in ("cid", "dan", "eli")),
+            *((f"{name}:new", 401) for name in ("cid", "dan", "eli")),
+            ("ada:secret", 200),
+        ):
+            self.assertEqual(fetched(user, 8082, 1), {status: 1}, user)
         server.enrol(cid="new")
         self.assertEqual(fetched("cid:new", 8082, 1), {200: 1})
         (taken,) = re.findall(r"`(htpasswd -D \S+) NAME`", PAGE.read_text())
         shell(f"{taken} cid")
-        self.assertEqual(fetched("cid:new", 8082, 1), {200: 1})
-        self.assertEqual(fetched("cid:old", 8082, 1), {401: 1})
-        self.assertEqual(fetched("dan:old", 8082, 1), {200: 1})
+        for user, status in (("cid:new", 200), ("cid:old", 401), ("dan:old", 200)):
+            self.assertEqual(fetched(user, 8082, 1), {status: 1}, user)
 
     @in_namespaces
     def test_apache(self, room: pathlib.Path) -> None:
-        need("apache2")
-        if not pathlib.Path("/usr/lib/apache2/modules/mod_authnz_pam.so").exists():
-            raise unittest.SkipTest("libapache2-mod-authnz-pam is not there")
+        need_apache()
         server = started(room)
         install("/etc/pam.d/apache2", "/etc/apache2/conf-enabled/book.conf")
         shell("a2enmod authnz_pam")
-        pathlib.Path("/var/www/html").mkdir(exist_ok=True)
-        pathlib.Path("/var/www/html/index.html").write_text("inside")
+        install_pages()
         shell("apache2ctl start")
         until(lambda: is_open(80), "apache2")
         web_logins(80, server)
@@ -427,11 +430,11 @@ class Programs(Case):
     @in_namespaces
     def test_apache_cache(self, room: pathlib.Path) -> None:
         """Forty pictures cost one hash or so; who is disabled is out at once."""
-        need("apache2", "curl")
+        need_apache()
         server = started(room)
         install("/etc/pam.d/apache2", "/etc/apache2/conf-enabled/cached.conf")
         shell("a2enmod authnz_pam authn_socache socache_shmcb")
-        pictures()
+        install_pages()
         shell("apache2ctl start")
         until(lambda: is_open(80), "apache2")
         before = server.stats()
@@ -441,48 +444,43 @@ class Programs(Case):
         server.ask("disable ada", "disabled")
         self.assertEqual(fetched("ada:secret", 80, 1), {401: 1})
 
+    def imap_logins(self, *rows: tuple[str, str, bool]) -> None:
+        for user, password, ought in rows:
+            self.assertEqual(imap(user, password), ought, f"{user}, {password}")
+
     @in_namespaces
     def test_dovecot(self, room: pathlib.Path) -> None:
-        """An imap login: right, wrong, unknown, changed."""
+        """An imap login: right, wrong, unknown, changed, disabled."""
         server = started(room)
-        run_dovecot(room)
-        self.assertEqual(
-            [imap("ada", "secret"), imap("ada", "guess"), imap("zoe", "secret")],
-            [True, False, False],
-        )
-        self.assertEqual([imap("bob", "other word"), imap("bob", "other words")], [True, False])
-        server.ask(f"reset ada {field_of(b'fresh')}", "replaced")
-        self.assertEqual([imap("ada", "secret"), imap("ada", "fresh")], [False, True])
+        run_dovecot()
+        self.imap_logins(("ada", "secret", True), ("ada", "guess", False), ("zoe", "secret", False))
+        self.imap_logins(("bob", "other word", True), ("bob", "other words", False))
+        server.ask(f"reset ada {FRESH}", "replaced")
+        self.imap_logins(("ada", "secret", False), ("ada", "fresh", True))
         server.disable("ada", "fresh")
-        self.assertEqual(imap("ada", "fresh"), False)
+        self.imap_logins(("ada", "fresh", False))
 
     @in_namespaces
     def test_dovecot_mail_names(self, room: pathlib.Path) -> None:
         """An imap login as user@example.org, by --mail-names; and as one domain's user by %Ln."""
         server = started(room, "--mail-names")
-        server.enrol(**{"ada_at_example.org": "mail word"})
-        run_dovecot(room, ("args = dovecot", "args = mail"), ("", "auth_username_format = %u\n"))
-        self.assertEqual(
-            [imap("ada@example.org", "mail word"), imap("ada@Example.ORG", "mail word")],
-            [True, True],
+        server.enrol(**{"ada@example.org": "mail word"})
+        run_dovecot(("args = dovecot", "args = mail"), ("", "auth_username_format = %u\n"))
+        self.imap_logins(
+            ("ada@example.org", "mail word", True),
+            ("ada@Example.ORG", "mail word", True),
+            ("ada@example.org", "secret", False),
+            ("ada@example.net", "mail word", False),
+            ("ada", "secret", True),
+            ("ada", "mail word", False),
         )
-        self.assertEqual(
-            [imap("ada@example.org", "secret"), imap("ada@example.net", "mail word")],
-            [False, False],
-        )
-        self.assertEqual([imap("ada", "secret"), imap("ada", "mail word")], [True, False])
-        pathlib.Path("/etc/dovecot/local.conf").write_text(
-            on_page("/etc/dovecot/local.conf") + QUICK + "auth_username_format = %Ln\n"
-        )
+        configure_dovecot(("", "auth_username_format = %Ln\n"))
         shell("doveadm reload")
         time.sleep(1)
-        self.assertEqual(
-            [
-                imap("Ada@example.org", "secret"),
-                imap("ada@example.net", "secret"),
-                imap("ada@example.org", "x"),
-            ],
-            [True, True, False],
+        self.imap_logins(
+            ("Ada@example.org", "secret", True),
+            ("ada@example.net", "secret", True),
+            ("ada@example.org", "x", False),
         )
 
     @in_namespaces
@@ -490,33 +488,19 @@ class Programs(Case):
         """testsaslauthd, and a mail that Postfix takes after a login alone."""
         need("saslauthd", "testsaslauthd", "postfix", "postconf")
         server = started(room)
-        install("/etc/pam.d/smtp", "/etc/postfix/sasl/smtpd.conf")
-        install("/etc/default/saslauthd")
+        install("/etc/pam.d/smtp", "/etc/postfix/sasl/smtpd.conf", "/etc/default/saslauthd")
         (adduser,) = re.findall(r"`(adduser postfix sasl)`", PAGE.read_text())
         shell(adduser)
         shell("/etc/init.d/saslauthd start")
         (tried,) = commands_on_page("testsaslauthd")
-        self.assertTrue('0: OK "Success."' in shell(tried), "testsaslauthd")
-        self.assertTrue(
-            "0: NO" in shell(tried.replace("secret", "guess"), status=255), "a wrong password"
-        )
-        self.assertTrue(
-            "0: NO" in shell(tried.replace("ada", "zoe"), status=255), "an unknown name"
-        )
+        self.assertIn('0: OK "Success."', shell(tried))
+        for old, new in (("secret", "guess"), ("ada", "zoe")):
+            self.assertIn("0: NO", shell(tried.replace(old, new), status=255))
         for line in commands_on_page("postconf"):
             shell(line)
-        for line in (
-            "inet_interfaces=127.0.0.1",
-            "inet_protocols=ipv4",
-            "alias_maps=",
-            "maillog_file=/var/log/postfix.log",
-            "mydestination=localhost",
-            "myhostname=mail.example.org",
-        ):
-            shell(f"postconf -e '{line}'")
-        shell(
-            "if [ -x /usr/lib/postfix/configure-instance.sh ]; then /usr/lib/postfix/configure-instance.sh -; fi"
-        )
+        shell(f"postconf -e {POSTFIX}")
+        instance = "/usr/lib/postfix/configure-instance.sh"
+        shell(f"if [ -x {instance} ]; then {instance} -; fi")
         shell("postfix start")
         until(lambda: is_open(25), "postfix")
 
@@ -526,23 +510,23 @@ class Programs(Case):
                 try:
                     if user:
                         client.login(user, password)
-                    client.sendmail(
-                        "ada@example.org", ["someone@example.net"], "Subject: x\r\n\r\ntext\r\n"
-                    )
+                    mail = "Subject: x\r\n\r\ntext\r\n"
+                    client.sendmail("ada@example.org", ["someone@example.net"], mail)
                     return "taken"
                 except smtplib.SMTPAuthenticationError:
                     return "not let in"
                 except smtplib.SMTPRecipientsRefused:
                     return "not relayed"
 
-        self.assertEqual(
-            [sent("ada", "secret"), sent("ada", "guess"), sent("zoe", "x"), sent("", "")],
-            ["taken", "not let in", "not let in", "not relayed"],
-        )
-        self.assertTrue(
-            "sasl_username=ada" in pathlib.Path("/var/log/postfix.log").read_text(), "the log"
-        )
-        server.ask(f"reset ada {field_of(b'fresh')}", "replaced")
+        for user, password, ought in (
+            ("ada", "secret", "taken"),
+            ("ada", "guess", "not let in"),
+            ("zoe", "x", "not let in"),
+            ("", "", "not relayed"),
+        ):
+            self.assertEqual(sent(user, password), ought)
+        self.assertIn("sasl_username=ada", pathlib.Path("/var/log/postfix.log").read_text())
+        server.ask(f"reset ada {FRESH}", "replaced")
         self.assertEqual([sent("ada", "secret"), sent("ada", "fresh")], ["not let in", "taken"])
         shell("postfix stop")
 
@@ -553,35 +537,27 @@ class Programs(Case):
         server = started(room)
         install("/etc/pam.d/sshd", "/etc/ssh/sshd_config.d/book.conf")
         pathlib.Path("/etc/pam.d/common-session").write_text("session required pam_permit.so\n")
-        shell(
-            f"ssh-keygen -A && ssh-keygen -q -t ed25519 -N '' -f {room}/key && mkdir -p /etc/ssh/keys && cp {room}/key.pub /etc/ssh/keys/ada"
-        )
-        shell(
-            "/usr/sbin/sshd -o 'AuthorizedKeysFile /etc/ssh/keys/%u' -o 'ListenAddress 127.0.0.1'"
-        )
+        shell(f"ssh-keygen -A && ssh-keygen -q -t ed25519 -N '' -f {room}/key")
+        shell(f"mkdir -p /etc/ssh/keys && cp {room}/key.pub /etc/ssh/keys/ada")
+        options = "-o 'AuthorizedKeysFile /etc/ssh/keys/%u' -o 'ListenAddress 127.0.0.1'"
+        shell(f"/usr/sbin/sshd {options}")
         until(lambda: is_open(22), "sshd")
-        common = "-o StrictHostKeyChecking=no -o UserKnownHostsFile=/dev/null -o LogLevel=ERROR -o NumberOfPasswordPrompts=1"
+
+        def ssh(before: str, words: str, user: str = "ada") -> str:
+            common = "StrictHostKeyChecking=no UserKnownHostsFile=/dev/null LogLevel=ERROR"
+            common = " ".join(f"-o {it}" for it in f"{common} NumberOfPasswordPrompts=1".split())
+            line = f"{before} ssh {common} {words} {user}@127.0.0.1 id -un"
+            done = subprocess.run(line, shell=True, capture_output=True, text=True, timeout=60)
+            return done.stdout.strip()
 
         def tried(password: str, user: str = "ada") -> str:
-            line = f"sshpass -p '{password}' ssh {common} -o PreferredAuthentications=keyboard-interactive -o PubkeyAuthentication=no {user}@127.0.0.1 id -un"
-            return subprocess.run(
-                line, shell=True, capture_output=True, text=True, timeout=60
-            ).stdout.strip()
+            words = "-o PreferredAuthentications=keyboard-interactive -o PubkeyAuthentication=no"
+            return ssh(f"sshpass -p '{password}'", words, user)
 
         def by_key() -> str:
-            line = f"ssh {common} -i {room}/key -o BatchMode=yes ada@127.0.0.1 id -un"
-            return subprocess.run(
-                line, shell=True, capture_output=True, text=True, timeout=60
-            ).stdout.strip()
+            return ssh("", f"-i {room}/key -o BatchMode=yes")
 
-        self.assertEqual(
-            [tried("secret"), tried("guess"), tried("unixword"), tried("unixword", "eve")],
-            ["ada", "", "", ""],
-        )
-        self.assertEqual(by_key(), "ada")
+        self.assertEqual([tried("secret"), tried("guess"), tried("unixword")], ["ada", "", ""])
+        self.assertEqual([tried("unixword", "eve"), by_key()], ["", "ada"])
         server.disable("ada", "secret")
         self.assertEqual([tried("secret"), by_key()], ["", ""])
-
-
-if __name__ == "__main__":
-    unittest.main()

@@ -17,11 +17,10 @@ import random
 import signal
 import subprocess
 import sys
-import tempfile
 import time
 import unittest
 from collections.abc import Callable
-from dataclasses import dataclass, field
+from dataclasses import dataclass
 from typing import Optional, TypeVar
 
 from served import (
@@ -33,8 +32,9 @@ from served import (
     Given,
     chosen_book,
     command,
+    environment_of,
     field_of,
-    same,
+    initialised,
     until,
 )
 
@@ -45,6 +45,8 @@ try:
 except ImportError as fault:
     raise unittest.SkipTest(str(fault).partition(":")[0]) from None
 
+SECONDS = int(os.environ.get("TORTURE_SECONDS", "60"))
+SEED = int(os.environ.get("TORTURE_SEED", "1"))
 NAMES = [f"user{number}" for number in range(8)]
 MIX = {"verify": 8, "login": 3, "change": 4, "enrol": 3, "remove": 1, "upgrade": 2}
 LOGIN = frozenset(("verify", "change"))
@@ -58,19 +60,21 @@ class Running:
     folder: pathlib.Path
     given: Given
     process: Optional["subprocess.Popen[bytes]"] = None
-    starts: int = 0
     ends: bool = False
 
     async def keep(self) -> None:
         while not self.ends:
             if self.process is None or self.process.poll() is not None:
-                self.starts += 1
-                environment = {**os.environ, "BOOK_FAULTS": self.given.faults}
+                words = command(self.given, self.folder)
+                environment = environment_of(self.given, self.folder)
                 with open(self.folder / "log", "ab") as log:
-                    self.process = subprocess.Popen(
-                        command(self.given, self.folder), stderr=log, env=environment
-                    )
+                    self.process = subprocess.Popen(words, stderr=log, env=environment)
             await asyncio.sleep(0.02)
+
+    def end(self) -> None:
+        if self.process and self.process.poll() is None:
+            self.process.terminate()
+            self.process.wait(timeout=60)
 
     def book(self) -> Optional[int]:
         assert self.process
@@ -92,54 +96,39 @@ class Running:
         return True
 
 
-@dataclass
 class Log:
     """What was asked, and what was answered, of each account."""
 
-    operations: dict[str, list[Operation]] = field(
-        default_factory=lambda: {name: [] for name in NAMES}
-    )
-    denials: list[tuple[str, Operation]] = field(default_factory=list)
-    passwords: dict[str, list[str]] = field(
-        default_factory=lambda: {name: ["never"] for name in NAMES}
-    )
-    counts: dict[str, int] = field(default_factory=dict)
+    def __init__(self) -> None:
+        self.operations: dict[str, list[Operation]] = {name: [] for name in NAMES}
+        self.passwords = {name: ["never"] for name in NAMES}
+        self.denials: list[tuple[str, Operation]] = []
 
     def note(self, name: str, operation: Operation, said: Optional[str]) -> None:
         """Files an operation by its answer, or by none."""
-        self.counts[said or "no answer"] = self.counts.get(said or "no answer", 0) + 1
-        kind, old, new = (
-            operation.kind,
-            record_of(operation.password),
-            record_of(operation.password_after),
-        )
-        if said in (None, "unavailable", "enrolled", "replaced") and operation.password_after:
-            if kind in ("enrol", "change"):  # it may be right from now on
-                at = -1 if said in (None, "unavailable") else len(self.passwords[name])
-                self.passwords[name].insert(at, operation.password_after)
-        if said is None or said == "unavailable":
-            changes = {
-                "enrol": (None, new, "enrolled"),
-                "change": (old, new, "replaced"),
-                "remove": (old, None, "removed"),
-            }
-            if kind in changes:
-                operation.attempts = [Attempt(*changes[kind])]
+        kind, fresh = operation.kind, operation.password_after
+        old, new = record_of(operation.password), record_of(fresh)
+        is_lost = said is None or said == "unavailable"
+        if fresh and kind in ("enrol", "change") and (is_lost or said in ("enrolled", "replaced")):
+            # It may be right from now on.
+            self.passwords[name].insert(-1 if is_lost else len(self.passwords[name]), fresh)
+        if is_lost:
+            way = {"enrol": (None, new), "change": (old, new), "remove": (old, None)}.get(kind)
+            if way:
+                reply = {"enrol": "enrolled", "change": "replaced", "remove": "removed"}[kind]
+                operation.attempts = [Attempt(*way, reply)]
                 self.operations[name].append(operation)
             return
         operation.answered, operation.reply = time.monotonic(), said
         if said in ("no", "wrong"):
             self.denials.append((name, operation))
-            return
-        if said in ("exists", "bad 14 busy", "later"):
-            return
-        if said not in ("yes", "absent", "enrolled", "replaced", "removed", "kept"):
+        elif said in ("yes", "absent", "enrolled", "replaced", "removed", "kept"):
+            operation.before = None if said in ("absent", "enrolled") else old
+            after = {"enrolled": new, "replaced": new, "removed": None}
+            operation.after = after.get(said, operation.before)
+            self.operations[name].append(operation)
+        elif said not in ("exists", "bad 14 busy", "later"):
             raise Illegal(f"{operation.id} ({kind}) was answered {said}", [operation])
-        operation.before = None if said in ("absent", "enrolled") else old
-        operation.after = {"enrolled": new, "replaced": new, "removed": None}.get(
-            said, operation.before
-        )
-        self.operations[name].append(operation)
 
 
 def record_of(password: Optional[str]) -> Optional[str]:
@@ -166,24 +155,21 @@ class Asking:
         known = self.log.passwords[name]
         password = made if kind == "enrol" else self.chance.choice([*known[-4:], *known[-1:] * 6])
         new = f"{made}n" if kind == "change" else None
-        line = f"{kind} {name} {field_of(password.encode())}" + (
-            f" {field_of(new.encode())}" if new else ""
-        )
+        fields = [field_of(word.encode()) for word in (password, new) if word]
         judged = {"login": "verify"}.get(kind, kind)
         operation = Operation(made, judged, password, time.monotonic(), new_password=new)
-        self.log.note(
-            name, operation, await self.answer("login" if kind in LOGIN else "admin", line)
-        )
+        door = "login" if kind in LOGIN else "admin"
+        said = await self.answer(door, " ".join([kind, name, *fields]))
+        self.log.note(name, operation, said)
 
     async def answer(self, door: str, line: str) -> Optional[str]:
         """What is answered, or none if the connection ends first."""
-        try:
-            if door not in self.connections:
-                path = str(self.running.folder / f"{door}.sock")
+        path = str(self.running.folder / f"{door}.sock")
+        while door not in self.connections:
+            try:
                 self.connections[door] = await asyncio.open_unix_connection(path)
-        except OSError:
-            await asyncio.sleep(0.02)
-            return await self.answer(door, line)
+            except OSError:
+                await asyncio.sleep(0.02)
         reader, writer = self.connections[door]
         try:
             writer.write(f"1 {line}\n".encode())
@@ -315,62 +301,49 @@ async def aside(call: Callable[..., Result], *given: object) -> Result:
 
 async def tortured(
     given: Given, folder: pathlib.Path, seconds: float, kills: int, seed: int
-) -> str:
+) -> tuple[int, int]:
+    """How many operations were legal, and how often something was killed."""
     chance, log, running = random.Random(seed), Log(), Running(folder, given)
     keeping = asyncio.ensure_future(running.keep())
     try:
         await aside(until, lambda: "start: " in (folder / "log").read_text(), "the server", 60.0)
         with Client(folder / "admin.sock") as admin:
-            for name in NAMES:
-                same(admin.ask(f"account {name}"), "ok")
+            admin.talk("".join(f"account {name} -> ok\n" for name in NAMES))
         began = time.monotonic()
-        clients = [
-            Asking(running, log, random.Random(chance.random()), number) for number in range(64)
-        ]
+        seeds = [random.Random(chance.random()) for _ in range(64)]
+        clients = [Asking(running, log, own, number) for number, own in enumerate(seeds)]
         killed, *_ = await asyncio.gather(
             killing(running, chance, kills, seconds), *(it.go(began + seconds) for it in clients)
         )
         await aside(until, lambda: names_stand(folder), "all names are there", 60.0)
-        count = await aside(judged, folder, log, began)
-        return f"{count} operations, {killed} kills, {running.starts} starts: legal. Answers: {dict(sorted(log.counts.items()))}"
+        return await aside(judged, folder, log, began), killed
     finally:
         running.ends = True
         await keeping
-        if running.process and running.process.poll() is None:
-            running.process.terminate()
-            running.process.wait(timeout=60)
-
-
-def run(given: Given, seconds: float, kills: int, seed: int) -> str:
-    with tempfile.TemporaryDirectory(prefix="rigzumal-torture-") as room:
-        folder = pathlib.Path(room)
-        (folder / "log").touch()
-        if given.program != FAST_BOOK:
-            subprocess.run([given.program, folder / "users.db", "init"], check=True)
-        return asyncio.run(tortured(given, folder, seconds, kills, seed))
+        running.end()
 
 
 class Torture(Case):
-    seconds = 30 * int(os.environ.get("TORTURE_SECONDS", "60"))
+    seconds = 30 * SECONDS
+
+    def run_over(self, given: Given, seconds: float, kills: int) -> tuple[int, int]:
+        room = self.room()
+        initialised(given, room)
+        return asyncio.run(tortured(given, room, seconds, kills, SEED))
 
     def test_killed(self) -> None:
         """What was answered has one legal history, whatever is killed."""
-        seconds, seed = int(os.environ.get("TORTURE_SECONDS", "60")), int(
-            os.environ.get("TORTURE_SEED", "1")
-        )
-        program = chosen_book()
+        program, kills = chosen_book(), SECONDS // 3
         options = ("--tries", "0", "--at-once", "8")
-        if program == FAST_BOOK:
-            run(Given(options, "late", program), seconds, seconds // 3, seed)
-        else:
-            run(Given((*options, "--setting", CHEAP), "", program), seconds, seconds // 3, seed)
+        given = Given(options, "late", program)
+        if program != FAST_BOOK:
+            given = Given((*options, "--setting", CHEAP), "", program)
+        count, killed = self.run_over(given, SECONDS, kills)
+        self.assertGreater(count, 10 * SECONDS)
+        self.assertGreaterEqual(killed, kills // 2)
 
     def test_books_that_lie(self) -> None:
         """A book that loses changes, or lets everybody in, is found out."""
         for faults in ("loses=5", "answers=yes"):
             with self.assertRaises(Illegal, msg=faults):
-                run(Given(("--tries", "0", "--at-once", "8"), faults), 5, 2, 1)
-
-
-if __name__ == "__main__":
-    unittest.main()
+                self.run_over(Given(("--tries", "0", "--at-once", "8"), faults), 5, 2)

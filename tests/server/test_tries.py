@@ -2,14 +2,10 @@
 
 from __future__ import annotations
 
-import os
-import pathlib
-import tempfile
 import time
-import unittest
 from unittest import mock
 
-from served import SECRET, WRONG, Case, as_user, need_root, serving
+from served import SECRET, WRONG, Case, as_user, need_root
 from daemon import limits
 from daemon.limits import Limiter
 from daemon.log import log
@@ -18,226 +14,177 @@ from daemon.log import log
 class Tries(Case):
     def test_later(self) -> None:
         """After so many failed tries each doubles the wait; the right password is let in after it."""
-        with serving("--tries", "2", clocked=True) as service:
-            service.enrol(ada="secret", bob="secret")
-            client = service.client()
-            for now, password, ought in (
-                (0, WRONG, "no"),
-                (0, WRONG, "no"),
-                (0.9, WRONG, "later"),
-                (0.9, SECRET, "later"),
-                (1, WRONG, "no"),
-                (2.9, SECRET, "later"),
-                (3, WRONG, "no"),
-                (6.9, SECRET, "later"),
-                (7, SECRET, "yes"),
-                (7, WRONG, "no"),
-                (7, WRONG, "no"),
-                (7, WRONG, "later"),
-            ):
-                service.set_clock(now)
-                asked = len(service.asked())
-                self.assertEqual(client.ask(f"verify ada {password}"), ought, f"at {now} s")
-                self.assertEqual(len(service.asked()) - asked, ought != "later", "at the book")
-                self.assertEqual(client.ask(f"verify bob {SECRET}"), "yes")
+        service = self.serving("--tries", "2", clocked=True)
+        service.enrol(ada="secret", bob="secret")
+        client = service.client()
+        for now, password, ought in (
+            *((0, WRONG, "no"), (0, WRONG, "no"), (0.9, WRONG, "later"), (0.9, SECRET, "later")),
+            *((1, WRONG, "no"), (2.9, SECRET, "later"), (3, WRONG, "no"), (6.9, SECRET, "later")),
+            *((7, SECRET, "yes"), (7, WRONG, "no"), (7, WRONG, "no"), (7, WRONG, "later")),
+        ):
+            service.set_clock(now)
+            asked = len(service.asked())
+            self.assertEqual(client.ask(f"verify ada {password}"), ought, f"at {now} s")
+            self.assertEqual(len(service.asked()) - asked, ought != "later", "at the book")
+            self.assertEqual(client.ask(f"verify bob {SECRET}"), "yes")
 
     def test_names_that_the_book_lacks(self) -> None:
         """A name that the book lacks, whose user another module may know, never has to wait."""
-        with serving("--tries", "2") as service:
-            client = service.client()
-            self.assertEqual(
-                [client.ask(f"verify eve {SECRET}") for _ in range(30)], ["noaccount"] * 30
-            )
+        service = self.serving("--tries", "2")
+        service.client().talk("verify eve {secret} -> noaccount\n" * 30)
 
     def test_later_for_each_operation(self) -> None:
         """Each operation that takes the old password counts; a reset by the admin ends the wait."""
-        with serving("--tries", "5", clocked=True) as service:
-            service.enrol(ada="secret")
-            admin, login = service.client("admin"), service.client()
-            self.assertEqual(admin.ask(f"login ada {WRONG}"), "no")
-            self.assertEqual(login.ask(f"change ada {WRONG} {SECRET}"), "wrong")
-            self.assertEqual(admin.ask(f"upgrade ada {WRONG}"), "wrong")
-            self.assertEqual(admin.ask(f"remove ada {WRONG}"), "wrong")
-            self.assertEqual(login.ask(f"verify ada {WRONG}"), "no")
-            for line in (
-                f"verify ada {SECRET}",
-                f"login ada {SECRET}",
-                f"change ada {SECRET} {SECRET}",
-                f"upgrade ada {SECRET}",
-                f"remove ada {SECRET}",
-            ):
-                self.assertEqual(admin.ask(line), "later", line)
-            self.assertEqual(login.ask("known ada"), "yes")
-            self.assertEqual(admin.ask("show ada")[:6], "$fast$")
-            self.assertEqual(admin.ask(f"reset ada {WRONG}"), "replaced")
-            self.assertEqual(login.ask(f"verify ada {WRONG}"), "yes")
+        service = self.serving("--tries", "5", clocked=True)
+        service.enrol(ada="secret")
+        service.talk(
+            """
+            admin login ada {wrong} -> no
+            login change ada {wrong} {secret} -> wrong
+            admin upgrade ada {wrong} -> wrong
+            admin remove ada {wrong} -> wrong
+            login verify ada {wrong} -> no
+            login verify ada {secret} -> later
+            admin login ada {secret} -> later
+            login change ada {secret} {secret} -> later
+            admin upgrade ada {secret} -> later
+            admin remove ada {secret} -> later
+            login known ada -> yes
+            admin reset ada {wrong} -> replaced
+            login verify ada {wrong} -> yes
+            """
+        )
 
     def test_what_counts(self) -> None:
         """Each answer that a try failed counts, and after each that one was right, or is made so, none does."""
-        with serving("--tries", "2", clocked=True) as service:
-            service.enrol(ada="secret")
-            admin = service.client("admin")
-            for line, said in (
-                (f"verify ada {SECRET}", "yes"),
-                (f"login ada {SECRET}", "yes"),
-                (f"upgrade ada {SECRET}", "kept"),
-                (f"upgrade ada {SECRET} $fast$c=3", "upgraded"),
-                (f"change ada {SECRET} {SECRET}", "replaced"),
-                (f"reset ada {SECRET}", "replaced"),
-            ):
-                self.assertEqual(admin.ask(f"verify ada {WRONG}"), "no")
-                self.assertEqual(admin.ask(line), said)
-                self.assertEqual(admin.ask(f"verify ada {WRONG}"), "no", f"after {line}")
-                self.assertEqual(admin.ask(f"verify ada {SECRET}"), "yes", f"after {line}")
-            self.assertEqual(admin.ask(f"verify ada {WRONG}"), "no")
-            self.assertEqual(admin.ask(f"remove ada {SECRET}"), "removed")
-            self.assertEqual(
-                [admin.ask(f"verify ada {SECRET}") for _ in range(3)], ["absent", "absent", "later"]
-            )
-            self.assertEqual(admin.ask(f"enrol ada {SECRET}"), "enrolled")
-            self.assertEqual(admin.ask(f"verify ada {SECRET}"), "yes")
+        service = self.serving("--tries", "2", clocked=True)
+        service.enrol(ada="secret")
+        admin = service.client("admin")
+        for row in (
+            "verify ada {secret} -> yes",
+            "login ada {secret} -> yes",
+            "upgrade ada {secret} -> kept",
+            "upgrade ada {secret} $fast$c=3 -> upgraded",
+            "change ada {secret} {secret} -> replaced",
+            "reset ada {secret} -> replaced",
+        ):
+            right, wrong = "verify ada {secret} -> yes", "verify ada {wrong} -> no"
+            admin.talk("\n".join([wrong, row, wrong, right]))
+        admin.talk("verify ada {wrong} -> no\nremove ada {secret} -> removed")
+        admin.talk("verify ada {secret} -> absent\n" * 2)
+        admin.talk("verify ada {secret} -> later\nenrol ada {secret} -> enrolled")
+        admin.talk("verify ada {secret} -> yes")
 
     def test_guesses_at_once(self) -> None:
         """Guesses that are sent together are stopped too, but for those that the book has already."""
-        with serving("--tries", "3", "--at-once", "4", faults="slow=0.05", clocked=True) as service:
-            service.enrol(ada="secret")
-            enrolled = len(service.asked())
-            clients = [service.client() for _ in range(10)]
-            for client in clients:
-                client.send(f"a verify ada {WRONG}\n".encode() * 20)
-            said = [line for client in clients for line in client.lines(20)]
-            self.assertEqual(set(said), {b"a no", b"a later"})
-            self.assertTrue(
-                3 <= len(service.asked()) - enrolled <= 3 + 5,
-                f"{len(service.asked()) - enrolled} guesses",
-            )
+        service = self.serving("--tries", "3", "--at-once", "4", faults="slow=0.05", clocked=True)
+        service.enrol(ada="secret")
+        enrolled = len(service.asked())
+        clients = [service.client() for _ in range(10)]
+        for client in clients:
+            client.send(f"a verify ada {WRONG}\n" * 20)
+        said = {line for client in clients for line in client.lines(20)}
+        self.assertEqual(said, {b"a no", b"a later"})
+        self.assertIn(len(service.asked()) - enrolled, range(3, 3 + 5 + 1))
 
     def test_later_by_uid(self) -> None:
         """A person's failed tries at many names count together; those of a service don't."""
         need_root()
-        with tempfile.TemporaryDirectory() as room:
-            os.chmod(room, 0o755)
-            socket = f"--socket a {room}/s 0666 - verify --uid-tries 4".split()
-            with serving(*socket, clocked=True) as service:
-                service.enrol(ada="secret")
-                path = pathlib.Path(room, "s")
-                guesses = [f"verify n{number} {SECRET}" for number in range(6)]
-                right = f"verify ada {SECRET}"
-                self.assertEqual(
-                    as_user(4711, 4712, path, *guesses[:4], right), "noaccount " * 4 + "later"
-                )
-                self.assertEqual(as_user(33, 33, path, *guesses, right), "noaccount " * 6 + "yes")
-                for now in (1, 3):
-                    service.set_clock(now)
-                    self.assertEqual(
-                        as_user(4711, 4712, path, *guesses[:1], right), "noaccount later"
-                    )
-                self.assertEqual(as_user(4712, 4712, path, right), "yes")
-                others = [f"verify m{number} {SECRET}" for number in range(5)]
-                for uid, said in (
-                    (999, "yes"),
-                    (1000, "later"),
-                    (60000, "later"),
-                    (60001, "yes"),
-                    (65534, "yes"),
-                ):
-                    self.assertEqual(
-                        as_user(uid, uid, path, *others, right).split()[-1], said, f"uid {uid}"
-                    )
+        path = self.room() / "s"
+        socket = f"--socket a {path} 0666 - verify --uid-tries 4".split()
+        service = self.serving(*socket, clocked=True)
+        service.enrol(ada="secret")
+        guesses, right = [f"verify n{at} {SECRET}" for at in range(6)], f"verify ada {SECRET}"
+        said = as_user(4711, 4712, path, *guesses[:4], right)
+        self.assertEqual(said, "noaccount " * 4 + "later")
+        self.assertEqual(as_user(33, 33, path, *guesses, right), "noaccount " * 6 + "yes")
+        for now in (1, 3):
+            service.set_clock(now)
+            self.assertEqual(as_user(4711, 4712, path, guesses[0], right), "noaccount later")
+        self.assertEqual(as_user(4712, 4712, path, right), "yes")
+        people = {999: "yes", 1000: "later", 60000: "later", 60001: "yes", 65534: "yes"}
+        for uid, last in people.items():
+            said = as_user(uid, uid, path, *guesses[:5], right)
+            self.assertEqual(said.split()[-1], last, f"uid {uid}")
+
+
+class Limiters(Case):
+    """The limiter by itself; `clock` is its time."""
+
+    clock = 0.0
+
+    def setUp(self) -> None:
+        super().setUp()
+        self.enterContext(mock.patch.object(time, "monotonic", lambda: self.clock))
+
+    def remembering(self, count: int) -> None:
+        self.enterContext(mock.patch.object(limits, "REMEMBERED", count))
+        self.enterContext(mock.patch.object(log, "info"))
+
+    def tried(self, limiter: Limiter, *keys: str) -> None:
+        for key in keys:
+            limiter.fail(key)
 
     def test_others_dont_free_a_victim(self) -> None:
         """What is remembered has a bound: those who needn't wait are forgotten first, the oldest first."""
-        limiter = Limiter(10)
-        for _ in range(12):
-            limiter.fail("victim")
-        for number in range(limits.REMEMBERED + 1000):
-            limiter.fail(f"n{number}")
+        limiter, last = Limiter(10), limits.REMEMBERED + 999
+        self.tried(limiter, *["victim"] * 12, *(f"n{at}" for at in range(last + 1)))
         self.assertTrue(limiter.is_early("victim"))
         self.assertEqual(len(limiter.few) + len(limiter.many), limits.REMEMBERED)
-        self.assertTrue(
-            f"n{limits.REMEMBERED + 999}" in limiter.few and "n0" not in limiter.few,
-            "the newest went",
-        )
+        self.assertTrue(f"n{last}" in limiter.few and "n0" not in limiter.few)
 
     def test_all_may_wait(self) -> None:
         """If all who are remembered wait, the oldest goes."""
-        with mock.patch.object(limits, "REMEMBERED", 3), mock.patch.object(log, "info"):
-            limiter = Limiter(1)
-            for name in "abcd":
-                limiter.fail(name)
-            self.assertEqual(list(limiter.many), ["b", "c", "d"])
+        self.remembering(3)
+        limiter = Limiter(1)
+        self.tried(limiter, *"abcd")
+        self.assertEqual(list(limiter.many), ["b", "c", "d"])
 
     def test_expired_go_first(self) -> None:
         """What is an hour old goes before what isn't, though it had more tries."""
-        clock = 0.0
-        with (
-            mock.patch.object(limits, "REMEMBERED", 2),
-            mock.patch.object(time, "monotonic", lambda: clock),
-            mock.patch.object(log, "info"),
-        ):
-            limiter = Limiter(2)
-            limiter.fail("old")
-            limiter.fail("old")
-            clock = 4000.0
-            for name in ("one", "two"):
-                limiter.fail(name)
-            self.assertEqual((list(limiter.many), list(limiter.few)), ([], ["one", "two"]))
+        self.remembering(2)
+        limiter = Limiter(2)
+        self.tried(limiter, "old", "old")
+        self.clock = 4000.0
+        self.tried(limiter, "one", "two")
+        self.assertEqual((list(limiter.many), list(limiter.few)), ([], ["one", "two"]))
 
     def test_swept(self) -> None:
         """A sweep forgets what is an hour old, and nothing else; the end of a wait is logged."""
-        clock, limiter = 0.0, Limiter(2)
-        with mock.patch.object(time, "monotonic", lambda: clock):
-            with self.assertLogs(log, "INFO") as logged:
-                for clock, name in (
-                    (0.0, "a"),
-                    (0.0, "w"),
-                    (0.0, "w"),
-                    (1800.0, "b"),
-                    (3000.0, "v"),
-                ):
-                    limiter.fail(name)
-                limiter.fail("v")
-                clock = 3600.5
+        limiter = Limiter(2)
+        with self.assertLogs(log, "INFO") as logged:
+            for self.clock, keys in ((0.0, "aww"), (1800.0, "b"), (3000.0, "vv")):
+                self.tried(limiter, *keys)
+            for self.clock, waiting in ((3600.5, ["w", "v"]), (3601.5, ["v"])):
                 limiter.drop_expired()
-                self.assertEqual((list(limiter.few), list(limiter.many)), (["b"], ["w", "v"]))
-                clock = 3601.5
-                limiter.drop_expired()
-                self.assertEqual((list(limiter.few), list(limiter.many)), (["b"], ["v"]))
+                self.assertEqual((list(limiter.few), list(limiter.many)), (["b"], waiting))
         said = [it.getMessage() for it in logged.records]
         begun = [f"{name} has to wait after 2 failed tries" for name in "wv"]
         self.assertEqual(said, [*begun, "w has to wait no more: no failed try for an hour"])
 
     def test_tries_are_forgotten(self) -> None:
         """An hour after a wait was over its tries are forgotten, and not before; a wait has a bound."""
-        limiter, clock = Limiter(3), 0.0
-        with mock.patch.object(time, "monotonic", lambda: clock):
-            for clock, count, wait in (
-                *((1000.0, 1, 0), (1000.0, 2, 0), (1000.0, 3, 1), (1000.0, 4, 2)),
-                *((1002.0 + 3599, 5, 4), (4605.0 + 3600, 1, 0), (8205.0 + 3599, 2, 0)),
-            ):
-                limiter.fail("x")
-                found = limiter.many.get("x") or limiter.few["x"]
-                self.assertEqual((found.count, found.until), (count, clock + wait))
-            for _ in range(3000):
-                limiter.fail("x")
-            self.assertEqual(limiter.many["x"].until, clock + 900)
+        limiter = Limiter(3)
+        for self.clock, count, wait in (
+            *((1000.0, 1, 0), (1000.0, 2, 0), (1000.0, 3, 1), (1000.0, 4, 2)),
+            *((1002.0 + 3599, 5, 4), (4605.0 + 3600, 1, 0), (8205.0 + 3599, 2, 0)),
+        ):
+            limiter.fail("x")
+            found = limiter.many.get("x") or limiter.few["x"]
+            self.assertEqual((found.count, found.until), (count, self.clock + wait))
+        self.tried(limiter, *["x"] * 3000)
+        self.assertEqual(limiter.many["x"].until, self.clock + 900)
 
     def test_lowered(self) -> None:
         """A right password takes one try back, and ends a wait that is due to it."""
         limiter = Limiter(2)
-        for _ in range(3):
-            limiter.fail("x")
-        limiter.lower("x")
-        self.assertTrue(limiter.is_early("x"))
-        limiter.lower("x")
-        self.assertFalse(limiter.is_early("x"))
+        self.tried(limiter, "x", "x", "x")
+        for is_early in (True, False):
+            limiter.lower("x")
+            self.assertEqual(limiter.is_early("x"), is_early)
         limiter.fail("x")
         self.assertTrue(limiter.is_early("x"), "the other try was forgotten")
         for _ in range(5):
             limiter.lower("x")
         limiter.fail("x")
         self.assertFalse(limiter.is_early("x"), "tries are below none")
-
-
-if __name__ == "__main__":
-    unittest.main()

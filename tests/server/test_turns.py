@@ -12,107 +12,90 @@ from daemon.turns import Turns
 
 
 class Places(Case):
+    """Each line is a letter, and what was started is noted."""
+
     def setUp(self) -> None:
         super().setUp()
-        self.started: list[str] = []
-        self.gone: set[str] = set()
+        self.started, self.gone = "", ""
 
     def start(self, line: str) -> bool:
-        self.started.append(line)
+        self.started += line
         return line not in self.gone
 
-    def new(self) -> list[str]:
+    def new(self) -> str:
         """What was started since the last look."""
-        found, self.started[:] = list(self.started), []
+        found, self.started = self.started, ""
         return found
+
+    def turns(self, places: float, lines: str = "") -> Turns[str]:
+        """So many places, and the lines of one client of a user."""
+        turns: Turns[str] = Turns(places, self.start)
+        self.take(turns, 1, "one", lines)
+        return turns
+
+    def take(self, turns: Turns[str], user: int, client: str, lines: str, share: float = 1) -> None:
+        for line in lines:
+            turns.take(user, client, share, line)
+
+    def given_back(self, turns: Turns[str], count: int = 1, share: float = 1) -> str:
+        """What is started as so many shares are given back."""
+        for _ in range(count):
+            turns.give_back(share)
+        return self.new()
 
     def test_places(self) -> None:
         """A line starts at once while there is a place, and otherwise as one is given back."""
-        turns: Turns[str] = Turns(2.0, self.start)
-        for line in "abcd":
-            turns.take(1, "one", 1.0, line)
-        self.assertEqual(self.new(), ["a", "b"])
-        turns.give_back(1.0)
-        self.assertEqual(self.new(), ["c"])
-        turns.give_back(1.0)
-        turns.give_back(1.0)
-        self.assertEqual(self.new(), ["d"])
-        turns.take(1, "one", 1.0, "e")
-        self.assertEqual(self.new(), ["e"], "the place that nobody waited for")
-        turns.take(1, "one", 1.0, "f")
-        self.assertEqual(self.new(), [], "there are two places")
+        turns = self.turns(2, "abcd")
+        self.assertEqual(self.new(), "ab")
+        self.assertEqual(self.given_back(turns), "c")
+        self.assertEqual(self.given_back(turns, 2), "d")
+        self.take(turns, 1, "one", "e")
+        self.assertEqual(self.new(), "e", "the place that nobody waited for")
+        self.take(turns, 1, "one", "f")
+        self.assertEqual(self.new(), "", "there are two places")
 
     def test_turns(self) -> None:
         """Users take turns, then the clients of each; a client's lines come in their order."""
-        turns: Turns[str] = Turns(1.0, self.start)
-        for user, client, line in (
-            (0, "-", "first"),
-            (1, "a", "a1"),
-            (1, "a", "a2"),
-            (1, "a", "a3"),
-            (1, "b", "b1"),
-            (1, "b", "b2"),
-            (2, "c", "c1"),
-            (2, "c", "c2"),
-            (3, "d", "d1"),
-        ):
-            turns.take(user, client, 1.0, line)
-        for _ in range(9):
-            turns.give_back(1.0)
-        self.assertEqual(self.new(), ["first", "a1", "c1", "d1", "b1", "c2", "a2", "b2", "a3"])
+        turns = self.turns(1, "-")
+        for user, client, lines in ((2, "a", "ABC"), (2, "b", "mn"), (3, "c", "xy"), (4, "d", "!")):
+            self.take(turns, user, client, lines)
+        self.assertEqual(self.given_back(turns, 9), "-Ax!myBnC")
 
     def test_newcomers(self) -> None:
         """Who comes while others wait waits behind them, and has its turn before their second."""
-        turns: Turns[str] = Turns(1.0, self.start)
-        for line in ("x", "a1", "a2", "a3"):
-            turns.take(1, "a", 1.0, line)
-        turns.give_back(1.0)
-        turns.take(2, "b", 1.0, "b1")
-        turns.give_back(1.0)
-        turns.give_back(1.0)
-        self.assertEqual(self.new(), ["x", "a1", "a2", "b1"])
+        turns = self.turns(1, "-abc")
+        self.assertEqual(self.given_back(turns), "-a")
+        self.take(turns, 2, "two", "x")
+        self.assertEqual(self.given_back(turns, 2), "bx")
 
     def test_shares(self) -> None:
         """Lines that take a share of a place fit together; one that doesn't fit keeps its turn."""
-        turns: Turns[str] = Turns(1.0, self.start)
-        for line in "abcde":
-            turns.take(1, "one", 0.25, line)
-        self.assertEqual(self.new(), list("abcd"))
-        turns.take(2, "two", 1.0, "whole")
-        turns.give_back(0.25)
-        turns.give_back(0.25)
-        self.assertEqual(self.new(), ["e"])
-        turns.take(3, "three", 0.25, "small")
-        self.assertEqual(self.new(), [], "a small one came before the whole one's turn")
-        for _ in range(2):
-            turns.give_back(0.25)
-        self.assertEqual(self.new(), [])
-        turns.give_back(0.25)
-        self.assertEqual(self.new(), ["whole"])
-        turns.give_back(1.0)
-        self.assertEqual(self.new(), ["small"])
+        turns = self.turns(1)
+        self.take(turns, 1, "one", "abcde", share=0.25)
+        self.assertEqual(self.new(), "abcd")
+        self.take(turns, 2, "two", "W")
+        self.assertEqual(self.given_back(turns, 2, 0.25), "e")
+        self.take(turns, 3, "three", "s", share=0.25)
+        self.assertEqual(self.new(), "", "a small one came before the whole one's turn")
+        self.assertEqual(self.given_back(turns, 2, 0.25), "")
+        self.assertEqual(self.given_back(turns, 1, 0.25), "W")
+        self.assertEqual(self.given_back(turns), "s")
 
     def test_needless_lines(self) -> None:
         """A line that needn't be answered any more takes no place."""
-        turns: Turns[str] = Turns(1.0, self.start)
-        self.gone = {"a", "c", "d"}
-        for line in "abcde":
-            turns.take(1, "one", 1.0, line)
-        self.assertEqual(self.new(), ["a", "b"])
-        turns.give_back(1.0)
-        self.assertEqual(self.new(), ["c", "d", "e"])
-        turns.take(1, "one", 1.0, "f")
-        self.assertEqual(self.new(), [])
+        self.gone = "acd"
+        turns = self.turns(1, "abcde")
+        self.assertEqual(self.new(), "ab")
+        self.assertEqual(self.given_back(turns), "cde")
+        self.take(turns, 1, "one", "f")
+        self.assertEqual(self.new(), "")
 
     def test_rest(self) -> None:
         """What still waits can be taken out."""
-        turns: Turns[str] = Turns(1.0, self.start)
-        for user, line in ((1, "a"), (1, "b"), (2, "c"), (1, "d")):
-            turns.take(user, user, 1.0, line)
-        self.assertEqual(sorted(turns.rest()), ["b", "c", "d"])
-        self.assertEqual(turns.rest(), [])
-        turns.give_back(1.0)
-        self.assertEqual(self.new(), ["a"])
+        turns = self.turns(1, "abd")
+        self.take(turns, 2, "two", "c")
+        self.assertEqual((sorted(turns.rest()), turns.rest()), (["b", "c", "d"], []))
+        self.assertEqual(self.given_back(turns), "a")
 
 
 class RoundsOfChanges(Case):
@@ -205,7 +188,3 @@ class RoundsOfChanges(Case):
             self.assertEqual(self.sent, ["a", "b", "c"])
 
         asyncio.run(run())
-
-
-if __name__ == "__main__":
-    unittest.main()
