@@ -103,6 +103,10 @@ class Book:
 
     def answer(self, words: list[str]) -> str:
         operation, *fields = words
+        if operation == "disable" and fields[1:] == ["show"]:
+            record = self.records.get(fields.pop(0))
+            said = self.answer(words[:2])
+            return f"{words[1]}:{record}" if said == "disabled" else said
         count = len(fields) - FIELDS.get(operation, -1)
         if count not in ((0, 1) if operation in WITH_SETTING else (0,)):
             return "bad 11 line"

@@ -151,7 +151,8 @@ class Audited(Case):
             admin login ada {secret} -> yes
             admin load ada $fast$c=1$x$y -> ok
             admin rename ada bob -> renamed
-            admin disable bob -> disabled
+            admin disable bob show -> bob:$fast$c=1$x$y
+            admin disable bob -> absent
             admin delete bob -> deleted
             """
         )
@@ -178,6 +179,7 @@ class Audited(Case):
             admin load ada ok
             admin rename ada renamed
             admin disable bob disabled
+            admin disable bob absent
             admin delete bob deleted
             """
         said = [f"{it['door']} {it['operation']} {it['name']} {it['answer']}" for it in lines]

@@ -172,9 +172,11 @@ class Service:
         line.turns.give_back(line.share)
         if line.words[0] == b"known":
             said = b"yes" if said[:1] == b"$" else KNOWN.get(said, said)
-        self.tally.note(line.operation, line.name, line.client.uid, said.decode())
+        # What `disable NAME show` says is the record that it took away.
+        told = b"disabled" if line.words[0] == b"disable" and b":" in said else said
+        self.tally.note(line.operation, line.name, line.client.uid, told.decode())
         if line.operation.changes and self.audit:
-            self.note(line, said, partial(self.answer_written, line, said))
+            self.note(line, told, partial(self.answer_written, line, said))
         else:
             line.client.answer(line.tag, said)
         if is_login and said in HASHED:
