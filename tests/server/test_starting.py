@@ -23,13 +23,14 @@ class Starting(Case):
         """The book gets each option that is given, as it is given, and no other; new costs go before the setting."""
         room = self.room()
         book, noted, limits = room / "credkeep", room / "noted", "--at-once 3 --memory 1G"
+        most = "--most-memory 2G --most-work 400000"
         book.write_text(NOTES)
         book.chmod(0o755)
         (room / "users.db").touch()
         for options, wait, handed in (
             ("", "30", ""),
             ("--wait 7", "7", ""),
-            (f"{limits} --most-memory 2G", "30", f"{limits} --most-memory 2G"),
+            (f"{limits} {most}", "30", f"{limits} {most}"),
             ("--setting $one", "30", "--setting $one"),
             ("--upgrade $two$c=2", "30", "--setting $two$c=2"),
             ("--upgrade $two$c=2 --setting $one", "30", "--setting $two$c=2"),

@@ -72,6 +72,7 @@ class Options:
     at_once: int = 0
     memory: str = ""
     most_memory: str = ""
+    most_work: str = ""
     wait: int = 30
     credkeep: str = "credkeep"
 
@@ -85,6 +86,7 @@ class Options:
             "--at-once": self.at_once,
             "--memory": self.memory,
             "--most-memory": self.most_memory,
+            "--most-work": self.most_work,
             "--setting": self.upgrade or self.setting,
         }
         words = [self.credkeep, "--wait", self.wait, self.file, "serve", "--tagged"]
@@ -140,7 +142,8 @@ def parser() -> Parser:
         ("setting", "TEXT", str, "for credkeep: the costs of new records"),
         ("at-once", "N", count, "for credkeep: lines hashed at once; 0: processors"),
         ("memory", "SIZE", str, "for credkeep: memory for hashes, as 512M"),
-        ("most-memory", "SIZE", str, "for credkeep: the bound of a line's costs"),
+        ("most-memory", "SIZE", str, "for credkeep: the bound of a record's memory"),
+        ("most-work", "N", str, "for credkeep: that of its memory times passes"),
         ("wait", "SECONDS", seconds, "for credkeep: how long it waits for FILE"),
         ("credkeep", "PROGRAM", str, "another program than credkeep"),
     ]
