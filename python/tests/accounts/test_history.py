@@ -132,10 +132,7 @@ def some_order_of_part(events):
 def made(rng):
     """A small history: legal at first, and then bent a few times."""
     first = rng.choice([None, "r0"])
-    account = Account(
-        Operation("seed", "seed", "one", -math.inf, None, 1, -math.inf, "seed", None, first),
-        Operation("end", "end", None, 60.0, reply="end"),
-    )
+    account = Account(seed(first), Operation.end(None, 60.0))
     state = (first, "one" if first else None, 1)
     for number in range(rng.randint(1, 7)):
         kind = rng.choice(KINDS)
@@ -279,11 +276,11 @@ def operation(name, kind, called, answered, reply, before, after, password="one"
 
 
 def seed(record, password="one"):
-    return Operation("seed", "seed", password, -math.inf, None, 1, -math.inf, "seed", None, record)
+    return Operation.seed(record, password, 1)
 
 
 def end(record):
-    return Operation("end", "end", None, 99.0, reply="end", before=record, after=record)
+    return Operation.end(record, 99.0)
 
 
 class Said(unittest.TestCase):
@@ -471,31 +468,10 @@ class Said(unittest.TestCase):
         for count in (5_000, 40_000):
             ops, record = [], "r0"
             for number in range(count):
-                put = f"r{number + 1}"
-                ops.append(
-                    operation(
-                        f"o{number}",
-                        "change",
-                        number,
-                        number + 9,
-                        "replaced",
-                        record,
-                        put,
-                        "one",
-                        "one",
-                    )
-                )
-                ops.append(
-                    operation(
-                        f"v{number}",
-                        "verify",
-                        number,
-                        number + 9,
-                        "yes",
-                        record,
-                        record,
-                    )
-                )
+                put, span = f"r{number + 1}", (number, number + 9)
+                change = (*span, "replaced", record, put, "one", "one")
+                ops.append(operation(f"o{number}", "change", *change))
+                ops.append(operation(f"v{number}", "verify", *span, "yes", record, record))
                 record = put
             account = Account(seed("r0"), end(record), ops)
             account.end.called = account.end.called + count

@@ -74,10 +74,7 @@ class Round:
         record = hashers.make_password("old")
         Argon2PasswordHasher.memory_cost = NEW
         self.user = self.model.objects.create(username=self.name, password=record)
-        now = time.monotonic()
-        seed = Operation("seed", "seed", "old", now, costs=OLD, answered=now)
-        seed.after, seed.reply = record, "enrolled"
-        self.seed, self.operations = seed, []
+        self.seed, self.operations = Operation.seed(record, "old", OLD), []
 
     def operate(self, barrier):
         """One operation, in a thread of its own."""
@@ -143,9 +140,7 @@ class Round:
             operation.reply = "changed"
 
     def check(self):
-        now = time.monotonic()
-        end = Operation("end", "end", None, now, answered=now, reply="end")
-        end.before = end.after = self.read().password
+        end = Operation.end(self.read().password, time.monotonic())
         check(Account(self.seed, end, self.operations))
 
     check_password, set_password = map(

@@ -41,6 +41,21 @@ class Operation:
     attempts: list[Attempt] = field(default_factory=list)
     found_out: bool = False
 
+    @classmethod
+    def seed(cls, record: Record, password: Optional[str], costs: float = 0) -> Operation:
+        """What stood at first."""
+        first = -math.inf
+        made = cls("seed", "seed", password, first, costs=costs, answered=first)
+        made.reply, made.after = "seed", record
+        return made
+
+    @classmethod
+    def end(cls, record: Record, time: float) -> Operation:
+        """What stands when all is over."""
+        made = cls("end", "end", None, time, reply="end")
+        made.before = made.after = record
+        return made
+
     @property
     def makes_change(self) -> bool:
         return self.reply in CHANGES or (self.kind == "seed" and self.after is not None)
@@ -73,8 +88,7 @@ class _Conflict(Exception):
 def conflict(events: Sequence[Operation]) -> Optional[str]:
     """Why these operations have no legal order, or None if they have one."""
     try:
-        chains, others = _Records(events).chains()
-        _side_by_side(chains, others)
+        _one_after_another(_Records(events).spans())
     except _Conflict as found:
         return str(found)
     return None
@@ -103,7 +117,11 @@ def possible(
 
 
 class _Span(NamedTuple):
-    """From the first answer of a chain to its last call, or the other way round."""
+    """The first answer and the last call of a chain, or of an operation at no record.
+
+    Of two spans one can come before the other if its last call isn't after the other's
+    first answer.
+    """
 
     first: float
     last: float
@@ -128,13 +146,10 @@ class _Records:
                 self.looks[it.before].append(it)
         for it in events:
             self._judge(it)
-            by = (
-                self.replacer.get(it.before) if it.before and it.kind == "end" else None
-            )
+            by = self.replacer.get(it.before or "") if it.kind == "end" else None
             if by is not None:
-                raise _Conflict(
-                    f"{by.id} replaced {it.before}, which stands at the end"
-                )
+                said = f"{by.id} replaced {it.before}, which stands at the end"
+                raise _Conflict(said)
 
     def _note_change(self, it: Operation) -> None:
         if it.after is not None:
@@ -162,19 +177,19 @@ class _Records:
                 f"{it.id} was answered {it.reply}, and put {it.after or 'no record'}"
             )
 
-    def chains(self) -> tuple[list[_Span], list[_Span]]:
+    def spans(self) -> list[_Span]:
         """The spans of the chains, and of what was done where no record stood."""
         records = self.maker.keys() | self.replacer.keys() | self.looks.keys()
-        chains, walked = [], 0
+        spans, walked = [], 0
         for record in records:
             maker = self.maker.get(record)
             if maker is None or maker.before is None:
                 span, length = self._walk(record, maker)
-                chains.append(span)
+                spans.append(span)
                 walked += length
         if walked < len(records):
             raise _Conflict("records replaced each other in a ring")
-        return chains, [_Span(it.answered, it.called, it.id) for it in self.at_none]
+        return spans + [_Span(it.answered, it.called, it.id) for it in self.at_none]
 
     def _walk(self, record: str, maker: Optional[Operation]) -> tuple[_Span, int]:
         """A chain's span and number of records, if the earliest moments are in time."""
@@ -204,22 +219,15 @@ def _too_early(it: Operation, late: Optional[Operation]) -> str:
     return f"{it.id} was answered before {name} was called, and can come after it alone"
 
 
-def _side_by_side(chains: Iterable[_Span], others: Iterable[_Span]) -> None:
-    """Refuses two chains at a time, and what lies within a chain that isn't its own."""
-    chains = list(chains)
-    firm = sorted(it for it in chains if it.first < it.last)
-    for one, two in zip(firm, firm[1:]):
-        if two.first < one.last:
-            raise _Conflict(f"{one.name} and {two.name} stand at a time")
-    loose = [*(it for it in chains if it.first >= it.last), *others]
-    loose.sort(key=lambda it: it.last)
-    place = 0
-    for it in loose:
-        while place < len(firm) and firm[place].last <= it.last:
-            place += 1
-        if (
-            place < len(firm)
-            and firm[place].first < it.last
-            and it.first < firm[place].last
-        ):
-            raise _Conflict(f"{it.name} lies within {firm[place].name}")
+def _one_after_another(spans: list[_Span]) -> None:
+    """Refuses two spans of which neither can come before the other.
+
+    If each two have an order, that of their middles is one of all: of two that can come
+    in one order alone, the later one's middle is later too.
+    """
+    spans.sort(key=lambda it: it.first + it.last)
+    latest = _Span(-math.inf, -math.inf, "")
+    for it in spans:
+        if latest.last > it.first:
+            raise _Conflict(f"{latest.name} and {it.name} stand at a time")
+        latest = max(latest, it, key=lambda span: span.last)

@@ -13,11 +13,10 @@ other schemes, and an upgrade that keeps dearer costs, as it covers the five ope
 Why the check is exact. Each record has a fresh salt, so it stands during one period,
 and each change names the record that it replaces. So the changes of an account fall
 into chains, and the order within a chain is given: it can be kept if and only if the
-earliest moments, taken one after another, are in time. From its first answer to its
-last call a chain surely stands (if that answer is the earlier of the two; otherwise the
-chain fits into one moment). There are moments for all if and only if no two such spans
-overlap and nothing else has to lie inside one. Sorting apart, this takes time in
-proportion to the history. The part that is shown of an illegal one is found by leaving
+earliest moments, taken one after another, are in time. A chain can come before another,
+or before what was done where no record stood, if and only if none of its calls is after
+one of the other's answers. There are moments for all if and only if each two have an
+order. Sorting apart, this takes time in proportion to the history. The part that is shown of an illegal one is found by leaving
 out halves, quarters and so on for as long as the rest is refused.
 
 What an operation without an answer was about to commit is no evidence that it read what

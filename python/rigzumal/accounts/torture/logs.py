@@ -49,18 +49,10 @@ def _read(paths: Iterable[str]) -> dict[Any, Account]:
         for line in _lines(path):
             event = line["event"]
             if event == "seed":
-                seeds[line["key"]] = _seed(line)
+                given = line["record"], line["password"], line["costs"]
+                seeds[line["key"]] = Operation.seed(*given)
             elif event == "end":
-                stands = line["record"]
-                ends[line["key"]] = Operation(
-                    "end",
-                    "end",
-                    None,
-                    line["time"],
-                    reply="end",
-                    before=stands,
-                    after=stands,
-                )
+                ends[line["key"]] = Operation.end(line["record"], line["time"])
             elif event == "call":
                 operations[line["id"]] = (line["key"], _called(line))
             else:
@@ -86,19 +78,6 @@ def _lines(path: str) -> Iterable[dict[str, Any]]:
             if not line.endswith(b"\n"):
                 return
             yield json.loads(line)
-
-
-def _seed(line: dict[str, Any]) -> Operation:
-    return Operation(
-        "seed",
-        "seed",
-        line["password"],
-        -math.inf,
-        costs=line["costs"],
-        answered=-math.inf,
-        reply="seed",
-        after=line["record"],
-    )
 
 
 def _called(line: dict[str, Any]) -> Operation:
