@@ -1,6 +1,7 @@
 """Operations a second on private servers, beside a plain UPDATE with no comparison.
 
-    PYTHONPATH=python python3 python/tests/accounts/bench.py [sqlite] [postgres] [mariadb] [galera] [--seconds 10] [--turns 10] [--processes 1,4,8,16]
+    python3 python/tests/accounts/bench.py [sqlite] [postgres] [mariadb] [galera] [--logins]
+                                           [--seconds 10] [--turns 10] [--processes 1,4,8,16]
 
 Prints the tables of docs/SCALE.md in Markdown, in some half an hour for all engines:
 operations a second under costs that are next to nothing (64 KiB), so that what is seen
@@ -8,7 +9,8 @@ is the database; the statements of an operation, with the time of each; and the
 database's share of an operation under 64 MiB. A thousand accounts, a connection for
 each process. The rows of a table take turns, ten times each, so that what else the
 machine does is in all of them. "change in a transaction" is a change as of an engine
-that has no statement for all of it.
+that has no statement for all of it. With --logins there are a login and a plain one alone, in
+some three minutes for three engines with one and four processes.
 """
 
 import argparse
@@ -33,6 +35,7 @@ CHANGE, PLAIN, BRACED = "change", "plain UPDATE", "plain UPDATE in BEGIN, COMMIT
 SEVERAL = "change in a transaction"
 LOGIN, LOOK = "login", "plain login"
 ROWS = ("hash", LOOK, LOGIN, "login 95, change 5", CHANGE, SEVERAL, PLAIN, BRACED)
+LOGINS = (LOOK, LOGIN)
 
 
 def connect(url, number=0):
@@ -136,25 +139,24 @@ def measured(url, row, processes, seconds):
     return sum(map(float, found))
 
 
-def table(engine, url, counts, seconds, turns):
-    """The rows of an engine, and what a change has of a plain UPDATE's throughput."""
+def table(engine, url, rows, counts, seconds, turns):
+    """The rows of an engine, and what ours have of a plain one's throughput."""
     print(f"\n| {engine} |", " | ".join(f"{it}" for it in counts), "|")
     print("|---|" + "---|" * len(counts))
-    figures = {(row, count): [] for row in ROWS for count in counts}
+    figures = {(row, count): [] for row in rows for count in counts}
     for count in counts:
         for _ in range(turns):
-            for row in ROWS:
+            for row in rows:
                 found = measured(url, row, count, seconds / turns)
                 figures[row, count].append(found)
     middle = {it: statistics.median(found) for it, found in figures.items()}
-    for row in ROWS:
+    for row in rows:
         text = " | ".join(f"{middle[row, it]:.0f}" for it in counts)
         print(f"| {row} | {text} |")
-    for row in (PLAIN, BRACED):
-        parts = (f"{middle[CHANGE, it] / middle[row, it]:.2f}" for it in counts)
-        print(f"| change of a {row} | {' | '.join(parts)} |", flush=True)
-    parts = (f"{middle[LOGIN, it] / middle[LOOK, it]:.2f}" for it in counts)
-    print(f"| login of a {LOOK} | {' | '.join(parts)} |", flush=True)
+    for ours, plain in ((CHANGE, PLAIN), (CHANGE, BRACED), (LOGIN, LOOK)):
+        if ours in rows:
+            parts = (f"{middle[ours, it] / middle[plain, it]:.2f}" for it in counts)
+            print(f"| {ours} of a {plain} | {' | '.join(parts)} |", flush=True)
 
 
 def statements(url):
@@ -269,7 +271,7 @@ def url_of(engine):
     if engine == "postgres":
         return servers.PostgresServer("bench-postgres").start().url
     if engine == "mariadb":
-        return servers.MariaServer("bench-mariadb").start().create_database().url
+        return servers.MariaServer("bench-mariadb").start().url
     places = ",".join(f"127.0.0.1:{node.port}" for node in servers.galera())
     return f"mysql://store:store@{places}/store"
 
@@ -277,6 +279,7 @@ def url_of(engine):
 def main():
     words = argparse.ArgumentParser()
     words.add_argument("engines", nargs="*")
+    words.add_argument("--logins", action="store_true")
     words.add_argument("--seconds", type=float, default=10.0)
     words.add_argument("--turns", type=int, default=10)
     words.add_argument("--processes", default="1,4,8,16")
@@ -290,11 +293,15 @@ def main():
             print(f"{engine} is skipped: {reason}", file=sys.stderr)
             continue
         fill(url)
-        table(engine, url, counts, given.seconds, given.turns)
+        rows = LOGINS if given.logins else ROWS
+        table(engine, url, rows, counts, given.seconds, given.turns)
+        if given.logins:
+            continue
         ends.append(f"| {engine} | {statements(url)} | {share(url)} |")
-    print("\n| Engine | Statements, with ms | The database's share under 64 MiB |")
-    print("|---|---|---|", *ends, sep="\n")
-    times()
+    if ends:
+        print("\n| Engine | Statements, with ms | The database's share under 64 MiB |")
+        print("|---|---|---|", *ends, sep="\n")
+        times()
     load, took = os.getloadavg()[0], time.monotonic() - begun
     print(f"{os.cpu_count()} processors, a load of {load:.1f}; it took {took:.0f} s.")
 

@@ -1,115 +1,158 @@
-"""What the tests on each engine share: a server begun once a run, a table, accounts over it."""
+"""The engines, each with what is its own: settings, errors, and what an operation sends."""
 
-import contextlib
+import asyncio
 import sqlite3
-import unittest
 
-from support import LOW
 import servers
-from rigzumal.accounts import Accounts, PerThread
-from rigzumal.accounts.parts import Request
-
-SERVERS = {}
-
-
-def server(kind):
-    """A server for all tests of a run; a skipped test if it isn't there."""
-    if kind not in SERVERS:
-        try:
-            made = kind("engines-" + kind.__name__).start()
-            if kind is servers.MariaServer:
-                made.create_database()
-            SERVERS[kind] = made
-        except servers.Missing as reason:
-            SERVERS[kind] = reason
-    if isinstance(SERVERS[kind], servers.Missing):
-        raise SERVERS[kind]
-    return SERVERS[kind]
+from support import LOW, Awaiting
+from rigzumal.accounts import AsyncAccounts, MariaDB, MySQL, Postgres, Sqlite
+from rigzumal.accounts.pools import PerUse
 
 
-class SqliteFile:
-    """A file of SQLite, in the place of a server."""
+class OnSqlite:
+    kind, dialect = servers.SqliteFile, Sqlite("users", "name", "record")
+    broken = sqlite3.OperationalError("disk I/O error")
+    again = lost_look = sqlite3.OperationalError("database is locked")
+    # What is sent: a change at once, in a transaction, and an answer that is confirmed.
+    one = several = confirmed = "BEGIN UPDATE SELECT COMMIT"
+    levels = ("SELECT 1",)
+    keys = (("BIGINT", int, 7), ("BLOB", bytes, b"\0\xff"))
+    shouting = (
+        "CREATE TRIGGER tr AFTER UPDATE ON users WHEN NEW.record LIKE '%m=%' BEGIN"
+        " UPDATE users SET record = upper(NEW.record) WHERE name = NEW.name; END",
+    )
 
-    count = 0
-
-    def __init__(self, name):
-        SqliteFile.count += 1
-        self.path = servers.ROOM / f"{name}{SqliteFile.count}.db"
-
-    def start(self):
-        with contextlib.closing(self.connect()) as conn:
-            conn.execute("PRAGMA journal_mode = WAL")
-        return self
-
-    def connect(self, autocommit=True, **more):
-        given = {"timeout": 5, "isolation_level": None if autocommit else "", **more}
-        return sqlite3.connect(self.path, check_same_thread=False, **given)
-
-
-class Base(unittest.TestCase):
-    kind = None
-    dialect = None
-
-    def setUp(self):
-        self.server = server(self.kind)
-        self.conn = self.server.connect()
-        self.addCleanup(self.conn.close)
-        self.execute("DROP TABLE IF EXISTS users")
-
-    def execute(self, sql, *values, conn=None):
-        cursor = (conn or self.conn).cursor()
-        if self.kind is SqliteFile:
-            sql = sql.replace("%s", "?")
-        cursor.execute(sql, values)
-        rows = cursor.fetchall() if cursor.description else []
-        cursor.close()
-        return [tuple(row) for row in rows]
-
-    def table(self, record="VARCHAR(512)", more="", key="VARCHAR(150)"):
-        self.execute("DROP TABLE IF EXISTS users")
-        self.execute(f"CREATE TABLE users (name {key} PRIMARY KEY, record {record}) {more}")
-
-    def accounts(self, hasher=LOW, dialect=None, **more):
-        connect = more.pop("connect", self.server.connect)
-        pool = PerThread(connect)
-        self.addCleanup(pool.close)
-        return Accounts(pool, dialect or self.dialect, hasher, **{"patience": 5.0, **more})
-
-    def put(self, record, name="ann"):
-        self.execute("DELETE FROM users WHERE name = %s", name)
-        self.execute("INSERT INTO users VALUES (%s, %s)", name, record)
-
-    def stands(self, name="ann"):
-        ((record,),) = self.execute("SELECT record FROM users WHERE name = %s", name)
-        return record
-
-    def worked(self, accounts, kind, password, new=""):
-        return accounts.work(accounts.begin(Request(kind, "ann", password, new)))
-
-    def said(self, accounts):
-        return "; ".join(map(str, accounts.examine()))
-
-    def tried_bytes(self, stands, copy):
-        """The copy is another text, and another under the column's collation alone."""
-        self.put(stands)
-        count = self.execute_count(self.dialect.update, ("x", "ann", copy))
-        self.assertEqual(count, 0, f"{stands!r} passes for {copy!r}")
-        count = self.execute_count(self.dialect.update, ("x", "ann", stands))
-        self.assertEqual(count, 1)
-
-    def execute_count(self, sql, values):
-        cursor = self.conn.cursor()
-        cursor.execute(sql, values)
-        count = cursor.rowcount
-        cursor.close()
-        return count
+    def as_dictionaries(self):
+        conn = self.connect()
+        conn.row_factory = sqlite3.Row
+        return conn
 
 
-@contextlib.contextmanager
-def closing_after_errors(conn):
-    """The smallest pool's way with a connection."""
-    try:
-        yield conn
-    except BaseException:
-        conn.close()
-        raise
+class OnPostgres:
+    kind, dialect = servers.PostgresServer, Postgres("users", "name", "record")
+    broken = lost_look = ConnectionError("planted")
+    one, several, confirmed = "UPDATE", "BEGIN UPDATE COMMIT", "BEGIN UPDATE COMMIT"
+    levels = tuple(
+        f"SET default_transaction_isolation = '{it}'"
+        for it in ("repeatable read", "serializable", "read committed")
+    )
+    keys = (("bigint", int, 7), ("smallint", int, 7), ("bytea", bytes, b"\0\xff"))
+    check_number = "23514"
+    lock_timeout = "SET lock_timeout = '300ms'"
+    statement_timeout = "SET statement_timeout = '200ms'"
+    shouting = (
+        "CREATE OR REPLACE FUNCTION shout() RETURNS trigger LANGUAGE plpgsql AS"
+        " 'BEGIN NEW.record = upper(NEW.record); RETURN NEW; END'",
+        "CREATE TRIGGER tr BEFORE UPDATE ON users FOR EACH ROW EXECUTE FUNCTION shout()",
+    )
+
+    @property
+    def again(self):
+        return servers.psycopg.errors.DeadlockDetected("planted")
+
+    def end_sessions(self):
+        self.execute(
+            "SELECT pg_terminate_backend(pid) FROM pg_stat_activity"
+            " WHERE pid <> pg_backend_pid() AND datname = 'store'"
+        )
+
+    def as_dictionaries(self):
+        from psycopg.rows import dict_row
+
+        return self.connect(row_factory=dict_row)
+
+    def of_role(self, grants):
+        """What connects as a role that may do this alone."""
+        for sql in ("DROP OWNED BY looker", "DROP ROLE looker"):
+            try:
+                self.execute(sql)
+            except servers.psycopg.errors.UndefinedObject:
+                pass
+        self.execute("CREATE ROLE looker LOGIN")
+        self.execute(f"GRANT {grants} ON users TO looker")
+        url = self.server.url.replace("store@", "looker@")
+        return lambda: servers.psycopg.connect(url, autocommit=True)
+
+
+class OnMariaDB:
+    kind, dialect = servers.MariaServer, MariaDB("users", "name", "record")
+    broken = lost_look = ConnectionError("planted")
+    one, several = "BEGIN", "START UPDATE SELECT COMMIT"
+    confirmed = "START UPDATE UPDATE SELECT COMMIT"
+    levels = tuple(
+        f"SET SESSION TRANSACTION ISOLATION LEVEL {it}"
+        for it in ("REPEATABLE READ", "SERIALIZABLE", "READ COMMITTED")
+    )
+    keys = (("BIGINT", int, 7), ("VARBINARY(16)", bytes, b"\0\xff"))
+    check_number = "4025"
+    lock_timeout = "SET innodb_lock_wait_timeout = 1"
+    statement_timeout = "SET SESSION max_statement_time = 0.2"
+    shouting = (
+        "CREATE TRIGGER tr BEFORE UPDATE ON users"
+        " FOR EACH ROW SET NEW.record = UPPER(NEW.record)",
+    )
+
+    @property
+    def again(self):
+        return servers.pymysql.err.OperationalError(1213, "planted")
+
+    def end_sessions(self):
+        for (number,) in self.execute(
+            "SELECT id FROM information_schema.processlist"
+            " WHERE id <> CONNECTION_ID() AND user = 'store'"
+        ):
+            self.execute(f"KILL {number}")
+
+    def as_dictionaries(self):
+        from pymysql.cursors import DictCursor
+
+        return self.connect(cursorclass=DictCursor)
+
+    def of_role(self, grants):
+        """What connects as a user who may do this alone."""
+        self.server.as_root(
+            "DROP USER IF EXISTS looker@'127.0.0.1'",
+            f"CREATE USER looker@'127.0.0.1' IDENTIFIED BY '{self.server.password}'",
+            f"GRANT {grants} ON store.users TO looker@'127.0.0.1'",
+        )
+        return lambda: self.connect(user="looker")
+
+
+class OnMySQL(OnMariaDB):
+    kind, dialect = servers.MySqlServer, MySQL("users", "name", "record")
+    one = OnMariaDB.several
+    check_number = "3819"
+    statement_timeout = OnMariaDB.lock_timeout  # max_execution_time is of SELECT alone
+
+
+class Awaited:
+    """AsyncAccounts, each of whose operations is run to its end."""
+
+    def __init__(self, accounts):
+        self.core = accounts
+
+    def __getattr__(self, name):
+        found = getattr(self.core, name)
+        if name.startswith("_") or not asyncio.iscoroutinefunction(found):
+            return found
+        return lambda *given, **named: asyncio.run(found(*given, **named))
+
+
+class OnSqliteTasks(OnSqlite):
+    """The same for asyncio."""
+
+    async def awaiting(self):
+        return Awaiting(self.connect())
+
+    def accounts(self, hasher=LOW, **more):
+        pool, given = PerUse(self.awaiting), {"patience": 5.0, **more}
+        return Awaited(AsyncAccounts(pool, self.dialect, hasher, **given))
+
+
+class OnPostgresTasks(OnPostgres):
+    """The same for asyncio."""
+
+    async def awaiting(self):
+        return await servers.psycopg.AsyncConnection.connect(self.server.url, autocommit=True)
+
+    accounts = OnSqliteTasks.accounts

@@ -1,111 +1,168 @@
-"""What every engine does: one class of tests, run over each.
+"""What every engine does: classes of tests, run over each by test_engines.py.
 
-A dialect of one's own is tried by a subclass with its `kind` (a server that is started,
-and connects) and its `dialect`.
+A dialect of one's own is tried by a subclass of these with what `engines.py` says of an engine:
+its `kind` (a server that is started, and connects), its `dialect`, and its settings.
 """
 
+import contextlib
 import threading
 import time
+import traceback
+from unittest import mock
 
-import engines
-from support import HIGH, LOW, sent
-from rigzumal.accounts import OutcomeUnknown, Reply, StoreFault, Unavailable
-from rigzumal.accounts.parts import Kind
+from support import HIGH, LOW, READS, after_hash, in_threads, losing, sent
+from rigzumal.accounts import Accounts, OutcomeUnknown, Reply, StoreFault, Unavailable
+from rigzumal.accounts.parts import NO_ROW, Kind, Request, Ticket
+
+CHANGES = (
+    (Kind.CHANGE, ("one", "two")),
+    (Kind.UPGRADE, ("one", "")),
+    (Kind.REMOVE, ("one", "")),
+    (Kind.RESET, ("", "two")),
+)
 
 
 class Operations:
-    """Each operation, on a sound table and beside others."""
+    """Each operation, for threads and for asyncio."""
 
-    def test_operations(self):
-        """All operations on a sound table."""
-        self.execute(self.dialect.create())
-        self.execute(self.dialect.insert, "ann")
-        accounts, dearer = self.accounts(), self.accounts(HIGH)
+    def test_replies_and_records(self):
+        """Each operation at no account, no record and a record, with each password."""
+        accounts, table = self.accounts(HIGH), []
         self.assertEqual(accounts.examine(), [])
-        for act, wanted in (
-            (lambda: accounts.verify("ann", "one"), Reply.ABSENT),
-            (lambda: accounts.enrol("ann", "one"), Reply.ENROLLED),
-            (lambda: accounts.enrol("ann", "one"), Reply.EXISTS),
-            (lambda: accounts.verify("ann", "one"), Reply.YES),
-            (lambda: accounts.verify("ann", "two"), Reply.NO),
-            (lambda: accounts.verify("bob", "two"), Reply.NO_ACCOUNT),
-            (lambda: accounts.verify("a\0b", "two"), Reply.NO_ACCOUNT),
-            (lambda: accounts.change("ann", "two", "x"), Reply.WRONG),
-            (lambda: accounts.change("ann", "one", "two"), Reply.REPLACED),
-            (lambda: dearer.login("ann", "two"), Reply.YES),
-            (lambda: dearer.upgrade("ann", "two"), Reply.KEPT),
-            (lambda: accounts.login("ann", "two"), Reply.YES),
-            (lambda: accounts.reset("ann", "three"), Reply.REPLACED),
-            (lambda: accounts.remove("ann", "two"), Reply.WRONG),
-            (lambda: accounts.remove("ann", "three"), Reply.REMOVED),
-            (lambda: accounts.verify("ann", "three"), Reply.ABSENT),
+        for kind in READS:
+            table += [(kind, NO_ROW, "one", Reply.NO_ACCOUNT)]
+            table += [(kind, None, "one", Reply.ABSENT)]
+            wrong = Reply.NO if kind is Kind.VERIFY else Reply.WRONG
+            table += [(kind, "one", "two", wrong), (kind, "one", "", wrong)]
+        table += [
+            (Kind.VERIFY, "one", "one", Reply.YES),
+            (Kind.CHANGE, "one", "one", Reply.REPLACED),
+            (Kind.UPGRADE, "one", "one", Reply.UPGRADED),
+            (Kind.REMOVE, "one", "one", Reply.REMOVED),
+            (Kind.ENROL, NO_ROW, "one", Reply.NO_ACCOUNT),
+            (Kind.ENROL, None, "one", Reply.ENROLLED),
+            (Kind.ENROL, "one", "one", Reply.EXISTS),
+            (Kind.RESET, NO_ROW, "", Reply.NO_ACCOUNT),
+            (Kind.RESET, None, "", Reply.ENROLLED),
+            (Kind.RESET, "one", "", Reply.REPLACED),
+        ]
+        passwords = {Kind.CHANGE: "new", Kind.RESET: "new"}
+        for kind, copy, password, reply in table:
+            with self.subTest(kind=kind, copy=copy, password=password):
+                name = "nobody" if copy is NO_ROW else "ann"
+                record = LOW.hash(copy) if isinstance(copy, str) else None
+                self.put(record)
+                answer = accounts.perform(Request(kind, name, password, "new"))
+                self.assertIs(answer.reply, reply)
+                self.assertEqual(answer.before, copy if copy is NO_ROW else record)
+                if copy is not NO_ROW:
+                    self.assertEqual(answer.after, self.stands())
+                if reply is Reply.REMOVED:
+                    self.assertIsNone(self.stands())
+                elif reply.makes_change:
+                    self.assertNotEqual(self.stands(), record)
+                    self.assertTrue(self.is_right(passwords.get(kind, password)))
+                    self.assertIn("m=128,", self.stands())
+                else:
+                    self.assertEqual(self.stands(), record)
+
+    def test_each_method(self):
+        """A login answers as a verify, and replaces a record of lower costs."""
+        low, high = self.accounts(), self.accounts(HIGH)
+        self.execute(self.dialect.insert, "ann")
+        for act, wanted, memory in (
+            (lambda: low.login("ann", "one"), Reply.ABSENT, None),
+            (lambda: low.verify("a\0b", "one"), Reply.NO_ACCOUNT, None),
+            (lambda: low.login("bob", "one"), Reply.NO_ACCOUNT, None),
+            (lambda: low.enrol("ann", "one"), Reply.ENROLLED, "m=64,"),
+            (lambda: low.enrol("ann", "one"), Reply.EXISTS, "m=64,"),
+            (lambda: low.verify("ann", "one"), Reply.YES, "m=64,"),
+            (lambda: low.change("ann", "one", "two"), Reply.REPLACED, "m=64,"),
+            (lambda: high.login("ann", "one"), Reply.NO, "m=64,"),
+            (lambda: high.login("ann", "two"), Reply.YES, "m=128,"),
+            (lambda: high.upgrade("ann", "two"), Reply.KEPT, "m=128,"),
+            (lambda: low.login("ann", "two"), Reply.YES, "m=128,"),
+            (lambda: low.reset("ann", "three"), Reply.REPLACED, "m=64,"),
+            (lambda: low.remove("ann", "three"), Reply.REMOVED, None),
         ):
             self.assertIs(act(), wanted)
-        self.assertIsNone(self.stands())
-
-    def test_a_slow_login(self):
-        self.table()
-        self.put(LOW.hash("old"))
-        accounts = self.accounts(HIGH)
-        slow = self.worked(accounts, Kind.UPGRADE, "old")
-        self.assertIs(accounts.change("ann", "old", "new"), Reply.REPLACED)
-        record = self.stands()
-        answer = accounts.commit(slow)
-        self.assertIs(answer.reply, Reply.CHANGED)
-        self.assertEqual(answer.after, record)
-        self.assertEqual(self.stands(), record)
+            self.assertIn(memory or "None", str(self.stands()))
 
     def test_each_change_compares(self):
-        """Whatever changes a record changes it at the copy alone."""
-        self.table()
+        """What was worked out at a record that is gone is put by no operation: a slow login
+        undoes no change."""
         accounts = self.accounts(HIGH)
-        for kind, given in (
-            (Kind.CHANGE, ("one", "two")),
-            (Kind.UPGRADE, ("one", "")),
-            (Kind.REMOVE, ("one", "")),
-            (Kind.RESET, ("", "two")),
-        ):
+        for kind, given in CHANGES:
             self.put(LOW.hash("one"))
             slow = self.worked(accounts, kind, *given)
-            for stands in (LOW.hash("another"), None):
+            self.assertTrue(slow.reply.makes_change)
+            for stands in (LOW.hash("another"), LOW.hash("one"), None):
                 self.put(stands)
                 with self.subTest(kind=kind, stands=stands):
                     answer = accounts.commit(slow)
                     self.assertIs(answer.reply, Reply.CHANGED)
+                    self.assertEqual((answer.before, answer.after), (stands, stands))
                     self.assertEqual(self.stands(), stands)
+        for kind, given in ((Kind.ENROL, ("x", "")), (Kind.RESET, ("", "x"))):
+            self.put(None)
+            slow = self.worked(accounts, kind, *given)
+            self.put(LOW.hash("another"))
+            self.assertIs(accounts.commit(slow).reply, Reply.CHANGED)
+            self.assertTrue(self.is_right("another"))
+        for kind in (Kind.VERIFY, Kind.CHANGE, Kind.RESET):
+            self.put(LOW.hash("one"))
+            worked = self.worked(accounts, kind, "one", "two")
+            self.execute("DELETE FROM users")
+            answer = accounts.commit(worked)
+            self.assertEqual((answer.reply, answer.after), (Reply.NO_ACCOUNT, NO_ROW))
 
-    def test_nulls(self):
-        self.table()
-        self.put(None)
-        self.assertEqual(self.execute_count(self.dialect.update, ("x", "ann", "y")), 0)
-        self.assertEqual(self.execute_count(self.dialect.update, ("x", "ann", None)), 1)
-        self.assertEqual(self.execute_count(self.dialect.update, ("x", "ann", None)), 0)
+    def test_threads(self):
+        """Of eight changes of one record one is made; of eight logins one upgrades."""
+        for turn in range(3):
+            self.put(LOW.hash("one"))
+            said = in_threads(lambda n: self.accounts().change("ann", "one", f"new{n}"), 8)
+            said = sorted(it.value for it in said)
+            self.assertEqual(said, ["replaced"] + ["wrong"] * 7)
+            self.put(LOW.hash("one"))
+            said = in_threads(lambda n: self.accounts(HIGH).login("ann", "one"), 8)
+            self.assertEqual(said, [Reply.YES] * 8)
+            self.assertIn("m=128,", self.stands())
+
+
+class Connections:
+    """What a connection is in, what is sent on it, and what a table makes of a record."""
 
     def test_modes(self):
         """Connections that aren't in autocommit, or have a transaction open."""
-        self.table()
         self.put(LOW.hash("one"))
-        manual = self.server.connect(autocommit=False)
-        with self.assertRaises(StoreFault) as raised:
-            self.accounts(connect=lambda: manual).verify("ann", "one")
-        self.assertIn("autocommit", str(raised.exception))
-        opened = self.server.connect()
-        self.execute(self.dialect.begin, conn=opened)
-        with self.assertRaises(StoreFault) as raised:
-            self.accounts(connect=lambda: opened).change("ann", "one", "two")
-        self.assertIn("transaction is open", str(raised.exception))
         worked = self.worked(self.accounts(), Kind.CHANGE, "one", "two")
-        with self.assertRaises(StoreFault):
+        for autocommit, begin, said in (
+            (False, "SELECT 1", "autocommit|transaction is open"),
+            (True, self.dialect.begin, "transaction is open"),
+        ):
+            for act in (
+                lambda accounts: accounts.verify("ann", "one"),
+                lambda accounts: accounts.change("ann", "one", "two"),
+                lambda accounts: accounts.commit(worked),
+                lambda accounts: accounts.examine(),
+            ):
+                conn = self.another(autocommit=autocommit)
+                self.execute(begin, conn=conn)
+                with self.assertRaisesRegex(StoreFault, said):
+                    act(self.accounts(connect=lambda: conn))
+        with self.assertRaisesRegex(StoreFault, "the connections of the pool have to be in"):
+            manual = self.another(autocommit=False)
+            self.accounts(connect=lambda: manual).verify("ann", "one")
+        with self.assertRaisesRegex(StoreFault, "no transaction is open"):
             self.accounts().commit_in(self.conn, worked)
+        self.assertTrue(self.is_right("one"))
 
     def test_a_session_beside_a_verify(self):
-        """A session beside a verify stands before a change, or isn't there."""
-        self.table()
+        """It stands before a change, or isn't there."""
         self.put(LOW.hash("one"))
         accounts, done = self.accounts(), []
         worked = self.worked(accounts, Kind.VERIFY, "one")
-        caller = self.server.connect()
-        self.addCleanup(caller.close)
+        caller = self.another()
         self.execute(self.dialect.begin, conn=caller)
         self.assertIs(accounts.commit_in(caller, worked).reply, Reply.YES)
         owner = self.accounts()
@@ -117,13 +174,235 @@ class Operations:
         thread.join()
         self.assertEqual(done, [Reply.REPLACED])
 
+    def test_what_is_sent(self):
+        """No statement too many: docs/SCALE.md has these lists. Of none to a record, and of a
+        record to none, what stands wouldn't tell enough for one statement."""
+        conn = self.another()
+        low, high = self.kept(conn=conn), self.kept(HIGH, conn)
+        confirming = self.kept(conn=conn, confirm=True)
+        one, several, confirmed = self.one, self.several, self.confirmed
+        for stands, act, reply, words in (
+            ("one", lambda: low.verify("ann", "one"), "yes", ""),
+            ("one", lambda: low.verify("ann", "two"), "no", ""),
+            ("one", lambda: low.login("ann", "one"), "yes", ""),
+            ("one", lambda: low.login("bob", "one"), "noaccount", ""),
+            ("one", lambda: low.enrol("ann", "one"), "exists", ""),
+            ("one", lambda: low.change("ann", "two", "x"), "wrong", ""),
+            ("one", lambda: low.change("ann", "one", "two"), "replaced", one),
+            ("one", lambda: low.reset("ann", "two"), "replaced", one),
+            ("one", lambda: high.upgrade("ann", "one"), "upgraded", one),
+            ("one", lambda: high.login("ann", "one"), "yes", one),
+            ("one", lambda: low.remove("ann", "one"), "removed", several),
+            (None, lambda: low.enrol("ann", "one"), "enrolled", several),
+            (None, lambda: low.reset("ann", "one"), "enrolled", several),
+            ("one", lambda: confirming.verify("ann", "one"), "yes", confirmed),
+            ("one", lambda: confirming.verify("ann", "two"), "no", confirmed),
+            ("one", lambda: confirming.login("ann", "one"), "yes", confirmed),
+            ("one", lambda: confirming.login("ann", "two"), "no", confirmed),
+            ("one", lambda: confirming.upgrade("ann", "one"), "kept", confirmed),
+            ("one", lambda: confirming.change("ann", "two", "x"), "wrong", confirmed),
+            ("one", lambda: confirming.remove("ann", "two"), "wrong", confirmed),
+            ("one", lambda: confirming.enrol("ann", "x"), "exists", confirmed),
+            (None, lambda: confirming.verify("ann", "one"), "absent", confirmed),
+            (None, lambda: confirming.login("ann", "one"), "absent", confirmed),
+            ("one", lambda: confirming.verify("bob", "one"), "noaccount", ""),
+        ):
+            record = stands and LOW.hash(stands)
+            self.put(record)
+            with self.subTest(reply=reply, stands=stands), sent() as found:
+                self.assertEqual(act().value, reply)
+                self.assertEqual(" ".join(found), f"SELECT {words}".rstrip())
+            if words in ("", confirmed) and words != several:
+                self.assertEqual(self.stands(), record)
+        self.assertEqual(self.said(confirming), "")
+
+    def test_changes_at_any_level(self):
+        """Of eight changes of one record one is made, whatever the session's level is."""
+        for setting in self.levels:
+            self.put(LOW.hash("one"))
+            accounts = self.accounts(connect=self.setting(setting))
+            said = in_threads(lambda n: accounts.change("ann", "one", f"new{n}").value, 8)
+            self.assertEqual(sorted(said), ["replaced"] + ["wrong"] * 7, setting)
+
+    def test_rows_as_dictionaries(self):
+        self.put(LOW.hash("one"))
+        accounts = self.accounts(connect=self.as_dictionaries)
+        self.assertIs(accounts.change("ann", "one", "two"), Reply.REPLACED)
+        self.assertIs(accounts.remove("ann", "two"), Reply.REMOVED)
+        self.assertEqual(accounts.examine(), [])
+
+    def test_keys_of_other_types(self):
+        for column, kind, key in self.keys:
+            self.dialect = self.another_dialect(key_type=kind)
+            for make in (self.create, lambda: self.table(key=column)):
+                make()
+                accounts = self.accounts()
+                self.assertEqual(accounts.examine(), [])
+                self.execute(self.dialect.insert, key)
+                self.assertIs(accounts.enrol(key, "one"), Reply.ENROLLED)
+                self.assertIs(accounts.login(key, "one"), Reply.YES)
+                with self.assertRaises(TypeError):
+                    accounts.login("7x", "one")
+        if self.keys[1][0] == "smallint":
+            self.assertIs(accounts.login(b"of another size", "one"), Reply.NO_ACCOUNT)
+
+    def test_a_key_of_two_rows(self):
+        self.execute("DROP TABLE users")
+        self.execute("CREATE TABLE users (name VARCHAR(90), record VARCHAR(512))")
+        record = LOW.hash("one")
+        for _ in range(2):
+            self.execute("INSERT INTO users VALUES ('ann', %s)", record)
+        accounts = self.accounts()
+        with self.assertRaises(StoreFault):
+            accounts.verify("ann", "one")
+        worked = accounts.work(Ticket(Request(Kind.CHANGE, "ann", "one", "two"), record))
+        with self.assertRaises(StoreFault):
+            accounts.commit(worked)
+        self.assertEqual(self.execute("SELECT record FROM users"), [(record,)] * 2)
+
+    def test_a_trigger_that_rewrites(self):
+        """What it makes of a record is undone, and said without the record."""
+        for sql in self.shouting:
+            self.execute(sql)
+        accounts = self.accounts()
+        for stands, act in (
+            ("one", lambda: accounts.change("ann", "one", "two")),
+            ("one", lambda: accounts.reset("ann", "two")),
+            (None, lambda: accounts.enrol("ann", "two")),
+        ):
+            # Put as another writes it, past the trigger.
+            record = stands and LOW.hash(stands)
+            self.put(record)
+            with self.assertRaises(StoreFault) as raised:
+                act()
+            said = "".join(traceback.format_exception(raised.exception))
+            self.assertNotIn("$argon2id", said)
+            self.assertIn("isn't the one that was put", said)
+            self.assertEqual(self.stands(), record)
+        self.assertIn("isn't the one that was put", self.said(accounts))
+
+
+class Confirmed:
+    """Answers that make no change, confirmed by a COMMIT that writes."""
+
+    def test_what_was_replaced_meanwhile(self):
+        """It is worked anew at what stands, and nothing of the old comes back."""
+        accounts = self.accounts(confirm=True)
+        for stands, other in (("one", "two"), ("one", None), (None, "two")):
+            stands, other = (it and LOW.hash(it) for it in (stands, other))
+            self.put(stands)
+            worked = self.worked(accounts, Kind.VERIFY, "one")
+            self.put(other)
+            answer = accounts.commit(worked)
+            self.assertEqual((answer.reply, answer.after), (Reply.CHANGED, other))
+            self.assertEqual(self.stands(), other)
+            self.put(stands)
+            after_hash(accounts, lambda: self.put(other))
+            wanted = Reply.ABSENT if other is None else Reply.NO
+            self.assertIs(accounts.verify("ann", "one"), wanted)
+            self.assertEqual(self.stands(), other)
+
+    def test_a_commit_without_an_answer(self):
+        """Nothing was changed, so it is sent again; the answer is no unknown one."""
+        for stands, reply in ((LOW.hash("one"), Reply.YES), (None, Reply.ABSENT)):
+            self.put(stands)
+            dialect = losing(self.another_dialect(), True, 2, self.lost_look)
+            accounts = self.accounts(dialect=dialect, confirm=True)
+            self.assertIs(accounts.verify("ann", "one"), reply)
+
+
+class AtOnce:
+    """A change by one statement: what it promises is what a transaction did."""
+
+    def test_it_is_told_before_it_is_sent(self):
+        """As a log of what was tried has to be written first; and what stands is the answer's."""
+        self.put(LOW.hash("one"))
+        accounts, seen = self.accounts(), []
+
+        def told(worked):
+            seen.append((worked.reply, LOW.verify(self.stands(), "one")))
+
+        accounts._table.before_commit = told
+        answer = accounts.commit(self.worked(accounts, Kind.CHANGE, "one", "two"))
+        self.assertIs(answer.reply, Reply.REPLACED)
+        self.assertEqual(seen, [(Reply.REPLACED, True)])
+        self.assertEqual(self.stands(), answer.after)
+        self.assertTrue(LOW.verify(answer.after, "two"))
+
+    def lost(self, before, times=1):
+        """Accounts over what loses the statement's answer, before it was done or after."""
+        broken = ConnectionError("planted")
+        dialect = losing(self.another_dialect(), before, times, broken, "put_at_once")
+        return self.accounts(dialect=dialect)
+
+    def test_an_answer_that_is_lost(self):
+        for before in (True, False):
+            for times in (1, 3):
+                self.put(LOW.hash("one"))
+                reply = self.lost(before, times).change("ann", "one", "two")
+                self.assertIs(reply, Reply.REPLACED)
+                self.assertTrue(self.is_right("two"))
+
+    def test_an_answer_that_is_lost_and_another_change(self):
+        """Nobody knows whether it stood before."""
+        for before in (True, False):
+            self.put(LOW.hash("one"))
+            accounts = self.lost(before)
+            settled = accounts._settled
+
+            def later(*given):
+                self.put(LOW.hash("another"))
+                return settled(*given)
+
+            accounts._settled = later
+            with self.assertRaises(OutcomeUnknown):
+                accounts.change("ann", "one", "two")
+            self.assertTrue(self.is_right("another"))
+
+    def test_a_lost_commit_is_confirmed_too(self):
+        """What stands may not be on the disk, so it is put over itself."""
+        self.put(LOW.hash("one"))
+        accounts, puts = self.lost(before=False), []
+        dialect = accounts._dialect
+        put = dialect.put
+
+        def noted(session, after, key, copy):
+            puts.append(after == copy)
+            return put(session, after, key, copy)
+
+        dialect.put = noted
+        self.assertIs(accounts.change("ann", "one", "two"), Reply.REPLACED)
+        self.assertEqual(puts, [True])
+
+    def test_a_connection_is_as_before(self):
+        """No transaction is open after a change, a refusal or another's change."""
+        self.put(LOW.hash("one"))
+        conn = self.another()
+        accounts, dearer = self.kept(conn=conn), self.kept(HIGH, conn)
+        worked = self.worked(accounts, Kind.CHANGE, "one", "two")
+        self.assertIs(accounts.change("ann", "one", "one"), Reply.REPLACED)
+        self.assertIs(accounts.commit(worked).reply, Reply.CHANGED)
+        self.execute("ALTER TABLE users ADD CHECK (record LIKE '%m=64,%')")
+        for _ in range(2):
+            with self.assertRaisesRegex(StoreFault, self.check_number) as raised:
+                dearer.change("ann", "one", "two")
+            said = "".join(traceback.format_exception(raised.exception))
+            self.assertNotIn("$argon2id", said)
+            self.assertIs(dearer.login("ann", "one"), Reply.YES)
+
+    def test_who_may_not_update(self):
+        """Nothing was done, and that is known."""
+        self.put(LOW.hash("one"))
+        accounts = self.accounts(connect=self.of_role("SELECT"))
+        with self.assertRaisesRegex(StoreFault, "42501|1142"):
+            accounts.change("ann", "one", "two")
+
 
 class RowsOfOnesOwn:
     """What is put by `also` stands exactly if the reply does."""
 
     def setUp(self):
         super().setUp()
-        self.table()
         self.execute("DROP TABLE IF EXISTS sessions")
         self.execute("CREATE TABLE sessions (name VARCHAR(150), reply VARCHAR(20))")
         self.calls = []
@@ -138,29 +417,29 @@ class RowsOfOnesOwn:
     def test_each_reply(self):
         """It is told what its caller is, and its row is committed."""
         accounts, dearer = self.accounts(), self.accounts(HIGH)
-        one = LOW.hash("one")
+        one, also = LOW.hash("one"), self.also
         for stands, act, reply in (
-            (one, lambda it: accounts.verify("ann", "one", also=it), Reply.YES),
-            (one, lambda it: accounts.verify("ann", "two", also=it), Reply.NO),
-            (one, lambda it: accounts.login("ann", "one", also=it), Reply.YES),
-            (one, lambda it: dearer.login("ann", "one", also=it), Reply.YES),
-            (one, lambda it: dearer.login("ann", "two", also=it), Reply.NO),
-            (one, lambda it: accounts.change("ann", "one", "x", also=it), Reply.REPLACED),
-            (one, lambda it: accounts.change("ann", "two", "x", also=it), Reply.WRONG),
-            (one, lambda it: accounts.reset("ann", "x", also=it), Reply.REPLACED),
-            (one, lambda it: dearer.upgrade("ann", "one", also=it), Reply.UPGRADED),
-            (one, lambda it: accounts.remove("ann", "one", also=it), Reply.REMOVED),
-            (one, lambda it: accounts.enrol("ann", "one", also=it), Reply.EXISTS),
-            (None, lambda it: accounts.enrol("ann", "one", also=it), Reply.ENROLLED),
-            (None, lambda it: accounts.login("ann", "one", also=it), Reply.ABSENT),
-            (None, lambda it: accounts.login("bob", "one", also=it), Reply.NO_ACCOUNT),
-            (None, lambda it: accounts.login("b\0b", "one", also=it), Reply.NO_ACCOUNT),
+            (one, lambda: accounts.verify("ann", "one", also=also), Reply.YES),
+            (one, lambda: accounts.verify("ann", "two", also=also), Reply.NO),
+            (one, lambda: accounts.login("ann", "one", also=also), Reply.YES),
+            (one, lambda: dearer.login("ann", "one", also=also), Reply.YES),
+            (one, lambda: dearer.login("ann", "two", also=also), Reply.NO),
+            (one, lambda: accounts.change("ann", "one", "x", also=also), Reply.REPLACED),
+            (one, lambda: accounts.change("ann", "two", "x", also=also), Reply.WRONG),
+            (one, lambda: accounts.reset("ann", "x", also=also), Reply.REPLACED),
+            (one, lambda: dearer.upgrade("ann", "one", also=also), Reply.UPGRADED),
+            (one, lambda: accounts.remove("ann", "one", also=also), Reply.REMOVED),
+            (one, lambda: accounts.enrol("ann", "one", also=also), Reply.EXISTS),
+            (None, lambda: accounts.enrol("ann", "one", also=also), Reply.ENROLLED),
+            (None, lambda: accounts.login("ann", "one", also=also), Reply.ABSENT),
+            (None, lambda: accounts.login("bob", "one", also=also), Reply.NO_ACCOUNT),
+            (None, lambda: accounts.login("b\0b", "one", also=also), Reply.NO_ACCOUNT),
         ):
             self.put(stands)
             self.execute("DELETE FROM sessions")
             self.calls.clear()
             with self.subTest(reply=reply, stands=stands):
-                self.assertIs(act(self.also), reply)
+                self.assertIs(act(), reply)
                 self.assertEqual(self.calls, [reply])
                 self.assertEqual(self.rows(), [reply.value])
 
@@ -191,36 +470,27 @@ class RowsOfOnesOwn:
     def test_an_error_of_its_own_statement(self):
         """The driver's error comes through, and no change stands."""
         self.put(LOW.hash("one"))
-        accounts = self.accounts()
 
         def fails(conn, reply):
             self.execute("INSERT INTO nowhere VALUES (1)", conn=conn)
 
         with self.assertRaises(Exception) as raised:
-            accounts.change("ann", "one", "two", also=fails)
+            self.accounts().change("ann", "one", "two", also=fails)
         self.assertNotIsInstance(raised.exception, (StoreFault, Unavailable))
-        self.assertTrue(LOW.verify(self.stands(), "one"))
+        self.assertTrue(self.is_right("one"))
 
     def test_it_is_called_again_at_each_turn(self):
         """Another record stands at the first commit: its row was undone with it."""
         accounts, owner = self.accounts(HIGH), self.accounts()
-        for act, reply, rows in (
-            (lambda: accounts.login("ann", "one", also=self.also), Reply.NO, ["no"]),
-            (lambda: accounts.change("ann", "one", "x", also=self.also), Reply.WRONG, ["wrong"]),
+        for act, reply in (
+            (lambda: accounts.login("ann", "one", also=self.also), Reply.NO),
+            (lambda: accounts.change("ann", "one", "x", also=self.also), Reply.WRONG),
         ):
             self.put(LOW.hash("one"))
             self.execute("DELETE FROM sessions")
-            work = accounts._judge.work
-
-            def slowly(ticket):
-                worked = work(ticket)
-                accounts._judge.work = work
-                owner.reset("ann", "two")
-                return worked
-
-            accounts._judge.work = slowly
+            after_hash(accounts, lambda: owner.reset("ann", "two"))
             self.assertIs(act(), reply)
-            self.assertEqual(self.rows(), rows)
+            self.assertEqual(self.rows(), [reply.value])
 
     def test_a_busy_server_is_asked_again(self):
         """What the server undid is done again from its BEGIN."""
@@ -236,36 +506,20 @@ class RowsOfOnesOwn:
         self.assertEqual(self.rows(), ["replaced"])
         self.assertEqual(len(self.calls), 2)
 
-    def lost(self, is_done):
-        """Accounts whose first COMMIT has no answer."""
-        dialect = type(self.dialect)("users", "name", "record")
-        commit, left = dialect.commit, [1]
-
-        async def breaks(session):
-            if not left:
-                return await commit(session)
-            left.pop()
-            if is_done:
-                await commit(session)
-            raise self.broken
-
-        dialect.commit = breaks
-        return self.accounts(dialect=dialect, patience=0.5)
-
     def test_a_commit_without_an_answer(self):
         """Of a change one row stands, as the record does; otherwise nobody knows."""
-        for is_done in (False, True):
+        for before in (True, False):
             self.put(LOW.hash("one"))
             self.execute("DELETE FROM sessions")
-            reply = self.lost(is_done).change("ann", "one", "two", also=self.also)
+            reply = self.losing(before).change("ann", "one", "two", also=self.also)
             self.assertIs(reply, Reply.REPLACED)
             self.assertEqual(self.rows(), ["replaced"])
-            self.assertTrue(LOW.verify(self.stands(), "two"))
+            self.assertTrue(self.is_right("two"))
             self.execute("DELETE FROM sessions")
             for name in ("login", "verify"):
                 with self.assertRaises(OutcomeUnknown):
-                    getattr(self.lost(is_done), name)("ann", "two", also=self.also)
-            self.assertEqual(self.rows(), ["yes"] * (2 * is_done))
+                    getattr(self.losing(before), name)("ann", "two", also=self.also)
+            self.assertEqual(self.rows(), [] if before else ["yes"] * 2)
 
     def test_one_transaction(self):
         """Even where one statement would do: BEGIN comes first, and COMMIT last."""
@@ -285,38 +539,46 @@ class RowsOfOnesOwn:
 
         with self.assertRaisesRegex(TypeError, "AsyncAccounts"):
             self.accounts().change("ann", "one", "two", also=awaited)
-        self.assertTrue(LOW.verify(self.stands(), "one"))
+        self.assertTrue(self.is_right("one"))
 
 
 class OnServers:
     """What a server does by itself: it ends waits, and restarts."""
 
+    def held(self, seconds):
+        """Another's transaction holds the row for so long."""
+        holder = self.another()
+        self.execute("BEGIN", conn=holder)
+        self.execute("SELECT 1 FROM users FOR UPDATE", conn=holder)
+        timer = threading.Timer(seconds, lambda: self.execute("ROLLBACK", conn=holder))
+        timer.start()
+        self.addCleanup(timer.join)
+
     def test_waits_for_a_lock(self):
         """A wait for a lock that is given up leaves nothing open."""
-        self.table()
         self.put(LOW.hash("one"))
-        made = []
-
-        def connect():
-            made.append(self.server.connect())
-            self.execute(self.lock_timeout, conn=made[-1])
-            return made[-1]
-
-        accounts = self.accounts(connect=connect)
-        self.execute("BEGIN")
-        self.execute("UPDATE users SET name = 'ann' WHERE name = 'ann'")
-        self.execute("SELECT 1 FROM users FOR UPDATE")
-        timer = threading.Timer(2.5, lambda: self.execute("ROLLBACK"))
-        timer.start()
+        made, connect = [], self.setting(self.lock_timeout)
+        accounts = self.accounts(connect=lambda: made.append(connect()) or made[-1])
         begun = time.monotonic()
+        self.held(2.5)
         self.assertIs(accounts.change("ann", "one", "two"), Reply.REPLACED)
-        timer.join()
         self.assertGreater(time.monotonic() - begun, 2)
         self.assertEqual(len(made), 1)
 
+    def test_a_statement_that_took_too_long(self):
+        """It is undone, so it is tried again within patience; then nothing was done."""
+        connect = self.setting(self.statement_timeout)
+        for record in (LOW.hash("one"), None):
+            self.put(record)
+            self.held(1.6)
+            with self.assertRaises(Unavailable):
+                self.accounts(connect=connect, patience=0.8).reset("ann", "two")
+            self.assertEqual(self.stands(), record)
+            wanted = Reply.ENROLLED if record is None else Reply.REPLACED
+            self.assertIs(self.accounts(connect=connect, patience=20.0).reset("ann", "two"), wanted)
+
     def test_restart(self):
         """The pool's connection is gone after a restart: another is made."""
-        self.table()
         self.put(LOW.hash("one"))
         accounts = self.accounts()
         self.assertIs(accounts.verify("ann", "one"), Reply.YES)
@@ -329,69 +591,38 @@ class OnServers:
 
     def test_sessions_that_are_ended(self):
         """By the server, between operations: no visitor sees it."""
-        self.table()
         self.put(LOW.hash("one"))
         accounts = self.accounts()
         for _ in range(5):
             self.assertIs(accounts.change("ann", "one", "one"), Reply.REPLACED)
             self.end_sessions()
 
-    def held(self, seconds):
-        """Another's transaction holds the row for so long."""
-        holder = self.server.connect()
-        self.addCleanup(holder.close)
-        self.execute("BEGIN", conn=holder)
-        self.execute("SELECT 1 FROM users FOR UPDATE", conn=holder)
-        timer = threading.Timer(seconds, lambda: self.execute("ROLLBACK", conn=holder))
-        timer.start()
-        self.addCleanup(timer.join)
-
-    def test_a_statement_that_took_too_long(self):
-        """It is undone, so it is tried again within patience; then nothing was done."""
-
-        def connect():
-            conn = self.server.connect()
-            self.execute(self.statement_timeout, conn=conn)
-            return conn
-
-        for record in (LOW.hash("one"), None):
-            for patience, seconds in ((0.8, 1.6), (20.0, 0.8)):
-                self.table()
-                self.put(record)
-                accounts = self.accounts(connect=connect, patience=patience)
-                self.held(seconds)
-                if patience < seconds:
-                    with self.assertRaises(Unavailable):
-                        accounts.reset("ann", "two")
-                    self.assertEqual(self.stands(), record)
-                else:
-                    wanted = Reply.ENROLLED if record is None else Reply.REPLACED
-                    self.assertIs(accounts.reset("ann", "two"), wanted)
-
     def test_connections_of_a_pool_that_all_died(self):
         """Each is taken and given up, with no pause that grows."""
-        self.table()
         self.put(LOW.hash("one"))
-        idle, pauses = [self.server.connect() for _ in range(40)], []
+        idle, pauses = [self.connect() for _ in range(40)], []
         self.end_sessions()
 
+        @contextlib.contextmanager
         def pool():
-            return engines.closing_after_errors(idle.pop() if idle else self.server.connect())
+            conn = idle.pop() if idle else self.connect()
+            try:
+                yield conn
+            except BaseException:
+                conn.close()
+                raise
 
-        accounts = engines.Accounts(pool, self.dialect, LOW)
-
-        async def pause(seconds):
+        async def pause(runtime, seconds):
             pauses.append(seconds)
 
-        accounts._connections.runtime.pause = pause
-        self.addCleanup(vars(accounts._connections.runtime).pop, "pause")
-        self.assertIs(accounts.login("ann", "one"), Reply.YES)
+        accounts = Accounts(pool, self.dialect, LOW)
+        with mock.patch.object(type(accounts._runtime), "pause", pause):
+            self.assertIs(accounts.login("ann", "one"), Reply.YES)
         self.assertEqual(len(pauses), 40)
         self.assertLess(sum(pauses), 0.5)
 
     def test_a_replica_that_is_down(self):
         """Logins go on at the primary, and so do changes."""
-        self.table()
         self.put(LOW.hash("one"))
         asked = []
 
@@ -411,41 +642,25 @@ class OnServers:
 
     def test_a_fault_of_a_program_comes_through(self):
         """It is no answer that was lost, though the statement may have been sent."""
-        self.table()
         self.put(LOW.hash("one"))
         for name in ("put_at_once", "commit") if self.dialect.at_once else ("commit",):
             for error in (AttributeError("mine"), TypeError("mine"), NameError("mine")):
-                dialect = type(self.dialect)("users", "name", "record")
+                dialect = losing(self.another_dialect(), True, 9, error, name)
                 if name == "commit":
                     dialect.at_once = ""
-
-                async def wrong(*given):
-                    raise error
-
-                setattr(dialect, name, wrong)
                 with self.assertRaisesRegex(type(error), "mine"):
                     self.accounts(dialect=dialect).change("ann", "one", "two")
-        self.assertTrue(LOW.verify(self.stands(), "one"))
+        self.assertTrue(self.is_right("one"))
 
     def test_a_rollback_that_fails(self):
         """What the server refused is refused at once, and not tried for all of patience."""
-        self.execute("DROP TABLE IF EXISTS users")
-        dialect = type(self.dialect)("users", "name", "record")
-
-        async def fails(session):
-            raise ConnectionError("planted")
-
-        dialect.undo = fails
-        self.table()
         self.put(LOW.hash("one"))
-        self.execute("ALTER TABLE users ADD CHECK (record LIKE '%%m=64,%%')")
+        self.execute("ALTER TABLE users ADD CHECK (record LIKE '%m=64,%')")
+        dialect = losing(self.another_dialect(), True, 99, ConnectionError("planted"), "undo")
         made = []
-
-        def connect():
-            made.append(self.server.connect())
-            return made[-1]
-
-        accounts = self.accounts(HIGH, dialect=dialect, connect=connect, patience=60.0)
+        accounts = self.accounts(
+            HIGH, dialect, lambda: made.append(self.connect()) or made[-1], patience=60.0
+        )
         with self.assertRaises(StoreFault):
             accounts.change("ann", "one", "two")
         self.assertLess(len(made), 5)

@@ -99,8 +99,7 @@ def started(name, make):
 
 
 def sqlite():
-    Run.files = getattr(Run, "files", 0) + 1
-    return f"sqlite:///{servers.ROOM}/file{Run.files}.db"
+    return servers.SqliteFile().url
 
 
 def postgres():
@@ -108,8 +107,7 @@ def postgres():
 
 
 def maria():
-    made = started("maria", lambda: servers.MariaServer("maria").start())
-    return made.create_database()
+    return started("maria", lambda: servers.MariaServer("maria").start())
 
 
 def maria_without_log():
@@ -118,11 +116,24 @@ def maria_without_log():
         made.has_binary_log = False
         return made.start()
 
-    return started("plain", make).create_database()
+    return started("plain", make)
 
 
 def galera():
     return started("galera", servers.galera)
+
+
+def postgres_url():
+    return postgres().url
+
+
+def maria_url():
+    return maria().url
+
+
+def galera_url():
+    places = ",".join(f"127.0.0.1:{node.port}" for node in galera())
+    return f"mysql://store:store@{places}/store"
 
 
 class Tasks(torture.Torture):
@@ -190,6 +201,11 @@ def synchronous(pair_number):
     }
 
 
+def fail_over(pair):
+    pair.primary.kill()
+    pair.standby.promote()
+
+
 def fail_over_with_lag(pair):
     with pair.standby.connect() as conn:
         ((receiver,),) = conn.execute("SELECT pid FROM pg_stat_wal_receiver").fetchall()
@@ -205,11 +221,3 @@ def lagging():
     pair = Pair()
     pair.standby.set(recovery_min_apply_delay="30ms")
     return pair
-
-
-SYNC_WAIT = ("SET SESSION wsrep_sync_wait = 1",)
-
-
-def hosts(nodes):
-    places = ",".join(f"127.0.0.1:{node.port}" for node in nodes)
-    return f"mysql://store:store@{places}/store"

@@ -1,11 +1,11 @@
-"""What the tests over SQLite share: a table, accounts over it, and turns of hashing."""
+"""What the tests share: a table on an engine, accounts over it, and what goes wrong on purpose."""
 
 import contextlib
 import os
 import pathlib
 import sqlite3
 import sys
-import tempfile
+import threading
 import unittest
 import warnings
 from unittest import mock
@@ -15,78 +15,190 @@ sys.path.insert(0, str(PACKAGE))
 _PATHS = (str(PACKAGE), os.environ.get("PYTHONPATH"))
 os.environ["PYTHONPATH"] = os.pathsep.join(filter(None, _PATHS))
 
-import rigzumal
-from rigzumal import PasswordHasher
+import servers
+from rigzumal import PasswordHasher, VerifyMismatchError
 from rigzumal.accounts import Accounts, PerThread, Sqlite, _judgement
 from rigzumal.accounts._session import Session, run  # noqa: F401: of each test
-from rigzumal.accounts.parts import Kind
+from rigzumal.accounts.parts import Kind, Request
 
 
 LOW = PasswordHasher(time_cost=1, memory_cost=64, parallelism=1)
 HIGH = PasswordHasher(time_cost=1, memory_cost=128, parallelism=1)
-# Made by the reference program and by passlib: of the older version, and of scrypt.
+# Made by the reference program, of the older version.
 OLDER = "$argon2i$m=256,t=2,p=1$c29tZXNhbHQ$/U3YPXYsSb3q9XxHvc0MLxur+GP960kN9j7emXX8zwY"
 READS = (Kind.VERIFY, Kind.CHANGE, Kind.UPGRADE, Kind.REMOVE)
+SERVERS = {}
+
+
+def server(kind):
+    """A server for all tests of a run, and of SQLite a file of one's own; a skipped test if it
+    isn't there."""
+    if kind is servers.SqliteFile:
+        return kind().start()
+    if kind not in SERVERS:
+        try:
+            SERVERS[kind] = kind("shared-" + kind.__name__).start()
+        except servers.Missing as reason:
+            SERVERS[kind] = reason
+    if isinstance(SERVERS[kind], servers.Missing):
+        raise SERVERS[kind]
+    return SERVERS[kind]
 
 
 class Base(unittest.TestCase):
+    """A table of accounts on an engine: on SQLite, if a class names no other."""
+
+    kind, dialect = servers.SqliteFile, Sqlite("users", "name", "record")
+    broken = sqlite3.OperationalError("disk I/O error")
+
     def setUp(self):
-        caught = warnings.catch_warnings()
-        caught.__enter__()
-        self.addCleanup(caught.__exit__, None, None, None)
-        warnings.simplefilter("error")
-        folder = tempfile.TemporaryDirectory()
-        self.addCleanup(folder.cleanup)
-        self.path = os.path.join(folder.name, "accounts.db")
-        self.conn = self.connect()
+        if self.kind is servers.SqliteFile:
+            self.enterContext(warnings.catch_warnings())
+            warnings.simplefilter("error")
+        self.server = server(self.kind)
+        self.conn = self.server.connect()
         self.addCleanup(self.conn.close)
-        self.conn.execute("PRAGMA journal_mode = WAL")
-        self.dialect = Sqlite("users", "name", "record")
-        self.conn.execute(self.dialect.create())
+        self.dialect = self.another_dialect()
+        self.create()
+
+    def another_dialect(self, **names):
+        """One that a test may bend."""
+        named = {"table": "users", "key": "name", "record": "record", **names}
+        return type(self.dialect)(**named)
+
+    def execute(self, sql, *values, conn=None):
+        """A statement, with %s for a value on each engine; its rows."""
+        cursor = (conn or self.conn).cursor()
+        if values:
+            cursor.execute(sql.replace("%s", self.dialect.mark), values)
+        else:
+            cursor.execute(sql)
+        rows = cursor.fetchall() if cursor.description else []
+        cursor.close()
+        return [tuple(row) for row in rows]
+
+    def create(self):
+        """The table as it should be."""
+        self.execute("DROP TABLE IF EXISTS users")
+        self.execute(self.dialect.create())
+
+    def table(self, record="VARCHAR(512)", more="", key="VARCHAR(150)"):
+        """Another table."""
+        self.execute("DROP TABLE IF EXISTS users")
+        self.execute(f"CREATE TABLE users (name {key} PRIMARY KEY, record {record}) {more}")
 
     def connect(self, **more):
-        given = {"timeout": 5, "isolation_level": None, **more}
-        return sqlite3.connect(self.path, **given)
+        return self.server.connect(**more)
 
-    def accounts(self, hasher=LOW, dialect=None, connect=None, **more):
+    def another(self, **more):
+        """One more connection, which is closed after the test."""
+        conn = self.connect(**more)
+        self.addCleanup(closed, conn)
+        return conn
+
+    def setting(self, *statements, **more):
+        """What makes connections with these settings."""
+
+        def connect():
+            conn = self.connect(**more)
+            for sql in statements:
+                self.execute(sql, conn=conn)
+            return conn
+
+        return connect
+
+    def accounts(self, hasher=LOW, dialect=None, connect=None, kind=Accounts, **more):
         pool = PerThread(connect or self.connect)
         self.addCleanup(pool.close)
-        return Accounts(pool, dialect or self.dialect, hasher, **more)
+        return kind(pool, dialect or self.dialect, hasher, **{"patience": 5.0, **more})
 
-    def losing(self, before, times=1, kind=sqlite3.OperationalError, **more):
+    def kept(self, hasher=LOW, conn=None, **more):
+        """Accounts over one connection that is kept, whatever comes, and was used once."""
+        conn = conn or self.another()
+        accounts = Accounts(lambda: contextlib.nullcontext(conn), self.dialect, hasher, **more)
+        accounts.verify("nobody", "x")
+        return accounts
+
+    def losing(self, before, times=1, error=None, **more):
         """Accounts whose first COMMITs break: before they are done, or after."""
-        return self.accounts(patience=0.5, dialect=losing(before, times, kind), **more)
+        dialect = losing(self.another_dialect(), before, times, error or self.broken)
+        return self.accounts(patience=0.5, dialect=dialect, **more)
 
-    def put(self, name, record):
-        self.conn.execute("DELETE FROM users WHERE name = ?", (name,))
-        self.conn.execute("INSERT INTO users VALUES (?, ?)", (name, record))
+    def put(self, record, name="ann"):
+        self.execute("DELETE FROM users WHERE name = %s", name)
+        self.execute("INSERT INTO users (name, record) VALUES (%s, %s)", name, record)
 
     def stands(self, name="ann"):
-        found = self.conn.execute("SELECT record FROM users WHERE name = ?", (name,))
-        return found.fetchall()[0][0]
+        ((record,),) = self.execute("SELECT record FROM users WHERE name = %s", name)
+        return record
 
     def is_right(self, password, name="ann"):
         try:
             return LOW.verify(self.stands(name), password)
-        except rigzumal.VerifyMismatchError:
+        except VerifyMismatchError:
             return False
 
+    def tried_bytes(self, stands, copy):
+        """The copy is another text, and another under the column's collation alone."""
+        self.put(stands)
+        for given, wanted in ((copy, 0), (stands, 1)):
+            cursor = self.conn.cursor()
+            cursor.execute(self.dialect.update, ("x", "ann", given))
+            self.assertEqual(cursor.rowcount, wanted, f"{stands!r} and {given!r}")
+            cursor.close()
 
-def losing(before, times=1, kind=sqlite3.OperationalError):
-    """A dialect whose first COMMITs break: before they are done, or after."""
-    dialect = Sqlite("users", "name", "record")
-    commit, left = dialect.commit, [times]
+    def worked(self, accounts, kind, password, new=""):
+        return accounts.work(accounts.begin(Request(kind, "ann", password, new)))
 
-    async def breaks(session):
+    def said(self, accounts):
+        return "; ".join(map(str, accounts.examine()))
+
+
+def closed(conn):
+    """Closes it; PyMySQL says so if it was closed."""
+    with contextlib.suppress(Exception):
+        conn.close()
+
+
+def losing(dialect, before, times=1, error=Base.broken, name="commit"):
+    """The dialect, whose first COMMITs break: before they are done, or after."""
+    commit, left = getattr(dialect, name), [times]
+
+    async def breaks(session, *given):
         left[0] -= 1
         if left[0] < 0:
-            return await commit(session)
+            return await commit(session, *given)
         if not before:
-            await commit(session)
-        raise kind("disk I/O error")
+            await commit(session, *given)
+        raise error
 
-    dialect.commit = breaks
+    setattr(dialect, name, breaks)
     return dialect
+
+
+def after_hash(accounts, act, times=1):
+    """Does `act` after each of the next hashes, before what was worked out is committed."""
+    work, left = accounts._judge.work, [times]
+
+    def worked(ticket):
+        done = work(ticket)
+        left[0] -= 1
+        if left[0] >= 0:
+            act()
+        return done
+
+    accounts._judge.work = worked
+
+
+def in_threads(act, count):
+    """What `act` answers to each number, at the same time."""
+    answers = []
+    threads = [threading.Thread(target=lambda n=n: answers.append(act(n))) for n in range(count)]
+    for thread in threads:
+        thread.start()
+    for thread in threads:
+        thread.join()
+    return answers
 
 
 @contextlib.contextmanager

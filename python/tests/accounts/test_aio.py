@@ -17,7 +17,7 @@ class Awaited(Base):
 
     def setUp(self):
         super().setUp()
-        self.put("ann", LOW.hash("one"))
+        self.put(LOW.hash("one"))
         self.uses = []
 
     @contextlib.asynccontextmanager
@@ -27,21 +27,6 @@ class Awaited(Base):
 
     def awaiting(self, pool=None, **more):
         return AsyncAccounts(pool or self.used, self.dialect, LOW, **more)
-
-    def test_operations(self):
-        async def act():
-            accounts = self.awaiting()
-            self.assertEqual(await accounts.examine(), [])
-            self.assertIs(await accounts.change("ann", "one", "two"), Reply.REPLACED)
-            self.assertIs(await accounts.reset("ann", "one"), Reply.REPLACED)
-            self.assertIs(await accounts.login("ann", "one"), Reply.YES)
-            self.assertIs(await accounts.verify("ann", "two"), Reply.NO)
-            self.assertIs(await accounts.enrol("ann", "two"), Reply.EXISTS)
-            self.assertIs(await accounts.upgrade("ann", "one"), Reply.KEPT)
-            self.assertIs(await accounts.remove("ann", "one"), Reply.REMOVED)
-            self.assertIs(await accounts.reset("ann", "one"), Reply.ENROLLED)
-
-        asyncio.run(act())
 
     def test_copies_are_read_from_the_replica(self):
         accounts = self.awaiting(replica=lambda: self.used("replica"))

@@ -18,7 +18,7 @@ from rigzumal.accounts.database import Database
 
 class Commands(Base):
     def run_command(self, *words, given=b"", status=0, database=None):
-        url = database or f"sqlite:///{self.path}"
+        url = database or f"sqlite:///{self.server.path}"
         costs = "--memory 64 --passes 1 --lanes 1".split()
         done = subprocess.run(
             [sys.executable, "-m", "rigzumal", "accounts", *costs, *words],
@@ -31,24 +31,24 @@ class Commands(Base):
         self.assertNotIn("Traceback", text)
         return text
 
+    def says(self, said, *words, **more):
+        self.assertEqual(self.run_command(*words, **more), said)
+
     def test_accounts(self):
-        self.assertEqual(self.run_command("init"), "")
+        self.says("", "init")
         self.assertIn("already exists", self.run_command("init", status=2))
-        self.assertEqual(self.run_command("add", "ann@x", given=b"one"), "enrolled\n")
-        self.assertEqual(self.run_command("add", "ann@x", given=b"two", status=1), "exists\n")
-        self.assertEqual(self.run_command("check", "ann@x", given=b"one\n"), "yes\n")
+        self.says("enrolled\n", "add", "ann@x", given=b"one")
+        self.says("exists\n", "add", "ann@x", given=b"two", status=1)
+        self.says("yes\n", "check", "ann@x", given=b"one\n")
         for wrong in (b"two", b"one ", b"one\n\n"):
             said = self.run_command("check", "ann@x", given=wrong, status=1)
             self.assertEqual(said.splitlines()[0], "no")
-        said = self.run_command("check", "bob", given=b"one", status=1)
-        self.assertEqual(said, "no account\n")
-        self.assertEqual(self.run_command("reset", "ann@x", given=b"two"), "replaced\n")
-        self.assertEqual(self.run_command("check", "ann@x", given=b"two"), "yes\n")
-        said = self.run_command("reset", "bob", given=b"two", status=1)
-        self.assertEqual(said, "no account\n")
-        said = self.run_command("list")
-        self.assertEqual(said, "ann@x argon2id v=19 m=64,t=1,p=1\n")
-        self.assertEqual(self.run_command("examine"), "")
+        self.says("no account\n", "check", "bob", given=b"one", status=1)
+        self.says("replaced\n", "reset", "ann@x", given=b"two")
+        self.says("yes\n", "check", "ann@x", given=b"two")
+        self.says("no account\n", "reset", "bob", given=b"two", status=1)
+        self.says("ann@x argon2id v=19 m=64,t=1,p=1\n", "list")
+        self.says("", "examine")
 
     def test_an_empty_input_is_no_password(self):
         self.run_command("init")
@@ -59,32 +59,31 @@ class Commands(Base):
                     self.run_command("add", "ann", given=b"one")
                 said = self.run_command(*words, given=given, status=2)
                 self.assertIn("no password", said)
-        self.assertEqual(self.run_command("check", "ann", given=b"one"), "yes\n")
+        self.says("yes\n", "check", "ann", given=b"one")
 
     def test_imports(self):
         self.run_command("init")
         record = LOW.hash("one")
-        folder = pathlib.Path(self.path).parent
+        folder = pathlib.Path(self.server.path).parent
         file = folder / "names"
         lines = [f"user {number}@x {record}" for number in range(1200)]
         file.write_text("\n".join(lines) + "\n")
-        self.assertEqual(self.run_command("import", str(file)), "1200 added, 0 there already\n")
+        self.says("1200 added, 0 there already\n", "import", str(file))
         lines[7] = f"user 7@x {LOW.hash('two')}"
         file.write_text("\r\n".join([*lines, f"new {record}"]))
         said = self.run_command("import", str(file), status=1)
         self.assertIn("1 accounts have another record, which stays", said)
         self.assertIn("1 added, 1199 there already", said)
-        self.assertEqual(self.run_command("check", "user 7@x", given=b"one"), "yes\n")
+        self.says("yes\n", "check", "user 7@x", given=b"one")
         for bad in ("ann", "ann garbage", f"\n{record}", "ann $2b$12$x"):
             file.write_text(f"bob {record}\n{bad}\n")
             said = self.run_command("import", str(file), status=2)
             self.assertIn("line 2", said)
-        said = self.run_command("check", "bob", given=b"one", status=1)
-        self.assertEqual(said, "no account\n")
+        self.says("no account\n", "check", "bob", given=b"one", status=1)
         self.run_command("import", str(folder / "none"), status=2)
 
     def names(self, *lines):
-        file = pathlib.Path(self.path).parent / "names"
+        file = pathlib.Path(self.server.path).parent / "names"
         file.write_text("".join(f"{line}\n" for line in lines))
         return str(file)
 
@@ -98,8 +97,7 @@ class Commands(Base):
         self.assertIn("line 1:", self.run_command("import", file, status=2))
         self.assertEqual(self.count(), 0)
         for count in ("3 added, 0", "0 added, 3"):
-            said = self.run_command("import", "--foreign", file)
-            self.assertEqual(said, f"{count} there already\n")
+            self.says(f"{count} there already\n", "import", "--foreign", file)
         found = self.conn.execute("SELECT name, record FROM accounts").fetchall()
         self.assertEqual(dict(found), {"ann": record, "bob": ours, "cid": "x" * 512})
         for bad in ("x" * 513, "a\u00e9", "a\0b", "a\tb", "a\x7f", ""):
@@ -198,19 +196,19 @@ class Commands(Base):
 
     def test_a_table_that_is_made(self):
         """With what SCALE.md asks of SQLite."""
-        path = f"{self.path}.new"
-        self.assertEqual(self.run_command("init", database=f"sqlite:///{path}"), "")
+        path = f"{self.server.path}.new"
+        self.says("", "init", database=f"sqlite:///{path}")
         conn = sqlite3.connect(path)
         self.assertEqual(conn.execute("PRAGMA journal_mode").fetchone(), ("wal",))
         conn.close()
 
     def test_a_long_import_shows_how_far_it_is(self):
         self.run_command("init")
-        file = pathlib.Path(self.path).parent / "names"
+        file = pathlib.Path(self.server.path).parent / "names"
         record = LOW.hash("one")
         file.write_text("".join(f"user{it} {record}\n" for it in range(1200)))
         mine, theirs = pty.openpty()
-        url = {"RIGZUMAL_DATABASE": f"sqlite:///{self.path}"}
+        url = {"RIGZUMAL_DATABASE": f"sqlite:///{self.server.path}"}
         words = [sys.executable, "-m", "rigzumal", "accounts", "import", str(file)]
         env = {**os.environ, **url}
         done = subprocess.run(words, stdout=subprocess.PIPE, stderr=theirs, env=env)
@@ -227,7 +225,7 @@ class Commands(Base):
         for typed, said in (("one\none\n", "enrolled"), ("one\ntwo\n", "not the same")):
             pid, mine = pty.fork()
             if pid == 0:
-                os.environ["RIGZUMAL_DATABASE"] = f"sqlite:///{self.path}"
+                os.environ["RIGZUMAL_DATABASE"] = f"sqlite:///{self.server.path}"
                 words = ["-m", "rigzumal", "accounts", "--memory", "64", "add", "ann"]
                 os.execv(sys.executable, [sys.executable, *words])
             shown = ""
@@ -248,14 +246,12 @@ class Commands(Base):
         self.conn.execute("CREATE TABLE people (id INTEGER PRIMARY KEY, pw TEXT)")
         self.conn.execute("INSERT INTO people VALUES (7, NULL)")
         names = "--table people --key id --record pw --numbers".split()
-        self.assertEqual(self.run_command(*names, "examine"), "")
-        said = self.run_command(*names, "add", "7", given=b"one")
-        self.assertEqual(said, "enrolled\n")
-        self.assertEqual(self.run_command(*names, "check", "7", given=b"one"), "yes\n")
+        self.says("", *names, "examine")
+        self.says("enrolled\n", *names, "add", "7", given=b"one")
+        self.says("yes\n", *names, "check", "7", given=b"one")
         said = self.run_command(*names, "check", "x", given=b"one", status=2)
         self.assertIn("no whole number", said)
-        said = self.run_command(*names[:-1], "check", "7", given=b"one")
-        self.assertEqual(said, "yes\n")
+        self.says("yes\n", *names[:-1], "check", "7", given=b"one")
 
     def test_an_addition_is_whole(self):
         """No account is left without a record if its record isn't put."""
@@ -268,7 +264,7 @@ class Commands(Base):
         self.assertEqual(found, (0,))
         self.conn.execute("DROP TRIGGER tr")
         self.conn.execute("INSERT INTO accounts VALUES ('ben', NULL)")
-        self.assertEqual(self.run_command("add", "ben", given=b"one"), "enrolled\n")
+        self.says("enrolled\n", "add", "ben", given=b"one")
 
     def test_names_that_write_to_the_terminal(self):
         self.run_command("init")
@@ -280,7 +276,7 @@ class Commands(Base):
         self.assertIn("\u00e9ve no record", said)
 
     def test_logs_that_are_none(self):
-        log = os.path.join(os.path.dirname(self.path), "log")
+        log = os.path.join(os.path.dirname(self.server.path), "log")
         for line in (
             "x",
             "[]",

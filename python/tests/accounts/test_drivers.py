@@ -23,7 +23,7 @@ from rigzumal.accounts import (
     of_engine,
 )
 from rigzumal.accounts import torture
-from rigzumal.accounts.parts import Kind, Request
+from rigzumal.accounts.parts import Kind, Request, Ticket
 
 
 def module(name):
@@ -37,49 +37,40 @@ def module(name):
 class Refused(unittest.TestCase):
     """A connection of another driver is no table that won't do."""
 
-    def assert_refused(self, accounts, said):
-        worked = accounts.work(accounts.begin_with(LOW.hash("one")))
+    def assert_refused(self, conn, kind, said):
+        """By each of the operations, before anything is sent."""
+        dialect = kind("users", "name", "record")
+        accounts = Accounts(lambda: contextlib.nullcontext(conn), dialect, LOW, patience=0.0)
+        ticket = Ticket(Request(Kind.CHANGE, "ann", "one", "two"), LOW.hash("one"))
+        worked = accounts.work(ticket)
         for act in (
             lambda: accounts.verify("ann", "one"),
             lambda: accounts.change("ann", "one", "two"),
             lambda: accounts.examine(),
             lambda: accounts.commit(worked),
-            lambda: accounts.commit_in(accounts.conn, worked),
+            lambda: accounts.commit_in(conn, worked),
         ):
             with self.assertRaisesRegex(StoreFault, said):
                 act()
 
-    def accounts(self, conn, dialect):
-        class Over(Accounts):
-            def begin_with(self, record):
-                from rigzumal.accounts.parts import Ticket
-
-                return Ticket(Request(Kind.CHANGE, "ann", "one", "two"), record)
-
-        made = Over(lambda: contextlib.nullcontext(conn), dialect, LOW, patience=0.0)
-        made.conn = conn
-        return made
-
     def test_psycopg2(self):
         psycopg2 = module("psycopg2")
-        conn = psycopg2.connect(engines.server(servers.PostgresServer).url)
+        conn = psycopg2.connect(support.server(servers.PostgresServer).url)
         self.addCleanup(conn.close)
         conn.autocommit = True
-        accounts = self.accounts(conn, Postgres("users", "name", "record"))
-        self.assert_refused(accounts, "the driver is psycopg2, and psycopg 3 is wanted")
+        self.assert_refused(conn, Postgres, "the driver is psycopg2, and psycopg 3 is wanted")
 
     def test_mysqlclient(self):
         mysql = module("MySQLdb")
-        server = engines.server(servers.MariaServer)
+        server = support.server(servers.MariaServer)
         given = {"host": "127.0.0.1", "port": server.port, "user": "store", "passwd": "store"}
         conn = mysql.connect(db="store", autocommit=True, **given)
         self.addCleanup(conn.close)
-        accounts = self.accounts(conn, MariaDB("users", "name", "record"))
-        self.assert_refused(accounts, "the driver is MySQLdb, and PyMySQL is wanted")
+        self.assert_refused(conn, MariaDB, "the driver is MySQLdb, and PyMySQL is wanted")
 
     def test_asyncpg(self):
         asyncpg = module("asyncpg")
-        server = engines.server(servers.PostgresServer)
+        server = support.server(servers.PostgresServer)
 
         async def act():
             conn = await asyncpg.connect(server.url)
@@ -97,17 +88,12 @@ class Refused(unittest.TestCase):
 
         asyncio.run(act())
 
-    def test_sqlalchemys_own_connections(self):
-        """They are named with what makes a pool of their engine."""
-        connection = type("Connection", (), {"__module__": "sqlalchemy.pool", "info": {}})
-        for dialect in (Sqlite, MariaDB, Postgres):
-            accounts = self.accounts(connection(), dialect("users", "name", "record"))
-            self.assert_refused(accounts, "the driver is sqlalchemy, .* of_engine")
-
     def test_others(self):
-        for dialect in (Sqlite, MariaDB, Postgres):
-            accounts = self.accounts(object(), dialect("users", "name", "record"))
-            self.assert_refused(accounts, "the driver is builtins")
+        """SQLAlchemy's own connections are named with what makes a pool of their engine."""
+        sqlalchemys = type("Connection", (), {"__module__": "sqlalchemy.pool", "info": {}})
+        for kind in (Sqlite, MariaDB, Postgres):
+            self.assert_refused(sqlalchemys(), kind, "the driver is sqlalchemy, .* of_engine")
+            self.assert_refused(object(), kind, "the driver is builtins")
 
 
 class Engines:
@@ -116,8 +102,6 @@ class Engines:
     def setUp(self):
         super().setUp()
         self.sqlalchemy = module("sqlalchemy")
-        self.execute("DROP TABLE IF EXISTS users")
-        self.execute(self.dialect.create())
         self.execute(self.dialect.insert, "ann")
 
     def engine(self, **given):
@@ -174,9 +158,7 @@ class Engines:
                 self.over(engine).verify("ann", "one")
 
 
-class EnginesOfSqlite(Engines, engines.Base):
-    kind, dialect = engines.SqliteFile, Sqlite("users", "name", "record")
-
+class EnginesOfSqlite(Engines, engines.OnSqlite, support.Base):
     @property
     def sqlalchemy_url(self):
         return f"sqlite:///{self.server.path}"
@@ -210,9 +192,7 @@ class EnginesOfSqlite(Engines, engines.Base):
         asyncio.run(act())
 
 
-class EnginesOfMariaDB(Engines, engines.Base):
-    kind, dialect = servers.MariaServer, MariaDB("users", "name", "record")
-
+class EnginesOfMariaDB(Engines, engines.OnMariaDB, support.Base):
     @property
     def sqlalchemy_url(self):
         return self.server.url.replace("mysql:", "mysql+pymysql:")
@@ -228,13 +208,9 @@ class EnginesOfMariaDB(Engines, engines.Base):
             self.assertIs(accounts.login("ann", "one"), Reply.YES)
         finally:
             timer.join()
-        self.conn = self.server.connect()
-        self.addCleanup(self.conn.close)
 
 
-class EnginesOfPostgres(Engines, engines.Base):
-    kind, dialect = servers.PostgresServer, Postgres("users", "name", "record")
-
+class EnginesOfPostgres(Engines, engines.OnPostgres, support.Base):
     @property
     def sqlalchemy_url(self):
         return self.server.url.replace("postgresql:", "postgresql+psycopg:")
@@ -261,7 +237,7 @@ class Pooler(unittest.TestCase):
     """PgBouncer, whose sessions are another's from one transaction to the next."""
 
     def setUp(self):
-        of = engines.server(servers.PostgresServer)
+        of = support.server(servers.PostgresServer)
         self.bouncer = servers.PgBouncer("bouncer", of).start()
         self.addCleanup(self.bouncer.end)
         self.dialect = Postgres("bounced", "name", "record")
@@ -296,11 +272,7 @@ class Pooler(unittest.TestCase):
                 said[accounts.enrol(name, "a")] += 1
             pool.close()
 
-        threads = [threading.Thread(target=act, args=(it,)) for it in range(4)]
-        for thread in threads:
-            thread.start()
-        for thread in threads:
-            thread.join()
+        support.in_threads(act, 4)
         self.assertEqual(
             dict(said),
             {

@@ -4,9 +4,9 @@ import sqlite3
 import unittest
 
 import engines
-import servers
 import support
-from rigzumal.accounts import MariaDB, Postgres, Reply, Sqlite, StoreFault
+from support import LOW
+from rigzumal.accounts import Postgres, Reply, StoreFault
 
 CASE, BLANKS = "differ in case", "differ by blanks at the end"
 ACCENTS, CUT = "differ by accents", "a record has up to 512 bytes"
@@ -34,10 +34,7 @@ class Said:
                 self.assertEqual(self.execute("SELECT * FROM users"), rows)
 
 
-class OnSqlite(Said, support.Base):
-    def execute(self, sql):
-        return self.conn.execute(sql).fetchall()
-
+class OnSqlite(Said, engines.OnSqlite, support.Base):
     def test_tables(self):
         table = "CREATE TABLE users (name TEXT {}, record {})"
         trigger = "CREATE TRIGGER tr BEFORE UPDATE ON users BEGIN SELECT"
@@ -102,13 +99,9 @@ class OnSqlite(Said, support.Base):
         self.assert_faults(["the trigger tr", "isn't the one that was put"])
 
     def with_pragma(self, pragma, path=None, **more):
-        def connect():
-            given = {"timeout": 5, "isolation_level": None, **more}
-            conn = sqlite3.connect(path or self.path, **given)
-            conn.execute(f"PRAGMA {pragma}")
-            return conn
-
-        return self.accounts(connect=connect)
+        if path is not None:
+            self.server.path = path
+        return self.accounts(connect=self.setting(f"PRAGMA {pragma}", **more))
 
     def test_settings(self):
         for pragma, *words in (
@@ -132,45 +125,22 @@ class OnSqlite(Said, support.Base):
                 accounts._connections.primary.close()
 
     def test_reads_of_what_is_not_committed(self):
-        shared = f"file:{self.path}?cache=shared"
+        shared = f"file:{self.server.path}?cache=shared"
         accounts = self.with_pragma("read_uncommitted = 1", shared, uri=True)
         self.assert_faults(["read_uncommitted is on"], accounts)
 
-    def test_a_connection_in_the_wrong_mode(self):
-        """The trial's ROLLBACK would be that of a caller's transaction."""
-        self.conn.execute("BEGIN")
-        self.conn.execute("INSERT INTO users VALUES ('ann', NULL)")
-        accounts = self.accounts(connect=lambda: self.conn)
-        with self.assertRaises(StoreFault):
-            accounts.examine()
-        self.conn = self.connect()
-        manual = self.accounts(connect=lambda: self.connect(isolation_level=""))
-        with self.assertRaises(StoreFault):
-            manual.examine()
-
     def test_it_leaves_no_transaction_open(self):
-        conn = self.connect()
-        accounts = self.accounts(connect=lambda: conn)
+        conn = self.another()
+        accounts = self.kept(conn=conn)
         self.assert_faults([], accounts)
         self.assertFalse(conn.in_transaction)
         self.conn.execute("DROP TABLE users")
         self.assert_faults(["no column users.name", "no column users.record"], accounts)
         self.assertFalse(conn.in_transaction)
 
-    def test_keys_of_other_types(self):
-        for column, kind in (("INTEGER", int), ("BLOB", bytes)):
-            self.execute("DROP TABLE users")
-            self.execute(f"CREATE TABLE users (name {column} PRIMARY KEY, record TEXT)")
-            dialect = Sqlite("users", "name", "record", kind)
-            self.assert_faults([], self.accounts(dialect=dialect))
-
 
 class OnServer(Said):
     """What both servers' tables have in common."""
-
-    def role(self, grants):
-        """Accounts by a role that may do this alone."""
-        raise NotImplementedError
 
     def test_roles(self):
         table = "CREATE TABLE users (name VARCHAR(150) PRIMARY KEY, record VARCHAR(512)"
@@ -187,7 +157,24 @@ class OnServer(Said):
                 self.execute(f"{table}{more}) {self.sound}")
                 mail = ", 1" if more else ""
                 self.execute(f"INSERT INTO users VALUES ('ann', NULL{mail})")
-                self.assert_faults(words, self.role(grants))
+                self.assert_faults(words, self.accounts(connect=self.of_role(grants)))
+
+    def test_names_of_tables_and_columns(self):
+        """As a statement finds the table, so it is examined."""
+        here = self.execute(
+            "SELECT table_schema FROM information_schema.tables WHERE table_name"
+            " = 'users' AND table_schema IN ('public', 'store')"
+        )
+        for names, *words in (
+            ({"table": f"{here[0][0]}.users"},),
+            ({"table": "nowhere"}, "no column nowhere.name", "no column nowhere.record"),
+            ({"table": "nowhere.users"}, "no column", "no column"),
+            ({"record": "password"}, "no column users.password"),
+        ):
+            with self.subTest(names=names):
+                self.assert_faults(words, self.accounts(dialect=self.another_dialect(**names)))
+        numbers = self.accounts(dialect=self.another_dialect(key_type=int))
+        self.assertIn("and keys are int", self.said(numbers))
 
     def lengths(self, *bad):
         table = "CREATE TABLE users (name VARCHAR(150) PRIMARY KEY, record {}) "
@@ -198,28 +185,13 @@ class OnServer(Said):
         self.each_table(cases + good)
 
 
-class OnPostgres(OnServer, engines.Base):
-    kind = servers.PostgresServer
-    dialect = Postgres("users", "name", "record")
+class OnPostgres(OnServer, engines.OnPostgres, support.Base):
     sound = ""
 
     def setUp(self):
         super().setUp()
         # A statement that was prepared knows the table that was there before.
         self.conn.prepare_threshold = None
-
-    def role(self, grants):
-        import psycopg
-
-        for sql in ("DROP OWNED BY looker", "DROP ROLE looker"):
-            try:
-                self.execute(sql)
-            except psycopg.errors.UndefinedObject:
-                pass
-        self.execute("CREATE ROLE looker LOGIN")
-        self.execute(f"GRANT {grants} ON users TO looker")
-        url = self.server.url.replace("store@", "looker@")
-        return self.accounts(connect=lambda: psycopg.connect(url, autocommit=True))
 
     def test_lengths(self):
         self.lengths("varchar(60)", "varchar(96)", "varchar(128)", "varchar(511)")
@@ -264,7 +236,7 @@ class OnPostgres(OnServer, engines.Base):
             [
                 (f"{table} {short})", refused),
                 (f"{table}); ALTER TABLE users ADD {short} NOT VALID", refused),
-                (f"{table} CHECK (record LIKE '$argon2%%'))",),
+                (f"{table} CHECK (record LIKE '$argon2%'))",),
                 (f"{table}); {nothing}", "no record can be put: FeatureNotSupported"),
             ]
         )
@@ -297,13 +269,8 @@ class OnPostgres(OnServer, engines.Base):
             ("synchronous_commit = remote_apply",),
             ("synchronous_commit = on",),
         ):
-
-            def connect():
-                conn = self.server.connect()
-                conn.execute(f"SET {setting}")
-                return conn
-
             with self.subTest(setting=setting):
+                connect = self.setting(f"SET {setting}")
                 self.assert_faults(words, self.accounts(connect=connect))
 
     def test_settings_of_the_server(self):
@@ -318,21 +285,8 @@ class OnPostgres(OnServer, engines.Base):
             self.assert_faults([])
 
 
-class OnMariaDB(OnServer, engines.Base):
-    kind = servers.MariaServer
-    dialect = MariaDB("users", "name", "record")
+class OnMariaDB(OnServer, engines.OnMariaDB, support.Base):
     sound = "CHARACTER SET utf8mb4 COLLATE utf8mb4_nopad_bin"
-
-    def role(self, grants):
-        import pymysql
-
-        with self.server.root() as conn, conn.cursor() as cursor:
-            cursor.execute("DROP USER IF EXISTS looker@'127.0.0.1'")
-            cursor.execute("CREATE USER looker@'127.0.0.1' IDENTIFIED BY 'x'")
-            cursor.execute(f"GRANT {grants} ON store.users TO looker@'127.0.0.1'")
-        given = {"host": "127.0.0.1", "port": self.server.port, "user": "looker"}
-        given.update(password="x", database="store", autocommit=True)
-        return self.accounts(connect=lambda: pymysql.connect(**given))
 
     def test_lengths(self):
         bad = ("VARCHAR(60)", "VARCHAR(96)", "VARCHAR(128)", "VARCHAR(511)")
@@ -375,7 +329,6 @@ class OnMariaDB(OnServer, engines.Base):
 
     def test_blanks_are_of_a_name(self):
         """In the table that is made for accounts, 'ann ' is another name than 'ann'."""
-        self.execute(self.dialect.create())
         self.execute(self.dialect.insert, "ann")
         accounts = self.accounts()
         self.assertIs(accounts.enrol("ann", "one"), Reply.ENROLLED)
@@ -384,6 +337,18 @@ class OnMariaDB(OnServer, engines.Base):
             self.execute(self.dialect.insert, name)
             self.assertIs(accounts.verify(name, "one"), Reply.ABSENT)
         self.assertIs(accounts.verify("ann", "one"), Reply.YES)
+
+    def test_types_of_records(self):
+        table = "CREATE TABLE users (name VARCHAR(90) PRIMARY KEY, record {}) "
+        self.each_table(
+            [
+                (table.format("TEXT CHARACTER SET ucs2") + self.sound, "is in ucs2"),
+                (table.format("VARBINARY(512)") + self.sound, "varbinary(512)", "in None", "bytes"),
+            ]
+        )
+        self.put(LOW.hash("one"))
+        with self.assertRaises(StoreFault):
+            self.accounts().verify("ann", "one")
 
     def test_checks(self):
         table = "CREATE TABLE users (name VARCHAR(90) PRIMARY KEY, record TEXT CHECK ({}))"
@@ -412,19 +377,13 @@ class OnMariaDB(OnServer, engines.Base):
 
     def test_settings(self):
         self.table(more=self.sound)
-        for name, bad, good in (
-            ("innodb_flush_log_at_trx_commit", (0, 2), 1),
-            ("sync_binlog", (), 0),
-        ):
-            for value in bad:
-                with self.server.root() as conn, conn.cursor() as cursor:
-                    cursor.execute(f"SET GLOBAL {name} = {value}")
-                try:
-                    with self.subTest(name=name, value=value):
-                        self.assert_faults([f"{name} is {value}"])
-                finally:
-                    with self.server.root() as conn, conn.cursor() as cursor:
-                        cursor.execute(f"SET GLOBAL {name} = {good}")
+        name = "innodb_flush_log_at_trx_commit"
+        self.addCleanup(self.server.as_root, f"SET GLOBAL {name} = 1")
+        for value in (0, 2):
+            self.server.as_root(f"SET GLOBAL {name} = {value}")
+            with self.subTest(value=value):
+                self.assert_faults([f"{name} is {value}"])
+        self.server.as_root(f"SET GLOBAL {name} = 1")
         self.assert_faults([])
 
 

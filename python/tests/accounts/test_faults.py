@@ -6,13 +6,12 @@ import time
 import unittest
 from unittest import mock
 
-from support import HIGH, LOW, Base, counted, losing
+from support import HIGH, LOW, Base, counted, losing, sent
 import rigzumal
 from rigzumal.accounts import (
     Accounts,
     MariaDB,
     OutcomeUnknown,
-    PerThread,
     Reply,
     StoreFault,
     Unavailable,
@@ -26,36 +25,33 @@ class Faulty(Base):
 
     def test_what_stands_tells(self):
         for before in (True, False):
-            self.put("ann", LOW.hash("one"))
+            self.put(LOW.hash("one"))
             accounts = self.losing(before)
             self.assertIs(accounts.change("ann", "one", "two"), Reply.REPLACED)
             self.assertTrue(self.is_right("two"))
-            self.put("ann", LOW.hash("one"))
+            self.put(LOW.hash("one"))
             accounts = self.losing(before, hasher=HIGH)
             self.assertIs(accounts.upgrade("ann", "one"), Reply.UPGRADED)
 
     def test_an_error_of_the_disk_at_commit(self):
         """SQLite's number 10 says nothing of what was done, so one looks."""
 
-        def disk(text):
-            error = sqlite3.OperationalError(text)
-            error.sqlite_errorcode, error.sqlite_errorname = 10, "SQLITE_IOERR"
-            return error
-
+        disk = sqlite3.OperationalError("disk I/O error")
+        disk.sqlite_errorcode, disk.sqlite_errorname = 10, "SQLITE_IOERR"
         for before in (True, False):
-            self.put("ann", LOW.hash("one"))
-            accounts = self.losing(before, kind=disk)
+            self.put(LOW.hash("one"))
+            accounts = self.losing(before, error=disk)
             self.assertIs(accounts.change("ann", "one", "two"), Reply.REPLACED)
             self.assertTrue(self.is_right("two"))
-            self.put("ann", None)
-            accounts = self.losing(before, kind=disk)
+            self.put(None)
+            accounts = self.losing(before, error=disk)
             if before:
                 with self.assertRaises(OutcomeUnknown):
                     accounts.enrol("ann", "one")
             else:
                 self.assertIs(accounts.enrol("ann", "one"), Reply.ENROLLED)
-            self.put("ann", LOW.hash("one"))
-            accounts = self.losing(before, kind=disk)
+            self.put(LOW.hash("one"))
+            accounts = self.losing(before, error=disk)
             if before:
                 self.assertIs(accounts.remove("ann", "one"), Reply.REMOVED)
             else:
@@ -64,27 +60,27 @@ class Faulty(Base):
             self.assertIsNone(self.stands())
 
     def test_an_enrolment_is_never_sent_again(self):
-        self.put("ann", None)
+        self.put(None)
         with self.assertRaises(OutcomeUnknown):
             self.losing(before=True).enrol("ann", "one")
         self.assertIsNone(self.stands())
         self.assertIs(self.losing(before=False).enrol("ann", "one"), Reply.ENROLLED)
-        self.put("ann", None)
+        self.put(None)
         with self.assertRaises(OutcomeUnknown):
             self.losing(before=True).reset("ann", "one")
 
     def test_a_removal_cannot_be_told(self):
-        self.put("ann", LOW.hash("one"))
+        self.put(LOW.hash("one"))
         with self.assertRaises(OutcomeUnknown):
             self.losing(before=False).remove("ann", "one")
-        self.put("ann", LOW.hash("one"))
+        self.put(LOW.hash("one"))
         self.assertIs(self.losing(before=True).remove("ann", "one"), Reply.REMOVED)
         self.assertIsNone(self.stands())
 
     def test_a_fault_after_a_lost_answer_says_nothing_of_it(self):
         """The change stands, or may come to stand: it is unknown, and no StoreFault."""
         for before in (True, False):
-            self.put("ann", LOW.hash("one"))
+            self.put(LOW.hash("one"))
             accounts = self.losing(before)
             table, compare = accounts._table, accounts._table.compare
             fault = sqlite3.OperationalError("database or disk is full")
@@ -101,7 +97,7 @@ class Faulty(Base):
 
     def test_another_change_comes_before_it_is_sent_again(self):
         """The copy stood as one looked, and no more as the change was sent."""
-        self.put("ann", LOW.hash("one"))
+        self.put(LOW.hash("one"))
         accounts = self.losing(before=True)
         table, look = accounts._table, accounts._table.look
         looks = []
@@ -110,7 +106,7 @@ class Faulty(Base):
             found = await look(session, key)
             looks.append(found)
             if len(looks) == 2:
-                self.put("ann", LOW.hash("another"))
+                self.put(LOW.hash("another"))
             return found
 
         table.look = slow
@@ -130,7 +126,7 @@ class Faulty(Base):
 
     def test_a_connection_that_is_not_rolled_back_is_given_up(self):
         """Where the server wants the transaction anew, and ROLLBACK fails."""
-        self.put("ann", LOW.hash("one"))
+        self.put(LOW.hash("one"))
         made = []
 
         def connect():
@@ -156,17 +152,16 @@ class Faulty(Base):
         self.assertEqual(len(made), 2)
 
     def test_a_pool_that_fails_after_a_lost_answer(self):
-        self.put("ann", LOW.hash("one"))
-        pool, uses = PerThread(self.connect), []
-        self.addCleanup(pool.close)
+        self.put(LOW.hash("one"))
+        uses = []
 
         def broken():
             uses.append(1)
             if len(uses) > 2:
                 raise RuntimeError("the pool is shut")
-            return pool()
+            return contextlib.nullcontext(self.conn)
 
-        accounts = Accounts(broken, losing(before=False), LOW, patience=0.5)
+        accounts = Accounts(broken, losing(self.dialect, before=False), LOW, patience=0.5)
         with self.assertRaises(OutcomeUnknown):
             accounts.change("ann", "one", "two")
 
@@ -178,29 +173,23 @@ class Faulty(Base):
             "CREATE TABLE users (name TEXT PRIMARY KEY, record TEXT"
             " REFERENCES known (record) DEFERRABLE INITIALLY DEFERRED)"
         )
-        self.put("ann", LOW.hash("one"))
+        self.put(LOW.hash("one"))
 
-        def connect():
-            conn = self.connect()
-            conn.execute("PRAGMA foreign_keys = ON")
-            return conn
-
-        accounts, begun = self.accounts(connect=connect), time.monotonic()
-        with self.assertRaises(StoreFault) as raised:
+        accounts = self.accounts(connect=self.setting("PRAGMA foreign_keys = ON"), patience=60.0)
+        with sent() as found, self.assertRaisesRegex(StoreFault, "CONSTRAINT_FOREIGNKEY"):
             accounts.change("ann", "one", "two")
-        self.assertIn("SQLITE_CONSTRAINT_FOREIGNKEY", str(raised.exception))
-        self.assertLess(time.monotonic() - begun, 2)
+        self.assertEqual(found[-2:], ["COMMIT", "ROLLBACK"])
         self.assertTrue(self.is_right("one"))
 
     def test_a_change_that_others_replaced(self):
         """The new record may have stood and been replaced: nobody knows."""
-        self.put("ann", LOW.hash("one"))
+        self.put(LOW.hash("one"))
         accounts = self.losing(before=False)
         look, reads = accounts._look, []
 
         def looked(*given):
             if reads:
-                self.put("ann", LOW.hash("another"))
+                self.put(LOW.hash("another"))
             reads.append(1)
             return look(*given)
 
@@ -210,7 +199,7 @@ class Faulty(Base):
 
     def test_a_login_goes_on(self):
         """What is unknown of the upgrade is no matter of the answer."""
-        self.put("ann", LOW.hash("one"))
+        self.put(LOW.hash("one"))
         accounts = self.losing(before=True, times=1000, hasher=HIGH)
         self.assertIs(accounts.login("ann", "one"), Reply.YES)
         self.assertIs(accounts.login("ann", "two"), Reply.NO)
@@ -235,7 +224,7 @@ class Faulty(Base):
         self.assertIs(full.login("ann", "one"), Reply.YES)
 
     def test_busy(self):
-        self.put("ann", LOW.hash("one"))
+        self.put(LOW.hash("one"))
         accounts = self.accounts(HIGH, connect=lambda: self.connect(timeout=0.01), patience=0.3)
         self.conn.execute("BEGIN IMMEDIATE")
         begun = time.monotonic()
@@ -254,7 +243,7 @@ class Faulty(Base):
 
     def test_a_pool_that_fails_after_the_work(self):
         """What was done is done: it isn't done once more."""
-        self.put("ann", LOW.hash("one"))
+        self.put(LOW.hash("one"))
 
         @contextlib.contextmanager
         def pool():

@@ -48,7 +48,7 @@ class Upgrades(Base):
         )
         for one, two, up in ways:
             with self.subTest(one=one, two=two):
-                self.put("ann", one.hash("x"))
+                self.put(one.hash("x"))
                 reply = self.accounts(two).upgrade("ann", "x")
                 self.assertIs(reply, Reply.UPGRADED if up else Reply.KEPT)
 
@@ -56,7 +56,7 @@ class Upgrades(Base):
         """Neither makes the other's record anew, if neither is above the other."""
         more_memory = self.accounts(PasswordHasher(1, 256, 1))
         more_passes = self.accounts(PasswordHasher(5, 64, 1))
-        self.put("ann", None)
+        self.put(None)
         more_memory.enrol("ann", "one")
         record = self.stands()
         for accounts in (more_passes, more_memory, self.accounts(LOW)):
@@ -69,7 +69,7 @@ class Upgrades(Base):
         self.assertIn("m=64,", self.stands())
 
     def test_the_older_version(self):
-        self.put("ann", OLDER)
+        self.put(OLDER)
         other = self.accounts(PasswordHasher(2, 256, 1))
         self.assertIs(other.upgrade("ann", "password"), Reply.KEPT)
         same = PasswordHasher(2, 256, 1, type=rigzumal.Type.I)
@@ -98,7 +98,7 @@ class Foreign(Base):
 
     def test_texts_of_other_schemes(self):
         accounts = self.accounts(foreign=self.hook)
-        self.put("ann", "$2b$one")
+        self.put("$2b$one")
         self.assertIs(accounts.verify("ann", "one"), Reply.YES)
         self.assertIs(accounts.verify("ann", "two"), Reply.NO)
         self.assertIs(accounts.enrol("ann", "two"), Reply.EXISTS)
@@ -108,24 +108,24 @@ class Foreign(Base):
         self.assertEqual(self.stands(), "$2b$one")
         self.assertIs(accounts.login("ann", "one"), Reply.YES)
         self.assertTrue(self.is_right("one"))
-        self.put("ann", "$2b$one")
+        self.put("$2b$one")
         self.assertIs(accounts.change("ann", "one", "new"), Reply.REPLACED)
         self.assertTrue(self.is_right("new"))
-        self.put("ann", "$2b$one")
+        self.put("$2b$one")
         self.assertIs(accounts.remove("ann", "one"), Reply.REMOVED)
         self.assertIsNone(self.stands())
 
     def test_the_upgrade_compares_too(self):
-        self.put("ann", "$2b$one")
+        self.put("$2b$one")
         accounts, owner = self.accounts(foreign=self.hook), self.accounts()
-        slow = accounts.work(accounts.begin(Request(Kind.UPGRADE, "ann", "one")))
+        slow = self.worked(accounts, Kind.UPGRADE, "one")
         self.assertIs(slow.reply, Reply.UPGRADED)
         self.assertIs(owner.reset("ann", "new"), Reply.REPLACED)
         self.assertIs(accounts.commit(slow).reply, Reply.CHANGED)
         self.assertTrue(self.is_right("new"))
 
     def test_a_login_that_was_shut(self):
-        self.put("ann", "!shut")
+        self.put("!shut")
         accounts = self.accounts(foreign=self.hook)
         for password in ("", "!shut", "one"):
             with counted() as hashes:
@@ -134,7 +134,7 @@ class Foreign(Base):
         self.assertIs(accounts.reset("ann", "new"), Reply.REPLACED)
 
     def test_no_hook(self):
-        self.put("ann", "!shut")
+        self.put("!shut")
         with self.assertRaises(rigzumal.InvalidRecordError):
             self.accounts().verify("ann", "x")
         self.assertIs(self.accounts().enrol("ann", "x"), Reply.EXISTS)
@@ -144,8 +144,8 @@ class Foreign(Base):
 class Costs(Base):
     def test_each_look_costs_one_hash(self):
         """Whether the name is known, has a record, or the password is right."""
-        self.put("ann", LOW.hash("one"))
-        self.put("bob", None)
+        self.put(LOW.hash("one"))
+        self.put(None, "bob")
         accounts = self.accounts()
         for name in ("ann", "bob", "nobody", "a\0b", "a\ud800"):
             for kind in READS:
@@ -168,7 +168,7 @@ class Costs(Base):
             self.assertEqual(password, b"x")
 
     def test_nothing_is_hashed_twice_if_the_server_is_busy(self):
-        self.put("ann", LOW.hash("one"))
+        self.put(LOW.hash("one"))
         made = []
 
         def connect():
@@ -176,7 +176,7 @@ class Costs(Base):
             return made[-1]
 
         accounts = self.accounts(connect=connect)
-        other = self.connect(check_same_thread=False)
+        other = self.connect()
         other.execute("BEGIN IMMEDIATE")
         timer = threading.Timer(0.5, lambda: other.execute("COMMIT"))
         timer.start()

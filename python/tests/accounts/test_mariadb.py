@@ -1,34 +1,31 @@
 """What goes wrong on a real server of MariaDB, trap by trap."""
 
 import contextlib
+import io
 import os
 import subprocess
 import sys
 import tempfile
 import threading
 import unittest
+from unittest import mock
 
-import servers
+import engines
 import support
-from engines import Base
-from support import LOW
-from rigzumal.accounts import Accounts, MariaDB, Reply, StoreFault, Unavailable
+from support import LOW, Base, Scripted, run, sent
+from rigzumal.accounts import AsyncAccounts, MariaDB, Reply, StoreFault, Unavailable
 from rigzumal.accounts._session import Result
 from rigzumal.accounts.dialects import mariadb
-from rigzumal.accounts.parts import Kind
+from rigzumal.accounts.parts import Kind, Request, Ticket
 
 
-class OnMariaDB(Base):
-    kind = servers.MariaServer
-    dialect = MariaDB("users", "name", "record")
-
+class OnMariaDB(engines.OnMariaDB, Base):
     def test_bytes_are_compared(self):
         self.table(more="CHARACTER SET utf8mb4 COLLATE utf8mb4_general_ci")
         for copy in ("ABCdef", "abcDEF ", "abcdef", "äbcDEF"):
             self.tried_bytes("abcDEF", copy)
 
     def test_numbers_are_no_names(self):
-        self.table()
         self.put(LOW.hash("one"))
         found = self.execute("SELECT name FROM users WHERE name = %s", 0)
         self.assertEqual(found, [("ann",)])
@@ -41,7 +38,7 @@ class OnMariaDB(Base):
         for mode in ("STRICT_TRANS_TABLES", "NO_ENGINE_SUBSTITUTION"):
             self.table("VARCHAR(60)")
             self.execute("INSERT INTO users VALUES ('ann', NULL)")
-            accounts = self.accounts(connect=lambda: self.server.connect(sql_mode=mode))
+            accounts = self.accounts(connect=self.setting(sql_mode=mode))
             with self.assertRaises(StoreFault):
                 accounts.enrol("ann", "one")
             self.assertIsNone(self.stands())
@@ -50,11 +47,9 @@ class OnMariaDB(Base):
             self.assertEqual("isn't strict" in said, mode[0] == "N")
 
     def test_a_callers_repeatable_read(self):
-        self.table()
         self.put(LOW.hash("old"))
         accounts = self.accounts()
-        caller = self.server.connect(autocommit=False)
-        self.addCleanup(caller.close)
+        caller = self.another(autocommit=False)
         ((copy,),) = self.execute("SELECT record FROM users", conn=caller)
         late = self.worked(accounts, Kind.CHANGE, "old", "another")
         self.assertIs(accounts.change("ann", "old", "new"), Reply.REPLACED)
@@ -69,175 +64,104 @@ class OnMariaDB(Base):
         self.assertTrue(LOW.verify(self.stands(), "newer"))
 
     def test_uncommitted_reads(self):
-        self.table()
+        """Refused by a look and by a commit, of one statement or of a transaction."""
         self.put(LOW.hash("one"))
-
-        def connect():
-            conn = self.server.connect()
-            level = "SET SESSION TRANSACTION ISOLATION LEVEL READ UNCOMMITTED"
-            self.execute(level, conn=conn)
-            return conn
-
-        accounts = self.accounts(connect=connect)
-        for act in (accounts.verify, accounts.login, accounts.enrol):
-            with self.assertRaises(StoreFault) as raised:
-                act("ann", "one")
-            self.assertIn("READ UNCOMMITTED", str(raised.exception))
-        self.assertIn("READ UNCOMMITTED", self.said(accounts))
-        # A commit asks too, whether of one statement or of a transaction.
-        for kind, new in ((Kind.CHANGE, "two"), (Kind.REMOVE, "")):
-            worked = self.worked(self.accounts(), kind, "one", new)
-            with self.assertRaisesRegex(StoreFault, "READ UNCOMMITTED"):
-                accounts.commit(worked)
-        # A pool that keeps a connection after an exception.
-        kept = connect()
+        connect = self.setting("SET SESSION TRANSACTION ISOLATION LEVEL READ UNCOMMITTED")
+        accounts, kept = self.accounts(connect=connect), connect()
         self.addCleanup(kept.close)
-        keeping = Accounts(lambda: contextlib.nullcontext(kept), self.dialect, LOW)
-        for _ in range(2):
-            with self.assertRaises(StoreFault):
-                keeping.verify("ann", "one")
+        worked = [
+            self.worked(self.accounts(), kind, "one", new)
+            for kind, new in ((Kind.CHANGE, "two"), (Kind.REMOVE, ""))
+        ]
+        for act in (
+            lambda: accounts.verify("ann", "one"),
+            lambda: accounts.login("ann", "one"),
+            lambda: accounts.enrol("ann", "one"),
+            lambda: accounts.commit(worked[0]),
+            lambda: accounts.commit(worked[1]),
+            # A connection that was refused is refused again.
+            lambda: run(self.dialect.prepare(support.Session(kept))),
+            lambda: run(self.dialect.prepare(support.Session(kept))),
+        ):
+            with self.assertRaisesRegex(StoreFault, "READ UNCOMMITTED"):
+                act()
+        self.assertIn("READ UNCOMMITTED", self.said(accounts))
 
     def test_a_connection_is_asked_once(self):
-        """For its level; afterwards an operation sends what it needs alone."""
-        self.table()
-        self.put(LOW.hash("one"))
-        accounts, kept = self.accounts(), self.server.connect()
-        self.addCleanup(kept.close)
-        accounts = Accounts(lambda: contextlib.nullcontext(kept), self.dialect, LOW)
-        accounts.verify("ann", "one")
-        with support.sent() as found:
-            accounts.verify("ann", "one")
-            accounts.change("ann", "one", "two")
-            accounts.remove("ann", "two")
-        removal = ["SELECT", "START", "UPDATE", "SELECT", "COMMIT"]
-        self.assertEqual(found, ["SELECT"] * 2 + ["BEGIN", *removal])
-
-    def test_another_connection_of_an_old_number(self):
-        """Python gives a new object the number of one that is gone: it is asked anew."""
-        self.table()
-        self.put(LOW.hash("one"))
-        asked = []
-
-        class Session(support.Session):
-            async def execute(self, sql, *values):
-                asked.append(sql.split()[0])
-                return await super().execute(sql, *values)
-
+        """For its level; Python gives another the number of one that is gone: it is asked anew."""
         for _ in range(3):
-            conn = self.server.connect()
-            support.run(self.dialect.prepare(Session(conn)))
-            support.run(self.dialect.prepare(Session(conn)))
+            conn = self.connect()
+            with sent() as asked:
+                for _ in range(2):
+                    run(self.dialect.prepare(support.Session(conn)))
+            self.assertEqual(asked, ["SHOW"])
             conn.close()
             del conn
-        self.assertEqual(asked, ["SHOW"] * 3)
 
     def test_a_statement_that_was_ended_at_its_commit(self):
         """max_statement_time may be over as the COMMIT is done: what stands tells."""
-        import pymysql
-
-        over = pymysql.err.OperationalError(1969, "max_statement_time exceeded")
+        over = self.again.__class__(1969, "max_statement_time exceeded")
         for stands, expected in (("new", 1), ("old", OSError), ("other", ConnectionError)):
-            session = support.Scripted(over, Result([], 0), Result([(stands,)], 1))
+            session = Scripted(over, Result([], 0), Result([(stands,)], 1))
             put = self.dialect.put_at_once(session, "new", "ann", "old")
             if expected == 1:
-                self.assertEqual(support.run(put), 1)
+                self.assertEqual(run(put), 1)
             else:
                 with self.assertRaises(expected) as raised:
-                    support.run(put)
+                    run(put)
                 is_known = self.dialect.gave_up(raised.exception)
                 self.assertEqual(is_known, stands == "old")
             self.assertEqual(session.statements[1][0], "ROLLBACK")
 
     def test_a_server_that_only_reads(self):
         """As in a failover that is under way: it is waited for, and nothing was done."""
-        self.table()
         for name, record in (("ann", LOW.hash("one")), ("ben", None)):
             self.put(record, name)
-        with self.server.root() as conn, conn.cursor() as cursor:
-            cursor.execute("SET GLOBAL read_only = 1")
-            self.addCleanup(self.writable)
-            impatient = self.accounts(patience=0.2)
-            for act in (
-                lambda: impatient.change("ann", "one", "two"),
-                lambda: impatient.enrol("ben", "two"),
-            ):
-                with self.assertRaisesRegex(Unavailable, "1290"):
-                    act()
-            timer = threading.Timer(0.7, self.writable)
-            timer.start()
-            accounts = self.accounts(patience=60.0)
-            self.assertIs(accounts.change("ann", "one", "two"), Reply.REPLACED)
-            timer.join()
-
-    def writable(self):
-        with self.server.root() as conn, conn.cursor() as cursor:
-            cursor.execute("SET GLOBAL read_only = 0")
+        self.server.as_root("SET GLOBAL read_only = 1")
+        self.addCleanup(self.server.as_root, "SET GLOBAL read_only = 0")
+        impatient = self.accounts(patience=0.2)
+        for act in (
+            lambda: impatient.change("ann", "one", "two"),
+            lambda: impatient.enrol("ben", "two"),
+        ):
+            with self.assertRaisesRegex(Unavailable, "1290"):
+                act()
+        timer = threading.Timer(0.7, self.server.as_root, ["SET GLOBAL read_only = 0"])
+        timer.start()
+        accounts = self.accounts(patience=60.0)
+        self.assertIs(accounts.change("ann", "one", "two"), Reply.REPLACED)
+        timer.join()
 
     def test_found_rows(self):
         from pymysql.constants import CLIENT
 
-        self.table()
         self.put(LOW.hash("one"))
-        accounts = self.accounts(connect=lambda: self.server.connect(client_flag=CLIENT.FOUND_ROWS))
+        accounts = self.accounts(connect=self.setting(client_flag=CLIENT.FOUND_ROWS))
         self.assertIs(accounts.change("ann", "one", "one"), Reply.REPLACED)
         slow = self.worked(accounts, Kind.CHANGE, "one", "two")
         self.assertIs(accounts.change("ann", "one", "one"), Reply.REPLACED)
         self.assertIs(accounts.commit(slow).reply, Reply.CHANGED)
 
-    def test_examine(self):
-        for more, words in (
-            ("ENGINE=MyISAM", "MyISAM"),
-            ("CHARACTER SET ucs2", "ucs2"),
-        ):
-            self.table(more=more)
-            self.assertIn(words, self.said(self.accounts()))
-        self.table("VARBINARY(512)")
-        self.assertIn("varbinary", self.said(self.accounts()))
-        self.put(LOW.hash("one"))
-        with self.assertRaises(StoreFault):
-            self.accounts().verify("ann", "one")
-        numbers = MariaDB("users", "name", "record", int)
-        self.assertIn("name is varchar", self.said(self.accounts(dialect=numbers)))
-        self.execute("DROP TABLE users")
-        self.execute("CREATE TABLE users (name VARCHAR(150), record TEXT NOT NULL)")
-        said = self.said(self.accounts())
-        self.assertIn("no unique index", said)
-        self.assertIn("NOT NULL", said)
-        self.execute("CREATE UNIQUE INDEX one ON users (name(5))")
-        self.assertIn("no unique index", self.said(self.accounts()))
-        none = MariaDB("nowhere.users", "name", "record")
-        self.assertIn("no column", self.said(self.accounts(dialect=none)))
-        self.execute("DROP TABLE users")
-        self.execute(self.dialect.create())
-        there = MariaDB("store.users", "name", "record")
-        self.assertEqual(self.accounts(dialect=there).examine(), [])
-
     def test_names_that_the_server_cuts_off(self):
         """Where it isn't strict, nothing is left of what was begun."""
         self.execute("DROP TABLE IF EXISTS accounts")
-        dialect = MariaDB("accounts", "name", "record")
-        self.execute(dialect.create())
-        with self.server.root() as conn, conn.cursor() as cursor:
-            cursor.execute("SELECT @@global.sql_mode")
-            ((mode,),) = cursor.fetchall()
-            cursor.execute("SET GLOBAL sql_mode = ''")
-        try:
-            with tempfile.NamedTemporaryFile("w") as file:
-                file.write(f"{'n' * 300} {LOW.hash('x')}\n")
-                file.flush()
-                for words in (("add", "m" * 300), ("import", file.name)):
-                    done = subprocess.run(
-                        [sys.executable, "-m", "rigzumal", "accounts", *words],
-                        input=b"pw",
-                        capture_output=True,
-                        env={**os.environ, "RIGZUMAL_DATABASE": self.server.url},
-                    )
-                    self.assertEqual(done.returncode, 2, done)
-                    self.assertIn(b"the server keeps another name", done.stderr)
-                    self.assertEqual(self.execute("SELECT * FROM accounts"), [])
-        finally:
-            with self.server.root() as conn, conn.cursor() as cursor:
-                cursor.execute("SET GLOBAL sql_mode = %s", (mode,))
+        self.execute(MariaDB("accounts", "name", "record").create())
+        ((mode,),) = self.server.as_root("SELECT @@global.sql_mode")
+        self.server.as_root("SET GLOBAL sql_mode = ''")
+        self.addCleanup(self.server.as_root, f"SET GLOBAL sql_mode = '{mode}'")
+        with tempfile.NamedTemporaryFile("w") as file:
+            file.write(f"{'n' * 300} {LOW.hash('x')}\n")
+            file.flush()
+            for words in (("add", "m" * 300), ("import", file.name)):
+                done = subprocess.run(
+                    [sys.executable, "-m", "rigzumal", "accounts", *words],
+                    input=b"pw",
+                    capture_output=True,
+                    env={**os.environ, "RIGZUMAL_DATABASE": self.server.url},
+                )
+                self.assertEqual(done.returncode, 2, done)
+                self.assertIn(b"the server keeps another name", done.stderr)
+                self.assertEqual(self.execute("SELECT * FROM accounts"), [])
 
     def test_a_binary_log(self):
         """What isn't in it after a power cut is rolled back, so it is synced."""
@@ -257,44 +181,119 @@ class OnMariaDB(Base):
             galera = {**fine, "wsrep_on": "ON", "wsrep_sync_wait": value}
             self.assertEqual(mariadb.of_server(galera), [])
 
-    def test_a_trigger_that_rewrites(self):
-        self.table()
-        self.put(LOW.hash("one"))
-        self.execute(
-            "CREATE TRIGGER tr BEFORE UPDATE ON users"
-            " FOR EACH ROW SET NEW.record = UPPER(NEW.record)"
-        )
-        accounts = self.accounts()
-        with self.assertRaises(StoreFault):
-            accounts.change("ann", "one", "two")
-        self.assertTrue(LOW.verify(self.stands(), "one"))
-        self.assertIn("isn't the one that was put", self.said(accounts))
-
-    def test_dictionaries(self):
-        from pymysql.cursors import DictCursor
-
-        self.table()
-        self.put(LOW.hash("one"))
-        accounts = self.accounts(connect=lambda: self.server.connect(cursorclass=DictCursor))
-        self.assertIs(accounts.change("ann", "one", "two"), Reply.REPLACED)
-        self.execute("DROP TABLE users")
-        self.execute(self.dialect.create())
-        self.assertEqual(accounts.examine(), [])
-
-    def test_keys_of_other_types(self):
-        for kind, column, key in (
-            (int, "BIGINT", 7),
-            (bytes, "VARBINARY(16)", b"\0\xff"),
+    def test_a_statement_that_the_server_does_not_take(self):
+        """As MySQL: it is asked once, and then transactions do it. What fails after the UPDATE
+        is undone within the statement, and a transaction does it."""
+        for old, new, is_again in (
+            ("NOT ATOMIC", "NO ATOMS", False),
+            ("SET touched", "SIGNAL SQLSTATE '45000'; SET touched", True),
         ):
-            dialect = MariaDB("users", "name", "record", kind)
-            self.table(key=column)
-            accounts = self.accounts(dialect=dialect)
-            self.assertEqual(accounts.examine(), [])
-            self.execute(dialect.insert, key)
-            self.assertIs(accounts.enrol(key, "one"), Reply.ENROLLED)
-            self.assertIs(accounts.login(key, "one"), Reply.YES)
-            with self.assertRaises(TypeError):
-                accounts.login("7x", "one")
+            self.put(LOW.hash("one"))
+            self.dialect = self.another_dialect()
+            self.dialect.at_once = self.dialect.at_once.replace(old, new, 1)
+            accounts, both = self.kept(), f"SELECT {self.one} {self.several}"
+            for password, words in (
+                ("one", both),
+                ("two", both if is_again else f"SELECT {self.several}"),
+            ):
+                with sent() as found:
+                    reply = accounts.change("ann", password, "two")
+                self.assertEqual((reply, " ".join(found)), (Reply.REPLACED, words))
+            self.assertTrue(self.is_right("two"))
+
+    def test_a_column_that_cuts_off(self):
+        """Where the server isn't strict."""
+        self.table("VARCHAR(90)")
+        self.put("short")
+        accounts = self.accounts(connect=self.setting(sql_mode=""))
+        worked = accounts.work(Ticket(Request(Kind.RESET, "ann", "", "two"), "short"))
+        self.assertGreater(len(worked.after), 90)
+        with self.assertRaises(StoreFault):
+            accounts.commit(worked)
+        self.assertEqual(self.stands(), "short")
+
+    def test_a_confirmed_look_writes(self):
+        """An UPDATE of a record to itself writes no log; a confirmed look does."""
+
+        def written():
+            said = self.execute("SHOW SESSION STATUS LIKE 'Handler_update'", conn=conn)
+            return int(said[0][1])
+
+        for stands in (LOW.hash("one"), None):
+            self.put(stands)
+            conn = self.another()
+            for confirm in (False, True):
+                accounts, before = self.kept(conn=conn, confirm=confirm), written()
+                accounts.verify("ann", "one")
+                self.assertEqual(written() - before, 2 if confirm else 0)
+
+    def test_what_examine_says_without_a_binary_log(self):
+        """It is a fault where looks aren't confirmed."""
+        said = "log_bin is OFF: a crash may take a change by which a login was answered"
+        for seen, words in (
+            ({"log_bin": "OFF"}, (said,)),
+            ({}, (said,)),
+            ({"log_bin": "ON"}, ()),
+            ({"log_bin": "OFF", "wsrep_on": "ON"}, ()),
+        ):
+            self.assertEqual(tuple(map(str, mariadb.shown_early(seen))), words)
+        early = mariadb.shown_early({})
+        with mock.patch.object(mariadb, "shown_early", return_value=early):
+            self.assertEqual(self.accounts().examine(), [*early])
+            self.assertEqual(self.accounts(confirm=True).examine(), [])
+
+    def test_the_command(self):
+        """--confirm is for examine, check and torture."""
+        from rigzumal.accounts import cli, torture
+
+        given = ["--database", self.server.url, "--table", "users"]
+        said, early = io.StringIO(), (mariadb.error("shown-early", "early"),)
+        with mock.patch.object(mariadb, "shown_early", return_value=early):
+            with contextlib.redirect_stdout(said):
+                self.assertEqual(cli.main([*given, "examine"]), 1)
+                self.assertEqual(cli.main([*given, "--confirm", "examine"]), 0)
+        self.assertEqual(said.getvalue(), "error: early\n")
+        for confirm in (False, True):
+            tortured = torture.Torture(self.server.url, confirm=confirm)
+            made = tortured.made(AsyncAccounts, None, 64)
+            self.assertEqual(made._table.confirm, confirm)
+
+    def test_a_trigger_between(self):
+        """What it makes of the record is rolled back."""
+        record = LOW.hash("one")
+        for stands in (record, None):
+            self.put(stands)
+            self.execute(
+                "CREATE TRIGGER tr BEFORE UPDATE ON users FOR EACH ROW"
+                " SET NEW.record = COALESCE(CONCAT(NEW.record, 'x'), 'x')"
+            )
+            with self.assertRaises(StoreFault):
+                self.accounts(confirm=True).verify("ann", "one")
+            self.assertEqual(self.stands(), stands)
+            self.execute("DROP TRIGGER tr")
+
+    def test_the_two_updates(self):
+        """What stands between them is never committed."""
+        for first, second, wanted in (
+            (0, None, 0),
+            (2, None, 2),
+            (1, 1, 1),
+            (1, 0, StoreFault),
+            (1, 2, StoreFault),
+        ):
+            session = Scripted(Result([], first), Result([], second))
+            put = self.dialect.put(session, "r", "ann", "r")
+            if wanted is StoreFault:
+                self.assertRaises(StoreFault, run, put)
+            else:
+                self.assertEqual(run(put).affected, wanted)
+            self.assertEqual(session.statements[0][1], (None, "ann", "r"))
+            self.assertEqual(len(session.statements), 1 if second is None else 2)
+        session = Scripted(Result([], 1), Result([], 1))
+        run(self.dialect.put(session, None, "ann", None))
+        (_, (other, _, copy)), (_, values) = session.statements
+        self.assertEqual((other[:9], copy), ("$argon2id", None))
+        self.assertEqual(values, (None, "ann", other))
 
 
 if __name__ == "__main__":

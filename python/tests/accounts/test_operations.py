@@ -3,11 +3,10 @@
 import base64
 import contextlib
 import os
-import threading
 import unittest
 from unittest import mock
 
-from support import HIGH, LOW, READS, Base, Scripted, sent
+from support import HIGH, LOW, Base, Scripted, after_hash
 from rigzumal.accounts import Accounts, Reply, Sqlite, StoreFault
 from rigzumal.accounts.parts import Kind, NO_ROW, Request, Ticket, Worked
 from rigzumal import ScryptHasher
@@ -15,48 +14,8 @@ from rigzumal.accounts._session import Result, run
 
 
 class Operations(Base):
-    def test_replies_and_records(self):
-        """Each operation at no account, no record and a record, with each password."""
-        accounts, table = self.accounts(HIGH), []
-        for kind in READS:
-            table += [(kind, NO_ROW, "one", Reply.NO_ACCOUNT)]
-            table += [(kind, None, "one", Reply.ABSENT)]
-            wrong = Reply.NO if kind is Kind.VERIFY else Reply.WRONG
-            table += [(kind, "one", "two", wrong), (kind, "one", "", wrong)]
-        table += [
-            (Kind.VERIFY, "one", "one", Reply.YES),
-            (Kind.CHANGE, "one", "one", Reply.REPLACED),
-            (Kind.UPGRADE, "one", "one", Reply.UPGRADED),
-            (Kind.REMOVE, "one", "one", Reply.REMOVED),
-            (Kind.ENROL, NO_ROW, "one", Reply.NO_ACCOUNT),
-            (Kind.ENROL, None, "one", Reply.ENROLLED),
-            (Kind.ENROL, "one", "one", Reply.EXISTS),
-            (Kind.RESET, NO_ROW, "", Reply.NO_ACCOUNT),
-            (Kind.RESET, None, "", Reply.ENROLLED),
-            (Kind.RESET, "one", "", Reply.REPLACED),
-        ]
-        passwords = {Kind.CHANGE: "new", Kind.RESET: "new"}
-        for kind, copy, password, reply in table:
-            with self.subTest(kind=kind, copy=copy, password=password):
-                name = "nobody" if copy is NO_ROW else "ann"
-                record = LOW.hash(copy) if isinstance(copy, str) else None
-                self.put("ann", record)
-                answer = accounts.perform(Request(kind, name, password, "new"))
-                self.assertIs(answer.reply, reply)
-                self.assertEqual(answer.before, copy if copy is NO_ROW else record)
-                if copy is not NO_ROW:
-                    self.assertEqual(answer.after, self.stands())
-                if reply is Reply.REMOVED:
-                    self.assertIsNone(self.stands())
-                elif reply.makes_change:
-                    self.assertNotEqual(self.stands(), record)
-                    self.assertTrue(self.is_right(passwords.get(kind, password)))
-                    self.assertIn("m=128,", self.stands())
-                else:
-                    self.assertEqual(self.stands(), record)
-
     def test_scrypt(self):
-        self.put("ann", None)
+        self.put(None)
         accounts = self.accounts(ScryptHasher(log2_n=4))
         self.assertIs(accounts.enrol("ann", "one"), Reply.ENROLLED)
         self.assertIs(accounts.upgrade("ann", "one"), Reply.KEPT)
@@ -69,22 +28,11 @@ class Operations(Base):
         self.assertIs(listed.login("ann", "one"), Reply.YES)
         self.assertIn("$argon2id$", self.stands())
 
-    def test_a_login_answers_as_a_verify(self):
-        self.put("ann", LOW.hash("one"))
-        self.put("bob", None)
-        accounts = self.accounts(HIGH)
-        for turn in range(2):
-            self.assertIs(accounts.login("ann", "two"), Reply.NO)
-            self.assertIs(accounts.login("ann", "one"), Reply.YES)
-        self.assertIn("m=128,", self.stands())
-        self.assertIs(accounts.login("bob", "one"), Reply.ABSENT)
-        self.assertIs(accounts.login("cid", "one"), Reply.NO_ACCOUNT)
-
     def test_the_three_parts(self):
-        self.put("ann", LOW.hash("one"))
+        self.put(LOW.hash("one"))
         accounts = self.accounts()
-        slow = accounts.work(accounts.begin(Request(Kind.UPGRADE, "ann", "one")))
-        change = accounts.work(accounts.begin(Request(Kind.CHANGE, "ann", "one", "two")))
+        slow = self.worked(accounts, Kind.UPGRADE, "one")
+        change = self.worked(accounts, Kind.CHANGE, "one", "two")
         self.assertIs(slow.reply, Reply.KEPT)
         self.assertIs(accounts.commit(change).reply, Reply.REPLACED)
         late = accounts.commit(slow)
@@ -96,101 +44,26 @@ class Operations(Base):
 
     def test_a_slow_login_never_undoes_a_change(self):
         """The race: a login with the stolen password, begun before the change."""
-        self.put("ann", LOW.hash("stolen"))
-        accounts, owner = self.accounts(HIGH), self.accounts(HIGH)
-        work, once = accounts._judge.work, []
-
-        def slowly(ticket):
-            worked = work(ticket)
-            if not once:
-                once.append(owner.change("ann", "stolen", "new"))
-            return worked
-
-        accounts._judge.work = slowly
+        self.put(LOW.hash("stolen"))
+        accounts, owner, once = self.accounts(HIGH), self.accounts(HIGH), []
+        after_hash(accounts, lambda: once.append(owner.change("ann", "stolen", "new")))
         self.assertIs(accounts.login("ann", "stolen"), Reply.NO)
         self.assertEqual(once, [Reply.REPLACED])
         self.assertFalse(self.is_right("stolen"))
         self.assertTrue(self.is_right("new"))
 
-    def test_each_change_compares(self):
-        """What was worked out at a record that is gone is put by no operation."""
-        accounts = self.accounts(HIGH)
-        for kind, given in (
-            (Kind.CHANGE, ("one", "two")),
-            (Kind.UPGRADE, ("one", "")),
-            (Kind.REMOVE, ("one", "")),
-            (Kind.RESET, ("", "two")),
-        ):
-            self.put("ann", LOW.hash("one"))
-            slow = accounts.work(accounts.begin(Request(kind, "ann", *given)))
-            self.assertTrue(slow.reply.makes_change)
-            for stands in (LOW.hash("another"), LOW.hash("one"), None):
-                self.put("ann", stands)
-                with self.subTest(kind=kind, stands=stands):
-                    answer = accounts.commit(slow)
-                    self.assertIs(answer.reply, Reply.CHANGED)
-                    self.assertEqual((answer.before, answer.after), (stands, stands))
-                    self.assertEqual(self.stands(), stands)
-                    self.conn.execute("BEGIN IMMEDIATE")
-                    answer = accounts.commit_in(self.conn, slow)
-                    self.assertIs(answer.reply, Reply.CHANGED)
-                    self.conn.execute("COMMIT")
-                    self.assertEqual(self.stands(), stands)
-        self.put("ann", None)
-        for kind, given in ((Kind.ENROL, ("x", "")), (Kind.RESET, ("", "x"))):
-            self.put("ann", None)
-            slow = accounts.work(accounts.begin(Request(kind, "ann", *given)))
-            self.put("ann", LOW.hash("another"))
-            self.assertIs(accounts.commit(slow).reply, Reply.CHANGED)
-            self.assertTrue(self.is_right("another"))
-
     def test_a_login_whose_record_changes_again_and_again(self):
         """An upgrade that never stood is no yes; a wrong password was wrong as it was read."""
         for password, reply in (("one", Reply.CHANGED), ("two", Reply.NO)):
-            self.put("ann", LOW.hash("one"))
+            self.put(LOW.hash("one"))
             accounts = self.accounts(HIGH, tries=3)
-            work = accounts._judge.work
-
-            def slowly(ticket):
-                worked = work(ticket)
-                self.put("ann", LOW.hash("one"))
-                return worked
-
-            accounts._judge.work = slowly
+            after_hash(accounts, lambda: self.put(LOW.hash("one")), 99)
             self.assertIs(accounts.login("ann", password), reply)
             self.assertIn("m=64,", self.stands())
 
-    def test_what_is_sent(self):
-        """No statement too many: docs/SCALE.md has these lists."""
-        self.put("ann", LOW.hash("one"))
-        accounts = self.accounts()
-        for act, words in (
-            (lambda: accounts.verify("ann", "one"), "SELECT"),
-            (lambda: accounts.verify("ann", "two"), "SELECT"),
-            (lambda: accounts.login("ann", "one"), "SELECT"),
-            (lambda: accounts.login("bob", "one"), "SELECT"),
-            (lambda: accounts.enrol("ann", "one"), "SELECT"),
-            (lambda: accounts.change("ann", "two", "x"), "SELECT"),
-            (
-                lambda: accounts.change("ann", "one", "two"),
-                "SELECT BEGIN UPDATE SELECT COMMIT",
-            ),
-            (
-                lambda: accounts.reset("ann", "two"),
-                "SELECT BEGIN UPDATE SELECT COMMIT",
-            ),
-            (
-                lambda: accounts.remove("ann", "two"),
-                "SELECT BEGIN UPDATE SELECT COMMIT",
-            ),
-        ):
-            with sent() as found:
-                act()
-            self.assertEqual(" ".join(found), words)
-
     def test_passwords_are_their_bytes(self):
         """Two spellings of one letter are two passwords; blanks and case count."""
-        self.put("ann", None)
+        self.put(None)
         accounts = self.accounts()
         for password, others in (
             ("caf\u00e9", ("cafe\u0301", "cafe", b"caf\xe9")),
@@ -209,17 +82,14 @@ class Operations(Base):
                 self.assertIs(reply, Reply.WRONG, other)
 
     def test_changed_after_so_many_tries(self):
-        self.put("ann", LOW.hash("one"))
-        accounts = self.accounts(tries=3)
-        work, turns = accounts._judge.work, []
+        self.put(LOW.hash("one"))
+        accounts, turns = self.accounts(tries=3), []
 
-        def slowly(ticket):
-            worked = work(ticket)
-            turns.append(ticket.copy)
-            self.put("ann", LOW.hash("one"))
-            return worked
+        def changed():
+            turns.append(self.stands())
+            self.put(LOW.hash("one"))
 
-        accounts._judge.work = slowly
+        after_hash(accounts, changed, 99)
         for kind in (Kind.REMOVE, Kind.CHANGE):
             turns.clear()
             answer = accounts.perform(Request(kind, "ann", "one", "two"))
@@ -252,16 +122,6 @@ class Operations(Base):
             self.assertIs(answer.reply, reply)
             self.assertEqual(answer.after, stands)
 
-    def test_an_account_that_is_gone(self):
-        accounts = self.accounts()
-        for kind in (Kind.VERIFY, Kind.CHANGE, Kind.RESET):
-            self.put("ann", LOW.hash("one"))
-            worked = accounts.work(accounts.begin(Request(kind, "ann", "one", "two")))
-            self.conn.execute("DELETE FROM users")
-            answer = accounts.commit(worked)
-            self.assertIs(answer.reply, Reply.NO_ACCOUNT)
-            self.assertIs(answer.after, NO_ROW)
-
     def test_one_row_is_updated(self):
         """A driver that doesn't count, or a key of more than one row."""
         table = self.accounts()._table
@@ -271,36 +131,13 @@ class Operations(Base):
             with self.assertRaises(StoreFault):
                 run(table.compare(session, Worked(ticket, Reply.REPLACED, "new")))
 
-    def test_threads(self):
-        accounts = self.accounts(HIGH)
-        for turn in range(5):
-            self.put("ann", LOW.hash("one"))
-            replies = self.in_threads(lambda n: accounts.change("ann", "one", f"new{n}"), 8)
-            said = sorted(it.value for it in replies)
-            self.assertEqual(said, ["replaced"] + ["wrong"] * 7)
-            self.put("ann", LOW.hash("one"))
-            replies = self.in_threads(lambda n: accounts.login("ann", "one"), 8)
-            self.assertEqual(replies, [Reply.YES] * 8)
-            self.assertIn("m=128,", self.stands())
-
-    def in_threads(self, act, count):
-        replies = []
-        threads = [
-            threading.Thread(target=lambda n=n: replies.append(act(n))) for n in range(count)
-        ]
-        for thread in threads:
-            thread.start()
-        for thread in threads:
-            thread.join()
-        return replies
-
     def test_replicas_may_lag(self):
         """A copy that is gone is no answer: the primary is looked at."""
         stale = self.connect()
         stale.execute("ATTACH ':memory:' AS old")
         stale.execute("CREATE TABLE old.users (name TEXT PRIMARY KEY, record TEXT)")
         stale.execute("INSERT INTO old.users VALUES ('ann', ?)", (LOW.hash("old"),))
-        self.put("ann", LOW.hash("new"))
+        self.put(LOW.hash("new"))
         dialect = Sqlite("users", "name", "record")
 
         @contextlib.contextmanager
@@ -316,7 +153,7 @@ class Operations(Base):
         self.assertIs(accounts.change("ann", "old", "x"), Reply.WRONG)
         self.assertIs(accounts.change("ann", "new", "newer"), Reply.REPLACED)
         # What has no record there, or no row, may have one by now.
-        self.put("ann", LOW.hash("new"))
+        self.put(LOW.hash("new"))
         for sql in ("UPDATE old.users SET record = NULL", "DELETE FROM old.users"):
             stale.execute(sql)
             for act in (accounts.verify, accounts.login):
@@ -325,7 +162,7 @@ class Operations(Base):
             self.assertIs(accounts.enrol("ann", "x"), Reply.EXISTS)
             self.assertIs(accounts.reset("ann", "new"), Reply.REPLACED)
         stale.execute("INSERT INTO old.users VALUES ('ann', ?)", (LOW.hash("old"),))
-        self.put("ann", None)
+        self.put(None)
         self.assertIs(accounts.verify("ann", "old"), Reply.ABSENT)
         self.assertIs(accounts.remove("ann", "old"), Reply.ABSENT)
         self.assertIs(accounts.enrol("ann", "new"), Reply.ENROLLED)
@@ -336,7 +173,7 @@ class Operations(Base):
 
     def test_copies_are_read_from_the_replica(self):
         """One look each, and everything else at the primary."""
-        self.put("ann", LOW.hash("one"))
+        self.put(LOW.hash("one"))
         uses = []
 
         @contextlib.contextmanager
@@ -361,7 +198,7 @@ class Operations(Base):
 
     def test_each_record_has_a_salt_of_its_own(self):
         """By which it is known whether a lost COMMIT was done."""
-        self.put("ann", None)
+        self.put(None)
         accounts, salts = self.accounts(), set()
         for _ in range(20):
             accounts.reset("ann", "one")
@@ -369,7 +206,7 @@ class Operations(Base):
         self.assertEqual(len(salts), 20)
 
     def test_salts_are_the_systems_random_bytes(self):
-        self.put("ann", LOW.hash("old"))
+        self.put(LOW.hash("old"))
         accounts = self.accounts(HIGH)
         for number, act in enumerate(
             (
@@ -390,10 +227,10 @@ class Operations(Base):
 
 class CallersTransactions(Base):
     def test_all_or_nothing(self):
-        self.put("ann", LOW.hash("one"))
+        self.put(LOW.hash("one"))
         self.conn.execute("CREATE TABLE sessions (name TEXT)")
         accounts = self.accounts()
-        worked = accounts.work(accounts.begin(Request(Kind.CHANGE, "ann", "one", "two")))
+        worked = self.worked(accounts, Kind.CHANGE, "one", "two")
         for end, right in (("ROLLBACK", "one"), ("COMMIT", "two")):
             self.conn.execute("BEGIN IMMEDIATE")
             answer = accounts.commit_in(self.conn, worked)
@@ -408,9 +245,9 @@ class CallersTransactions(Base):
         self.conn.execute("ROLLBACK")
 
     def test_a_verify_within(self):
-        self.put("ann", LOW.hash("one"))
+        self.put(LOW.hash("one"))
         accounts = self.accounts()
-        worked = accounts.work(accounts.begin(Request(Kind.VERIFY, "ann", "one")))
+        worked = self.worked(accounts, Kind.VERIFY, "one")
         self.conn.execute("BEGIN IMMEDIATE")
         self.assertIs(accounts.commit_in(self.conn, worked).reply, Reply.YES)
         self.conn.execute("COMMIT")
@@ -444,14 +281,6 @@ class CallersTransactions(Base):
         with self.assertRaises(TypeError):
             self.accounts().commit_in(self.conn, worked)
         self.assertTrue(self.conn.in_transaction)
-
-    def test_a_transaction_is_needed(self):
-        self.put("ann", LOW.hash("one"))
-        accounts = self.accounts()
-        worked = accounts.work(accounts.begin(Request(Kind.CHANGE, "ann", "one", "two")))
-        with self.assertRaises(StoreFault):
-            accounts.commit_in(self.conn, worked)
-        self.assertTrue(self.is_right("one"))
 
 
 if __name__ == "__main__":

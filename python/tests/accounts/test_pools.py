@@ -6,7 +6,8 @@ import os
 import sqlite3
 import unittest
 
-from support import LOW, Awaiting, Base, losing, sent
+from engines import Awaited
+from support import LOW, OLDER, Awaiting, Base, Session, after_hash, losing, sent
 from rigzumal.accounts import Accounts, AsyncAccounts, OutcomeUnknown, PerThread, Reply, StoreFault
 from rigzumal.accounts._session import AsyncSession
 
@@ -17,42 +18,15 @@ class Alarm(BaseException):
     """As a timeout of gevent, a cancelled task or an interrupt."""
 
 
-class WaysBack:
-    """Pools over one connection, by what they do after an exception.
+class Pool:
+    """A pool over one connection, blocking and for asyncio, by what it does after an exception.
 
-    Each is told by name: a method that takes the connection and the exception, and
-    returns whether the exception is swallowed.
+    `way` is a function of the connection, which may raise, and says whether the exception is
+    swallowed.
     """
 
-    def raises_another(self, conn, error):
-        """As a rollback that fails on a broken connection."""
-        conn.rollback()
-        raise BUSY
-
-    def raises_at_any_end(self, conn, error):
-        conn.rollback()
-        raise BUSY
-
-    def raises_a_base_exception(self, conn, error):
-        conn.rollback()
-        raise Alarm
-
-    def swallows(self, conn, error):
-        conn.rollback()
-        return True
-
-    def rolls_back(self, conn, error):
-        conn.rollback()
-
-
-NAMES = [name for name in vars(WaysBack) if not name.startswith("_")]
-
-
-class Pooled:
-    """One of the ways, as the blocking pools have it."""
-
-    def __init__(self, name, conn):
-        self.name, self.conn = name, conn
+    def __init__(self, way, conn):
+        self.way, self.conn = way, conn
         self.uses = 0
 
     def __call__(self):
@@ -63,12 +37,8 @@ class Pooled:
         return self.conn
 
     def __exit__(self, kind, error, traceback):
-        if error is not None or self.name == "raises_at_any_end":
-            return getattr(WaysBack(), self.name)(self.conn, error)
-
-
-class AwaitedPool(Pooled):
-    """The same for asyncio."""
+        if error is not None or self.way is raises_at_any_end:
+            return self.way(self.conn)
 
     async def __aenter__(self):
         return Awaiting(self.conn)
@@ -77,60 +47,63 @@ class AwaitedPool(Pooled):
         return self.__exit__(*given)
 
 
-class Blocking:
-    """The operations, on a pool of one connection."""
-
-    def made(self, name, dialect):
-        self.pool = Pooled(name, self.conn)
-        return Accounts(self.pool, dialect, LOW, patience=0.5)
-
-    def awaited(self, said):
-        return said
-
-    def statements(self):
-        """The first words of what is sent within."""
-        return sent()
+def raises_another(conn):
+    """As a rollback that fails on a broken connection."""
+    conn.rollback()
+    raise BUSY
 
 
-class Asynchronous:
-    """The same operations for asyncio."""
+def raises_at_any_end(conn):
+    conn.rollback()
+    raise BUSY
 
-    def made(self, name, dialect):
-        self.pool = AwaitedPool(name, self.conn)
-        return AsyncAccounts(self.pool, dialect, LOW, patience=0.5)
 
-    def awaited(self, said):
-        return asyncio.run(said)
+def raises_a_base_exception(conn):
+    conn.rollback()
+    raise Alarm
 
-    def statements(self):
-        return sent(AsyncSession)
+
+def swallows(conn):
+    conn.rollback()
+    return True
+
+
+def rolls_back(conn):
+    conn.rollback()
+
+
+WAYS = (raises_another, raises_at_any_end, raises_a_base_exception, swallows, rolls_back)
 
 
 class LostAnswers:
     """A COMMIT without an answer, and a pool that does as it likes afterwards."""
 
+    def made(self, way, dialect):
+        self.pool = Pool(way, self.conn)
+        return self.over(self.pool, dialect)
+
     def each(self, before):
-        for name in NAMES:
-            with self.subTest(pool=name):
-                yield name, self.made(name, losing(before))
+        for way in WAYS:
+            with self.subTest(pool=way.__name__):
+                yield way, self.made(way, losing(self.another_dialect(), before))
 
     def test_a_change_that_was_made(self):
-        for name, accounts in self.each(before=False):
-            self.put("ann", LOW.hash("old"))
-            change = lambda: self.awaited(accounts.change("ann", "old", "new"))
-            with self.statements() as found:
-                if name == "raises_a_base_exception":
+        for way, accounts in self.each(before=False):
+            self.put(LOW.hash("old"))
+            change = lambda: accounts.change("ann", "old", "new")
+            with sent(self.session) as found:
+                if way is raises_a_base_exception:
                     self.assertRaises(Alarm, change)
                 else:
                     self.assertIs(change(), Reply.REPLACED)
-            self.assertEqual(found.count("UPDATE"), 2 - (name[-9:] == "exception"))
+            self.assertEqual(found.count("UPDATE"), 2 - (way is raises_a_base_exception))
             self.assertTrue(self.is_right("new"))
 
     def test_a_change_that_was_not_made(self):
-        for name, accounts in self.each(before=True):
-            self.put("ann", LOW.hash("old"))
-            change = lambda: self.awaited(accounts.change("ann", "old", "new"))
-            if name == "raises_a_base_exception":
+        for way, accounts in self.each(before=True):
+            self.put(LOW.hash("old"))
+            change = lambda: accounts.change("ann", "old", "new")
+            if way is raises_a_base_exception:
                 self.assertRaises(Alarm, change)
                 self.assertTrue(self.is_right("old"))
             else:
@@ -139,9 +112,9 @@ class LostAnswers:
 
     def test_an_enrolment_that_its_owner_has_removed_since(self):
         """It stays removed, and its outcome is unknown."""
-        for name in NAMES:
-            self.put("ann", None)
-            dialect = losing(before=False)
+        for way in WAYS:
+            self.put(None)
+            dialect = losing(self.another_dialect(), before=False)
             commit = dialect.commit
 
             async def removed(session):
@@ -152,51 +125,51 @@ class LostAnswers:
                     self.conn.execute("UPDATE users SET record = NULL")
 
             dialect.commit = removed
-            accounts = self.made(name, dialect)
-            wanted = Alarm if name == "raises_a_base_exception" else OutcomeUnknown
-            with self.subTest(pool=name), self.assertRaises(wanted):
-                self.awaited(accounts.enrol("ann", "new"))
+            accounts = self.made(way, dialect)
+            wanted = Alarm if way is raises_a_base_exception else OutcomeUnknown
+            with self.subTest(pool=way.__name__), self.assertRaises(wanted):
+                accounts.enrol("ann", "new")
             self.assertIsNone(self.stands())
 
     def test_a_removal(self):
-        for name, accounts in self.each(before=False):
-            self.put("ann", LOW.hash("old"))
-            wanted = Alarm if name == "raises_a_base_exception" else OutcomeUnknown
+        for way, accounts in self.each(before=False):
+            self.put(LOW.hash("old"))
+            wanted = Alarm if way is raises_a_base_exception else OutcomeUnknown
             with self.assertRaises(wanted):
-                self.awaited(accounts.remove("ann", "old"))
+                accounts.remove("ann", "old")
             self.assertIsNone(self.stands())
 
     def test_a_fault_is_said(self):
         """What a job raised is what its caller is told."""
-        for name in NAMES:
-            self.put("ann", LOW.hash("old"))
-            accounts = self.made(name, self.dialect)
+        for way in WAYS:
+            self.put(LOW.hash("old"))
+            accounts = self.made(way, self.dialect)
             self.conn.execute("ALTER TABLE users RENAME TO gone")
-            wanted = Alarm if name == "raises_a_base_exception" else StoreFault
-            with self.subTest(pool=name), self.assertRaises(wanted):
-                self.awaited(accounts.verify("ann", "old"))
+            wanted = Alarm if way is raises_a_base_exception else StoreFault
+            with self.subTest(pool=way.__name__), self.assertRaises(wanted):
+                accounts.verify("ann", "old")
             self.assertEqual(self.pool.uses, 1)
             self.conn.execute("ALTER TABLE gone RENAME TO users")
 
     def test_an_interrupt_is_no_lost_connection(self):
         """It comes through, whatever the pool makes of it; nothing is sent again."""
-        for name in NAMES:
-            self.put("ann", LOW.hash("old"))
-            accounts = self.made(name, self.dialect)
+        for way in WAYS:
+            self.put(LOW.hash("old"))
+            accounts = self.made(way, self.dialect)
 
             def interrupted(worked):
                 raise Alarm
 
             accounts._table.before_commit = interrupted
-            with self.subTest(pool=name), self.assertRaises(Alarm):
-                self.awaited(accounts.change("ann", "old", "new"))
+            with self.subTest(pool=way.__name__), self.assertRaises(Alarm):
+                accounts.change("ann", "old", "new")
             self.assertEqual(self.pool.uses, 2)
             self.assertTrue(self.is_right("old"))
 
     def test_a_pool_that_gives_nothing(self):
         """What it raises before a job was begun comes through, and nothing was done."""
 
-        class Shut(Pooled):
+        class Shut(Pool):
             def __enter__(self):
                 raise RuntimeError("the pool is shut")
 
@@ -206,28 +179,34 @@ class LostAnswers:
             async def __aexit__(self, *given):
                 raise AssertionError("it never was entered")
 
-        accounts = type(self.made("rolls_back", self.dialect))(
-            Shut("rolls_back", None), self.dialect, LOW
-        )
+        accounts = self.over(Shut(rolls_back, None), self.dialect)
         with self.assertRaisesRegex(RuntimeError, "the pool is shut"):
-            self.awaited(accounts.verify("ann", "old"))
+            accounts.verify("ann", "old")
 
     def test_what_examine_says_is_not_swallowed(self):
-        accounts = self.made("swallows", self.dialect)
-        self.assertEqual(self.awaited(accounts.examine()), [])
+        accounts = self.made(swallows, self.dialect)
+        self.assertEqual(accounts.examine(), [])
         self.dialect.examine = None
         with self.assertRaises(TypeError):
-            self.awaited(accounts.examine())
+            accounts.examine()
 
 
-class LostAnswersOfThreads(Blocking, LostAnswers, Base):
-    pass
+class LostAnswersOfThreads(LostAnswers, Base):
+    session = Session
+
+    def over(self, pool, dialect):
+        return Accounts(pool, dialect, LOW, patience=0.5)
 
 
-class LostAnswersOfTasks(Asynchronous, LostAnswers, Base):
+class LostAnswersOfTasks(LostAnswers, Base):
+    session = AsyncSession
+
+    def over(self, pool, dialect):
+        return Awaited(AsyncAccounts(pool, dialect, LOW, patience=0.5))
+
     def test_a_cancellation_comes_through(self):
         """At the pool's way back too, where the work is done."""
-        self.put("ann", LOW.hash("old"))
+        self.put(LOW.hash("old"))
 
         async def act():
             waiting = asyncio.Event()
@@ -250,7 +229,7 @@ class LostAnswersOfTasks(Asynchronous, LostAnswers, Base):
 
     def test_a_cancellation_that_a_rollback_replaces(self):
         """The pool's rollback raises in its place: it is a cancellation all the same."""
-        self.put("ann", LOW.hash("old"))
+        self.put(LOW.hash("old"))
         uses = []
 
         async def act():
@@ -288,19 +267,14 @@ class LostAnswersOfTasks(Asynchronous, LostAnswers, Base):
 class OpenTransactions(Base):
     """A pool that keeps its connections finds none of ours open."""
 
-    def kept(self, **more):
-        pool = lambda: contextlib.nullcontext(self.conn)
-        return Accounts(pool, self.dialect, LOW, **more)
-
     def test_after_a_refused_statement(self):
         self.conn.execute("DROP TABLE users")
         self.conn.execute(
             "CREATE TABLE users (name TEXT PRIMARY KEY, record TEXT"
             " CHECK (record NOT LIKE '%t=1%'))"
         )
-        older = "$argon2i$m=256,t=2,p=1$c29tZXNhbHQ$/U3YPXYsSb3q9XxHvc0MLxur+GP960kN9"
-        self.put("ann", older + "j7emXX8zwY")
-        accounts = self.kept()
+        self.put(OLDER)
+        accounts = self.kept(conn=self.conn)
         for _ in range(2):
             with self.assertRaises(StoreFault) as raised:
                 accounts.change("ann", "password", "new")
@@ -309,24 +283,16 @@ class OpenTransactions(Base):
         self.assertIs(accounts.verify("ann", "password"), Reply.YES)
 
     def test_after_another_record_was_found(self):
-        self.put("ann", LOW.hash("one"))
-        accounts = self.kept()
-        work = accounts._judge.work
-
-        def slowly(ticket):
-            worked = work(ticket)
-            accounts._judge.work = work
-            self.put("ann", LOW.hash("another"))
-            return worked
-
-        accounts._judge.work = slowly
+        self.put(LOW.hash("one"))
+        accounts = self.kept(conn=self.conn)
+        after_hash(accounts, lambda: self.put(LOW.hash("another")))
         self.assertIs(accounts.change("ann", "one", "two"), Reply.WRONG)
         self.assertFalse(self.conn.in_transaction)
 
     def test_what_is_left_open_is_said(self):
         """After an interrupt it is the pool that rolls back."""
-        self.put("ann", LOW.hash("one"))
-        accounts = self.kept()
+        self.put(LOW.hash("one"))
+        accounts = self.kept(conn=self.conn)
 
         def interrupted(worked):
             raise Alarm
@@ -341,7 +307,7 @@ class OpenTransactions(Base):
 
 class OnePerThread(Base):
     def test_a_forked_child_makes_its_own(self):
-        self.put("ann", LOW.hash("one"))
+        self.put(LOW.hash("one"))
         made = []
 
         def connect():
@@ -408,7 +374,7 @@ class OnePerThread(Base):
             pool.close()
 
     def test_an_operation_after_an_interrupt(self):
-        self.put("ann", LOW.hash("one"))
+        self.put(LOW.hash("one"))
         accounts, alarms = self.accounts(), [Alarm()]
 
         def interrupted(worked):

@@ -231,7 +231,7 @@ class Refusals(Base):
 
     def test_unavailable_says_nothing_of_a_row(self):
         """Of an error of a statement its number alone."""
-        self.put("ann", LOW.hash("one"))
+        self.put(LOW.hash("one"))
         error = sqlite3.OperationalError("database is locked: (ann, $argon2id$x)")
         accounts = self.accounts(patience=0.0)
         accounts._table.compare = mock.Mock(side_effect=error)
@@ -252,7 +252,7 @@ class Refusals(Base):
         class Role(str, enum.Enum):
             ANN = "ann"
 
-        self.put("ann", LOW.hash("one"))
+        self.put(LOW.hash("one"))
         accounts = self.accounts()
         for key in (Safe("ann"), Role.ANN):
             self.assertIs(accounts.verify(key, "one"), Reply.YES)
@@ -287,7 +287,7 @@ class Refusals(Base):
         hook = mock.Mock(side_effect=AssertionError("it was asked"))
         accounts = self.accounts(HIGH, foreign=hook)
         for stands in (LOW.hash("one"), LOW.hash(""), "$2b$of another scheme", None):
-            self.put("ann", stands)
+            self.put(stands)
             for tried in ("x" * 257, "one" + "\0" * 254, "\u00e9" * 129, "one\ud800", b"x" * 300):
                 for act, wrong in (
                     (lambda: accounts.verify("ann", tried), Reply.NO),
@@ -304,7 +304,7 @@ class Refusals(Base):
 
     def test_a_reply_is_no_truth_value(self):
         """`if accounts.login(..)` would let everybody in."""
-        self.put("ann", LOW.hash("one"))
+        self.put(LOW.hash("one"))
         for password in ("one", "two"):
             with self.assertRaisesRegex(TypeError, "compare with Reply.YES"):
                 if self.accounts().login("ann", password):
@@ -343,31 +343,14 @@ class Refusals(Base):
         records = {accounts.new_record("one") for _ in range(3)}
         self.assertEqual(len(records), 3)
         for record in records:
-            self.put("ann", record)
+            self.put(record)
             self.assertIn("m=128,", record)
             self.assertIs(accounts.login("ann", "one"), Reply.YES)
             self.assertEqual(self.stands(), record)
 
-    def test_connections_in_the_wrong_mode(self):
-        self.put("ann", LOW.hash("one"))
-        for isolation in ("", "DEFERRED", "IMMEDIATE"):
-            conn = self.connect(isolation_level=isolation)
-            accounts = self.accounts(connect=lambda: conn)
-            with counted() as hashes, self.assertRaises(StoreFault) as raised:
-                accounts.verify("ann", "one")
-            self.assertIn("autocommit", str(raised.exception))
-            self.assertEqual(hashes, [])
-        conn = self.connect()
-        conn.execute("BEGIN")
-        accounts = self.accounts(connect=lambda: conn)
-        with counted() as hashes, self.assertRaises(StoreFault) as raised:
-            accounts.change("ann", "one", "two")
-        self.assertIn("transaction is open", str(raised.exception))
-        self.assertEqual(hashes, [])
-
     def test_a_primary_in_the_wrong_mode(self):
         """The replica's connections are right, and the primary's aren't."""
-        self.put("ann", LOW.hash("one"))
+        self.put(LOW.hash("one"))
         opened = self.connect()
         opened.execute("BEGIN")
         for wrong in (self.connect(isolation_level=""), opened):
@@ -384,7 +367,7 @@ class Refusals(Base):
             wrong.close()
 
     def test_rows_in_other_shapes(self):
-        self.put("ann", LOW.hash("one"))
+        self.put(LOW.hash("one"))
 
         def connect(factory):
             conn = self.connect()
@@ -401,7 +384,7 @@ class Refusals(Base):
             self.assertEqual(accounts.examine(), [])
 
     def test_rows_that_nobody_knows(self):
-        self.put("ann", LOW.hash("one"))
+        self.put(LOW.hash("one"))
 
         def connect():
             conn = self.connect()
@@ -412,7 +395,7 @@ class Refusals(Base):
             self.accounts(connect=connect).verify("ann", "one")
 
     def test_a_blob_is_no_record(self):
-        self.put("ann", LOW.hash("one").encode())
+        self.put(LOW.hash("one").encode())
         with counted() as hashes, self.assertRaises(StoreFault) as raised:
             self.accounts().verify("ann", "one")
         self.assertIn("bytes", str(raised.exception))
@@ -420,7 +403,7 @@ class Refusals(Base):
 
     def test_no_secret_in_what_is_raised(self):
         """Nor the new password, nor a record, where a change is refused or unknown."""
-        self.put("ann", LOW.hash("secret one"))
+        self.put(LOW.hash("secret one"))
         self.conn.execute(
             "CREATE TRIGGER tr AFTER UPDATE ON users WHEN NEW.record NOT LIKE '%x'"
             " BEGIN UPDATE users SET record = NEW.record || 'x'; END"
@@ -434,7 +417,7 @@ class Refusals(Base):
             lambda accounts: accounts.remove("ann", "secret one"),
             lambda accounts: accounts.reset("ann", "secret two"),
         ):
-            self.put("ann", LOW.hash("secret one"))
+            self.put(LOW.hash("secret one"))
             accounts = self.losing(before=False)
             accounts._put_again = mock.Mock(side_effect=RuntimeError("x"))
             with self.assertRaises(OutcomeUnknown) as raised:
@@ -447,7 +430,7 @@ class Refusals(Base):
                 self.assertNotIn("$argon2", text)
 
     def test_no_secret_in_a_repr_or_an_exception(self):
-        self.put("ann", LOW.hash("one"))
+        self.put(LOW.hash("one"))
         accounts = self.accounts()
         request = Request(Kind.CHANGE, "ann", "secret one", "secret two")
         ticket = accounts.begin(request)

@@ -7,7 +7,7 @@ import sys
 import unittest
 
 import servers
-from engines import server
+from support import server
 
 EXAMPLE = pathlib.Path(__file__).resolve().parents[3] / "examples/postgres"
 # A web server: asks its store what a line of standard input says, and prints the answer.
@@ -49,9 +49,13 @@ class WebServer:
         return self.answer()
 
     def end(self):
-        self.process.stdin.close()
-        self.process.stdout.close()
+        for pipe in (self.process.stdin, self.process.stdout):
+            pipe.close()
         return self.process.wait(60)
+
+    def kill(self):
+        self.process.kill()
+        self.end()
 
 
 class ThreeServers(unittest.TestCase):
@@ -68,7 +72,7 @@ class ThreeServers(unittest.TestCase):
         self.dsn = self.server.url
         store.make_table(self.dsn)
         self.servers = []
-        self.addCleanup(lambda: [it.process.kill() for it in self.servers])
+        self.addCleanup(lambda: [it.kill() for it in self.servers])
 
     def web_server(self, **more):
         self.servers.append(WebServer(self.dsn, **more))

@@ -3,7 +3,6 @@
 import contextlib
 import io
 import json
-import math
 import os
 import pathlib
 import re
@@ -11,7 +10,7 @@ import sqlite3
 import unittest
 from unittest import mock
 
-from support import Base
+from support import Base, losing
 from rigzumal.accounts import Reply, StoreFault, cli, torture
 from rigzumal.accounts._table import Table
 from rigzumal.accounts.parts import Answer, Kind
@@ -23,8 +22,8 @@ from rigzumal.accounts.torture.history import Account
 class Tortures(Base):
     def setUp(self):
         super().setUp()
-        self.url = f"sqlite:///{self.path}"
-        self.logs = pathlib.Path(self.path).parent / "logs"
+        self.url = self.server.url
+        self.logs = pathlib.Path(f"{self.server.path}.logs")
 
     def command(self, *words, status=0):
         """What the command prints on both streams."""
@@ -72,7 +71,7 @@ class Tortures(Base):
         """Each process ends between its first UPDATE and COMMIT: nothing was done."""
         for way in _torture.WAYS:
             given = {"kill": True, "ways": (way,), "table": way, "mix": {"reset": 1}}
-            self.logs = pathlib.Path(self.path).parent / way
+            self.logs = pathlib.Path(f"{self.server.path}.{way}")
             with mock.patch.object(_torture, "RISK", 1.0):
                 with mock.patch.object(_torture.random, "random", return_value=0.9):
                     accounts = self.run_one(folder=self.logs, **given)
@@ -133,12 +132,7 @@ class Tortures(Base):
 
     def test_an_unknown_outcome_is_no_failure(self):
         def unknown(accounts):
-            async def commit(session):
-                await plain(session)
-                raise sqlite3.OperationalError("disk I/O error")
-
-            dialect = accounts._dialect
-            plain, dialect.commit = dialect.commit, commit
+            losing(accounts._dialect, before=False, times=10**6)
 
         mix = {"enrol": 1, "remove": 2, "reset": 1}
         accounts = self.run_one(alter=unknown, mix=mix, patience=0.0)
@@ -151,7 +145,7 @@ class Tortures(Base):
         kinds, replies = set(), set()
         wanted = {"upgraded", "kept", "yes", "no", "wrong"}
         for turn in range(10):
-            folder = self.logs.with_name(f"logs{turn}")
+            folder = pathlib.Path(f"{self.logs}{turn}")
             mix = {"login": 3, "change": 1, "reset": 1}
             accounts = self.run_one(mix=mix, folder=folder, table=f"t{turn}")
             self.assertIsNone(torture.verdict(accounts))
@@ -179,7 +173,7 @@ class Tortures(Base):
 
     def test_the_end_is_read_where_it_is_said(self):
         """After a failover that is another server than the first."""
-        end = pathlib.Path(self.path).with_name("end.db")
+        end = f"{self.server.path}.end"
         with contextlib.closing(sqlite3.connect(end)) as conn:
             conn.execute("CREATE TABLE ended (name TEXT PRIMARY KEY, record TEXT)")
             conn.executemany("INSERT INTO ended VALUES (?, ?)", [("user0", "x"), ("user1", "y")])
@@ -191,11 +185,7 @@ class Tortures(Base):
 
     def test_every_account_is_judged(self):
         def account(end):
-            seed = {"answered": -math.inf, "reply": "seed", "after": "x"}
-            return Account(
-                Operation("seed", "seed", "one", -math.inf, **seed),
-                Operation("end", "end", None, 9.0, reply="end", before=end, after=end),
-            )
+            return Account(Operation.seed("x", "one"), Operation.end(end, 9.0))
 
         for names in (["good", "bad"], ["bad", "good"], ["good", "good", "bad"]):
             accounts = {
