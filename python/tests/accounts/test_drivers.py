@@ -126,10 +126,16 @@ class Engines:
                 self.assertIs(accounts.login("ann", "one"), Reply.NO)
             self.assertEqual(engine.pool.checkedout(), 0)
 
-    def test_an_engine_that_is_not_in_autocommit(self):
-        accounts = self.over(self.engine())
-        with self.assertRaisesRegex(StoreFault, "autocommit|transaction is open"):
-            accounts.verify("ann", "one")
+    def test_pools_that_will_not_do(self):
+        """An engine that isn't in autocommit, and its own connections, which are named."""
+        engine = self.engine(isolation_level="AUTOCOMMIT")
+        for pool, said in (
+            (of_engine(self.engine()), "autocommit|transaction is open"),
+            (engine.connect, "the driver is sqlalchemy, .* of_engine"),
+        ):
+            for name in ("verify", "login", "enrol"):
+                with self.assertRaisesRegex(StoreFault, said):
+                    getattr(Accounts(pool, self.dialect, LOW), name)("ann", "one")
 
     def test_a_connection_is_given_up_after_an_exception(self):
         engine = self.engine(isolation_level="AUTOCOMMIT", pool_size=1)

@@ -25,7 +25,8 @@ class Sqlite(Dialect):
     _same = "{r} COLLATE BINARY IS {m}"
 
     def mode(self, conn: Any) -> Mode:
-        if not hasattr(conn, "in_transaction"):
+        # SQLAlchemy's own connections have a method of this name.
+        if not isinstance(getattr(conn, "in_transaction", None), bool):
             raise other_driver(conn, "sqlite3")
         # From Python 3.12 on there is an attribute; -1 stands for the older way.
         autocommit = getattr(conn, "autocommit", -1)
