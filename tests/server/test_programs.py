@@ -42,6 +42,7 @@ from machine import (
     started,
 )
 from served import FRESH, PYTHON, Case, Client, need, same, until
+from tests.helpers import need_module
 
 
 # Connects 1,100 times, and asks at 400 of these without end.
@@ -415,6 +416,13 @@ class Programs(Case):
         shell(f"{taken} cid")
         for user, status in (("cid:new", 200), ("cid:old", 401), ("dan:old", 200)):
             self.assertEqual(fetched(user, 8082, 1), {status: 1}, user)
+        server.stop()
+        need_module("passlib")
+        install("/etc/pam.d/book")
+        Server(room, "--foreign", str(old))
+        keeps_out("book", "dan", "new")
+        lets_in("book", "dan", "old", "authenticate acct_mgmt")
+        self.assertEqual([it[:4] for it in old.read_text().splitlines()], ["eli:"])
 
     @in_namespaces
     def test_apache(self, room: pathlib.Path) -> None:

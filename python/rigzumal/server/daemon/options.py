@@ -65,6 +65,7 @@ class Options:
     idle: int = 600
     audit: str = ""
     metrics: str = ""
+    foreign: str = ""
     upgrade: str = ""
     setting: str = ""
     mail_names: bool = False
@@ -138,6 +139,7 @@ def parser() -> Parser:
         ("idle", "SECONDS", count, "until a client that asks nothing is closed"),
         ("audit", "LOG", str, "append a JSON line to this file for each change"),
         ("metrics", "SOCKET", str, "print what the server of an admin socket counts"),
+        ("foreign", "HTPASSWD", str, "an old file, whose users move into the book"),
         ("upgrade", "COSTS", costs, "new costs, by which a right verify upgrades"),
         ("setting", "TEXT", str, "for credkeep: the costs of new records"),
         ("at-once", "N", count, "for credkeep: lines hashed at once; 0: processors"),

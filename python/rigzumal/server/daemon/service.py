@@ -18,6 +18,7 @@ from . import doors
 from .audit import Audit, Entry, Written
 from .book import UNAVAILABLE, Book
 from .doors import Client, Listener
+from .foreign import Foreign
 from .log import Seldom, log, log_fault, notify
 from .options import OPERATIONS, Operation, Options
 from .rounds import Rounds
@@ -27,8 +28,13 @@ from .turns import Turns
 TAG = re.compile(rb"[a-z0-9]{1,20}")
 # What `known` says where `show` has no record.
 KNOWN = {b"none": b"absent", b"bad 5 noaccount": b"noaccount"}
+LACKS = frozenset((b"noaccount", b"bad 5 noaccount"))  # the book has no such name
+# What is answered only if it has, and after which an old file needn't.
+HAS = frozenset(b"yes replaced upgraded kept removed disabled deleted".split())
 PROBE = (b"verify", b"-", b"-")  # a hash, whether the name is there or not
 HASHED = frozenset(b"yes no absent noaccount".split())
+# What makes a name, and the answer if an old file has it.
+TAKES = {b"account": b"bad 1 exists", b"rename": b"exists"}
 OTHERS, CHANGES = 64, 128  # places for lines without a hash, and changes at once
 SYNC = 0.01  # seconds that a change waits for the disk, more or less
 LAST_SECONDS = 20.0  # after a signal to end
@@ -64,6 +70,8 @@ class Service:
         self.hash_seconds = float("inf")  # what a hash takes if nothing else waits
         self.listeners = [Listener(door) for door in options.doors]
         self.audit = Audit(options.audit) if options.audit else None
+        old = options.foreign
+        self.foreign = Foreign(old, self.in_book) if old else None
         self.servers: list[asyncio.AbstractServer] = []
         self.seldom = Seldom()
         self.is_upgrading = self.is_ending = False
@@ -126,6 +134,8 @@ class Service:
             client.write(tag, own(line.name).encode())
         elif self.is_early(line):
             client.write(tag, b"later")
+        elif self.foreign and words[0] in TAKES and self.foreign.record(words[-1]):
+            client.write(tag, TAKES[words[0]])
         else:
             client.running += 1
             turns.take((client.door.name, client.uid), client, share, line)
@@ -162,7 +172,31 @@ class Service:
     def send(self, line: Line) -> None:
         line.began = time.monotonic()
         asked = b"show" if line.words[0] == b"known" else line.words[0]
-        self.book.ask([asked, *line.words[1:]], partial(self.answered, line))
+        self.book.ask([asked, *line.words[1:]], partial(self.came, line))
+
+    def came(self, line: Line, said: bytes) -> None:
+        if self.foreign and (said in LACKS or said in HAS):
+            asyncio.ensure_future(self.judge(self.foreign, line, said))
+        else:
+            self.answered(line, said)
+
+    async def judge(self, foreign: Foreign, line: Line, said: bytes) -> None:
+        """Answers by the old file where the book lacks a name; a right password moves it."""
+        operation, name, password = [*line.words, b""][:3]
+        record = foreign.record(name)
+        if record and said in LACKS and line.operation.tries:
+            loop = asyncio.get_running_loop()
+            said = b"no" if operation in (b"verify", b"login") else b"wrong"
+            if await loop.run_in_executor(None, foreign.is_right, record, password):
+                for words in ((b"account", name), (b"enrol", name, password)):
+                    made = await self.book.answer(*words)
+                    self.note(replace(line, words=words), made)
+                said = await self.book.answer(*line.words)
+        elif record and said in LACKS and operation == b"known":
+            said = b"$"
+        if record and said in HAS:
+            foreign.remove(name)
+        self.answered(line, said)
 
     def answered(self, line: Line, said: bytes) -> None:
         is_login = line.operation.hashes and not line.operation.changes

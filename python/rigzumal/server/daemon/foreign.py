@@ -1,0 +1,78 @@
+"""An htpasswd file whose users move into the book, each by a right password."""
+
+from __future__ import annotations
+
+import base64
+import importlib
+import os
+from collections.abc import Callable
+
+from .log import Problem, Seldom, problems_at
+
+# What htpasswd and `openssl passwd` write, but for plain text, and for DES, to which the
+# first eight letters of a password are all of it.
+SCHEMES = ["bcrypt", "apr_md5_crypt", "ldap_sha1", "sha256_crypt", "sha512_crypt"]
+
+
+class Foreign:
+    """The file, which is read again whenever it has changed."""
+
+    def __init__(self, path: str, in_book: Callable[[bytes], bytes]) -> None:
+        try:
+            passlib = importlib.import_module("passlib.context")
+        except ImportError:
+            raise Problem("--foreign needs passlib: python3-passlib") from None
+        self.path, self.in_book, self.seldom = path, in_book, Seldom()
+        self.context = passlib.CryptContext(SCHEMES)
+        self.version, self.records = (0, 0, 0), dict[bytes, str]()
+        with problems_at(path):
+            self.read()
+
+    def lines(self) -> list[tuple[bytes, bytes]]:
+        """Each line, behind the name that the book would have for its user."""
+        with open(self.path, "rb") as file:
+            return [(self.in_book(it.rstrip().split(b":")[0]), it) for it in file]
+
+    def read(self) -> None:
+        it = os.stat(self.path)
+        version = (it.st_ino, it.st_size, it.st_mtime_ns)
+        if version != self.version:
+            self.records.clear()
+            for name, line in self.lines():  # of two lines of a name the first decides
+                record = line.rstrip().partition(b":")[2].split(b":")[0]
+                self.records.setdefault(name, record.decode("latin-1"))
+            self.version = version
+
+    def record(self, name: bytes) -> str:
+        """What the file has for a name of the book's, or nothing."""
+        try:
+            self.read()
+        except OSError as fault:
+            self.seldom.log("read", "%s: %s", self.path, fault.strerror)
+            self.records.clear()
+            self.version = (0, 0, 0)
+        return self.records.get(name, "")
+
+    def is_right(self, record: str, field: bytes) -> bool:
+        """Whether a record is of the password that a line has in this field."""
+        padded = b"" if field == b"-" else field + b"=" * (-len(field) % 4)
+        try:
+            return bool(self.context.verify(base64.b64decode(padded), record))
+        except (ValueError, RuntimeError) as fault:  # of no scheme that passlib has
+            self.seldom.log("verify", "%s: %s", self.path, type(fault).__name__)
+            return False
+
+    def remove(self, name: bytes) -> None:
+        """Takes all lines of a name out of the file, in one step."""
+        try:
+            status, new = os.stat(self.path), f"{self.path}.new"
+            kept = [line for it, line in self.lines() if it != name]
+            with open(new, "wb") as file:
+                os.fchmod(file.fileno(), status.st_mode & 0o777)
+                os.fchown(file.fileno(), status.st_uid, status.st_gid)
+                file.writelines(kept)
+                file.flush()
+                os.fsync(file.fileno())
+            os.replace(new, self.path)
+        except OSError as fault:
+            self.seldom.log("write", "%s: %s", self.path, fault.strerror)
