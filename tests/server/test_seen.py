@@ -80,8 +80,12 @@ class Seen(Case):
         self.assertIn("credkeep_changes_total 2", samples)
         form = r"credkeep_[a-z_]+(\{answer=\"[a-z]+\"\})? \d+(\.\d+)?"
         self.assertEqual([it for it in samples if not re.fullmatch(form, it)], [])
-        typed = re.findall(r"^# TYPE (\S+) (?:counter|gauge)$", text, re.M)
-        self.assertEqual(typed, list(dict.fromkeys(re.split("[ {]", it)[0] for it in samples)))
+        typed = re.findall(r"^# TYPE (\S+) (counter|gauge)$", text, re.M)
+        names = dict.fromkeys(re.split("[ {]", it)[0] for it in samples)
+        kinds = ["counter" if it.endswith("_total") else "gauge" for it in names]
+        self.assertEqual(typed, list(zip(names, kinds)))
+        counts = stats(service.client("admin").ask("stats"))
+        self.assertEqual(len(samples), len(counts), "each count is a sample")
         for path in (str(service.path()), "/nonexistent"):
             status, text, faults = ran("--metrics", path)
             self.assertEqual((status, text), (1, ""))

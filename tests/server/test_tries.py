@@ -175,6 +175,13 @@ class Limiters(Case):
         self.tried(limiter, *["x"] * 3000)
         self.assertEqual(limiter.many["x"].until, self.clock + 900)
 
+    def test_forgiven(self) -> None:
+        """Forgiving tells whether anything was there, of few tries and of many."""
+        limiter = Limiter(2)
+        self.tried(limiter, "few", "many", "many")
+        for key, ought in (("few", True), ("many", True), ("few", False), ("many", False)):
+            self.assertIs(limiter.forgive(key, "a test"), ought, key)
+
     def test_lowered(self) -> None:
         """A right password takes one try back, and ends a wait that is due to it."""
         limiter = Limiter(2)
@@ -182,6 +189,7 @@ class Limiters(Case):
         for is_early in (True, False):
             limiter.lower("x")
             self.assertEqual(limiter.is_early("x"), is_early)
+            self.assertEqual((len(limiter.many), len(limiter.few)), (is_early, not is_early))
         limiter.fail("x")
         self.assertTrue(limiter.is_early("x"), "the other try was forgotten")
         for _ in range(5):

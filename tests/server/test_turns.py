@@ -4,7 +4,7 @@ from __future__ import annotations
 
 import asyncio
 import time
-import unittest
+from unittest import mock
 
 from served import Case
 from daemon.rounds import Rounds
@@ -167,14 +167,18 @@ class RoundsOfChanges(Case):
         """A rest follows a round also if nothing waits; a long round has a bounded rest."""
 
         async def run() -> None:
-            self.take("a")
-            self.rounds.began -= 60
-            self.rounds.done()
-            self.take("b")
-            self.assertEqual(self.sent, ["a"])
-            begun = time.monotonic()
-            await self.rested(2)
-            self.assertLess(time.monotonic() - begun, 5)
+            for taken, rest in ((0.02, 0.03), (60, 0.1)):
+                self.rounds, self.sent = Rounds(lambda: True), []
+                self.take("a")
+                self.rounds.began = time.monotonic() - taken
+                with mock.patch.object(asyncio.get_running_loop(), "call_later") as later:
+                    self.rounds.done()
+                    self.take("b")
+                seconds, begin = later.call_args.args
+                self.assertAlmostEqual(seconds, rest, delta=0.01)
+                self.assertEqual(self.sent, ["a"])
+                begin()
+                self.assertEqual(self.sent, ["a", "b"])
 
         asyncio.run(run())
 
