@@ -1,11 +1,10 @@
 """A torture in a process of its own, and the servers that it runs on."""
 
-import json
+import multiprocessing
 import os
 import signal
 import sys
 import time
-import traceback
 
 import servers
 from rigzumal.accounts import torture
@@ -26,45 +25,33 @@ class Run:
         given = {"tasks": 0 if "alter" in given else 4, **given}
         given = {"seconds": SECONDS, "table": f"t{Run.count}", **given}
         self.torture = kind(url, folder=self.folder, **given)
-        self.ended = None
-        self.pid = os.fork()
-        if self.pid == 0:
-            status = 1
-            try:
-                self.judge()
-                status = 0
-            except BaseException:
-                traceback.print_exc()
-            finally:
-                sys.stdout.flush()
-                os._exit(status)
+        self.said = multiprocessing.SimpleQueue()
+        self.process = multiprocessing.Process(target=self.judge)
+        self.process.start()
 
     def judge(self):
         sys.stderr.flush()
         os.dup2(os.open(f"{self.folder}.err", os.O_WRONLY | os.O_CREAT), 2)
         accounts = self.torture.run()
         found = torture.verdict(accounts)
-        said = {
-            "reason": found and found.reason,
-            "part": found and [str(it) for it in found.part],
-            "summary": logs.summary(accounts.values()) + f", {self.torture.killed} killed",
-        }
-        (self.folder / "said").write_text(json.dumps(said))
+        self.said.put(
+            {
+                "reason": found and found.reason,
+                "part": found and [str(it) for it in found.part],
+                "summary": logs.summary(accounts.values()) + f", {self.torture.killed} killed",
+            }
+        )
 
     def running(self):
         """Whether it runs still."""
-        if self.ended is None:
-            pid, status = os.waitpid(self.pid, os.WNOHANG)
-            self.ended = status if pid else None
-        return self.ended is None
+        return self.process.is_alive()
 
     def verdict(self):
-        while self.running():
-            time.sleep(0.05)
-        if self.ended:
+        self.process.join()
+        if self.process.exitcode:
             tail = open(f"{self.folder}.err").read()[-3000:]
-            raise AssertionError(f"the run ended with {self.ended}: {tail}")
-        return json.loads((self.folder / "said").read_text())
+            raise AssertionError(f"the run ended with {self.process.exitcode}: {tail}")
+        return self.said.get()
 
 
 def legal(run):
