@@ -156,6 +156,19 @@ class Costs(Base):
                 accounts.login(name, "wrong")
             self.assertEqual(len(hashes), 1)
 
+    def test_a_new_record_costs_one_hash(self):
+        """No dummy beside it, where none stood."""
+        accounts = self.accounts()
+        for stands, act in (
+            (None, lambda: accounts.enrol("ann", "one")),
+            (None, lambda: accounts.reset("ann", "one")),
+            (LOW.hash("one"), lambda: accounts.reset("ann", "two")),
+        ):
+            self.put(stands)
+            with counted() as hashes:
+                act()
+            self.assertEqual(hashes, ["enrol"])
+
     def test_a_name_that_is_not_there_costs_as_much_as_a_new_record(self):
         for hasher in (LOW, HIGH, ScryptHasher(log2_n=3)):
             judge = _judgement.Judge(hasher)
