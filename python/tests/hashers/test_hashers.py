@@ -14,7 +14,8 @@ import sys
 import tempfile
 import unittest
 
-import here  # noqa: F401 (before rigzumal)
+from records import ARGON2, OLD, SMALL
+
 import rigzumal
 from rigzumal import PasswordHasher, ScryptHasher, Type, _library
 
@@ -86,6 +87,54 @@ class Kinds(unittest.TestCase):
             ):
                 self.assertEqual(sizes_of(hasher.hash("x")), (salt, tag))
 
+    def test_a_raw_tag_is_rfc_9106s(self):
+        """Its section 5.3."""
+        tag = rigzumal.argon2(
+            b"\1" * 32,
+            b"\2" * 16,
+            time_cost=3,
+            memory_cost=32,
+            parallelism=4,
+            secret=b"\3" * 8,
+            associated=b"\4" * 12,
+        )
+        wanted = "0d640df58d78766c08c037a34a8b53c9d01ef0452d75b65eb52520e96b01e659"
+        self.assertEqual(tag.hex(), wanted)
+
+
+class Verifying(unittest.TestCase):
+    def test_the_right_password_alone_is_verified(self):
+        for record in (ARGON2, ARGON2.encode(), OLD):
+            self.assertIs(SMALL.verify(record, "password"), True)
+            for wrong in ("Password", "", "password\0", b"\xff"):
+                with self.assertRaises(rigzumal.VerifyMismatchError) as raised:
+                    SMALL.verify(record, wrong)
+                self.assertEqual((raised.exception.number, raised.exception.word), (10, "mismatch"))
+
+    def test_a_secret_is_rfc_9106s(self):
+        hasher = PasswordHasher(2, 256, 1, secret=b"pepper")
+        record = hasher.hash("password", salt=b"somesalt")
+        tag = rigzumal.argon2(
+            "password", b"somesalt", time_cost=2, memory_cost=256, parallelism=1, secret=b"pepper"
+        )
+        self.assertEqual(record.rsplit("$", 1)[1], base64.b64encode(tag).decode().rstrip("="))
+        self.assertTrue(hasher.verify(record, "password"))
+        for other in (
+            SMALL,
+            PasswordHasher(2, 256, 1, secret=b"Pepper"),
+            PasswordHasher(secret=b""),
+        ):
+            with self.assertRaises(rigzumal.VerifyMismatchError):
+                other.verify(record, "password")
+        with self.assertRaises(rigzumal.VerifyMismatchError):
+            hasher.verify(record, "Password")
+        self.assertTrue(PasswordHasher(secret=b"").verify(ARGON2, "password"))
+        self.assertFalse(PasswordHasher(2, 256, 1, salt_len=8).check_needs_rehash(record))
+        for one in (hasher, PasswordHasher(secret=b"")):
+            with self.assertRaises(rigzumal.InvalidRecordError):
+                one.verify(ScryptHasher(log2_n=4).hash("x"), "x")
+        self.assertNotIn("pepper", repr(hasher))
+
 
 class Rehash(unittest.TestCase):
     """A record of any other number is to be made anew, lower or higher."""
@@ -119,6 +168,11 @@ class Rehash(unittest.TestCase):
             "salt_len": (15, 17),
         }
         self.other_ways(ScryptHasher(4, 2, 2), changes)
+
+    def test_of_another_scheme_and_version(self):
+        self.assertTrue(ScryptHasher().check_needs_rehash(ARGON2))
+        self.assertTrue(SMALL.check_needs_rehash(ScryptHasher(4).hash("x")))
+        self.assertTrue(PasswordHasher(2, 256, 1, salt_len=8, type=Type.I).check_needs_rehash(OLD))
 
     def test_of_argon2_cffi(self):
         from rigzumal import argon2_cffi
@@ -196,12 +250,20 @@ class Inputs(unittest.TestCase):
         record = LEAST.hash("p\xe4ss\U0001f600")
         self.assertTrue(LEAST.verify(record, "p\xe4ss\U0001f600".encode()))
 
-    def test_salts_of_scrypt_of_every_length_are_hashlibs(self):
-        for size in (0, 1, 63, 64, 65, 127, 128, 129, 255, 256, 257, 5000):
-            salt = bytes(it * 61 % 253 for it in range(size))
-            key = rigzumal.scrypt(b"password", salt, log2_n=1, r=1, p=1)
-            wanted = hashlib.scrypt(b"password", salt=salt, n=2, r=1, p=1, dklen=32)
+    def test_scrypt_is_hashlibs(self):
+        """Keys, passwords and salts of every length, and a record."""
+        lengths = (0, 1, 63, 64, 65, 127, 128, 129, 255, 256, 257, 300, 1000, 5000, 100_000)
+        inputs = [bytes(it * 37 % 251 for it in range(length)) for length in lengths]
+        given = [(it, b"salt", 32) for it in inputs] + [(b"password", it, 32) for it in inputs]
+        given += [(b"password", b"s", it) for it in (*range(1, 8), *range(62, 101), 1000)]
+        for password, salt, length in given:
+            key = rigzumal.scrypt(password, salt, log2_n=2, r=1, p=3, length=length)
+            wanted = hashlib.scrypt(password, salt=salt, n=4, r=1, p=3, dklen=length)
             self.assertEqual(key, wanted)
+        record = ScryptHasher(log2_n=4, block_size=2, parallelism=3).hash("password", salt=b"s")
+        wanted = hashlib.scrypt(b"password", salt=b"s", n=16, r=2, p=3, dklen=32)
+        tag = base64.b64encode(wanted).decode().rstrip("=")
+        self.assertEqual(record, f"$scrypt$ln=4,r=2,p=3$cw${tag}")
 
     def test_each_part_counts(self):
         costs = {"time_cost": 1, "memory_cost": 8, "parallelism": 1}
@@ -228,24 +290,6 @@ class Parts(unittest.TestCase):
         self.assertEqual(found, rigzumal.Parts("scrypt", 0, 4, 3, 2, 9, 4))
         for kind, record in RECORDS.items():
             self.assertEqual(rigzumal.parts(record).scheme, f"argon2{kind.name.lower()}")
-
-
-class Faults(unittest.TestCase):
-    def test_each_number_has_its_exception(self):
-        kinds = {
-            rigzumal.VerifyMismatchError: [10],
-            rigzumal.OutOfMemoryError: [8],
-            rigzumal.NoRandomError: [26],
-            rigzumal.InvalidRecordError: [1, 2, 3, 4, 5, 6, 7, 9],
-            rigzumal.InvalidNumbersError: [*range(11, 26), 27, 255],
-        }
-        for kind, numbers in kinds.items():
-            for number in numbers:
-                with self.assertRaises(rigzumal.RigzumalError) as raised:
-                    _library.raise_fault(number)
-                self.assertIs(type(raised.exception), kind, number)
-                self.assertEqual(raised.exception.number, number)
-        self.assertIsNone(_library.raise_fault(0))
 
 
 class Library(unittest.TestCase):

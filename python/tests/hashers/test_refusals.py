@@ -1,0 +1,200 @@
+"""Tests of what is refused, and of the exceptions that say so."""
+
+import concurrent.futures
+import copy
+import multiprocessing
+import pickle
+import subprocess
+import sys
+import unittest
+
+from records import ARGON2, SMALL
+
+import rigzumal
+from rigzumal import PasswordHasher, ScryptHasher, _library
+
+
+def fail(_):
+    SMALL.verify(ARGON2, "another")
+
+
+class Exceptions(unittest.TestCase):
+    def test_each_number_has_its_exception(self):
+        kinds = {
+            rigzumal.VerifyMismatchError: [10],
+            rigzumal.OutOfMemoryError: [8],
+            rigzumal.NoRandomError: [26],
+            rigzumal.InvalidRecordError: [1, 2, 3, 4, 5, 6, 7, 9],
+            rigzumal.InvalidNumbersError: [*range(11, 26), 27, 255],
+        }
+        for kind, numbers in kinds.items():
+            for number in numbers:
+                with self.assertRaises(rigzumal.RigzumalError) as raised:
+                    _library.raise_fault(number)
+                self.assertIs(type(raised.exception), kind, number)
+                self.assertEqual(raised.exception.number, number)
+        self.assertIsNone(_library.raise_fault(0))
+
+    def test_they_survive_pickle_and_copy(self):
+        for kind, number in (
+            (rigzumal.VerifyMismatchError, 10),
+            (rigzumal.InvalidRecordError, 3),
+            (rigzumal.InvalidNumbersError, 14),
+            (rigzumal.OutOfMemoryError, 8),
+            (rigzumal.NoRandomError, 23),
+        ):
+            made = kind(number)
+            for other in (pickle.loads(pickle.dumps(made)), copy.copy(made), copy.deepcopy(made)):
+                self.assertIs(type(other), kind)
+                found = (other.number, other.word, str(other))
+                self.assertEqual(found, (number, made.word, str(made)))
+
+    def test_they_come_out_of_other_processes(self):
+        context = multiprocessing.get_context("spawn")
+        with concurrent.futures.ProcessPoolExecutor(1, mp_context=context) as pool:
+            with self.assertRaises(rigzumal.VerifyMismatchError) as raised:
+                list(pool.map(fail, [0]))
+        self.assertEqual(str(raised.exception), "the record is of another password")
+
+
+class Refusals(unittest.TestCase):
+    def refused(self, kind, word, call, *given, **named):
+        with self.assertRaises(kind) as raised:
+            call(*given, **named)
+        self.assertEqual(raised.exception.word, word)
+
+    def test_texts(self):
+        for text, word in (
+            ("", "shape"),
+            (ARGON2[:-1] + "\0", "shape"),
+            (ARGON2.rsplit("$", 1)[0], "shape"),
+            (SMALL.costs, "shape"),
+            (ARGON2.replace("2id", "2x"), "scheme"),
+            (ARGON2.replace("m=256", "m=7"), "range"),
+            (ARGON2 * 9, "toolong"),
+        ):
+            self.refused(rigzumal.InvalidRecordError, word, SMALL.verify, text, "password")
+            self.refused(rigzumal.InvalidRecordError, word, SMALL.check_needs_rehash, text)
+            self.refused(rigzumal.InvalidRecordError, word, rigzumal.parts, text)
+
+    def test_numbers_of_a_hasher(self):
+        """Each is refused as the hasher is made, by its name, its range and its fault."""
+        argon2 = {"time_cost": 1, "memory_cost": 16, "parallelism": 2}
+        scrypt = {"log2_n": 4, "block_size": 8, "parallelism": 1}
+        for kind, given, name, least, most, word in (
+            (PasswordHasher, argon2, "time_cost", 1, 2**32 - 1, "passes"),
+            (PasswordHasher, argon2, "memory_cost", 16, 2097152, "cost"),
+            (PasswordHasher, {"memory_cost": 2097152}, "parallelism", 1, 255, "lanes"),
+            (PasswordHasher, argon2, "hash_len", 4, 64, "tag"),
+            (PasswordHasher, argon2, "salt_len", 8, 48, "salt"),
+            (PasswordHasher, argon2, "threads", 1, 2**32 - 1, "range"),
+            (ScryptHasher, scrypt, "log2_n", 1, 21, "scryptcost"),
+            (ScryptHasher, {"block_size": 1}, "log2_n", 1, 15, "scryptcost"),
+            (ScryptHasher, {"block_size": 2}, "log2_n", 1, 23, "scryptcost"),
+            (ScryptHasher, {"block_size": 255}, "log2_n", 1, 16, "scryptcost"),
+            (ScryptHasher, {"log2_n": 4}, "block_size", 1, 255, "blocksize"),
+            (ScryptHasher, scrypt, "parallelism", 1, 255, "blocks"),
+            (ScryptHasher, scrypt, "hash_len", 4, 64, "tag"),
+            (ScryptHasher, scrypt, "salt_len", 1, 48, "salt"),
+        ):
+            for number in (least, most):
+                self.assertEqual(getattr(kind(**{**given, name: number}), name), number)
+            for number in (least - 1, most + 1, -1):
+                with self.assertRaises(rigzumal.InvalidNumbersError) as raised:
+                    kind(**{**given, name: number})
+                said = f"{name} is to be {least} to {most}, and not {number}"
+                self.assertEqual((str(raised.exception), raised.exception.word), (said, word))
+                other = pickle.loads(pickle.dumps(raised.exception))
+                self.assertEqual((str(other), other.number), (said, raised.exception.number))
+
+    def test_what_a_hasher_takes_the_library_takes(self):
+        """At the ends of each range that a test has the memory and the time for."""
+        for hasher in (
+            PasswordHasher(1, 8, 1),
+            PasswordHasher(1, 2040, 255),
+            PasswordHasher(9, 8, 1, 4, 8),
+            PasswordHasher(1, 8, 1, 64, 48, threads=2**32 - 1),
+            ScryptHasher(1, 1, 1, 4, 1),
+            ScryptHasher(15, 1, 1, 64, 48),
+            ScryptHasher(1, 255, 255),
+        ):
+            self.assertTrue(hasher.verify(hasher.hash("x"), "x"))
+        for hasher in (ScryptHasher(23, 2), ScryptHasher(21, 8), ScryptHasher(16, 255, 255)):
+            record = f"{hasher.costs}$c29tZXNhbHQ$c29tZXRhZw"
+            self.assertEqual(rigzumal.parts(record).memory, hasher.log2_n)
+        record = f"{PasswordHasher(2**32 - 1, 2097152, 255).costs}$c29tZXNhbHQ$c29tZXRhZw"
+        self.assertEqual(rigzumal.parts(record).passes, 2**32 - 1)
+
+    def test_salts(self):
+        for hasher, sizes, range_ in (
+            (SMALL, (0, 7, 49), "8 to 48"),
+            (SMALL.replace(secret=b"x"), (0, 7, 49), "8 to 48"),
+            (ScryptHasher(log2_n=1), (0, 49), "1 to 48"),
+        ):
+            for size in sizes:
+                with self.assertRaises(rigzumal.InvalidNumbersError) as raised:
+                    hasher.hash("x", salt=bytes(size))
+                said = f"the salt's length is to be {range_}, and not {size}"
+                self.assertEqual((str(raised.exception), raised.exception.word), (said, "salt"))
+
+    def test_numbers(self):
+        bad, call = rigzumal.InvalidNumbersError, rigzumal.argon2
+        given = {"time_cost": 1, "memory_cost": 8, "parallelism": 1}
+        for change, word in (
+            ({"time_cost": 0}, "passes"),
+            ({"version": 18}, "noversion"),
+            ({"hash_len": 3}, "tagsize"),
+        ):
+            self.refused(bad, word, call, "x", b"somesalt", **{**given, **change})
+        self.refused(bad, "scryptcost", rigzumal.scrypt, "x", b"", log2_n=0, r=8, p=1)
+        with self.assertRaises(OverflowError):
+            rigzumal.scrypt("x", b"", log2_n=2**32 + 4, r=8, p=1)
+
+    def test_types(self):
+        for wrong in (5, None, ["x"]):
+            with self.assertRaises(TypeError):
+                SMALL.hash(wrong)
+        for wrong in (16, "somesalt", [1] * 16, (b"somesalt",)):
+            with self.assertRaises(TypeError):
+                SMALL.hash("x", salt=wrong)
+            with self.assertRaises(TypeError):
+                ScryptHasher(log2_n=1).hash("x", salt=wrong)
+            with self.assertRaises(TypeError):
+                rigzumal.scrypt("x", wrong, log2_n=1, r=1, p=1)
+            costs = {"time_cost": 1, "memory_cost": 8, "parallelism": 1}
+            with self.assertRaises(TypeError):
+                rigzumal.argon2("x", wrong, **costs)
+            with self.assertRaises(TypeError):
+                rigzumal.argon2("x", b"somesalt", associated=wrong, **costs)
+            with self.assertRaises(TypeError):
+                PasswordHasher(secret=wrong)
+        for name in ("time_cost", "memory_cost", "parallelism", "hash_len", "salt_len"):
+            for wrong in ("3", 3.0, None, True):
+                with self.assertRaises(TypeError, msg=name):
+                    PasswordHasher(**{name: wrong})
+        for name in ("log2_n", "block_size", "parallelism", "hash_len", "salt_len"):
+            with self.assertRaises(TypeError, msg=name):
+                ScryptHasher(**{name: "3"})
+        with self.assertRaises(ValueError):
+            PasswordHasher(type=7)
+        with self.assertRaises(TypeError):
+            rigzumal.argon2("x", b"somesalt", time_cost="1", memory_cost=8, parallelism=1)
+        with self.assertRaises(ValueError) as raised:
+            SMALL.hash("pass\ud800word")
+        self.assertNotIn("pass", str(raised.exception))
+        self.assertIsNone(raised.exception.__context__)
+
+    def test_want_of_memory(self):
+        script = (
+            "import resource, rigzumal\n"
+            "resource.setrlimit(resource.RLIMIT_AS, (2**29, 2**29))\n"
+            "try:\n    rigzumal.PasswordHasher(1, 2**20, 1).hash('x')\n"
+            "except MemoryError as refused:\n    print(refused.number, refused.word)\n"
+            "print(rigzumal.PasswordHasher(1, 8, 1).hash('x')[:9])\n"
+        )
+        done = subprocess.run([sys.executable, "-c", script], capture_output=True)
+        self.assertEqual(done.stdout, b"8 memory\n$argon2id\n", done.stderr)
+
+
+if __name__ == "__main__":
+    unittest.main()
