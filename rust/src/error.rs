@@ -71,7 +71,7 @@ errors! {
     TagSize = 17,
     /// An input has 2^32 bytes or more.
     InputSize = 18,
-    /// N isn't 2 to the power of 1 to 24 and below that of 16 r, or the table is over 2 GiB.
+    /// N isn't 2 to the power of 1 to 23 and below that of 16 r, or the table is over 2 GiB.
     ScryptCost = 19,
     /// r isn't 1 to 255.
     BlockSize = 20,

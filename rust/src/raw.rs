@@ -108,7 +108,7 @@ impl Argon2<'_> {
 /// scrypt (RFC 7914) with its numbers; its table has 128 r N bytes.
 #[derive(Clone, Copy, Debug, PartialEq, Eq, Hash)]
 pub struct Scrypt {
-    /// N is 2 to this power: 1 to 24, below 16 r.
+    /// N is 2 to this power: 1 to 23, below 16 r.
     pub log2_n: u32,
     /// The block size r: 1 to 255.
     pub r: u32,
