@@ -129,14 +129,9 @@ fn texts_are_refused_by_their_first_fault() {
         (String::new(), Error::Shape),
         (format!("{good}\0"), Error::Shape),
         (format!(" {good}"), Error::Shape),
-        (format!("{good} "), Error::Tag),
         (format!("{good}\n"), Error::Tag),
         (good.replace("2id", "2x"), Error::Scheme),
-        (good.replace("v=19", "v=18"), Error::Version),
-        (good.replace("m=", "m=0"), Error::Params),
         (good.replace("m=256", "m=7"), Error::Range),
-        (good.replace("c29tZXNhbHQ", "c29t"), Error::Salt),
-        (good[..good.len() - 1].to_owned(), Error::Tag),
         (good.repeat(9), Error::TooLong),
     ] {
         assert_eq!(text.parse::<Record>(), Err(fault), "{text}");
@@ -144,42 +139,25 @@ fn texts_are_refused_by_their_first_fault() {
     }
 }
 
+/// One of each call: the library's own tests have the others.
 #[test]
-fn numbers_are_refused() {
+fn bad_numbers_and_sizes_are_refused() {
     let mut out = [0x5a; 32];
-    let argon2 = Argon2 { memory: 64, passes: 1, lanes: 1, ..Argon2::default() };
-    for (it, fault) in [
-        (Argon2 { lanes: 0, ..argon2 }, Error::Lanes),
-        (Argon2 { lanes: 256, memory: 4096, ..argon2 }, Error::Lanes),
-        (Argon2 { memory: 7, ..argon2 }, Error::Cost),
-        (Argon2 { memory: 2_097_153, ..argon2 }, Error::Cost),
-        (Argon2 { passes: 0, ..argon2 }, Error::Passes),
-    ] {
-        assert_eq!(it.hash_password_into(b"x", b"somesalt", &mut out), Err(fault));
-    }
-    for size in 0..4 {
-        let out = &mut out[..size];
-        assert_eq!(argon2.hash_password_into(b"x", b"somesalt", out), Err(Error::TagSize));
-    }
-    for (log2_n, r, p, fault) in [
-        (0, 1, 1, Error::ScryptCost),
-        (16, 1, 1, Error::ScryptCost),
-        (4, 0, 1, Error::BlockSize),
-        (4, 1, 256, Error::Blocks),
-    ] {
-        let scrypt = Scrypt { log2_n, r, p };
-        assert_eq!(scrypt.hash_password_into(b"x", b"", &mut out), Err(fault));
-    }
-    let scrypt = Scrypt { log2_n: 4, r: 1, p: 1 };
+    let argon2 = Argon2 { memory: 64, passes: 1, lanes: 0, ..Argon2::default() };
+    assert_eq!(argon2.hash_password_into(b"x", b"somesalt", &mut out), Err(Error::Lanes));
+    let argon2 = Argon2 { lanes: 1, ..argon2 };
+    assert_eq!(argon2.hash_password_into(b"x", b"somesalt", &mut out[..3]), Err(Error::TagSize));
+    assert_eq!(argon2.hash_password_into(b"x", b"somesalt", &mut []), Err(Error::TagSize));
+    let scrypt = Scrypt { log2_n: 4, r: 0, p: 1 };
+    assert_eq!(scrypt.hash_password_into(b"x", b"", &mut out), Err(Error::BlockSize));
+    let scrypt = Scrypt { r: 1, ..scrypt };
     assert_eq!(scrypt.hash_password_into(b"x", b"", &mut []), Err(Error::KeySize));
     assert_eq!(out, [0x5a; 32]);
     let hasher = Hasher::new(Costs::argon2id(8, 1, 1));
     for (hasher, fault) in [
         (Hasher::new(Costs::argon2id(7, 1, 1)), Error::Range),
         (hasher.clone().tag_len(3), Error::Tag),
-        (hasher.clone().tag_len(65), Error::Tag),
         (hasher.clone().salt_len(7), Error::Salt),
-        (hasher.clone().salt_len(49), Error::Salt),
     ] {
         assert_eq!(hasher.hash_password(b"x"), Err(fault), "{hasher:?}");
     }
