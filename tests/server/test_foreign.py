@@ -3,8 +3,11 @@
 from __future__ import annotations
 
 import json
+import os
+from unittest import mock
 
-from served import SECRET, WRONG, Case, Service, need
+from served import SECRET, WRONG, Case, Service, need, need_root
+from daemon import foreign
 from tests.helpers import need_module, run
 
 OPTIONS = {"bcrypt": "-B", "apr1": "-m", "sha1": "-s"}
@@ -145,6 +148,19 @@ class Foreign(Case):
         self.assertEqual(self.users(), ["ada"])
         self.assertEqual(service.log().count(f"{self.file}: Is a directory"), 1)
         self.assertNotIn("ada", service.log())
+
+    def test_the_owner_stays(self) -> None:
+        """The new file is its owner's; under the unit, which forbids fchown, the server's own."""
+        self.add("ada", "-s")
+        with mock.patch.object(os, "fchown", side_effect=PermissionError):
+            foreign.Foreign(str(self.file), bytes).remove(b"ada")
+        self.assertEqual(self.users(), [])
+        need_root()
+        self.add("ada", "-s")
+        os.chown(self.file, 4711, 33)
+        foreign.Foreign(str(self.file), bytes).remove(b"ada")
+        self.assertEqual(self.users(), [])
+        self.assertEqual((self.file.stat().st_uid, self.file.stat().st_gid), (4711, 33))
 
     def test_a_file_that_goes(self) -> None:
         """Without it the book decides alone; it has to be there at the start."""
