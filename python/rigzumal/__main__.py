@@ -1,12 +1,12 @@
-"""Records at the shell, and the costs that this machine does in a time.
+"""Records at the shell, and the costs for this machine.
 
     printf %s 'correct horse' | python3 -m rigzumal hash
     printf %s 'correct horse' | python3 -m rigzumal verify '$argon2id$v=19$..'
     python3 -m rigzumal calibrate --target-ms 250 --memory 64M
     python3 -m rigzumal accounts --help
 
-The password stands in no argument. At a terminal it is asked for, unseen; else it is what standard
-input gives, all of it, with a newline at its end too.
+A password is never an argument. At a terminal the command asks for it, unseen; otherwise it is all of
+standard input, with a newline at its end too. The exit statuses are credkeep's: 4 is a no.
 """
 
 from __future__ import annotations
@@ -15,20 +15,17 @@ import argparse
 import getpass
 import os
 import sys
-from typing import NoReturn, Union
+from typing import Union
 
 from rigzumal import PasswordHasher, RigzumalError, ScryptHasher, VerifyMismatchError
 from rigzumal import _library
 from rigzumal._calibrate import LEAST_SAFE_MEMORY, trials, why_busy
 from rigzumal._newline import hint
 from rigzumal._parts import none_of_ours
+from rigzumal._statuses import Refusal, Status, Words, status_of
 
 _UNITS = {"K": 1, "M": 1024, "G": 1024 * 1024}
 _LEAST_TARGET, _MOST_TARGET = 10, 60_000
-
-
-class _Refused(Exception):
-    """What the command doesn't do, in words."""
 
 
 def _memory(text: str) -> int:
@@ -36,7 +33,7 @@ def _memory(text: str) -> int:
     unit = text[-1:].upper()
     number = text[:-1] if unit in _UNITS else text
     if not (number.isascii() and number.isdigit()):
-        raise argparse.ArgumentTypeError(f"{text!r} is no memory, as 64M")
+        raise argparse.ArgumentTypeError(f"{text!r} is no size, such as 64M")
     return int(number) * _UNITS.get(unit, 1)
 
 
@@ -48,7 +45,7 @@ def _threads(text: str) -> int:
 
 
 def _target(text: str) -> float:
-    """Milliseconds that a login may take."""
+    """The milliseconds of a login."""
     try:
         target = float(text)
     except ValueError:
@@ -60,17 +57,8 @@ def _target(text: str) -> float:
     return target
 
 
-class _Words(argparse.ArgumentParser):
-    """Words that a fault doesn't repeat, since one may be a password."""
-
-    def error(self, message: str) -> NoReturn:
-        if message.startswith("unrecognized arguments"):
-            message = "a word too many; a password stands in no argument"
-        super().error(message)
-
-
 def _words() -> argparse.ArgumentParser:
-    words = _Words(
+    words = Words(
         prog="python3 -m rigzumal",
         description="Makes and verifies records of a password, which it asks for at a terminal"
         " and else reads from standard input.",
@@ -84,10 +72,10 @@ def _words() -> argparse.ArgumentParser:
     make.add_argument("--lanes", type=int, default=4, help="of Argon2")
     make.add_argument("--log2-n", type=int, default=17, help="of scrypt")
     make.add_argument("--empty", action="store_true", help="the password may be empty")
-    verify = commands.add_parser("verify", help="writes yes, or no with status 1")
+    verify = commands.add_parser("verify", help="writes yes, or no with status 4")
     verify.add_argument("record")
     calibrate = commands.add_parser(
-        "calibrate", help="writes the costs that this machine does in a time"
+        "calibrate", help="writes the costs that fit a time on this machine"
     )
     calibrate.add_argument(
         "--target-ms",
@@ -124,12 +112,12 @@ def _say(text: str) -> None:
 
 
 def _password(is_new: bool) -> bytes:
-    """What is typed, or all that standard input gives."""
+    """The password that is typed, or all of standard input."""
     if not sys.stdin.isatty():
         return sys.stdin.buffer.read()
     password = getpass.getpass("Password: ")
     if is_new and getpass.getpass("The same again: ") != password:
-        raise _Refused("the two passwords differ")
+        raise Refusal("the two passwords differ")
     return password.encode(errors="surrogateescape")
 
 
@@ -142,12 +130,12 @@ def _hash(given: argparse.Namespace) -> None:
     )
     password = _password(is_new=True)
     if password in (b"", b"\n") and not given.empty:
-        raise _Refused("the password is empty; --empty allows it")
+        raise Refusal("the password is empty; --empty allows it")
     print(hasher.hash(password))
 
 
 def _verify(record: str) -> int:
-    """Writes yes, or no with status 1."""
+    """Writes yes, or no with status 4."""
 
     def is_right(password: bytes) -> bool:
         return _library.check(record, password) == _library.OK
@@ -160,15 +148,16 @@ def _verify(record: str) -> int:
         said = hint(password, is_right)
         if said:
             _say(said)
-        return 1
+        return Status.NO
     print("yes")
-    return 0
+    return Status.DONE
 
 
 def _calibrate(given: argparse.Namespace) -> None:
-    """Writes each costs that were tried with their time, and then those to take."""
+    """Writes the costs that were tried, with their times, and then the best of them."""
     if given.memory < LEAST_SAFE_MEMORY and not given.below:
-        raise _Refused(f"--memory is below {LEAST_SAFE_MEMORY} KiB; --below allows it")
+        least = f"--memory is below {LEAST_SAFE_MEMORY} KiB; --below allows it"
+        raise Refusal(least, Status.WORDS)
     busy = why_busy()
     numbers = (given.target_ms, given.memory, given.lanes, given.threads, given.below)
     for found in trials(*numbers):
@@ -182,41 +171,50 @@ def _calibrate(given: argparse.Namespace) -> None:
 
 
 def _run(given: argparse.Namespace) -> int:
-    if given.command == "calibrate":
-        _calibrate(given)
-    elif given.command == "verify":
-        return _verify(given.record)
-    else:
-        _hash(given)
-    return 0
-
-
-def main() -> int:
-    """Runs the command; the status is 1 for a wrong password and 2 for a fault."""
-    if sys.argv[1:2] == ["accounts"]:
-        from rigzumal.accounts import cli
-
-        return cli.main(sys.argv[2:])
-    given = _words().parse_args()
+    """Runs the command, and answers its exit status."""
     try:
-        status = _run(given)
-        sys.stdout.flush()
-        return status
+        if given.command == "calibrate":
+            _calibrate(given)
+        elif given.command == "verify":
+            return _verify(given.record)
+        else:
+            _hash(given)
+        return Status.DONE
     except RigzumalError as fault:
         said = none_of_ours(getattr(given, "record", ""))
         said = f"{fault}{said and f' ({said})'}"
         _say(f"{fault.number} {fault.word}: {said}")
-    except _Refused as refused:
-        _say(str(refused))
+        return status_of(fault)
+    except Refusal as refusal:
+        _say(str(refusal))
+        return refusal.status
     except EOFError:
-        _say("there is no password")
+        _say("no password was typed")
+        return Status.INPUT
     except KeyboardInterrupt:
         return 130
     except OSError as fault:
-        # What is left to write goes nowhere.
-        os.dup2(os.open(os.devnull, os.O_WRONLY), sys.stdout.fileno())
         _say(fault.strerror or str(fault))
-    return 2
+        return Status.STREAM
+
+
+def main() -> int:
+    """Runs the command, and answers its exit status once all is written."""
+    if sys.argv[1:2] == ["accounts"]:
+        from rigzumal.accounts import cli
+
+        status = cli.main(sys.argv[2:])
+    else:
+        status = _run(_words().parse_args())
+    try:
+        sys.stdout.flush()
+    except OSError as fault:
+        # The rest of the output goes nowhere.
+        os.dup2(os.open(os.devnull, os.O_WRONLY), sys.stdout.fileno())
+        if status == Status.DONE and not isinstance(fault, BrokenPipeError):
+            _say(fault.strerror or str(fault))
+        status = Status.STREAM
+    return status
 
 
 if __name__ == "__main__":

@@ -1,4 +1,4 @@
-"""A newline at a password's end: what differs between ways of writing one."""
+"""The end of a password's line, in which ways of writing a password differ."""
 
 from __future__ import annotations
 
@@ -7,10 +7,16 @@ from typing import Optional
 
 
 def hint(password: bytes, is_right: Callable[[bytes], bool]) -> Optional[str]:
-    """What to say of a wrong password that one newline more, or less, makes right."""
-    other, said = password + b"\n", "with a newline at its end"
-    if password.endswith(b"\n"):
-        other, said = password[:-1], "without the newline at its end"
-    if not is_right(other):
-        return None
-    return f"the password is right {said}: `printf %s` writes none, and `echo` one"
+    """Advice about a wrong password that another end makes right; None if none does."""
+    newlines = "`printf %s` writes none, and `echo` one"
+    bare = password[:-1] if password.endswith(b"\n") else password
+    if bare != password:
+        ends = [(bare, "without the newline", newlines)]
+    else:
+        ends = [(password + b"\n", "with a newline", newlines)]
+    if bare.endswith(b"\r"):
+        ends += [(bare[:-1], "without the carriage return", "`tr -d '\\r'` removes it")]
+    for other, said, how in ends:
+        if is_right(other):
+            return f"the password is right {said} at its end: {how}"
+    return None
