@@ -1,4 +1,4 @@
-"""Accounts out of a file, for the command: whole batches, and what stands stays."""
+"""Accounts out of a file, for the command: whole batches; existing accounts stay."""
 
 from __future__ import annotations
 
@@ -10,6 +10,7 @@ from typing import Optional
 
 from rigzumal._library import InvalidRecordError
 from rigzumal._parts import none_of_ours, parts
+from rigzumal._statuses import Refusal, Status
 from rigzumal.accounts._accounts import Accounts
 from rigzumal.accounts._session import Session, run
 from rigzumal.accounts._values import Copy, Key, Reply
@@ -23,10 +24,6 @@ BATCH = 500
 Line = tuple[Key, str]
 
 
-class Refusal(Exception):
-    """What is said on standard error, with status 2."""
-
-
 class Import:
     """Adds accounts with their records, in transactions of a batch each."""
 
@@ -38,20 +35,17 @@ class Import:
         file: pathlib.Path,
         key: Callable[[str], Key],
         fault_of: Callable[[str], Optional[str]],
-    ) -> int:
-        """Adds what the lines "NAME RECORD" say; 1 if accounts have another record."""
+    ) -> dict[str, int]:
+        """Adds the accounts of lines "NAME RECORD", and counts what became of them."""
         counts = {"added": 0, "there": 0, "another": 0}
-        with open(file, encoding="utf-8") as lines:
+        with open(file, encoding="utf-8", errors="surrogateescape") as lines:
             records = list(self._records(lines, key, fault_of))
         begun = time.monotonic()
         for start in range(0, len(records), BATCH):
             for word, _ in self.put(records[start : start + BATCH]):
                 counts[word] += 1
             _progress(min(start + BATCH, len(records)), len(records), begun)
-        if counts["another"]:
-            print(f"{counts['another']} accounts have another record, which stays")
-        print(f"{counts['added']} added, {counts['there']} there already")
-        return 1 if counts["another"] else 0
+        return counts
 
     def _records(
         self,
@@ -61,16 +55,29 @@ class Import:
     ) -> Iterator[Line]:
         """The names and records of an import, all read before anything is put."""
         for number, line in enumerate(lines, 1):
-            name, _, record = line.rstrip("\r\n").rpartition(" ")
-            if not name:
-                raise Refusal(f'line {number} is no "NAME RECORD"')
-            key = key_of(name)
-            if not self.dialect.can_stand(key):
-                raise Refusal(f"line {number}: no column holds this name")
-            fault = fault_of(record)
-            if fault is not None:
-                raise Refusal(f"line {number}: {fault}")
-            yield key, record
+            try:
+                yield self._record(line.rstrip("\r\n"), key_of, fault_of)
+            except Refusal as refusal:
+                raise Refusal(f"line {number}: {refusal}") from None
+
+    def _record(
+        self,
+        line: str,
+        key_of: Callable[[str], Key],
+        fault_of: Callable[[str], Optional[str]],
+    ) -> Line:
+        name, _, record = line.rpartition(" ")
+        if any("\udc80" <= it <= "\udcff" for it in line):
+            raise Refusal("it is not in UTF-8")
+        if not name:
+            raise Refusal('it is no "NAME RECORD", with a space between')
+        key = key_of(name)
+        if not self.dialect.can_stand(key):
+            raise Refusal("no column holds this name")
+        fault = fault_of(record)
+        if fault is not None:
+            raise Refusal(fault)
+        return key, record
 
     def put(self, batch: Sequence[Line]) -> list[tuple[str, Copy]]:
         """Puts a batch in one transaction: "added", "there" or "another" for each."""
@@ -89,11 +96,13 @@ class Import:
         worked = Worked(ticket, Reply.ENROLLED, record)
         answer = self.accounts.commit_in(session.conn, worked)
         if answer.reply is Reply.NO_ACCOUNT:
-            raise Refusal(f"the server keeps another name than {shown(key)}")
+            kept = f"the server keeps another name than {shown(key)}"
+            raise Refusal(kept, Status.DATABASE)
         if answer.reply is Reply.ENROLLED:
             return "added", answer.after
         if answer.after is None:
-            raise Refusal("the account's row takes no record")
+            refused = f"the server keeps no record of {shown(key)}"
+            raise Refusal(refused, Status.DATABASE)
         return ("there" if answer.after == record else "another"), answer.after
 
 
@@ -108,18 +117,26 @@ def is_foreign(record: str) -> bool:
     return 0 < len(record) <= 512 and all("!" <= it <= "~" for it in record)
 
 
-def made_by(record: Optional[str]) -> str:
-    if record is None:
-        return "no record"
+def costs_of(record: Optional[str]) -> Optional[str]:
+    """The scheme and the costs, as "$argon2id$v=19$m=65536,t=3,p=4"; None of no record
+    and of another scheme's."""
     try:
-        found = parts(record)
+        found = parts(record or "")
     except InvalidRecordError:
-        return "another scheme"
+        return None
     names = ("ln", "r", "p") if found.scheme == "scrypt" else ("m", "t", "p")
     values = (found.memory, found.passes, found.lanes)
     numbers = ",".join(f"{name}={value}" for name, value in zip(names, values))
-    version = f" v={found.version}" if found.version else ""
-    return f"{found.scheme}{version} {numbers}"
+    version = f"v={found.version}$" if found.version else ""
+    return f"${found.scheme}${version}{numbers}"
+
+
+def made_by(record: Optional[str]) -> str:
+    """The costs for people, or why they aren't known."""
+    if record is None:
+        return "no record"
+    costs = costs_of(record)
+    return costs[1:].replace("$", " ") if costs else "another scheme"
 
 
 def why(record: object, fault: InvalidRecordError) -> str:

@@ -4,26 +4,28 @@
     add NAME       adds an account with a password
     check NAME     writes yes, or no with status 1
     reset NAME     gives an account another password
-    import FILE    adds accounts out of lines "NAME RECORD"; what is there stays.
+    import FILE    adds accounts out of lines "NAME RECORD"; existing ones stay.
                    With --foreign records of other schemes too, for a hook to judge
-    list           writes each account and what its record is made by
-    examine        says what is wrong with the table and the server
+    list           writes each account, and the costs of its record
+    examine        names faults of the table and the server
     torture        runs many processes at once, and judges their history
     history LOG..  judges logs
 
-A password is asked for at a terminal, and otherwise is what standard input gives,
-without one newline at its end. An empty input is no password. The URL may stand in
+At a terminal the command asks for a password; otherwise the password is standard
+input, without one newline at its end. An empty input is refused. The URL may be in
 RIGZUMAL_DATABASE instead, where no list of processes shows it.
 
-The status is 0, or 1 for a no or for errors that were found, or 2 for a refusal.
+Exit statuses are credkeep's: 0 done or yes, 1 a word was refused, 2 reading or
+writing failed, 3 out of memory, 4 no, 5 the database failed or has a fault, 6 the
+input was refused.
 """
 
 from __future__ import annotations
 
 import argparse
 import getpass
+import json
 import os
-import pathlib
 import shutil
 import sys
 from collections.abc import Callable, Sequence
@@ -33,8 +35,10 @@ from rigzumal import PasswordHasher, RigzumalError, ScryptHasher
 from rigzumal._library import InvalidRecordError, bytes_of
 from rigzumal._newline import hint
 from rigzumal._parts import parts
+from rigzumal._statuses import Refusal, Status, status_of
 from rigzumal.accounts._accounts import Accounts
-from rigzumal.accounts._import import Import, Refusal, is_foreign, made_by, shown, why
+from rigzumal.accounts._arguments import parser
+from rigzumal.accounts._import import Import, costs_of, is_foreign, made_by, shown, why
 from rigzumal.accounts._session import Session, run
 from rigzumal.accounts._values import LONGEST_PASSWORD, AccountsError, Key, Reply
 from rigzumal.accounts.database import Database
@@ -45,92 +49,56 @@ DRIVERS = ("sqlite3", "psycopg", "pymysql")
 
 
 def main(words: Optional[Sequence[str]] = None) -> int:
-    """Runs the command; the status is 1 for a no or for faults, and 2 for a refusal."""
-    given = _words().parse_args(words)
+    """Runs the command, and answers its exit status."""
+    given = parser(__doc__.partition("\n\n")[2]).parse_args(words)
     try:
-        if given.command == "history":
-            from rigzumal.accounts.torture import logs
-
-            return logs.main(given.logs)
-        if not given.database:
-            raise Refusal("no database: --database URL, or RIGZUMAL_DATABASE")
-        status: int = given.run(_Command(given))
-        return status
+        return _run(given)
     except BrokenPipeError:
-        sys.stderr.close()
-        return 2
-    except (Refusal, AccountsError, RigzumalError, ValueError, TypeError) as fault:
-        print(f"rigzumal: {fault}", file=sys.stderr)
+        return Status.STREAM
+    except Refusal as refusal:
+        _say(str(refusal))
+        return refusal.status
+    except AccountsError as fault:
+        _say(str(fault))
     except ImportError as fault:
-        print(f"rigzumal: the driver isn't there: {fault}", file=sys.stderr)
+        _say(f"the driver isn't installed: {fault}")
     except OSError as fault:
-        print(f"rigzumal: {fault}", file=sys.stderr)
+        name = f"{fault.filename}: " if fault.filename else ""
+        _say(f"{name}{fault.strerror or fault}")
+        return Status.STREAM
+    except (RigzumalError, ValueError, TypeError) as fault:
+        _say(str(fault))
+        return status_of(fault)
     except KeyboardInterrupt:
         return 130
     except Exception as fault:
         if type(fault).__module__.partition(".")[0] not in DRIVERS:
             raise
-        print(f"rigzumal: {type(fault).__name__}: {_line(fault)}", file=sys.stderr)
-    return 2
+        _say(f"{type(fault).__name__}: {_line(fault)}")
+    return Status.DATABASE
+
+
+def _run(given: argparse.Namespace) -> int:
+    if given.command == "history":
+        from rigzumal.accounts.torture import logs
+
+        try:
+            return Status.NO if logs.main(given.logs) else Status.DONE
+        except ValueError as fault:
+            raise Refusal(str(fault)) from None
+    if not given.database:
+        wanted = "no database: --database URL, or RIGZUMAL_DATABASE"
+        raise Refusal(wanted, Status.WORDS)
+    return _RUNS[given.command](_Command(given))
+
+
+def _say(text: str) -> None:
+    print(f"rigzumal: {text}", file=sys.stderr)
 
 
 def _line(fault: Exception) -> str:
     """The first line of a driver's text; further ones may have a row."""
     return (str(fault).strip().splitlines() or [""])[0]
-
-
-def _words() -> argparse.ArgumentParser:
-    words = argparse.ArgumentParser(
-        prog="python3 -m rigzumal accounts",
-        description=__doc__.partition("\n\n")[2],
-        formatter_class=argparse.RawDescriptionHelpFormatter,
-    )
-    url = os.environ.get("RIGZUMAL_DATABASE")
-    words.add_argument("--database", metavar="URL", default=url)
-    words.add_argument("--table", default="accounts", help="by default: accounts")
-    words.add_argument("--key", default="name", help="its column of names")
-    words.add_argument("--record", default="record", help="its column of records")
-    words.add_argument("--numbers", action="store_true", help="names are whole numbers")
-    words.add_argument(
-        "--confirm", action="store_true", help="write what a look is answered by"
-    )
-    words.add_argument("--scrypt", action="store_true", help="by scrypt, not Argon2id")
-    words.add_argument("--memory", type=int, default=65536, help="of Argon2, in KiB")
-    words.add_argument("--passes", type=int, default=3, help="of Argon2")
-    words.add_argument("--lanes", type=int, default=4, help="of Argon2")
-    words.add_argument("--log2-n", type=int, default=17, help="of scrypt")
-    commands = words.add_subparsers(dest="command", required=True)
-
-    def command(name: str, run: Callable[[_Command], int]) -> argparse.ArgumentParser:
-        made = commands.add_parser(name)
-        made.set_defaults(run=run)
-        return made
-
-    command("init", _Command.init)
-    command("add", _Command.add).add_argument("name")
-    command("check", _Command.check).add_argument("name")
-    command("reset", _Command.reset).add_argument("name")
-    taken = command("import", _Command.take)
-    taken.add_argument("file", type=pathlib.Path)
-    taken.add_argument(
-        "--foreign", action="store_true", help="take records that your hook judges"
-    )
-    command("list", _Command.show)
-    command("examine", _Command.examine)
-    tortured = command("torture", _Command.torture)
-    tortured.add_argument("--processes", type=_count, default=8)
-    tortured.add_argument("--seconds", type=_count, default=60)
-    tortured.add_argument("--accounts", type=_count, default=4)
-    tortured.add_argument("--kill", action="store_true", help="processes, now and then")
-    tortured.add_argument("--logs", type=pathlib.Path, help="a folder for the logs")
-    commands.add_parser("history").add_argument("logs", nargs="+")
-    return words
-
-
-def _count(text: str) -> int:
-    if not text.isascii() or not text.isdigit() or int(text) == 0:
-        raise argparse.ArgumentTypeError(f"{text!r} is not 1 or more")
-    return int(text)
 
 
 class _Command:
@@ -139,6 +107,9 @@ class _Command:
     def __init__(self, given: argparse.Namespace) -> None:
         self.given = given
         self.database = Database(given.database)
+        if self.database.is_missing and given.command not in ("init", "torture"):
+            missing = f"{given.database}: no such file; init makes one"
+            raise Refusal(missing, Status.DATABASE)
         self.pool = PerThread(self.database.connect)
         if given.command != "torture":
             names = (given.table, given.key, given.record)
@@ -160,7 +131,7 @@ class _Command:
         try:
             return int(name)
         except ValueError:
-            raise Refusal(f"{name!r} is no whole number") from None
+            raise Refusal(f"{name!r} is no whole number", Status.WORDS) from None
 
     def execute(self, sql: str, *values: object) -> list[tuple[Any, ...]]:
         with self.pool() as conn:
@@ -176,15 +147,14 @@ class _Command:
         """The account and its record, in one transaction."""
         accounts, key = self.accounts(), self.key(self.given.name)
         if not self.dialect.can_stand(key):
-            raise Refusal("no column holds this name")
+            raise Refusal("no column holds this name", Status.WORDS)
         password = _password(twice=True)
         if isinstance(accounts.begin(Request(Kind.ENROL, key)).copy, str):
-            return _said(Reply.EXISTS)
+            return self.say(Reply.EXISTS)
         record = accounts.new_record(password)
         ((word, _),) = self.importing(accounts).put([(key, record)])
-        return _said(
-            Reply.ENROLLED if word == "added" else Reply.EXISTS, Reply.ENROLLED
-        )
+        reply = Reply.ENROLLED if word == "added" else Reply.EXISTS
+        return self.say(reply, Reply.ENROLLED)
 
     def check(self) -> int:
         accounts, password = self.accounts(), _password()
@@ -193,26 +163,38 @@ class _Command:
             reply = accounts.verify(key, password)
         except InvalidRecordError as fault:
             copy = accounts.begin(Request(Kind.VERIFY, key)).copy
-            raise Refusal(why(copy, fault)) from None
+            raise Refusal(why(copy, fault), Status.DATABASE) from None
         if reply is Reply.NO and len(password) < LONGEST_PASSWORD:
             said = hint(password, lambda it: accounts.verify(key, it) is Reply.YES)
             if said:
-                print(f"rigzumal: {said}", file=sys.stderr)
-        return _said(reply, Reply.YES)
+                _say(said)
+        return self.say(reply, Reply.YES)
 
     def reset(self) -> int:
         accounts, key = self.accounts(), self.key(self.given.name)
         if not self.execute(self.dialect.select, key):
-            return _said(Reply.NO_ACCOUNT)
+            return self.say(Reply.NO_ACCOUNT)
         reply = accounts.reset(key, _password(twice=True))
-        return _said(reply, Reply.REPLACED, Reply.ENROLLED)
+        return self.say(reply, Reply.REPLACED, Reply.ENROLLED)
+
+    def say(self, reply: Reply, *good: Reply) -> int:
+        """Writes a reply; its status is a no unless it is a good one."""
+        words = {Reply.NO_ACCOUNT: "no account", Reply.ABSENT: "no record"}
+        self.write(words.get(reply, reply.value), reply=reply.value)
+        return Status.DONE if reply in good else Status.NO
+
+    def write(self, text: str, /, **fields: object) -> None:
+        """Writes a line: the text, or the fields with --json."""
+        print(json.dumps(fields, default=str) if self.given.json else text)
 
     def examine(self) -> int:
         """Writes all faults; the status tells of errors."""
         faults = self.accounts().examine()
-        for fault in faults:
-            print(f"{fault.severity.value}: {fault}")
-        return 1 if any(fault.is_error for fault in faults) else 0
+        for it in faults:
+            severity = it.severity.value
+            fields = {"severity": severity, "code": it.code, "text": it.text}
+            self.write(f"{severity}: {it}", **fields)
+        return Status.DATABASE if any(it.is_error for it in faults) else Status.DONE
 
     def show(self) -> int:
         with self.pool() as conn:
@@ -222,18 +204,27 @@ class _Command:
                 row = cursor.fetchone()
                 if row is None:
                     break
-                print(shown(row[0]), made_by(row[1]))
+                name, record = row
+                fields = {"name": name, "costs": costs_of(record)}
+                if record is not None and fields["costs"] is None:
+                    fields["foreign"] = True
+                self.write(f"{shown(name)} {made_by(record)}", **fields)
             cursor.close()
-        return 0
+        return Status.DONE
 
     def importing(self, accounts: Accounts) -> Import:
         return Import(accounts, self.dialect, self.pool)
 
     def take(self) -> int:
-        """The import: whole batches are committed, and what stands already stays."""
-        return self.importing(self.accounts()).take(
-            self.given.file, self.key, lambda text: self._check_record(text)
-        )
+        """The import: whole batches are committed, and existing accounts stay."""
+        importing = self.importing(self.accounts())
+        counts = importing.take(self.given.file, self.key, self._check_record)
+        said = f"{counts['added']} added, {counts['there']} there already"
+        another = counts["another"]
+        if another:
+            said += f", {another} with another record, which stays"
+        self.write(said, **counts)
+        return Status.NO if another else Status.DONE
 
     def _check_record(self, record: str) -> Optional[str]:
         """What is wrong with a line's record."""
@@ -258,37 +249,44 @@ class _Command:
         found = torture.verdict(accounts)
         if found:
             print(f"illegal: {found.reason}\n{found}\nlogs: {run.folder}")
-            return 1
+            return Status.NO
         print(f"legal: {logs.summary(accounts.values())}, {run.killed} killed")
         if not any(
             it.makes_change for one in accounts.values() for it in one.operations
         ):
-            raise Refusal("no change was made, so nothing is shown")
+            raise Refusal("no change was made, so nothing is shown", Status.NO)
         if given.kill and not run.killed:
-            raise Refusal("no process was killed, so nothing is shown of that")
+            said = "no process was killed, so nothing is shown of that"
+            raise Refusal(said, Status.NO)
         run.drop()
         if given.logs is None and run.folder is not None:
             shutil.rmtree(run.folder)
-        return 0
+        return Status.DONE
 
 
-def _said(reply: Reply, *good: Reply) -> int:
-    words = {Reply.NO_ACCOUNT: "no account", Reply.ABSENT: "no record"}
-    print(words.get(reply, reply.value))
-    return 0 if reply in good else 1
+_RUNS: dict[str, Callable[[_Command], int]] = {
+    "init": _Command.init,
+    "add": _Command.add,
+    "check": _Command.check,
+    "reset": _Command.reset,
+    "import": _Command.take,
+    "list": _Command.show,
+    "examine": _Command.examine,
+    "torture": _Command.torture,
+}
 
 
 def _password(twice: bool = False) -> bytes:
     if sys.stdin.isatty():
         password = getpass.getpass("password: ")
         if twice and getpass.getpass("once more: ") != password:
-            raise Refusal("the two are not the same")
+            raise Refusal("the two passwords differ")
         given = bytes_of(password)
     else:
         given = sys.stdin.buffer.read()
         given = given[:-1] if given.endswith(b"\n") else given
     if not given:
-        raise Refusal("an empty input is no password")
+        raise Refusal("no password: the input is empty")
     return given
 
 

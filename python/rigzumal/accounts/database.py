@@ -50,6 +50,11 @@ class Database:
             # SQLite would make a database that goes with the connection.
             raise ValueError("a database of SQLite is a file: sqlite:///path")
 
+    @property
+    def is_missing(self) -> bool:
+        """Whether it is a file of SQLite that doesn't exist: a connection makes one."""
+        return self.kind == "sqlite" and not os.path.exists(self._path)
+
     def dialect_kind(self) -> type[Dialect]:
         """The dialect of its engine: of MariaDB and MySQL the server says which it is."""
         if self.kind == "mysql":

@@ -36,17 +36,17 @@ class Commands(Base):
 
     def test_accounts(self):
         self.says("", "init")
-        self.assertIn("already exists", self.run_command("init", status=2))
+        self.assertIn("already exists", self.run_command("init", status=5))
         self.says("enrolled\n", "add", "ann@x", given=b"one")
-        self.says("exists\n", "add", "ann@x", given=b"two", status=1)
+        self.says("exists\n", "add", "ann@x", given=b"two", status=4)
         self.says("yes\n", "check", "ann@x", given=b"one\n")
         for wrong in (b"two", b"one ", b"one\n\n"):
-            said = self.run_command("check", "ann@x", given=wrong, status=1)
+            said = self.run_command("check", "ann@x", given=wrong, status=4)
             self.assertEqual(said.splitlines()[0], "no")
-        self.says("no account\n", "check", "bob", given=b"one", status=1)
+        self.says("no account\n", "check", "bob", given=b"one", status=4)
         self.says("replaced\n", "reset", "ann@x", given=b"two")
         self.says("yes\n", "check", "ann@x", given=b"two")
-        self.says("no account\n", "reset", "bob", given=b"two", status=1)
+        self.says("no account\n", "reset", "bob", given=b"two", status=4)
         self.says("ann@x argon2id v=19 m=64,t=1,p=1\n", "list")
         self.says("", "examine")
 
@@ -57,7 +57,7 @@ class Commands(Base):
                 if words[0] == "check":
                     self.conn.execute("DELETE FROM accounts")
                     self.run_command("add", "ann", given=b"one")
-                said = self.run_command(*words, given=given, status=2)
+                said = self.run_command(*words, given=given, status=6)
                 self.assertIn("no password", said)
         self.says("yes\n", "check", "ann", given=b"one")
 
@@ -71,15 +71,16 @@ class Commands(Base):
         self.says("1200 added, 0 there already\n", "import", str(file))
         lines[7] = f"user 7@x {LOW.hash('two')}"
         file.write_text("\r\n".join([*lines, f"new {record}"]))
-        said = self.run_command("import", str(file), status=1)
-        self.assertIn("1 accounts have another record, which stays", said)
-        self.assertIn("1 added, 1199 there already", said)
+        said = self.run_command("import", str(file), status=4)
+        another = "1 with another record, which stays"
+        self.assertEqual(said, f"1 added, 1199 there already, {another}\n")
         self.says("yes\n", "check", "user 7@x", given=b"one")
-        for bad in ("ann", "ann garbage", f"\n{record}", "ann $2b$12$x"):
-            file.write_text(f"bob {record}\n{bad}\n")
-            said = self.run_command("import", str(file), status=2)
-            self.assertIn("line 2", said)
-        self.says("no account\n", "check", "bob", given=b"one", status=1)
+        for bad in ("ann", "ann garbage", f"\n{record}", "ann $2b$12$x", f"\udcff {record}"):
+            file.write_text(f"bob {record}\n{bad}\n", errors="surrogateescape")
+            said = self.run_command("import", str(file), status=6)
+            self.assertIn("line 2: ", said)
+        self.assertIn("UTF-8", said)
+        self.says("no account\n", "check", "bob", given=b"one", status=4)
         self.run_command("import", str(folder / "none"), status=2)
 
     def names(self, *lines):
@@ -94,7 +95,7 @@ class Commands(Base):
         self.run_command("init")
         record, ours = "$2y$05$" + "a" * 53, LOW.hash("one")
         file = self.names(f"ann {record}", f"bob {ours}", f"cid {'x' * 512}")
-        self.assertIn("line 1:", self.run_command("import", file, status=2))
+        self.assertIn("line 1:", self.run_command("import", file, status=6))
         self.assertEqual(self.count(), 0)
         for count in ("3 added, 0", "0 added, 3"):
             self.says(f"{count} there already\n", "import", "--foreign", file)
@@ -102,7 +103,7 @@ class Commands(Base):
         self.assertEqual(dict(found), {"ann": record, "bob": ours, "cid": "x" * 512})
         for bad in ("x" * 513, "a\u00e9", "a\0b", "a\tb", "a\x7f", ""):
             file = self.names(f"eve {ours}", f"dan {bad}")
-            said = self.run_command("import", "--foreign", file, status=2)
+            said = self.run_command("import", "--foreign", file, status=6)
             self.assertIn("line 2:", said)
         self.assertEqual(self.count(), 3)
 
@@ -112,7 +113,7 @@ class Commands(Base):
         good = [f"user{number} {LOW.hash('x')}" for number in range(1001)]
         for at in (0, 1, 499, 500, 501, 1001):
             file = self.names(*good[:at], "ann garbage", *good[at:])
-            said = self.run_command("import", file, status=2)
+            said = self.run_command("import", file, status=6)
             self.assertIn(f"line {at + 1}:", said)
             self.assertEqual(self.count(), 0)
 
@@ -120,12 +121,12 @@ class Commands(Base):
         self.run_command("init")
         record = LOW.hash("x")
         file = self.names(f"ann {record}", f"be\0n {record}")
-        said = self.run_command("import", file, status=2)
+        said = self.run_command("import", file, status=6)
         self.assertIn("line 2: no column holds this name", said)
         self.assertEqual(self.count(), 0)
         for words in (["add"], ["--numbers", "add"]):
             name = str(2**63) if "--numbers" in words else os.fsdecode(b"a\xff")
-            said = self.run_command(*words, name, given=b"x", status=2)
+            said = self.run_command(*words, name, given=b"x", status=1)
             self.assertIn("no column holds this name", said)
         self.assertEqual(self.count(), 0)
 
@@ -142,12 +143,12 @@ class Commands(Base):
             ("$argon2id$v=19$m=hunter2", ""),
         ):
             file = self.names(f"ann {record}")
-            found = self.run_command("import", file, status=2)
+            found = self.run_command("import", file, status=6)
             self.assertIn("line 1: " + said, found)
             self.assertNotIn("hunter2", found)
             self.conn.execute("DELETE FROM accounts")
             self.conn.execute("INSERT INTO accounts VALUES ('ann', ?)", (record,))
-            found = self.run_command("check", "ann", given=b"x", status=2)
+            found = self.run_command("check", "ann", given=b"x", status=5)
             self.assertIn(said, found)
             self.assertNotIn("hunter2", found)
 
@@ -171,14 +172,15 @@ class Commands(Base):
             (b"one", b"one\n\n", ""),
         ):
             record, _ = shell("hash", *made, given=owner)
-            said, error = shell("verify", record.strip(), given=given, status=1)
+            said, error = shell("verify", record.strip(), given=given, status=4)
             self.assertEqual((said, bool(error)), ("no\n", bool(hint)))
             self.assertIn(hint, error)
             self.conn.execute("DELETE FROM accounts")
             row = ("ann", record.strip())
             self.conn.execute("INSERT INTO accounts VALUES (?, ?)", row)
             taken = given.removesuffix(b"\n")
-            said = self.run_command("check", "ann", given=given, status=int(owner != taken))
+            status = 4 if owner != taken else 0
+            said = self.run_command("check", "ann", given=given, status=status)
             near = (taken + b"\n", taken.removesuffix(b"\n"))
             self.assertEqual("at its end" in said, owner != taken and owner in near)
         self.assertEqual(shell("verify", record.strip(), given=b"one")[0], "yes\n")
@@ -190,8 +192,8 @@ class Commands(Base):
         said = io.StringIO()
         with mock.patch.object(Database, "connect", side_effect=error):
             with contextlib.redirect_stderr(said):
-                status = cli.main(["--database", "sqlite:///x", "list"])
-        self.assertEqual(status, 2)
+                status = cli.main(["--database", "mysql://x/y", "list"])
+        self.assertEqual(status, 5)
         self.assertEqual(said.getvalue(), "rigzumal: OperationalError: it failed\n")
 
     def test_a_table_that_is_made(self):
@@ -222,7 +224,7 @@ class Commands(Base):
     def test_a_terminal_is_asked(self):
         """Twice for a new password, and not if there is no password."""
         self.run_command("init")
-        for typed, said in (("one\none\n", "enrolled"), ("one\ntwo\n", "not the same")):
+        for typed, said in (("one\none\n", "enrolled"), ("one\ntwo\n", "passwords differ")):
             pid, mine = pty.fork()
             if pid == 0:
                 os.environ["RIGZUMAL_DATABASE"] = f"sqlite:///{self.server.path}"
@@ -249,7 +251,7 @@ class Commands(Base):
         self.says("", *names, "examine")
         self.says("enrolled\n", *names, "add", "7", given=b"one")
         self.says("yes\n", *names, "check", "7", given=b"one")
-        said = self.run_command(*names, "check", "x", given=b"one", status=2)
+        said = self.run_command(*names, "check", "x", given=b"one", status=1)
         self.assertIn("no whole number", said)
         self.says("yes\n", *names[:-1], "check", "7", given=b"one")
 
@@ -259,7 +261,7 @@ class Commands(Base):
         self.conn.execute(
             "CREATE TRIGGER tr BEFORE UPDATE ON accounts BEGIN SELECT RAISE(IGNORE); END"
         )
-        self.run_command("add", "ann", given=b"one", status=2)
+        self.run_command("add", "ann", given=b"one", status=5)
         found = self.conn.execute("SELECT count(*) FROM accounts").fetchone()
         self.assertEqual(found, (0,))
         self.conn.execute("DROP TRIGGER tr")
@@ -286,7 +288,7 @@ class Commands(Base):
         ):
             with open(log, "w") as file:
                 file.write(line + "\n")
-            self.run_command("history", log, status=2)
+            self.run_command("history", log, status=6)
         self.run_command("history", log + "no", status=2)
 
     def test_databases(self):
@@ -297,8 +299,8 @@ class Commands(Base):
             with self.assertRaises(ValueError):
                 Database(url)
         self.assertNotIn("secret", repr(Database("mysql://a:secret@h/d")))
-        self.run_command("examine", status=2, database="oracle://x")
-        self.run_command("examine", status=2, database="sqlite:////nowhere/at/all.db")
+        self.run_command("examine", status=1, database="oracle://x")
+        self.run_command("examine", status=5, database="sqlite:////nowhere/at/all.db")
 
 
 if __name__ == "__main__":

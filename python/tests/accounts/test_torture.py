@@ -64,7 +64,7 @@ class Tortures(Base):
         with mock.patch.object(_torture.os, "kill"):
             with mock.patch.object(_torture, "RISK", 0):
                 with mock.patch.object(_logged.Log, "_dare"):
-                    said = self.command("--processes=2", "--kill", status=2)
+                    said = self.command("--processes=2", "--kill", status=4)
         self.assertIn("no process was killed", said)
 
     def test_kills_before_a_commit(self):
@@ -199,13 +199,13 @@ class Tortures(Base):
         for words in ("--processes=0", "--seconds=0", "--accounts=-1", "--seconds=x"):
             with self.assertRaises(SystemExit) as raised:
                 self.command(words)
-            self.assertEqual(raised.exception.code, 2)
+            self.assertEqual(raised.exception.code, 1)
         with mock.patch.object(torture.Torture, "_load", return_value=0):
-            said = self.command("--accounts=1", status=2)
+            said = self.command("--accounts=1", status=4)
         self.assertIn("no change was made", said)
 
     def test_one_that_is_refused(self):
-        """Status 1, what contradicts what, and the table and the logs stay."""
+        """Status 4, what contradicts what, and the table and the logs stay."""
         compare = Table.compare
 
         async def lies(table, session, worked):
@@ -215,7 +215,7 @@ class Tortures(Base):
             return Answer(worked.reply, worked.ticket.copy, worked.after)
 
         with mock.patch.object(Table, "compare", lies):
-            said = self.command("--processes=2", f"--logs={self.logs}", status=1)
+            said = self.command("--processes=2", f"--logs={self.logs}", status=4)
         self.assertTrue(said.startswith("illegal: account"))
         self.conn.execute("SELECT * FROM rigzumal_torture")
         self.assertTrue(os.listdir(self.logs))
