@@ -159,7 +159,7 @@ class OnMariaDB(engines.OnMariaDB, Base):
                     capture_output=True,
                     env={**os.environ, "RIGZUMAL_DATABASE": self.server.url},
                 )
-                self.assertEqual(done.returncode, 2, done)
+                self.assertEqual(done.returncode, 5, done)
                 self.assertIn(b"the server keeps another name", done.stderr)
                 self.assertEqual(self.execute("SELECT * FROM accounts"), [])
 
@@ -250,7 +250,7 @@ class OnMariaDB(engines.OnMariaDB, Base):
         said, early = io.StringIO(), (mariadb.error("shown-early", "early"),)
         with mock.patch.object(mariadb, "shown_early", return_value=early):
             with contextlib.redirect_stdout(said):
-                self.assertEqual(cli.main([*given, "examine"]), 1)
+                self.assertEqual(cli.main([*given, "examine"]), 5)
                 self.assertEqual(cli.main([*given, "--confirm", "examine"]), 0)
         self.assertEqual(said.getvalue(), "error: early\n")
         for confirm in (False, True):
