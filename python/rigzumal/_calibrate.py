@@ -1,4 +1,4 @@
-"""The costs that this machine does in a time."""
+"""The costs that fit a time on this machine."""
 
 from __future__ import annotations
 
@@ -10,7 +10,7 @@ from typing import Final, NamedTuple, Optional
 from rigzumal._hashers import PasswordHasher
 
 LEAST_MEMORY: Final = 8
-"""KiB a lane, below which there is no Argon2."""
+"""KiB a lane, the least of Argon2."""
 
 LEAST_SAFE_MEMORY: Final = 19456
 """KiB of OWASP's least costs with two passes."""
@@ -20,7 +20,7 @@ _OF_ONE_PASS: Final = 47104
 
 
 class Measured(NamedTuple):
-    """Costs, and how long a hash of them took at best, in milliseconds."""
+    """Costs, and the best time of a hash with them, in milliseconds."""
 
     hasher: PasswordHasher
     milliseconds: float
@@ -45,17 +45,17 @@ def is_safe(hasher: PasswordHasher) -> bool:
 def trials(
     target: float, memory: int, lanes: int, threads: int = 1, below: bool = False
 ) -> Iterator[Measured]:
-    """Each costs that were tried: the last ones are those to take.
+    """Costs to try, in turn: the last ones are the result.
 
-    As RFC 9106, section 4, has it: as much memory as there is, and then as many passes as the time
-    allows. If one pass takes too long, there is less memory, down to the least.
+    By RFC 9106, section 4: all of the memory, and then as many passes as the time allows. If one
+    pass needs too long, less memory, down to the least.
 
     Args:
         target: milliseconds.
         memory: KiB.
         lanes: 1 to 255.
-        threads: how many may work them.
-        below: whether they may be below OWASP's least costs.
+        threads: how many may work the lanes.
+        below: whether the costs may be below OWASP's least ones.
     """
     least = max(LEAST_MEMORY * lanes, 0 if below else LEAST_SAFE_MEMORY)
     found = measured(PasswordHasher(1, memory, lanes, threads=threads))
@@ -80,7 +80,7 @@ def trials(
 
 
 def why_busy() -> Optional[str]:
-    """What to say if other work may have the processors, and None if it hasn't."""
+    """A remark if other work may use the processors, otherwise None."""
     load, processors = os.getloadavg()[0], os.cpu_count() or 1
     if load <= processors / 2:
         return None

@@ -16,7 +16,7 @@ if TYPE_CHECKING:
     from typing_extensions import TypeAlias
 
 Bytes: TypeAlias = "Union[bytes, bytearray, memoryview]"
-"""What holds bytes."""
+"""An object with bytes."""
 
 _SCRYPT: Final = 3
 _MOST: Final = 2**32 - 1
@@ -37,7 +37,7 @@ class Type(enum.IntEnum):
 
 
 class _Hasher(Frozen):
-    """What the hashers share: how records are made, verified and seen to be old."""
+    """The part that the hashers share: making and verifying records, and rehashing."""
 
     hash_len: int
     salt_len: int
@@ -49,7 +49,7 @@ class _Hasher(Frozen):
 
     @property
     def costs(self) -> str:
-        """The costs as they stand at the front of a record, as "$argon2id$v=19$m=65536,t=3,p=4"."""
+        """The costs, as at the front of a record: "$argon2id$v=19$m=65536,t=3,p=4"."""
         raise NotImplementedError
 
     def _scheme(self) -> tuple[int, ...]:
@@ -68,11 +68,11 @@ class _Hasher(Frozen):
 
         Args:
             password: the password, of any length below 2^32 bytes.
-            salt: 8 to 48 bytes (of scrypt 1 to 48); drawn by the system's getrandom if left out.
+            salt: 8 to 48 bytes (of scrypt 1 to 48); by default the system's getrandom makes one.
 
         Raises:
             InvalidNumbersError: the salt is too short or too long.
-            OutOfMemoryError: there was too little memory.
+            OutOfMemoryError: too little memory was free.
             NoRandomError: the system gave no salt.
             TypeError: the password is neither bytes nor str, or the salt isn't bytes.
         """
@@ -90,12 +90,12 @@ class _Hasher(Frozen):
         )
 
     def verify(self, hash: Secret, password: Secret) -> Literal[True]:
-        """True if the record is one of the password.
+        """True if the password is the record's.
 
         Raises:
-            VerifyMismatchError: it is a record of another password.
-            InvalidRecordError: it is no record; the exception has the first fault.
-            OutOfMemoryError: there was too little memory.
+            VerifyMismatchError: the record is of another password.
+            InvalidRecordError: the text is no record; the exception has its first fault.
+            OutOfMemoryError: too little memory was free.
         """
         self._verified(hash, password)
         return True
@@ -110,7 +110,7 @@ class _Hasher(Frozen):
         return place
 
     def verify_and_rehash(self, hash: Secret, password: Secret) -> Optional[str]:
-        """None if the record is one of the password and may stay, or the record that is to stand.
+        """None if the password is right and its record may stay; a new record if it is old.
 
         Raises:
             Those of `verify` and `hash`.
@@ -120,12 +120,12 @@ class _Hasher(Frozen):
         return self.hash(password) if is_old else None
 
     def check_needs_rehash(self, hash: Secret) -> bool:
-        """Whether the record is of another scheme, other costs or sizes than a new one.
+        """Whether the record has another scheme, other costs or other sizes than a new one.
 
-        It can't tell which secret the record was made with: `verify_and_rehash` does.
+        This call can't tell which secret the record was made with: `verify_and_rehash` can.
 
         Raises:
-            InvalidRecordError: it is no record.
+            InvalidRecordError: the text is no record.
         """
         parts = _library.parts(hash)
         found = (parts.scheme, parts.version, parts.memory, parts.passes, parts.lanes)
@@ -141,23 +141,23 @@ class PasswordHasher(_Hasher):
         memory_cost: in KiB, 8 a lane to 2097152.
         parallelism: lanes, 1 to 255.
         hash_len: bytes of the tag, 4 to 64.
-        salt_len: bytes of a drawn salt, 8 to 48.
+        salt_len: bytes of a generated salt, 8 to 48.
         type: the kind of Argon2.
-        secret: a pepper, which is kept apart from the records: RFC 9106's K. With it the hasher
-            verifies records of the same secret alone, and none of scrypt. It stands in no repr.
+        secret: a pepper, which you keep apart from the records: RFC 9106's K. With it the hasher
+            verifies records of the same secret alone, and none of scrypt. No repr shows it.
         threads: how many threads may work the lanes of one record, the caller's among them; it
-            changes no record. 1 is right for a service, whose processors have other logins to
-            do: it does more of them a second. `parallelism` is right for a program that does one
-            at a time: of 64 MiB and four lanes it takes some 0.6 of the time. No more threads
-            are started than there are processors, and none below 4 MiB.
-        secrets: in place of one secret the new one and older ones, while peppers rotate: records
-            are made with the first, which `secret` is then, and verified with any, so that a wrong
-            password costs a hash for each. `verify_and_rehash` says when one is of an older one.
+            changes no record. 1 is right for a service: other logins use the other processors.
+            `parallelism` is right for a program that hashes one password at a time: 64 MiB and
+            four lanes then need some 0.6 of the time. At most one thread for each processor
+            starts, and none below 4 MiB.
+        secrets: the new pepper and older ones, instead of `secret`, while peppers rotate. Records
+            are made with the first, which is then `secret`, and verified with any: a wrong
+            password costs a hash for each. `verify_and_rehash` replaces records of older ones.
 
     Raises:
         InvalidNumbersError: a number is out of its range.
         TypeError: a number is no int, or a secret isn't bytes.
-        ValueError: there is no such kind, or there are a secret and secrets.
+        ValueError: no such kind exists, or both a secret and secrets are given.
     """
 
     time_cost: int
@@ -189,7 +189,7 @@ class PasswordHasher(_Hasher):
         one = None if secret is None else _library.data_of(secret)
         several = tuple(_library.data_of(it) for it in secrets)
         if several and one not in (None, several[0]):
-            raise ValueError("either a secret or secrets")
+            raise ValueError("secret and secrets are both given; give one of them")
         self._set(
             time_cost=time_cost,
             memory_cost=memory_cost,
@@ -222,7 +222,7 @@ class PasswordHasher(_Hasher):
 
     @property
     def costs(self) -> str:
-        """The costs as they stand at the front of a record, as "$argon2id$v=19$m=65536,t=3,p=4"."""
+        """The costs, as at the front of a record: "$argon2id$v=19$m=65536,t=3,p=4"."""
         numbers = f"m={self.memory_cost},t={self.time_cost},p={self.parallelism}"
         return f"$argon2{self.type.name.lower()}$v=19${numbers}"
 
@@ -237,9 +237,9 @@ class ScryptHasher(_Hasher):
     Attributes:
         log2_n: the cost N as a power of two, 1 to 23, below 16 * r.
         block_size: r, 1 to 255. The table has 128 * r * N bytes, 2 GiB at most.
-        parallelism: p, 1 to 255; all is worked on the caller's thread.
+        parallelism: p, 1 to 255; the caller's thread does all the work.
         hash_len: bytes of the key, 4 to 64.
-        salt_len: bytes of a drawn salt, 1 to 48.
+        salt_len: bytes of a generated salt, 1 to 48.
 
     Raises:
         InvalidNumbersError: a number is out of its range.
@@ -277,7 +277,7 @@ class ScryptHasher(_Hasher):
 
     @property
     def costs(self) -> str:
-        """The costs as they stand at the front of a record, as "$scrypt$ln=17,r=8,p=1"."""
+        """The costs, as at the front of a record: "$scrypt$ln=17,r=8,p=1"."""
         return f"$scrypt$ln={self.log2_n},r={self.block_size},p={self.parallelism}"
 
     def _scheme(self) -> tuple[int, ...]:
@@ -300,11 +300,11 @@ def argon2(
 ) -> bytes:
     """The Argon2 tag of hash_len bytes (RFC 9106), with memory_cost in KiB.
 
-    Its lanes are worked by up to so many threads: see PasswordHasher.
+    Up to `threads` threads work its lanes: see PasswordHasher.
 
     Raises:
         InvalidNumbersError: a number is outside its range.
-        OutOfMemoryError: there was too little memory.
+        OutOfMemoryError: too little memory was free.
         TypeError: an input isn't bytes, or a number is no int.
     """
     return _library.raw_argon2(
@@ -325,7 +325,7 @@ def scrypt(
 
     Raises:
         InvalidNumbersError: a number is outside its range.
-        OutOfMemoryError: there was too little memory.
+        OutOfMemoryError: too little memory was free.
         TypeError: an input isn't bytes, or a number is no int.
     """
     return _library.raw_scrypt(

@@ -1,4 +1,4 @@
-"""The calls of librigzumal.so, and the faults that they answer."""
+"""The calls of librigzumal.so, and their faults."""
 
 from __future__ import annotations
 
@@ -13,7 +13,7 @@ if TYPE_CHECKING:
     from typing_extensions import TypeAlias
 
 Secret: TypeAlias = "Union[bytes, str]"
-"""A password or the like: bytes, or text, which stands for its bytes in UTF-8."""
+"""A password or the like: bytes, or text, of which the bytes in UTF-8 count."""
 
 TEXT_SIZE: Final = 513
 OK: Final = 0
@@ -28,7 +28,7 @@ class RigzumalError(Exception):
 
     Attributes:
         number: the fault's number, as in rigzumal.h.
-        word: its name in one word, as "salt".
+        word: its name in one word, such as "salt".
     """
 
     def __init__(self, number: int) -> None:
@@ -45,7 +45,7 @@ class VerifyMismatchError(RigzumalError):
 
 
 class OutOfMemoryError(RigzumalError, MemoryError):
-    """There was too little memory for the costs."""
+    """Too little memory was free for the costs."""
 
 
 class InvalidRecordError(RigzumalError, ValueError):
@@ -69,7 +69,7 @@ class NoRandomError(RigzumalError):
 
 
 def raise_fault(number: int) -> None:
-    """Raises the exception of a fault's number, and returns where there is none."""
+    """Raises the exception of a fault's number; 0 is no fault."""
     if number == OK:
         return
     if number == MISMATCH:
@@ -87,8 +87,8 @@ def bytes_of(secret: Secret) -> bytes:
     """The bytes of a secret, or of anything else that may be text.
 
     Raises:
-        TypeError: it is neither bytes nor str.
-        ValueError: it is text that has no UTF-8; the text stands in no exception.
+        TypeError: the secret is neither bytes nor str.
+        ValueError: the text has no form in UTF-8; no exception shows it.
     """
     if isinstance(secret, str):
         try:
@@ -100,10 +100,10 @@ def bytes_of(secret: Secret) -> bytes:
 
 
 def data_of(data: object, wanted: str = "bytes are") -> bytes:
-    """The bytes of a salt or the like, which no text stands for.
+    """The bytes of a salt or the like, which can't be text.
 
     Raises:
-        TypeError: it holds no bytes, as bytes, a bytearray, a memoryview or an array do.
+        TypeError: the object holds no bytes, as bytes, a bytearray, a memoryview or an array do.
     """
     if isinstance(data, bytes):
         return data
@@ -115,10 +115,10 @@ def data_of(data: object, wanted: str = "bytes are") -> bytes:
 
 
 def text_bytes(text: Secret) -> bytes:
-    """The bytes of a record or a setting, for a call that takes a string of C.
+    """The bytes of a record or a setting, for a call with a string of C.
 
     Raises:
-        InvalidRecordError: a zero byte stands in it, which no record has.
+        InvalidRecordError: the text has a zero byte, as no record has.
     """
     found = bytes_of(text)
     if b"\0" in found:
@@ -218,17 +218,19 @@ def version() -> str:
 
 
 def trim() -> int:
-    """Gives the memory that is kept for the next hashes back to the system: how many bytes.
+    """Gives the memory that is kept for the next hashes back to the system, and counts its bytes.
 
-    It is as much as hashes took at one time, and at most what `keep` says. The system takes it by
-    itself when it is short of memory; this is for a program that hashes seldom.
+    The library keeps as much as hashes used at one time, up to the bound of `keep`. The system
+    reclaims it when it is short of memory; this call is for a program that hashes seldom.
     """
     return int(_library.rigzumal_trim())
 
 
 def keep(most: int) -> int:
-    """Has at most so many bytes kept from now on; 0 keeps nothing. Answers the bound that there
-    was: 64 MiB, or what RIGZUMAL_KEEP in the environment says."""
+    """Bounds the bytes that are kept from now on, and answers the old bound.
+
+    The first bound is 64 MiB, or RIGZUMAL_KEEP of the environment; with 0 no memory is kept.
+    """
     whole_number("most", most)
     if not 0 <= most < 2**63:
         raise OverflowError("most is to be 0 to 2^63 - 1")
@@ -236,7 +238,7 @@ def keep(most: int) -> int:
 
 
 def pair(data: bytes) -> tuple[bytes, int]:
-    """A pointer and its size, as the calls take them."""
+    """A pointer and its size, for the calls."""
     return data, len(data)
 
 
@@ -248,9 +250,9 @@ def record(
     secret: Optional[bytes] = None,
     threads: int = 1,
 ) -> str:
-    """rigzumal_record_threads, or if there is a secret rigzumal_record_with_secret_threads.
+    """rigzumal_record_threads, or with a secret rigzumal_record_with_secret_threads.
 
-    The salt is one, or how many bytes of one the library is to draw."""
+    The salt is bytes, or the size of a salt that the library generates."""
     text = ctypes.create_string_buffer(TEXT_SIZE)
     room = (text, TEXT_SIZE, checked(tag_size), text_bytes(costs))
     drawn = (None, checked(salt)) if isinstance(salt, int) else pair(salt)
@@ -270,8 +272,7 @@ def check(
     secret: Optional[bytes] = None,
     threads: int = 1,
 ) -> int:
-    """What rigzumal_check_threads answers, or if there is a secret
-    rigzumal_check_with_secret_threads."""
+    """rigzumal_check_threads, or with a secret rigzumal_check_with_secret_threads."""
     known = (text_bytes(text), *pair(bytes_of(password)))
     if secret is None:
         return int(_library.rigzumal_check_threads(*known, checked(threads)))
@@ -280,7 +281,7 @@ def check(
 
 
 def parts(text: Secret) -> Parts:
-    """rigzumal_parts of a record: costs, which have no tag, are none."""
+    """rigzumal_parts of a record; costs, which have no tag, are refused."""
     found = Parts()
     raise_fault(_library.rigzumal_parts(ctypes.byref(found), text_bytes(text)))
     if found.tag_size == 0:
@@ -303,11 +304,11 @@ def whole_number(name: str, number: object) -> None:
 
 
 def checked(number: int) -> int:
-    """A number that ctypes cuts nothing off.
+    """A number that ctypes doesn't cut off.
 
     Raises:
-        TypeError: it is no int.
-        OverflowError: it isn't 0 to 2^32 - 1.
+        TypeError: the number is no int.
+        OverflowError: the number isn't 0 to 2^32 - 1.
     """
     whole_number("the number", number)
     if not 0 <= number < 2**32:

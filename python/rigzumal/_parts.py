@@ -1,4 +1,4 @@
-"""What stands in a record, read without its password."""
+"""The numbers of a record, read without its password."""
 
 from __future__ import annotations
 
@@ -56,15 +56,15 @@ class Parts(Frozen):
 
     @property
     def costs(self) -> tuple[str, int, int, int, int]:
-        """Scheme, version and numbers: what an upgrade goes by."""
+        """Scheme, version and numbers, which decide about a rehash."""
         return self.scheme, self.version, self.memory, self.passes, self.lanes
 
 
 def parts(record: Secret) -> Parts:
-    """Reads the numbers of a record, as to see whether it is to be made anew.
+    """Reads the numbers of a record, to decide about a rehash.
 
     Raises:
-        InvalidRecordError: it is no record; the exception has the first fault.
+        InvalidRecordError: the text is no record; the exception has its first fault.
     """
     found = _library.parts(record)
     return Parts(
@@ -79,7 +79,7 @@ def parts(record: Secret) -> Parts:
 
 
 # As other programs begin a record: $2b$.., or Django's pbkdf2_sha256$... Nothing else is
-# shown, since what stands there may be a password.
+# shown, since the text may be a password.
 _OTHERS: Final = (
     r"\$([A-Za-z0-9-]{1,20})\$"
     r"|((?:pbkdf2|bcrypt|argon2|scrypt|md5|sha1)[a-z0-9_]{0,9})\$"
@@ -87,7 +87,7 @@ _OTHERS: Final = (
 
 
 def none_of_ours(record: str) -> str:
-    """Says the scheme of another program's record; empty if it shows none."""
+    """The scheme of another program's record, for people; empty if the record shows none."""
     import re
 
     found = re.match(_OTHERS, record)
