@@ -23,6 +23,8 @@ from rigzumal._library import (
 )
 from rigzumal._parts import Parts, parts
 
+__version__ = version()
+
 __all__ = [
     "InvalidNumbersError",
     "InvalidRecordError",

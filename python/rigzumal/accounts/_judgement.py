@@ -38,6 +38,7 @@ class Judge:
             are higher or not.
 
     Raises:
+        TypeError: the hasher is of another type.
         ValueError: the hasher's tags haven't 32 bytes, it has a secret, or its own
             costs are in the list.
         InvalidRecordError: one of the list isn't costs.
@@ -49,6 +50,9 @@ class Judge:
         foreign: Optional[Foreign] = None,
         upgrade_from: Iterable[str] = (),
     ) -> None:
+        if not hasattr(hasher, "hash_len"):
+            kind = type(hasher).__name__
+            raise TypeError(f"a PasswordHasher or a ScryptHasher is wanted, not {kind}")
         if hasher.hash_len != _TAG_SIZE:
             raise ValueError(f"records of accounts have tags of {_TAG_SIZE} bytes")
         if getattr(hasher, "secret", None) is not None:

@@ -23,6 +23,7 @@ from rigzumal.accounts._values import Reply, Request, StoreFault, Ticket, Unavai
 from rigzumal.accounts._values import Worked
 from rigzumal.accounts.dialects._dialect import Dialect
 from rigzumal.accounts.dialects._faults import Fault
+from rigzumal.accounts.pools import check_pool
 
 AnyPool = TypeVar("AnyPool")
 
@@ -57,6 +58,9 @@ class Operations(Generic[AnyPool]):
     ) -> None:
         if tries < 1 or not patience >= 0:
             raise ValueError("tries is 1 or more, and patience 0 or more")
+        for it in (pool, replica):
+            if it is not None:
+                check_pool(it)
         self._judge = Judge(hasher, foreign, upgrade_from)
         self._dialect, self._tries = dialect, tries
         self._table = Table(dialect, confirm, self._before_commit)

@@ -195,7 +195,8 @@ class Table:
             raise error
         if self.dialect.verdict(error) is not Verdict.REFUSED:
             raise Lost() from error
-        raise StoreFault(f"the server refused a statement: {self.name(error)}")
+        name = self.name(error)
+        raise StoreFault(f"the server refused a statement: {name}; see examine()")
 
     def name(self, error: Optional[BaseException]) -> str:
         """An error's kind and number, without its text."""

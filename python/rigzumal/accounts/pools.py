@@ -30,6 +30,18 @@ Pool = Callable[[], AbstractContextManager[Any]]
 AsyncPool = Callable[[], AbstractAsyncContextManager[Any]]
 
 
+def check_pool(pool: object) -> None:
+    """Refuses a connection or an engine where a pool is wanted.
+
+    Raises:
+        TypeError: the object can't be called for a connection.
+    """
+    if not callable(pool) or hasattr(type(pool), "cursor"):
+        kind = type(pool).__name__
+        makers = "PerThread(connect), of_engine(engine) or ConnectionPool(..).connection"
+        raise TypeError(f"a pool is wanted, not a {kind}: {makers}")
+
+
 class _Held:
     """A connection that is closed with its thread, in the process that made it."""
 

@@ -174,6 +174,7 @@ class Shell(unittest.TestCase):
             self.assertNotIn(b"Traceback", refused.stderr)
 
     def test_the_version_is_the_headers(self):
+        self.assertEqual(rigzumal.__version__, rigzumal.version())
         header = pathlib.Path(__file__).parents[3] / "c/include/rigzumal.h"
         self.assertIn(
             f'#define RIGZUMAL_LIBRARY_VERSION "{rigzumal.version()}"', header.read_text()

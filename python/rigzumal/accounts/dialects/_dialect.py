@@ -124,7 +124,7 @@ class Dialect:
         """
         if type(key) is not self.key_type:
             wanted = self.key_type.__name__
-            raise TypeError(f"the key is of {type(key).__name__}, not {wanted}")
+            raise TypeError(f"the keys are {wanted}, and this one {type(key).__name__}")
 
     def can_stand(self, key: object) -> bool:
         """Whether a column can hold the key; otherwise there is no such account."""
