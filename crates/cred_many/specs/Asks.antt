@@ -21,10 +21,10 @@ use Rattle.cred_many.specs.declared.ask.Ask.{Ask}
 use Rattle.cred_many.specs.declared.ask.Ask.TheVariants.{Account, Load, Show, Whole, Login, Reset}
 use Rattle.cred_many.specs.declared.ask.Ask.TheVariants.{Bad, Edit, List as Names}
 use Rattle.cred_many.specs.declared.edit.Edit.TheVariants.{Disable, Delete, Rename}
-use Rattle.cred_many.specs.declared.asking.Making.{Making}
-use Rattle.cred_many.specs.declared.asking.Making.TheVariants as making
-use Rattle.cred_many.specs.declared.asking.Checking.{Checking}
-use Rattle.cred_many.specs.declared.asking.Checking.TheVariants as checking
+use Rattle.cred_many.specs.declared.grammar.Making.{Making}
+use Rattle.cred_many.specs.declared.grammar.Making.TheVariants as making
+use Rattle.cred_many.specs.declared.grammar.Checking.{Checking}
+use Rattle.cred_many.specs.declared.grammar.Checking.TheVariants as checking
 
 -- ---- what needs no hash
 

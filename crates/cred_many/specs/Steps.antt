@@ -4,8 +4,8 @@ use Rattle.std.specs.Io.KnownBytes.{Appends}
 use Rattle.cred_book.specs.declared.reply.Reply.{Reply}
 use Rattle.cred_book.specs.declared.reply.Reply.TheVariants as reply
 use Rattle.cred_cli.specs.Outcome.{FrontWritten}
-use Rattle.cred_many.specs.declared.doing.Text.{Text}
-use Rattle.cred_many.specs.declared.doing.Text.TheVariants.{Fixed, Made}
+use Rattle.cred_many.specs.declared.answer.Text.{Text}
+use Rattle.cred_many.specs.declared.answer.Text.TheVariants.{Fixed, Made}
 use Rattle.cred_many.specs.declared.fault.ServiceFault.{ServiceFault}
 use Rattle.cred_many.specs.declared.fault.ServiceFault.TheVariants.{Write}
 

@@ -4,18 +4,18 @@
 //! which each line is done whole by one thread.
 #![tactic(auto)]
 
+mod answer;
 mod ask;
-mod asking;
 mod budget;
 mod costs;
+mod decoder;
 mod desk;
-mod doing;
 mod edit;
 mod fault;
+mod grammar;
 mod group;
 mod hashing;
 mod host;
-mod intake;
 mod job;
 mod kept;
 mod line;
@@ -23,10 +23,10 @@ mod listing;
 mod message;
 mod naming;
 mod open;
-mod outlet;
 mod output;
 mod reading;
 mod scribe;
+mod sender;
 mod served;
 mod service;
 mod source;
@@ -40,8 +40,8 @@ pub use kept::serve_file;
 pub use line::Line;
 pub use message::Ending;
 pub use naming::Naming;
-pub use outlet::Handed;
 pub use scribe::Scribe;
+pub use sender::Handed;
 pub use served::Served;
 pub use service::{Means, serve_tagged};
 pub use source::{LineReader, Source};

@@ -7,7 +7,7 @@ ghost use Rattle.cred_many.specs.Asks.{IsSound, entry_of, is_tag_byte, tag_of, t
 ghost use Rattle.cred_many.specs.Service.{IsLine};
 
 use crate::ask::Ask;
-use crate::asking::ask_of;
+use crate::grammar::ask_of;
 use crate::naming::Naming;
 use cred_cli::{Refusal, first_pieces, is_too_long};
 use cred_phc::{Setting, ShortBytes};

@@ -4,11 +4,11 @@ ghost use Rattle.std.specs.Prelude.{◌≡◌, ◌+◌, [], ◌∷◌, OnOk, fal
 ghost use Rattle.cred_cli.specs.Script.{line_ends};
 ghost use Rattle.cred_many.specs.Reading.{MovesOver, NothingIsLeft, ComesNext, place};
 
+use crate::decoder::LineDecoder;
 use crate::fault::ServiceFault;
-use crate::intake::Intake;
 use crate::message::Ending;
 use crate::naming::Naming;
-use crate::outlet::Outlet;
+use crate::sender::LineSender;
 use crate::source::Source;
 use rand_core::Rng;
 use std::sync::Wait;
@@ -20,30 +20,34 @@ const CHUNK: usize = 4096;
 #[derive(Drop)]
 pub(crate) struct Reading<J: Naming, S: Source, G: Rng> {
     source: S,
-    intake: Intake<J, G>,
-    outlet: Outlet<J>,
+    decoder: LineDecoder<J, G>,
+    sender: LineSender<J>,
 
     ghost input: { S.remaining source ≡ J.service.input },
     ghost given: { S.given source ≡ 0 },
     ghost going: { S.ended source ≡ false },
-    ghost start: { intake.start ≡ [] },
-    ghost number: { intake.number ≡ 0 },
-    ghost handed: { outlet.handed ≡ 0 },
+    ghost start: { decoder.start ≡ [] },
+    ghost number: { decoder.number ≡ 0 },
+    ghost handed: { sender.handed ≡ 0 },
 }
 
 impl<J: Naming, S: Source + Drop, G: Rng + Drop> Reading<J, S, G> {
-    pub(crate) fn new(source: S, intake: Intake<J, G>, outlet: Outlet<J>) -> Reading<J, S, G>
+    pub(crate) fn new(
+        source: S,
+        decoder: LineDecoder<J, G>,
+        sender: LineSender<J>,
+    ) -> Reading<J, S, G>
         requires input { S.remaining source ≡ J.service.input }
         requires given { S.given source ≡ 0 }
         requires going { S.ended source ≡ false }
-        requires start { intake.start ≡ [] }
-        requires number { intake.number ≡ 0 }
-        requires handed { outlet.handed ≡ 0 }
+        requires start { decoder.start ≡ [] }
+        requires number { decoder.number ≡ 0 }
+        requires handed { sender.handed ≡ 0 }
     {
         Reading {
             source,
-            intake,
-            outlet,
+            decoder,
+            sender,
         }
     }
 
@@ -51,11 +55,11 @@ impl<J: Naming, S: Source + Drop, G: Rng + Drop> Reading<J, S, G> {
     pub(crate) fn run<T: Wait>(self, rt: &T) {
         let Reading {
             mut source,
-            mut intake,
-            mut outlet,
+            mut decoder,
+            mut sender,
         } = self;
-        let ending = read_lines(rt, &mut source, &mut intake, &mut outlet);
-        outlet.end(rt, ending);
+        let ending = read_lines(rt, &mut source, &mut decoder, &mut sender);
+        sender.end(rt, ending);
     }
 }
 
@@ -63,21 +67,21 @@ impl<J: Naming, S: Source + Drop, G: Rng + Drop> Reading<J, S, G> {
 fn read_lines<J: Naming, T: Wait, S: Source, G: Rng>(
     rt: &T,
     source: &mut S,
-    intake: &mut Intake<J, G>,
-    outlet: &mut Outlet<J>,
+    decoder: &mut LineDecoder<J, G>,
+    sender: &mut LineSender<J>,
 ) -> Ending<J>
     requires input { S.remaining source.old ≡ J.service.input }
     requires given { S.given source.old ≡ 0 }
     requires going { S.ended source.old ≡ false }
-    requires start { intake.old.start ≡ [] }
-    requires number { intake.old.number ≡ 0 }
-    requires handed { outlet.old.handed ≡ 0 }
+    requires start { decoder.old.start ≡ [] }
+    requires number { decoder.old.number ≡ 0 }
+    requires handed { sender.old.handed ≡ 0 }
 {
     let mut buffer = [0; CHUNK];
     for _call in rt.forever() {
-        match source.read(outlet.handed(), &mut buffer) {
-            Ok(0) => return read_last(rt, intake, outlet),
-            Ok(n) => match take_bytes(rt, intake, outlet, &buffer[..n]) {
+        match source.read(sender.handed(), &mut buffer) {
+            Ok(0) => return read_last(rt, decoder, sender),
+            Ok(n) => match take_bytes(rt, decoder, sender, &buffer[..n]) {
                 Ok(()) => {}
                 Err(fault) => return Ending::cut(fault),
             },
@@ -90,63 +94,63 @@ fn read_lines<J: Naming, T: Wait, S: Source, G: Rng>(
 /// Hands out the last line, if it has no end, at the end of the input.
 fn read_last<J: Naming, T: Wait, G: Rng>(
     rt: &T,
-    intake: &mut Intake<J, G>,
-    outlet: &mut Outlet<J>,
+    decoder: &mut LineDecoder<J, G>,
+    sender: &mut LineSender<J>,
 ) -> Ending<J>
-    requires end { NothingIsLeft J.service.input (place intake.old.start intake.old.number) }
-    requires number { intake.old.number ≡ outlet.old.handed }
+    requires end { NothingIsLeft J.service.input (place decoder.old.start decoder.old.number) }
+    requires number { decoder.old.number ≡ sender.old.handed }
 {
-    let last = match intake.finish() {
+    let last = match decoder.finish() {
         Ok(last) => last,
         Err(fault) => return Ending::cut(fault),
     };
     if let Some(line) = last {
-        if let Err(fault) = outlet.hand_out(rt, line) {
+        if let Err(fault) = sender.hand_out(rt, line) {
             return Ending::cut(fault);
         }
     }
-    Ending::whole(outlet.handed().lines())
+    Ending::whole(sender.handed().lines())
 }
 
 /// Takes the bytes in turn.
 fn take_bytes<J: Naming, T: Wait, G: Rng>(
     rt: &T,
-    intake: &mut Intake<J, G>,
-    outlet: &mut Outlet<J>,
+    decoder: &mut LineDecoder<J, G>,
+    sender: &mut LineSender<J>,
     bytes: &[u8],
 ) -> Result<(), ServiceFault>
-    requires before { ComesNext J.service.input (place intake.old.start intake.old.number)
+    requires before { ComesNext J.service.input (place decoder.old.start decoder.old.number)
         bytes.now }
-    requires number { intake.old.number ≡ outlet.old.handed }
-    ensures on { OnOk result (MovesOver J.service.input (place intake.old.start intake.old.number)
-        bytes.now (place intake.new.start intake.new.number)) }
-    ensures number { OnOk result (intake.new.number ≡ outlet.new.handed) }
+    requires number { decoder.old.number ≡ sender.old.handed }
+    ensures on { OnOk result (MovesOver J.service.input (place decoder.old.start decoder.old.number)
+        bytes.now (place decoder.new.start decoder.new.number)) }
+    ensures number { OnOk result (decoder.new.number ≡ sender.new.handed) }
     ensures handed { OnOk result
-        (outlet.new.handed ≡ outlet.old.handed + line_ends bytes.now) }
+        (sender.new.handed ≡ sender.old.handed + line_ends bytes.now) }
 {
     for byte in bytes {
-        take_byte(rt, intake, outlet, *byte)?;
+        take_byte(rt, decoder, sender, *byte)?;
     }
     Ok(())
 }
 
 fn take_byte<J: Naming, T: Wait, G: Rng>(
     rt: &T,
-    intake: &mut Intake<J, G>,
-    outlet: &mut Outlet<J>,
+    decoder: &mut LineDecoder<J, G>,
+    sender: &mut LineSender<J>,
     byte: u8,
 ) -> Result<(), ServiceFault>
-    requires before { ComesNext J.service.input (place intake.old.start intake.old.number)
+    requires before { ComesNext J.service.input (place decoder.old.start decoder.old.number)
         (byte ∷ []) }
-    requires number { intake.old.number ≡ outlet.old.handed }
-    ensures on { OnOk result (MovesOver J.service.input (place intake.old.start intake.old.number)
-        (byte ∷ []) (place intake.new.start intake.new.number)) }
-    ensures number { OnOk result (intake.new.number ≡ outlet.new.handed) }
+    requires number { decoder.old.number ≡ sender.old.handed }
+    ensures on { OnOk result (MovesOver J.service.input (place decoder.old.start decoder.old.number)
+        (byte ∷ []) (place decoder.new.start decoder.new.number)) }
+    ensures number { OnOk result (decoder.new.number ≡ sender.new.handed) }
     ensures handed { OnOk result
-        (outlet.new.handed ≡ outlet.old.handed + line_ends (byte ∷ [])) }
+        (sender.new.handed ≡ sender.old.handed + line_ends (byte ∷ [])) }
 {
-    match intake.take(byte)? {
-        Some(line) => outlet.hand_out(rt, line),
+    match decoder.take(byte)? {
+        Some(line) => sender.hand_out(rt, line),
         None => Ok(()),
     }
 }

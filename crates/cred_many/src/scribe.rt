@@ -15,8 +15,8 @@ ghost use Rattle.cred_many.specs.Steps.{is_changed};
 mod groups;
 mod refusals;
 
+use crate::answer::{do_ask, put_in_place};
 use crate::ask::Ask;
-use crate::doing::{do_ask, put_in_place};
 use crate::fault::ServiceFault;
 use crate::host::Host;
 use crate::job::{Hashed, Job};

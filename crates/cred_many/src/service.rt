@@ -5,18 +5,18 @@ ghost use Rattle.cred_many.specs.Service.{service};
 
 use crate::budget::Budget;
 use crate::costs::Costs;
+use crate::decoder::LineDecoder;
 use crate::desk::{Desk, attend};
 use crate::fault::ServiceFault;
 use crate::hashing::Hashing;
 use crate::host::Host;
-use crate::intake::Intake;
 use crate::job::Job;
 use crate::message::{Ending, Message};
 use crate::naming::Naming;
 use crate::open::MOST_OPEN;
-use crate::outlet::Outlet;
 use crate::reading::Reading;
 use crate::scribe::Scribe;
+use crate::sender::LineSender;
 use crate::source::Source;
 use cred_cli::Tools;
 use crossbeam_channel::{Receiver, Sender, bounded};
@@ -68,10 +68,10 @@ where
     requires given { S.given source ≡ 0 }
     requires going { S.ended source ≡ false }
 {
-    let intake: Intake<J, G> = Intake::new(means, salts);
+    let decoder: LineDecoder<J, G> = LineDecoder::new(means, salts);
     match make_channels(tools.rt, tools.alloc) {
-        Ok((channels, outlet)) => {
-            let reading = Reading::new(source, intake, outlet);
+        Ok((channels, sender)) => {
+            let reading = Reading::new(source, decoder, sender);
             run(tools, means, scribe, reading, channels)
         }
         Err(fault) => Ending::cut(fault),
@@ -94,7 +94,7 @@ struct Channels<J: Naming> {
 fn make_channels<J: Naming, T: Wait>(
     rt: &T,
     alloc: Global,
-) -> Result<(Channels<J>, Outlet<J>), ServiceFault>
+) -> Result<(Channels<J>, LineSender<J>), ServiceFault>
     ensures { IfOk result (λ made. made.1.handed ≡ 0) }
 {
     let (room, rooms) = bounded(alloc, MOST_OPEN)?;
@@ -105,7 +105,7 @@ fn make_channels<J: Naming, T: Wait>(
     }
     let (jobs, waiting) = bounded(alloc, MOST_OPEN)?;
     let (book, inbox) = bounded(alloc, MOST_OPEN + 1)?;
-    let outlet = Outlet::new(rooms, book.clone()?);
+    let sender = LineSender::new(rooms, book.clone()?);
     let channels = Channels {
         room,
         jobs,
@@ -113,7 +113,7 @@ fn make_channels<J: Naming, T: Wait>(
         book,
         inbox,
     };
-    Ok((channels, outlet))
+    Ok((channels, sender))
 }
 
 /// Reads and hashes in other threads, and does what they hand over in this one.

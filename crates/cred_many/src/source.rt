@@ -3,7 +3,7 @@
 ghost use Rattle.std.specs.Prelude.{◌≡◌, ◌≤◌, false, length};
 ghost use Rattle.cred_cli.specs.Script.{line_ends};
 
-use crate::outlet::Handed;
+use crate::sender::Handed;
 use std::io;
 use std::io::{ErrorKind, Read};
 

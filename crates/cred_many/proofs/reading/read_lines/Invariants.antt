@@ -6,9 +6,9 @@ use Rattle.cred_many.proofs.reading.read_lines.Given as goal
 abbrev pub invariant-loop-call : goal.invariant-loop-call
 invariant-loop-call g l = record {
   at : (all : List ℕ) → g.J.Naming.service.input ≡ Some all →
-      (rest : List ℕ) × (g.S.Source.remaining l.source ≡ Some rest) × Splits all (place l.intake.start l.intake.number) rest;
-  handed : l.outlet.handed ≡ g.S.Source.given l.source;
-  number : l.intake.number ≡ l.outlet.handed;
+      (rest : List ℕ) × (g.S.Source.remaining l.source ≡ Some rest) × Splits all (place l.decoder.start l.decoder.number) rest;
+  handed : l.sender.handed ≡ g.S.Source.given l.source;
+  number : l.decoder.number ≡ l.sender.handed;
   going : g.S.Source.ended l.source ≡ false;
   size : length l.buffer ≡ 4096;
 }

@@ -1,7 +1,7 @@
 use Rattle.std.proofs.Common.{refl}
 use Rattle.cred_many.specs.Reading.{place}
 use Rattle.cred_many.proofs.Lines.{byte_taken, end_taken, line_came}
-use Rattle.cred_many.proofs.intake.Intake.take.Goals as goal
+use Rattle.cred_many.proofs.decoder.LineDecoder.take.Goals as goal
 
 pub returns-then-byte-ne10-clause-on : goal.returns-then-byte-ne10-clause-on
 returns-then-byte-ne10-clause-on g c =

@@ -2,7 +2,7 @@ use Rattle.std.proofs.Common.{◌≡◌, ◌<◌, arith, length}
 use Rattle.std.proofs.lemmas.Bool.Decides.{nat_tests}
 use Rattle.cred_many.specs.Reading.{place}
 use Rattle.cred_many.proofs.Lines.{count_ended, count_with_last, last_came}
-use Rattle.cred_many.proofs.intake.Intake.finish.Goals as goal
+use Rattle.cred_many.proofs.decoder.LineDecoder.finish.Goals as goal
 
 pub returns-then-is_empty-clause-whole : goal.returns-then-is_empty-clause-whole
 returns-then-is_empty-clause-whole g c =

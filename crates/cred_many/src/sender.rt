@@ -35,20 +35,20 @@ impl Handed {
 
 /// Hands lines to the thread that has the book, no more than may be open.
 #[derive(Drop)]
-pub(crate) struct Outlet<J: Naming> {
+pub(crate) struct LineSender<J: Naming> {
     /// One for each line that may be opened now.
     room: Receiver<()>,
     book: Sender<Message<J>>,
     handed: Handed,
 }
 
-impl<J: Naming> Outlet<J> {
+impl<J: Naming> LineSender<J> {
     /// Before the first line.
-    pub(crate) fn new(room: Receiver<()>, book: Sender<Message<J>>) -> Outlet<J>
+    pub(crate) fn new(room: Receiver<()>, book: Sender<Message<J>>) -> LineSender<J>
         ensures { result.handed ≡ 0 }
     {
         let handed = Handed { lines: 0 };
-        Outlet { room, book, handed }
+        LineSender { room, book, handed }
     }
 
     /// How many lines it handed out.

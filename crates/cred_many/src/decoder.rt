@@ -17,7 +17,7 @@ use std::marker::PhantomData;
 
 /// The line that is coming in, its number, and what draws settings.
 #[derive(Drop)]
-pub(crate) struct Intake<J: Naming, G: Rng> {
+pub(crate) struct LineDecoder<J: Naming, G: Rng> {
     pub(crate) start: LineStart,
     /// How many lines came before.
     pub(crate) number: u64,
@@ -32,16 +32,16 @@ pub(crate) struct Intake<J: Naming, G: Rng> {
     ghost drawn: { G.stream salts ≡ salts_after J.service.salts number },
 }
 
-impl<J: Naming, G: Rng> Intake<J, G> {
+impl<J: Naming, G: Rng> LineDecoder<J, G> {
     /// Before the first line.
-    pub(crate) fn new(means: &Means, salts: G) -> Intake<J, G>
+    pub(crate) fn new(means: &Means, salts: G) -> LineDecoder<J, G>
         requires costs { means.now.costs ≡ J.service.costs }
         requires most { means.now.most ≡ J.service.most }
         requires salts { G.stream salts ≡ J.service.salts }
         ensures start { result.start ≡ [] }
         ensures number { result.number ≡ 0 }
     {
-        Intake {
+        LineDecoder {
             start: LineStart::new(),
             number: 0,
             costs: means.costs,

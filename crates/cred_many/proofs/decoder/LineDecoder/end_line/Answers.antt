@@ -2,7 +2,7 @@ use Rattle.std.proofs.Common.{rules}
 use Rattle.cred_many.specs.Reading.{place}
 use Rattle.cred_many.proofs.Draws.{salts_on, setting_drawn}
 use Rattle.cred_many.proofs.Lines.{kept_came}
-use Rattle.cred_many.proofs.intake.Intake.end_line.Goals as goal
+use Rattle.cred_many.proofs.decoder.LineDecoder.end_line.Goals as goal
 
 pub read-line-requires-clause-came : goal.read-line-requires-clause-came
 read-line-requires-clause-came g c =
