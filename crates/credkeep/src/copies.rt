@@ -3,7 +3,6 @@
 
 ghost use Rattle.std.specs.Prelude.{◌≡◌, false, IfOk};
 
-use crate::beside::{len_of, look_at_its_log, real_path};
 use crate::files::{
     Access, DamagedLog, Database, FileFault, PAUSE, Unopened, is_whole, look_at, look_at_old,
     open_file, tries_in,
@@ -11,6 +10,7 @@ use crate::files::{
 use crate::log::LogLook;
 use crate::part::{OldLog, Part};
 use crate::refusal::{refuse_file, refuse_unopened, say, warn_of_others};
+use crate::sidecar::{len_of, look_at_its_log, real_path};
 use crate::snapshot::take_snapshot;
 use cred_admin::Status;
 use cred_file::OpenFault;

@@ -2,10 +2,10 @@
 
 ghost use Rattle.std.specs.Prelude.{◌≡◌, IfOk, false};
 
-use crate::beside::{
-    JOURNAL, LOG, beside, has_changes_in_log, held_at, len_of, look_at_its_log, real_path,
-};
 use crate::log::{LogEnd, LogLook};
+use crate::sidecar::{
+    JOURNAL, LOG, has_changes_in_log, held_at, len_of, look_at_its_log, real_path, sidecar,
+};
 use cred_admin::Status;
 use sqlite::{Connection, Error, ErrorCode, FileFrom, FileStore, Wary};
 use std::fs::{File, Metadata, OpenOptions};
@@ -247,7 +247,7 @@ fn look_inside(rt: &HostRuntime, path: &str) -> Result<(), FileFault> {
 /// Whether a file beside this one has bytes in it.
 fn has_bytes(rt: &HostRuntime, path: &str, end: &str) -> io::Result<bool> {
     let real = real_path(rt, path)?;
-    let other = beside(rt, real.as_str(), end)?;
+    let other = sidecar(rt, real.as_str(), end)?;
     Ok(len_of(rt, other.as_str())?.unwrap_or(0) != 0)
 }
 
@@ -359,7 +359,7 @@ fn can_be_written(rt: &HostRuntime, path: &str) -> io::Result<()> {
         .read(true)
         .write(true)
         .open(rt, real.as_str())?;
-    let log = beside(rt, real.as_str(), LOG)?;
+    let log = sidecar(rt, real.as_str(), LOG)?;
     let mut options = OpenOptions::new();
     options
         .read(true)

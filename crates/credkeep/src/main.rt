@@ -3,7 +3,6 @@
 #![tactic(auto)]
 
 mod arguments;
-mod beside;
 mod copies;
 mod files;
 mod log;
@@ -12,6 +11,7 @@ mod part;
 mod program;
 mod progress;
 mod refusal;
+mod sidecar;
 mod size;
 mod snapshot;
 mod tagged;

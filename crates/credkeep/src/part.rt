@@ -1,10 +1,10 @@
 //! Files that are made whole beside a place, and then put there.
 
-use crate::beside::{
-    JOURNAL, LOG, beside, has_changes_in_log, held_at, is_at, remove_if_there, remove_log,
+use crate::files::{FileFault, OWNER_ALONE, own_user};
+use crate::sidecar::{
+    JOURNAL, LOG, has_changes_in_log, held_at, is_at, remove_if_there, remove_log, sidecar,
     sync_folder,
 };
-use crate::files::{FileFault, OWNER_ALONE, own_user};
 use std::fs::{File, OpenOptions, Permissions};
 use std::io::ErrorKind;
 use std::os::unix::fs::{MetadataExt, OpenOptionsExt, PermissionsExt, fchown};
@@ -38,7 +38,7 @@ impl Part {
     ///
     /// Errors: `Busy` if another run is writing it; what has its name and may not be overwritten.
     pub(crate) fn make(rt: &HostRuntime, place: &str, end: &str) -> Result<Part, FileFault> {
-        let path = beside(rt, place, end)?;
+        let path = sidecar(rt, place, end)?;
         let file = open_part(rt, path.as_str())?;
         if file.try_lock().is_err() {
             return Err(FileFault::Busy);
@@ -69,9 +69,9 @@ impl Part {
     }
 
     fn remove_others(&self, rt: &HostRuntime) -> io::Result<()> {
-        let log = beside(rt, self.path(), LOG)?;
+        let log = sidecar(rt, self.path(), LOG)?;
         remove_if_there(rt, log.as_str())?;
-        let journal = beside(rt, self.path(), JOURNAL)?;
+        let journal = sidecar(rt, self.path(), JOURNAL)?;
         remove_if_there(rt, journal.as_str())
     }
 

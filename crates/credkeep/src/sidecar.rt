@@ -19,7 +19,7 @@ pub(crate) const JOURNAL: &str = "-journal";
 const EMPTY_LOG: u64 = 41;
 
 /// The name of a file that lies beside this one.
-pub(crate) fn beside(rt: &HostRuntime, path: &str, end: &str) -> io::Result<String> {
+pub(crate) fn sidecar(rt: &HostRuntime, path: &str, end: &str) -> io::Result<String> {
     Ok(format!(in rt.alloc(); "{path}{end}")?)
 }
 
@@ -46,7 +46,7 @@ pub(crate) fn len_of(rt: &HostRuntime, path: &str) -> io::Result<Option<u64>> {
 
 /// What the log of the database at this path holds; nothing if there is none.
 pub(crate) fn look_at_its_log(rt: &HostRuntime, path: &str) -> io::Result<LogLook> {
-    let log = beside(rt, path, LOG)?;
+    let log = sidecar(rt, path, LOG)?;
     match len_of(rt, log.as_str())? {
         Some(len) if len > EMPTY_LOG => {
             let mut file = File::open(rt, log.as_str())?;
@@ -64,7 +64,7 @@ pub(crate) fn has_changes_in_log(rt: &HostRuntime, path: &str) -> io::Result<boo
 
 /// Takes the log away that lies beside this path, if one does, and lets the folder know.
 pub(crate) fn remove_log(rt: &HostRuntime, path: &str) -> io::Result<()> {
-    let log = beside(rt, path, LOG)?;
+    let log = sidecar(rt, path, LOG)?;
     remove_if_there(rt, log.as_str())?;
     sync_folder(rt, path)
 }

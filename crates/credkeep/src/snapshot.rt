@@ -5,9 +5,9 @@
 //! after it the log from its start to its end, is the database at one moment, unless the log began
 //! anew meanwhile.
 
-use crate::beside::{LOG, beside};
 use crate::files::FileFault;
 use crate::part::Part;
+use crate::sidecar::{LOG, sidecar};
 use std::fs::{File, OpenOptions};
 use std::io::{ErrorKind, Read, Write};
 use std::os::unix::fs::{MetadataExt, OpenOptionsExt};
@@ -48,7 +48,7 @@ pub(crate) fn take_snapshot(rt: &HostRuntime, path: &str, part: &Part) -> Result
 
 fn stamp_of(rt: &HostRuntime, path: &str) -> io::Result<Stamp> {
     let found = fs::metadata(rt, path)?;
-    let log = beside(rt, path, LOG)?;
+    let log = sidecar(rt, path, LOG)?;
     let mut head = [0; LOG_HEADER];
     if let Some(mut log) = open_if_there(rt, log.as_str())? {
         match log.read_exact(&mut head) {
@@ -77,8 +77,8 @@ fn copy_both(rt: &HostRuntime, path: &str, part: &Part) -> io::Result<()> {
     part.file().set_len(0)?;
     let mut to = OpenOptions::new().write(true).open(rt, part.path())?;
     io::copy(&mut File::open(rt, path)?, &mut to)?;
-    let log = beside(rt, path, LOG)?;
-    let copied = beside(rt, part.path(), LOG)?;
+    let log = sidecar(rt, path, LOG)?;
+    let copied = sidecar(rt, part.path(), LOG)?;
     let mut options = OpenOptions::new();
     options.write(true).create(true).truncate(true).mode(0o600);
     let mut to = options.open(rt, copied.as_str())?;
