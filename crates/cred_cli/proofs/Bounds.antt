@@ -10,17 +10,23 @@ use Rattle.cred_cli.specs.declared.refusal.Refusal.TheVariants.{Costly}
 use Rattle.cred_cli.specs.Costs.{events_within, is_costly, within}
 use Rattle.cred_cli.specs.History.{after, answer_at, answer_of, book_at, deed_of, deeds_before, names_at, open_after, open_at}
 use Rattle.cred_cli.specs.Script.{events_of}
+use Rattle.cred_cli.specs.Starving.{events_by, unended}
+use Rattle.cred_cli.specs.declared.mode.Mode.TheVariants.{Script}
 use Rattle.cred_cli.specs.Texts.{line_of}
 use Rattle.cred_cli.proofs.Names.{book_at-suc}
 use Rattle.cred_cli.proofs.Openings.{open_at-suc}
+use Rattle.cred_cli.proofs.Unended.{unended_same}
 
 map_unbounded : (events : List Event) → map (within None) events ≡ events
 map_unbounded [] = refl
 map_unbounded (e ∷ es) = ap (λ rest. e ∷ rest) (map_unbounded es)
 
--- without a bound each line comes to what it asks for
-pub unbounded : (bytes : List ℕ) → events_within None bytes ≡ events_of bytes
-unbounded bytes = map_unbounded (events_of bytes)
+all_done : (event : Event) → unended Script event ≡ event
+all_done event = refl
+
+-- without a bound each line of a script comes to what it asks for
+pub unbounded : (bytes : List ℕ) → events_by Script None bytes ≡ events_of bytes
+unbounded bytes = unended_same (unended Script) bytes (events_within None bytes) all_done ∙ map_unbounded (events_of bytes)
 
 -- there are as many
 pub length-within : (most : Option ℕ) (bytes : List ℕ) → length (events_within most bytes) ≡ length (events_of bytes)

@@ -1,5 +1,5 @@
 -- What a byte more, or the end, makes of a script.
-use Rattle.std.proofs.Common.{◌≡◌, ℕ, suc, ◌+◌, ◌<◌, List, [], ◌∷◌, ◌++◌, length, take, map, Option, Some, refl, sym, ap, ◌∙◌, arith, slice_get, get_or, drop, append_assoc, take-append-drop, inl, inr}
+use Rattle.std.proofs.Common.{◌≡◌, ℕ, suc, ◌+◌, ◌<◌, List, [], ◌∷◌, ◌++◌, length, take, map, option_map, Option, Some, refl, sym, ap, ◌∙◌, arith, slice_get, get_or, drop, append_assoc, take-append-drop, inl, inr}
 use Rattle.std.proofs.lemmas.Bool.{cases_lt}
 use Rattle.std.proofs.lemmas.List.{length-append, length-map, length-take, take-append-le, take_all, take_more}
 use Rattle.std.proofs.Math.Seq.{drop-cons}
@@ -7,7 +7,10 @@ use Rattle.cred_cli.specs.Events.{event_of, most_kept}
 use Rattle.cred_cli.specs.Feeding.{unfinished_from}
 use Rattle.cred_cli.specs.Costs.{events_within, within}
 use Rattle.cred_cli.specs.Script.{lines_of, line_ends}
+use Rattle.cred_cli.specs.Starving.{events_by, unended}
+use Rattle.cred_cli.specs.declared.mode.Mode.{Mode}
 use Rattle.cred_cli.proofs.Bounds.{length-within, within_at}
+use Rattle.cred_cli.proofs.Unended.{ends_sooner, length-unended, unended_at, unended_last}
 use Rattle.cred_cli.proofs.Lines.{whole_from, lines_of-line_end, lines_of-ended, lines_of-unfinished, length-whole_from, event_of-kept}
 
 get_seam : (front : List (List ℕ)) (line : List ℕ) (more : List (List ℕ)) → slice_get (map event_of (front ++ line ∷ more)) (length front) ≡ Some (event_of line)
@@ -25,8 +28,11 @@ event_at most all whole line more cut = within_at most all (line_ends whole) (ev
     )
 
 -- the line that ends behind the front
-pub ended_event : (most : Option ℕ) (all front rest : List ℕ) → all ≡ front ++ 10 ∷ rest → slice_get (events_within most all) (line_ends front) ≡ Some (within most (event_of (take most_kept (unfinished_from [] front))))
-ended_event most all front rest cut = event_at most all front (unfinished_from [] front) (lines_of rest) (ap lines_of cut ∙ lines_of-line_end front rest)
+pub ended_event : (mode : Mode) (most : Option ℕ) (all front rest : List ℕ) → all ≡ front ++ 10 ∷ rest → slice_get (events_by mode most all) (line_ends front) ≡ Some (within most (event_of (take most_kept (unfinished_from [] front))))
+ended_event mode most all front rest cut =
+    let later : line_ends front < line_ends all = rw cut (ends_sooner front rest) in
+    unended_at (unended mode) all (events_within most all) (line_ends front) later
+    ∙ event_at most all front (unfinished_from [] front) (lines_of rest) (ap lines_of cut ∙ lines_of-line_end front rest)
 
 -- bytes, of which not all need be kept
 pub none_kept : (start line : List ℕ) → start ≡ take most_kept line → length start ≡ 0 → line ≡ []
@@ -37,14 +43,16 @@ pub some_kept : (start line : List ℕ) → start ≡ take most_kept line → 0 
 some_kept start line kept some = omega (arith, some, ap length kept, length-take most_kept line)
 
 -- the line that the script leaves unfinished is its last
-pub record HasLast (most : Option ℕ) (all : List ℕ) : Type 0 where
-  pub event : slice_get (events_within most all) (line_ends all) ≡ Some (within most (event_of (take most_kept (unfinished_from [] all))))
-  pub count : length (events_within most all) ≡ suc (line_ends all)
+pub record HasLast (mode : Mode) (most : Option ℕ) (all : List ℕ) : Type 0 where
+  pub event : slice_get (events_by mode most all) (line_ends all) ≡ Some (unended mode (within most (event_of (take most_kept (unfinished_from [] all)))))
+  pub count : length (events_by mode most all) ≡ suc (line_ends all)
 
-pub has_last : (most : Option ℕ) (all : List ℕ) → 0 < length (unfinished_from [] all) → HasLast most all
-has_last most all some = record {
-  event = event_at most all all (unfinished_from [] all) [] (lines_of-unfinished all some);
-  count = length-within most all
+pub has_last : (mode : Mode) (most : Option ℕ) (all : List ℕ) → 0 < length (unfinished_from [] all) → HasLast mode most all
+has_last mode most all some = record {
+  event = unended_last (unended mode) all (events_within most all) (line_ends all) refl
+      ∙ ap (option_map (unended mode)) (event_at most all all (unfinished_from [] all) [] (lines_of-unfinished all some));
+  count = length-unended (unended mode) all (events_within most all)
+      ∙ length-within most all
       ∙ length-map (lines_of all) event_of
       ∙ ap length (lines_of-unfinished all some)
       ∙ length-append (whole_from [] all) (unfinished_from [] all ∷ [])
@@ -52,8 +60,8 @@ has_last most all some = record {
 }
 
 -- or every line has its end
-pub count-ended : (most : Option ℕ) (all : List ℕ) → unfinished_from [] all ≡ [] → length (events_within most all) ≡ line_ends all
-count-ended most all none = length-within most all ∙ length-map (lines_of all) event_of ∙ ap length (lines_of-ended all none) ∙ length-whole_from [] all
+pub count-ended : (mode : Mode) (most : Option ℕ) (all : List ℕ) → unfinished_from [] all ≡ [] → length (events_by mode most all) ≡ line_ends all
+count-ended mode most all none = length-unended (unended mode) all (events_within most all) ∙ length-within most all ∙ length-map (lines_of all) event_of ∙ ap length (lines_of-ended all none) ∙ length-whole_from [] all
 
 -- a byte more than is kept
 pub take-kept : (n : ℕ) (line : List ℕ) (b : ℕ) → take n (take n line ++ b ∷ []) ≡ take n (line ++ b ∷ [])

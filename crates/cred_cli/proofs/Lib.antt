@@ -16,5 +16,6 @@ pub mod Readings
 pub mod Runs
 pub mod Simulation
 pub mod Starvings
+pub mod Unended
 pub mod Basis
 pub mod Writes

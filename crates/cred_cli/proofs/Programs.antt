@@ -12,9 +12,8 @@ use Rattle.cred_cli.specs.declared.script.End.{End}
 use Rattle.cred_cli.specs.Calls.{Call}
 use Rattle.cred_cli.specs.Outcome.{HasCause, ScriptFails, StandsAfter, longest_script}
 use Rattle.cred_cli.specs.Prompt.{IsPrompt}
-use Rattle.cred_cli.specs.Costs.{events_within}
 use Rattle.cred_cli.specs.Script.{events_of, script_start, start_as}
-use Rattle.cred_cli.specs.Starving.{EndsAs, IsHistory}
+use Rattle.cred_cli.specs.Starving.{EndsAs, IsHistory, events_by}
 use Rattle.cred_cli.specs.declared.event.Event.{Event}
 use Rattle.cred_cli.specs.declared.policy.Policy.{Policy}
 use Rattle.cred_cli.proofs.Starvings.{history_asked}
@@ -32,14 +31,14 @@ nothing_done capacity book events before = record {
 
 -- there was no memory to begin a script with
 pub unbegun : (policy : Policy) (longest capacity : ℕ) (book : Accounts) (before : Option (List ℕ)) (failed : Bool) (name : ℕ) (r : Reading) → r.log ≡ [] → IfSome r.input (λ bytes. (events : List Event)
-    × IsHistory policy.starving capacity book (events_within policy.most bytes) events
+    × IsHistory policy.mode capacity book (events_by policy.mode policy.most bytes) events
     × EndsAs longest capacity (start_as book bytes before events) r (record { before = before; now = before; failed = failed; name = name }) book (Err Memory))
 unbegun policy longest capacity book before failed name r unread = if_known r.input _ (λ all known. (
-  events_within policy.most all,
-  history_asked policy.starving capacity book (events_within policy.most all),
+  events_by policy.mode policy.most all,
+  history_asked policy.mode capacity book (events_by policy.mode policy.most all),
   record {
     done = tt;
-    fault = (0, inr refl, nothing_done capacity book (events_within policy.most all) before);
+    fault = (0, inr refl, nothing_done capacity book (events_by policy.mode policy.most all) before);
     short = tt;
     prompt = rw unread tt;
   },

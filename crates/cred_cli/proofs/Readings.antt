@@ -10,8 +10,8 @@ use Rattle.cred_cli.specs.declared.event.Event.{Event}
 use Rattle.cred_cli.specs.Feeding.{IsAt}
 use Rattle.cred_cli.specs.Tickets.{HoldTickets}
 use Rattle.cred_cli.proofs.Openings.{open_at-zero}
-use Rattle.cred_cli.specs.Costs.{events_within}
 use Rattle.cred_cli.specs.Script.{start_as}
+use Rattle.cred_cli.specs.Starving.{events_by}
 use Rattle.cred_cli.specs.declared.policy.Policy.{Policy}
 use Rattle.cred_cli.proofs.Names.{book_at-zero}
 use Rattle.cred_cli.proofs.Answered.{answers_before-zero}
@@ -30,15 +30,15 @@ no_tickets capacity book events slots empty = record {
 
 -- no byte was taken
 pub opening : (policy : Policy) (capacity : ℕ) (book : Accounts) (all : List ℕ) (before : Option (List ℕ)) (slots : List (Option Task)) (progress : Progress) → slots ≡ replicate 64 None → progress.start ≡ [] → progress.lines ≡ 0 → progress.taken ≡ 0 →
-    IsAt policy capacity (start_as book all before (events_within policy.most all)) [] (record { written = before; accounts = book; slots = slots; progress = progress })
+    IsAt policy capacity (start_as book all before (events_by policy.mode policy.most all)) [] (record { written = before; accounts = book; slots = slots; progress = progress })
 opening policy capacity book all before slots progress empty start lines taken = record {
-  history = history_asked policy.starving capacity book (events_within policy.most all);
+  history = history_asked policy.mode capacity book (events_by policy.mode policy.most all);
   behind = λ i after. refl;
   stands = record {
-    written = rw (lines, answers_before-zero capacity book (events_within policy.most all)) (Appends-nil before);
-    accounts_are = rw lines (sym (book_at-zero capacity book (events_within policy.most all)));
+    written = rw (lines, answers_before-zero capacity book (events_by policy.mode policy.most all)) (Appends-nil before);
+    accounts_are = rw lines (sym (book_at-zero capacity book (events_by policy.mode policy.most all)));
   };
-  tickets = rw lines (no_tickets capacity book (events_within policy.most all) slots empty);
+  tickets = rw lines (no_tickets capacity book (events_by policy.mode policy.most all) slots empty);
   lines_are = lines;
   start_is = start;
   taken_is = taken;

@@ -14,8 +14,8 @@ use Rattle.cred_cli.specs.declared.answer.AnswerLine.{AnswerLine}
 use Rattle.cred_cli.specs.declared.event.Event.{Event}
 use Rattle.cred_cli.specs.declared.event.Event.TheVariants.{Commit}
 use Rattle.cred_cli.specs.declared.fault.ScriptFault.{ScriptFault}
-use Rattle.cred_cli.specs.declared.starving.Starving.{Starving}
-use Rattle.cred_cli.specs.declared.starving.Starving.TheVariants.{Ends, Answered}
+use Rattle.cred_cli.specs.declared.mode.Mode.{Mode}
+use Rattle.cred_cli.specs.declared.mode.Mode.TheVariants.{Script, Service}
 use Rattle.cred_cli.specs.Answers.{IsDoneOrStarved, MayStarve, line_bytes}
 use Rattle.cred_cli.specs.Events.{IsSound}
 use Rattle.cred_cli.specs.History.{Opened, after, answer_at, answer_of, book_at, deed_of, deeds_before, names_at, open_after, open_at}
@@ -27,11 +27,10 @@ use Rattle.cred_cli.specs.Prompt.{IsPrompt}
 use Rattle.cred_cli.specs.Watched.{Reading, Writing}
 use Rattle.cred_cli.specs.declared.script.End.{End}
 use Rattle.cred_cli.specs.Feeding.{IsAt, Standing, TakesLineAs, between}
-use Rattle.cred_cli.specs.Costs.{events_within}
 use Rattle.cred_cli.specs.declared.policy.Policy.{Policy}
 use Rattle.cred_cli.specs.Script.{ScriptStart, script_start, start_as, with_events}
 use Rattle.cred_cli.proofs.Bounds.{unbounded}
-use Rattle.cred_cli.specs.Starving.{Becomes, EndsAs, GoesOn, IsHistory, IsSameBefore, IsServed, IsStarved, NeedsHash, starved}
+use Rattle.cred_cli.specs.Starving.{Becomes, EndsAs, GoesOn, IsHistory, IsSameBefore, IsServed, IsStarved, NeedsHash, events_by, starved}
 use Rattle.cred_cli.specs.Steps.{WriteFails, slot}
 use Rattle.cred_cli.specs.Tickets.{HoldTickets, IsTicketOf}
 use Rattle.cred_cli.proofs.Fronts.{needs_front, set_before, set_elsewhere, set_here, stands_front, tickets_front}
@@ -44,9 +43,9 @@ same_again stored = (same-Decides stored stored).1 refl
 
 module _ (capacity : ℕ) (book : Accounts) (events : List Event) (i : ℕ) (slots : List (Option Task)) (held : HoldTickets capacity book events i slots) where
   -- a ticket whose record stands is that of a begin that isn't stale
-  ticket_needs : (key : ℕ) (low : 1 ≤ key) (high : key ≤ 64) → slice_get events i ≡ Some (Commit key) → (accounts : Accounts) → accounts ≡ book_at capacity book events i → (starving : Starving) (event : Event) (may : MayStarve starving accounts slots event) → may.key ≡ key →
+  ticket_needs : (key : ℕ) (low : 1 ≤ key) (high : key ≤ 64) → slice_get events i ≡ Some (Commit key) → (accounts : Accounts) → accounts ≡ book_at capacity book events i → (mode : Mode) (event : Event) (may : MayStarve mode accounts slots event) → may.key ≡ key →
       NeedsHash capacity book events i key
-  ticket_needs key low high here accounts is starving event may same_key =
+  ticket_needs key low high here accounts is mode event may same_key =
       by_opened (open_at capacity book events i key) refl (slot slots key) (rw same_key at may.is_open) (held.each key low high)
     where
       by_opened : (opened : Option Opened) → open_at capacity book events i key ≡ opened → (task : Option Task) → task ≡ Some may.task → IsTicketOf capacity book events opened task → NeedsHash capacity book events i key
@@ -71,22 +70,22 @@ module _ (capacity : ℕ) (book : Accounts) (events : List Event) (i : ℕ) (slo
 
 module _ (capacity : ℕ) (book : Accounts) (events : List Event) (i : ℕ) (event : Event) (sound : IsSound event) (here : slice_get events i ≡ Some event) (before mid now : Option (List ℕ)) (accounts : Accounts)
     (stands : StandsAfter capacity book events i before mid accounts) (slots : List (Option Task)) (held : HoldTickets capacity book events i slots) where
-  wants : (starving : Starving) (may : MayStarve starving accounts slots event) → NeedsHash capacity book events i may.key
-  wants starving may =
+  wants : (mode : Mode) (may : MayStarve mode accounts slots event) → NeedsHash capacity book events i may.key
+  wants mode may =
       let bounds = rw may.commits at sound in
-      ticket_needs capacity book events i slots held may.key bounds.0 bounds.1 (here ∙ ap Some may.commits) accounts stands.accounts_are starving event may refl
+      ticket_needs capacity book events i slots held may.key bounds.0 bounds.1 (here ∙ ap Some may.commits) accounts stands.accounts_are mode event may refl
 
-  pub line_taken : (policy : Policy) (later : Accounts) (left : List (Option Task)) (line : AnswerLine) (failed : Bool) (r : Result (Unit {0}) ScriptFault) → IsDoneOrStarved policy.starving capacity accounts slots event later left line →
+  pub line_taken : (mode : Mode) (later : Accounts) (left : List (Option Task)) (line : AnswerLine) (failed : Bool) (r : Result (Unit {0}) ScriptFault) → IsDoneOrStarved mode capacity accounts slots event later left line →
       OnOk r (Appends mid now (line_bytes line)) → IfErr r (WriteFails mid now (line_bytes line) failed) →
-      (then_ : List Event) × TakesLineAs policy capacity book events i before (between now later left) r then_
-  line_taken policy later left line failed r (inl done) written fails =
+      (then_ : List Event) × TakesLineAs mode capacity book events i before (between now later left) r then_
+  line_taken mode later left line failed r (inl done) written fails =
       (events, record { becomes = inl refl; ended = line_ended capacity book events i event sound here before mid now accounts stands slots held later left line failed r done written fails })
-  line_taken policy later left line failed r (inr (may, done)) written fails =
+  line_taken mode later left line failed r (inr (may, done)) written fails =
       let then_ = set events i starved in
       let same = set_before events i starved in (
         then_,
         record {
-          becomes = inr (may.answered, may.key, here ∙ ap Some may.commits, wants policy.starving may, refl);
+          becomes = inr (may.answered, may.key, here ∙ ap Some may.commits, wants mode may, refl);
           ended = line_ended capacity book then_ i starved tt (set_here events i starved (slice_get_within events i event here)) before mid now accounts
               (stands_front capacity book events then_ i same before mid accounts stands) slots (tickets_front capacity book events then_ i same slots held) later left line failed r done written fails;
         },
@@ -94,13 +93,13 @@ module _ (capacity : ℕ) (book : Accounts) (events : List Event) (i : ℕ) (eve
 
 -- ---- the history goes on
 
-pub history_asked : (starving : Starving) (capacity : ℕ) (book : Accounts) (asked : List Event) → IsHistory starving capacity book asked asked
-history_asked Ends capacity book asked = refl
-history_asked Answered capacity book asked = record { size = refl; each = λ i. inl refl }
+pub history_asked : (mode : Mode) (capacity : ℕ) (book : Accounts) (asked : List Event) → IsHistory mode capacity book asked asked
+history_asked Script capacity book asked = refl
+history_asked Service capacity book asked = record { size = refl; each = λ i. inl refl }
 
-pub history-size : (starving : Starving) (capacity : ℕ) (book : Accounts) (asked events : List Event) → IsHistory starving capacity book asked events → length events ≡ length asked
-history-size Ends capacity book asked events history = ap length history
-history-size Answered capacity book asked events history = history.size
+pub history-size : (mode : Mode) (capacity : ℕ) (book : Accounts) (asked events : List Event) → IsHistory mode capacity book asked events → length events ≡ length asked
+history-size Script capacity book asked events history = ap length history
+history-size Service capacity book asked events history = history.size
 
 -- the events from a place on are what their lines ask for
 abbrev pub IsBehind : ℕ → List Event → List Event → Type 0
@@ -145,20 +144,20 @@ module _ (capacity : ℕ) (book : Accounts) (asked events : List Event) (i : ℕ
       ]
 
 -- what a line makes of the history
-pub record Grows (starving : Starving) (capacity : ℕ) (book : Accounts) (asked events now : List Event) (i : ℕ) : Type 0 where
+pub record Grows (mode : Mode) (capacity : ℕ) (book : Accounts) (asked events now : List Event) (i : ℕ) : Type 0 where
   pub same : IsSameBefore i events now
-  pub history : IsHistory starving capacity book asked now
+  pub history : IsHistory mode capacity book asked now
   pub behind : IsBehind (suc i) asked now
 
-never : Ends ≡ Answered → ⊥
+never : Script ≡ Service → ⊥
 never e = cc
 
-pub grows : (starving : Starving) (capacity : ℕ) (book : Accounts) (asked events now : List Event) (i : ℕ) → IsHistory starving capacity book asked events → IsBehind i asked events → Becomes starving capacity book events i now →
-    Grows starving capacity book asked events now i
-grows starving capacity book asked events now i history behind (inl is) =
+pub grows : (mode : Mode) (capacity : ℕ) (book : Accounts) (asked events now : List Event) (i : ℕ) → IsHistory mode capacity book asked events → IsBehind i asked events → Becomes mode capacity book events i now →
+    Grows mode capacity book asked events now i
+grows mode capacity book asked events now i history behind (inl is) =
     rw is (record { same = λ j before. refl; history = history; behind = λ j after. behind j (omega (arith, after)) })
-grows Ends capacity book asked events now i history behind (inr (answered, key, here, needs, is)) = absurd (never answered)
-grows Answered capacity book asked events now i history behind (inr (answered, key, here, needs, is)) = rw is (record {
+grows Script capacity book asked events now i history behind (inr (answered, key, here, needs, is)) = absurd (never answered)
+grows Service capacity book asked events now i history behind (inr (answered, key, here, needs, is)) = rw is (record {
   same = set_before events i starved;
   history = set_served capacity book asked events i behind history key here needs;
   behind = set_behind capacity book asked events i behind;
@@ -166,7 +165,7 @@ grows Answered capacity book asked events now i history behind (inr (answered, k
 
 -- ---- the script goes on
 
-pub goes_nowhere : (policy : Policy) (capacity : ℕ) (script : ScriptStart) (i : ℕ) → IsHistory policy.starving capacity script.book (events_within policy.most script.bytes) script.events → GoesOn policy capacity script i script.events
+pub goes_nowhere : (policy : Policy) (capacity : ℕ) (script : ScriptStart) (i : ℕ) → IsHistory policy.mode capacity script.book (events_by policy.mode policy.most script.bytes) script.events → GoesOn policy capacity script i script.events
 goes_nowhere policy capacity script i history = record { same = λ j before. refl; history = history }
 
 pub goes_then : (policy : Policy) (capacity : ℕ) (script : ScriptStart) (events later : List Event) (i k : ℕ) → i ≤ k → GoesOn policy capacity script i events → GoesOn policy capacity (with_events script events) k later →
@@ -199,7 +198,7 @@ module _ (longest capacity : ℕ) (r : Reading) (w : Writing) (old new : Account
 
   -- where nothing is too costly
   abbrev pub Alone : List ℕ → Result End ScriptFault → Type 0
-  Alone bytes result = (events : List Event) × IsHistory Ends capacity old (events_within None bytes) events × EndsAs longest capacity (start_as old bytes w.before events) r w new result
+  Alone bytes result = (events : List Event) × IsHistory Script capacity old (events_by Script None bytes) events × EndsAs longest capacity (start_as old bytes w.before events) r w new result
 
   pub asked_alone : (bytes : List ℕ) (result : Result End ScriptFault) → Alone bytes result → Asked bytes result
   asked_alone bytes result (events, is, ended) = rw (is ∙ unbounded bytes) at ended

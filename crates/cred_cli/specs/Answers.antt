@@ -7,8 +7,8 @@ use Rattle.cred_cli.specs.declared.answer.AnswerLine.{AnswerLine}
 use Rattle.cred_cli.specs.declared.answer.AnswerLine.TheVariants.{Fixed, Made}
 use Rattle.cred_cli.specs.declared.event.Event.{Event}
 use Rattle.cred_cli.specs.declared.event.Event.TheVariants.{Commit}
-use Rattle.cred_cli.specs.declared.starving.Starving.{Starving}
-use Rattle.cred_cli.specs.declared.starving.Starving.TheVariants.{Answered}
+use Rattle.cred_cli.specs.declared.mode.Mode.{Mode}
+use Rattle.cred_cli.specs.declared.mode.Mode.TheVariants.{Service}
 use Rattle.cred_cli.specs.Starving.{hashes, starved}
 use Rattle.cred_cli.specs.Steps.{Step, slot, step}
 use Rattle.cred_cli.specs.Texts.{line_of}
@@ -24,9 +24,9 @@ IsDone step book slots line =
 
 -- the event is a commit that needs a hash: its ticket has the record that stands, at which the
 -- operation hashes
-pub record MayStarve (starving : Starving) (book : Accounts) (slots : List (Option Task))
+pub record MayStarve (mode : Mode) (book : Accounts) (slots : List (Option Task))
     (event : Event) : Type 0 where
-  pub answered : starving ≡ Answered
+  pub answered : mode ≡ Service
   pub key : ℕ
   pub commits : event ≡ Commit key
   pub task : Task
@@ -35,8 +35,8 @@ pub record MayStarve (starving : Starving) (book : Accounts) (slots : List (Opti
   pub hashed : hashes task.0 task.1 ≡ true
 
 -- what an event that was done, or that was starved, leaves
-abbrev pub IsDoneOrStarved : Starving → ℕ → Accounts → List (Option Task) → Event → Accounts
+abbrev pub IsDoneOrStarved : Mode → ℕ → Accounts → List (Option Task) → Event → Accounts
     → List (Option Task) → AnswerLine → Type 0
-IsDoneOrStarved starving capacity book slots event now left line =
+IsDoneOrStarved mode capacity book slots event now left line =
     IsDone (step capacity book slots event) now left line
-    ⊎ MayStarve starving book slots event × IsDone (step capacity book slots starved) now left line
+    ⊎ MayStarve mode book slots event × IsDone (step capacity book slots starved) now left line

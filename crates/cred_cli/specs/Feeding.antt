@@ -3,17 +3,17 @@ use Rattle.std.specs.Prelude.{◌≡◌, ℕ, suc, ◌≤◌, ◌==◌, if◌the
 use Rattle.std.specs.Prelude.{◌++◌, length, take, slice_get, Result, MatchResult}
 use Rattle.cred_book.specs.Accounts.{Accounts}
 use Rattle.cred_book.specs.Works.{Task}
-use Rattle.cred_cli.specs.Events.{event_of, most_kept}
+use Rattle.cred_cli.specs.Events.{most_kept}
 use Rattle.cred_cli.specs.declared.event.Event.{Event}
 use Rattle.cred_cli.specs.declared.fault.ScriptFault.{ScriptFault}
+use Rattle.cred_cli.specs.declared.mode.Mode.{Mode}
 use Rattle.cred_cli.specs.declared.policy.Policy.{Policy}
 use Rattle.cred_cli.specs.declared.progress.Progress.{Progress}
 use Rattle.cred_cli.specs.declared.run.Run.{Run}
 use Rattle.cred_cli.specs.declared.script.End.{End}
 use Rattle.cred_cli.specs.Outcome.{FailsAs, IsAnsweredAs, StandsAfter}
-use Rattle.cred_cli.specs.Costs.{events_within, within}
 use Rattle.cred_cli.specs.Script.{ScriptStart, line_ends, with_events}
-use Rattle.cred_cli.specs.Starving.{Becomes, EndsAs, GoesOn, IsHistory}
+use Rattle.cred_cli.specs.Starving.{Becomes, EndsAs, GoesOn, IsHistory, events_by}
 use Rattle.cred_cli.specs.Steps.{LineFails}
 use Rattle.cred_cli.specs.Tickets.{HoldTickets}
 use Rattle.cred_cli.specs.Watched.{Reading, Writing}
@@ -50,32 +50,32 @@ between written accounts slots =
     record { written = written; accounts = accounts; slots = slots }
 
 -- the next of some lines comes to an event, and is answered too, or a fault ends the run
-pub record TakesLineAs (policy : Policy) (capacity : ℕ) (book : Accounts)
+pub record TakesLineAs (mode : Mode) (capacity : ℕ) (book : Accounts)
     (events : List Event) (i : ℕ) (before : Option (List ℕ)) (new : Between)
     (r : Result (Unit {0}) ScriptFault) (now : List Event) : Type 0 where
-  pub becomes : Becomes policy.starving capacity book events i now
+  pub becomes : Becomes mode capacity book events i now
   pub ended : MatchResult r (λ _. StandsAfter capacity book now (suc i) before new.written
       new.accounts × HoldTickets capacity book now (suc i) new.slots)
       (LineFails capacity book now i before new.written new.accounts)
 
--- from wherever the next of some lines is this one
-abbrev pub TakesLine : Policy → ℕ → List ℕ → Between → Between
+-- from wherever the next of some lines comes to this event
+abbrev pub TakesLine : Mode → ℕ → Event → Between → Between
     → Result (Unit {0}) ScriptFault → Type 0
-TakesLine policy capacity line old new r = (book : Accounts) (events : List Event) (i : ℕ)
+TakesLine mode capacity event old new r = (book : Accounts) (events : List Event) (i : ℕ)
     (before : Option (List ℕ))
     → StandsAfter capacity book events i before old.written old.accounts
     → HoldTickets capacity book events i old.slots
-    → slice_get events i ≡ Some (within policy.most (event_of line))
-    → (now : List Event) × TakesLineAs policy capacity book events i before new r now
+    → slice_get events i ≡ Some event
+    → (now : List Event) × TakesLineAs mode capacity book events i before new r now
 
 -- the whole lines of the front are answered, and the start of the next is kept; the events of the
 -- lines behind them are what these ask for
 pub record IsAt (policy : Policy) (capacity : ℕ) (script : ScriptStart) (front : List ℕ)
     (s : Standing) : Type 0 where
-  pub history : IsHistory policy.starving capacity script.book
-      (events_within policy.most script.bytes) script.events
+  pub history : IsHistory policy.mode capacity script.book
+      (events_by policy.mode policy.most script.bytes) script.events
   pub behind : (i : ℕ) → s.progress.lines ≤ i
-      → slice_get script.events i ≡ slice_get (events_within policy.most script.bytes) i
+      → slice_get script.events i ≡ slice_get (events_by policy.mode policy.most script.bytes) i
   pub stands : StandsAfter capacity script.book script.events s.progress.lines
       script.before s.written s.accounts
   pub tickets : HoldTickets capacity script.book script.events s.progress.lines s.slots
@@ -128,6 +128,6 @@ abbrev pub Plays : Policy → ℕ → Reading → Writing → Standing → Stand
 Plays policy capacity r w old new result = (script : ScriptStart)
     → r.input ≡ Some script.bytes → IsAt policy capacity script [] old
     → (events : List Event)
-    × IsHistory policy.starving capacity script.book
-    (events_within policy.most script.bytes) events
+    × IsHistory policy.mode capacity script.book
+    (events_by policy.mode policy.most script.bytes) events
     × EndsAs old.progress.limit capacity (with_events script events) r w new.accounts result

@@ -1,5 +1,5 @@
--- The history of a service: a commit for whose hash there is no memory may be refused. It does
--- nothing then, so its number stays open.
+-- The history of a service. A last line without its end is refused. A commit for whose hash there is
+-- no memory may be refused; it does nothing then, so its number stays open.
 use Rattle.std.specs.Prelude.{◌≡◌, ◌⊎◌, ℕ, ◌<◌, ◌≤◌, Bool, true, false, Option, Some, None}
 use Rattle.std.specs.Prelude.{List, length, slice_get, slice_set, IfErr, IfOk, IfSome, OnOk}
 use Rattle.std.specs.Prelude.{Result}
@@ -15,16 +15,30 @@ use Rattle.cred_cli.specs.Costs.{events_within}
 use Rattle.cred_cli.specs.History.{Opened, book_at, deeds_before, is_stale, open_at}
 use Rattle.cred_cli.specs.Outcome.{FailsAs, IsAnsweredAs, longest_service}
 use Rattle.cred_cli.specs.Prompt.{IsPrompt}
-use Rattle.cred_cli.specs.Script.{ScriptStart, start_as}
+use Rattle.cred_cli.specs.Script.{ScriptStart, start_as, with_unended}
 use Rattle.cred_cli.specs.Watched.{Reading, Writing}
 use Rattle.cred_cli.specs.declared.event.Event.{Event}
 use Rattle.cred_cli.specs.declared.event.Event.TheVariants.{Commit, Bad}
 use Rattle.cred_cli.specs.declared.fault.ScriptFault.{ScriptFault}
 use Rattle.cred_cli.specs.declared.policy.Policy.{Policy}
-use Rattle.cred_cli.specs.declared.refusal.Refusal.TheVariants.{Book}
+use Rattle.cred_cli.specs.declared.refusal.Refusal.TheVariants.{Book, Line}
 use Rattle.cred_cli.specs.declared.script.End.{End}
-use Rattle.cred_cli.specs.declared.starving.Starving.{Starving}
-use Rattle.cred_cli.specs.declared.starving.Starving.TheVariants.{Ends, Answered}
+use Rattle.cred_cli.specs.declared.mode.Mode.{Mode}
+use Rattle.cred_cli.specs.declared.mode.Mode.TheVariants.{Script, Service}
+
+-- ---- what is asked
+
+-- by a last line that asks for this and has no end: as more than that may be lost of it, a service
+-- refuses it
+abbrev pub unended : Mode → Event → Event
+unended Script event = event
+unended Service event = Bad Line
+
+-- by the lines of these bytes, within the bound
+abbrev pub events_by : Mode → Option ℕ → List ℕ → List Event
+events_by mode most bytes = with_unended (unended mode) bytes (events_within most bytes)
+
+-- ---- commits for whose hash there is no memory
 
 -- what such a commit comes to
 abbrev pub starved : Event
@@ -78,19 +92,20 @@ pub record EndsAs (longest capacity : ℕ) (script : ScriptStart) (r : Reading) 
   pub prompt : IsPrompt capacity script w.name r.log
 
 -- the same for lines that a service was sent, which come to some events of theirs; those that bring
--- a setting or a record that asks for more than the bound are refused
+-- a setting or a record that asks for more than the bound are refused, and so is a last one without
+-- its end
 abbrev pub Serves : ℕ → Option ℕ → Reading → Writing → Accounts → Accounts → Result End ScriptFault
     → Type 0
 Serves capacity most r w old new result = IfSome r.input (λ bytes. (events : List Event)
-    × IsServed capacity old (events_within most bytes) events
+    × IsServed capacity old (events_by Service most bytes) events
     × EndsAs longest_service capacity (start_as old bytes w.before events) r w new result)
 
 -- ---- while lines are taken
 
 -- the history of a run that ends where memory is refused, or that answers it
-abbrev pub IsHistory : Starving → ℕ → Accounts → List Event → List Event → Type 0
-IsHistory Ends capacity book asked events = events ≡ asked
-IsHistory Answered capacity book asked events = IsServed capacity book asked events
+abbrev pub IsHistory : Mode → ℕ → Accounts → List Event → List Event → Type 0
+IsHistory Script capacity book asked events = events ≡ asked
+IsHistory Service capacity book asked events = IsServed capacity book asked events
 
 -- the same events before place i
 abbrev pub IsSameBefore : ℕ → List Event → List Event → Type 0
@@ -100,11 +115,11 @@ IsSameBefore i old new = (j : ℕ) → j < i → slice_get new j ≡ slice_get o
 pub record GoesOn (policy : Policy) (capacity : ℕ) (script : ScriptStart) (i : ℕ)
     (events : List Event) : Type 0 where
   pub same : IsSameBefore i script.events events
-  pub history : IsHistory policy.starving capacity script.book
-      (events_within policy.most script.bytes) events
+  pub history : IsHistory policy.mode capacity script.book
+      (events_by policy.mode policy.most script.bytes) events
 
 -- how they may change while the line at place i is
-abbrev pub Becomes : Starving → ℕ → Accounts → List Event → ℕ → List Event → Type 0
-Becomes starving capacity book events i now = (now ≡ events)
-    ⊎ ((starving ≡ Answered) × (key : ℕ) × (slice_get events i ≡ Some (Commit key))
+abbrev pub Becomes : Mode → ℕ → Accounts → List Event → ℕ → List Event → Type 0
+Becomes mode capacity book events i now = (now ≡ events)
+    ⊎ ((mode ≡ Service) × (key : ℕ) × (slice_get events i ≡ Some (Commit key))
     × NeedsHash capacity book events i key × (now ≡ slice_set events i starved))

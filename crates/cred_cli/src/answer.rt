@@ -16,9 +16,9 @@ ghost use Rattle.cred_cli.specs.Watched.{Basis, IsWritten, failed_of, held_on};
 use crate::event::Event;
 use crate::fault::ScriptFault;
 use crate::key::Key;
+use crate::mode::Mode;
 use crate::policy::Engine;
 use crate::refusal::Refusal;
-use crate::starving::Starving;
 use crate::tickets::Tickets;
 use crate::watched::Watched;
 use crate::writing::write_whole;
@@ -64,7 +64,7 @@ pub(crate) fn do_event<T: Threads + Wait + Sync, K: Keeper>(
     event: Event,
 ) -> Result<AnswerLine, AllocError>
     requires { IsSound event }
-    ensures done { IfOk result (IsDoneOrStarved engine.now.policy.starving K.capacity
+    ensures done { IfOk result (IsDoneOrStarved engine.now.policy.mode K.capacity
         (K.book keeper.old) tickets.old event (K.book keeper.new) tickets.new) }
     ensures refused { OnErr result (K.book keeper.new ≡ K.book keeper.old) }
 {
@@ -111,7 +111,7 @@ fn commit<T: Threads + Wait + Sync, K: Keeper>(
     tickets: &mut Tickets,
     key: Key,
 ) -> Result<AnswerLine, AllocError>
-    ensures done { IfOk result (IsDoneOrStarved engine.now.policy.starving K.capacity
+    ensures done { IfOk result (IsDoneOrStarved engine.now.policy.mode K.capacity
         (K.book keeper.old) tickets.old (Commit key) (K.book keeper.new) tickets.new) }
     ensures refused { OnErr result (K.book keeper.new ≡ K.book keeper.old) }
 {
@@ -121,7 +121,7 @@ fn commit<T: Threads + Wait + Sync, K: Keeper>(
     let tools = engine.tools;
     let worked = match ticket.work(tools.rt, tools.alloc, tools.workers, &NoGate) {
         Ok(worked) => worked,
-        Err(ticket) => return starve(engine.policy.starving, keeper, tickets, key, ticket),
+        Err(ticket) => return starve(engine.policy.mode, keeper, tickets, key, ticket),
     };
     let Ok(reply) = keeper.commit(tools.rt, worked) else {
         return Err(AllocError);
@@ -132,7 +132,7 @@ fn commit<T: Threads + Wait + Sync, K: Keeper>(
 /// Answers a commit for whose hash there was no memory. If its record is another by now, it needs
 /// none.
 fn starve<K: Keeper>(
-    starving: Starving,
+    mode: Mode,
     keeper: &K,
     tickets: &mut Tickets,
     key: Key,
@@ -140,10 +140,10 @@ fn starve<K: Keeper>(
 ) -> Result<AnswerLine, AllocError>
     ensures { IfOk result (λ line. (slots : List (Option Task)) → slot slots key ≡ Some ticket
         → tickets.old ≡ slice_set slots (key - 1) None
-        → IsDoneOrStarved starving K.capacity (K.book keeper.now) slots (Commit key)
+        → IsDoneOrStarved mode K.capacity (K.book keeper.now) slots (Commit key)
         (K.book keeper.now) tickets.new line) }
 {
-    if !starving.is_answered() {
+    if !mode.is_service() {
         return Err(AllocError);
     }
     let request = ticket.request();

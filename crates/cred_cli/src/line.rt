@@ -1,6 +1,7 @@
-//! One line of a script: what it asks for is done, and answered.
+//! One line: what it comes to is done, and answered.
 
 ghost use Rattle.std.specs.Prelude.{false, IfErr};
+ghost use Rattle.cred_cli.specs.Events.{IsSound};
 ghost use Rattle.cred_cli.specs.Feeding.{TakesLine, between};
 ghost use Rattle.cred_cli.specs.Outcome.{HasCause};
 ghost use Rattle.cred_cli.specs.Watched.{Basis, IsWritten, failed_of, held_on};
@@ -16,21 +17,21 @@ use std::io::Write;
 use std::sync::Wait;
 use std::thread::Threads;
 
-/// Does what the line asks for, and writes its answer.
+/// Does what a line comes to, and writes its answer.
 pub(crate) fn answer_line<T: Threads + Wait + Sync, K: Keeper, W: Write>(
     engine: &Engine<'_, T>,
     keeper: &mut K,
     tickets: &mut Tickets,
     writer: &mut Watched<W>,
-    line: &[u8],
+    event: Event,
 ) -> Result<(), ScriptFault>
-    ensures answered { (basis : Basis) → TakesLine engine.now.policy K.capacity line.now
+    requires { IsSound event }
+    ensures answered { (basis : Basis) → TakesLine engine.now.policy.mode K.capacity event
         (between (held_on basis W.contents writer.old) (K.book keeper.old) tickets.old)
         (between (held_on basis W.contents writer.new) (K.book keeper.new) tickets.new) result }
     ensures written { IsWritten W.contents writer.old writer.new }
     ensures cause { IfErr result (HasCause false (failed_of writer.new)) }
 {
-    let event = Event::of_line(line).within(engine.policy.most);
     let answer = do_event(engine, keeper, tickets, event)?;
     answer.write_to(writer)
 }

@@ -1,16 +1,30 @@
 //! Which lines are refused though they would be answered in a script, and what lines are answered
 //! with.
 
-use crate::starving::Starving;
+ghost use Rattle.std.specs.Prelude.{◌≡◌};
+ghost use Rattle.cred_cli.specs.Costs.{within};
+ghost use Rattle.cred_cli.specs.Events.{IsSound, event_of};
+
+use crate::event::Event;
+use crate::mode::Mode;
 use crate::tools::Tools;
 
-/// How lines are taken that ask for memory.
+/// How lines are taken.
 #[derive(Clone, Copy)]
 pub(crate) struct Policy {
-    /// What becomes of a commit for whose hash there is none.
-    pub(crate) starving: Starving,
+    pub(crate) mode: Mode,
     /// How many KiB a setting or a record that a line brings may ask for, if there is a bound.
     pub(crate) most: Option<u64>,
+}
+
+impl Policy {
+    /// What a line with its end comes to.
+    pub(crate) fn event_of(&self, line: &[u8]) -> Event
+        ensures event { result ≡ within self.now.most (event_of line.now) }
+        ensures sound { IsSound result }
+    {
+        Event::of_line(line).within(self.most)
+    }
 }
 
 /// With what lines are answered.

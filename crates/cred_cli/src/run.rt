@@ -3,11 +3,10 @@
 
 ghost use Rattle.std.specs.Prelude.{◌≡◌, ◌+◌, ◌≤◌, false, true, List, [], ◌∷◌, length, Some};
 ghost use Rattle.std.specs.Prelude.{IfErr, IfSome, OnOk};
-ghost use Rattle.cred_cli.specs.Costs.{events_within};
 ghost use Rattle.cred_cli.specs.Feeding.{Finishes, IsAt, Plays, Takes, standing};
 ghost use Rattle.cred_cli.specs.Outcome.{HasCause};
 ghost use Rattle.cred_cli.specs.Script.{ScriptStart, start_as};
-ghost use Rattle.cred_cli.specs.Starving.{EndsAs, IsHistory};
+ghost use Rattle.cred_cli.specs.Starving.{EndsAs, IsHistory, events_by};
 ghost use Rattle.cred_cli.specs.Watched.{Basis, Fits, GivesAsContracted, IsNew, IsWritten};
 ghost use Rattle.cred_cli.specs.Watched.{TakesAsContracted, calls_of, ended_of, failed_of, held_on};
 ghost use Rattle.cred_cli.specs.Watched.{left_on, reading_on, writing_on};
@@ -41,8 +40,8 @@ pub(crate) fn answer_all<T: Threads + Wait + Sync, K: Keeper, R: Read, W: Write>
     requires new_writer { IsNew writer.old }
     ensures ended { (basis : Basis) → Fits basis reader.new
         → IfSome (left_on basis R.remaining reader.old) (λ bytes. (events : List Event)
-        × IsHistory engine.now.policy.starving K.capacity (K.book keeper.old)
-        (events_within engine.now.policy.most bytes) events
+        × IsHistory engine.now.policy.mode K.capacity (K.book keeper.old)
+        (events_by engine.now.policy.mode engine.now.policy.most bytes) events
         × EndsAs limit K.capacity
         (start_as (K.book keeper.old) bytes (held_on basis W.contents writer.old) events)
         (reading_on basis R.remaining reader.old reader.new)
@@ -93,13 +92,8 @@ impl Run {
             self.progress.taken += 1;
             return Ok(());
         }
-        answer_line(
-            engine,
-            keeper,
-            &mut self.tickets,
-            writer,
-            self.progress.start.bytes(),
-        )?;
+        let event = engine.policy.event_of(self.progress.start.bytes());
+        answer_line(engine, keeper, &mut self.tickets, writer, event)?;
         self.progress.start.clear();
         self.progress.taken += 1;
         self.progress.lines += 1;
@@ -129,7 +123,7 @@ impl Run {
         Ok(())
     }
 
-    /// Answers what is left when the script has no further byte, and counts the lines.
+    /// Answers a last line that has no end, when no further byte comes, and counts the lines.
     pub(crate) fn finish<T: Threads + Wait + Sync, K: Keeper, W: Write>(
         &mut self,
         engine: &Engine<'_, T>,
@@ -145,13 +139,9 @@ impl Run {
         if self.progress.start.bytes().is_empty() {
             return Ok(self.progress.lines);
         }
-        answer_line(
-            engine,
-            keeper,
-            &mut self.tickets,
-            writer,
-            self.progress.start.bytes(),
-        )?;
+        let line = engine.policy.event_of(self.progress.start.bytes());
+        let event = engine.policy.mode.unended(line);
+        answer_line(engine, keeper, &mut self.tickets, writer, event)?;
         Ok(self.progress.lines + 1)
     }
 

@@ -13,9 +13,9 @@ ghost use Rattle.cred_cli.specs.Watched.{name_of, taken_of, transcript_reading, 
 
 use crate::fault::ScriptFault;
 use crate::limit::Limit;
+use crate::mode::Mode;
 use crate::policy::{Engine, Policy};
 use crate::run::answer_all;
-use crate::starving::Starving;
 use crate::tools::Tools;
 use crate::watched::Watched;
 use cred_book::Keeper;
@@ -87,7 +87,7 @@ pub fn run_script<T: Threads + Wait + Sync, K: Keeper, R: Read, W: Write>(
     let engine = Engine {
         tools: &tools,
         policy: Policy {
-            starving: Starving::Ends,
+            mode: Mode::Script,
             most: None,
         },
     };

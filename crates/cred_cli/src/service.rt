@@ -9,10 +9,10 @@ ghost use Rattle.cred_cli.specs.Watched.{transcript_reading, transcript_writing,
 
 use crate::fault::ScriptFault;
 use crate::limit::Limit;
+use crate::mode::Mode;
 use crate::policy::{Engine, Policy};
 use crate::run::answer_all;
 use crate::script::End;
-use crate::starving::Starving;
 use crate::tools::Tools;
 use crate::watched::Watched;
 use cred_book::Keeper;
@@ -64,7 +64,7 @@ pub fn serve<T: Threads + Wait + Sync, K: Keeper, R: Read, W: Write>(
     let engine = Engine {
         tools,
         policy: Policy {
-            starving: Starving::Answered,
+            mode: Mode::Service,
             most,
         },
     };

@@ -1,5 +1,5 @@
 -- The lines that a reader comes to are lines of its input.
-use Rattle.std.proofs.Common.{◌≡◌, ◌≢◌, ℕ, zero, suc, ◌+◌, ◌<◌, ◌≤◌, List, [], ◌∷◌, ◌++◌, length, take, drop, get_or, Option, Some, None, IfSome, true, false, if◌then◌else◌, nat_lt, slice_get, refl, sym, ap, ◌∙◌, arith, append_assoc, append-nil, inl, inr, codes, subst, take-append-drop}
+use Rattle.std.proofs.Common.{◌≡◌, ◌≢◌, ℕ, zero, suc, ◌+◌, ◌<◌, ◌≤◌, List, [], ◌∷◌, ◌++◌, length, take, drop, get_or, Option, Some, None, IfSome, true, false, if◌then◌else◌, nat_lt, option_map, slice_get, refl, sym, ap, ◌∙◌, arith, append_assoc, append-nil, inl, inr, codes, subst, take-append-drop}
 use Rattle.std.proofs.lemmas.Bool.Decides.{eqb_tells, nat_tests}
 use Rattle.std.proofs.lemmas.Bool.{cases_lt}
 use Rattle.std.proofs.lemmas.List.{length-append, length-take, take_all, take_more}
@@ -13,10 +13,11 @@ use Rattle.cred_cli.specs.Script.{line_ends, lines_of}
 use Rattle.cred_cli.proofs.Feeds.{none_kept, some_kept, take-kept}
 use Rattle.cred_cli.proofs.Lines.{length-whole_from, lines_of-ended, lines_of-line_end, lines_of-unfinished, unfinished_from-end, unfinished_from-more, whole_from}
 use Rattle.cred_cli.proofs.Readings.{if_known}
+use Rattle.cred_cli.proofs.Unended.{ends_sooner, unended_at, unended_last}
 use Rattle.cred_many.specs.declared.ask.Ask.TheVariants.{Bad}
 use Rattle.cred_many.specs.Asks.{Tagged, entry_of, tag_of, tagged, tagged_by, tagged_of, untagged, within}
-use Rattle.cred_many.specs.Reading.{ComesNext, IsWholeLine, MovesOver, NothingIsLeft, Place, Splits}
-use Rattle.cred_many.specs.Service.{IsLine, Service, asked_from, drawn_setting}
+use Rattle.cred_many.specs.Reading.{ComesNext, IsCutLine, IsWholeLine, MovesOver, NothingIsLeft, Place, Splits}
+use Rattle.cred_many.specs.Service.{IsLine, Service, asked_from, cut_line, drawn_setting}
 
 longer : (line : List ℕ) → longest_line < length line → nat_lt longest_line (length line) ≡ true
 longer line long = grind (arith, nat_tests)
@@ -49,59 +50,76 @@ asked_at s n (l ∷ ls) (suc i) line is =
 pub kept_came : (s : Service) (input : Option (List ℕ)) (at : Place) (most : Option ℕ) (drawn : SettingValue) → most ≡ s.most → drawn ≡ drawn_setting s at.number
     → IfSome input (λ all. IsWholeLine all at) → IfSome input (λ all. IsLine s all (entry_of at.number most drawn at.start))
 kept_came s None at most drawn same is came = tt
-kept_came s (Some all) at most drawn same is (line, there, kept) =
-    asked_at s 0 (lines_of all) at.number line there ∙ ap (λ n. Some (entry_of n s.most (drawn_setting s n) line)) (omega arith)
+kept_came s (Some all) at most drawn same is (line, there, kept, ended) =
+    unended_at (λ e. cut_line e.number) all (asked_from s 0 (lines_of all)) at.number ended
+    ∙ asked_at s 0 (lines_of all) at.number line there ∙ ap (λ n. Some (entry_of n s.most (drawn_setting s n) line)) (omega arith)
     ∙ sym (ap Some (ap (entry_of at.number most drawn) kept ∙ entry_kept ∙ ap (λ d. entry_of at.number most d line) is ∙ ap (λ m. entry_of at.number m (drawn_setting s at.number) line) same))
   where
     entry_kept : entry_of at.number most drawn (take most_kept line) ≡ entry_of at.number most drawn line
     entry_kept = ap (λ t. record { number = at.number; tag = t.0; ask = within most t.1 }) (tagged_of-kept drawn line)
 
+-- and a line without its end as it is refused
+pub cut_came : (s : Service) (input : Option (List ℕ)) (number : ℕ) → IfSome input (λ all. IsCutLine all number) → IfSome input (λ all. IsLine s all (cut_line number))
+cut_came s None number came = tt
+cut_came s (Some all) number (line, there, last) =
+    unended_last (λ e. cut_line e.number) all (asked_from s 0 (lines_of all)) number last
+    ∙ ap (option_map (λ e. cut_line e.number)) (asked_at s 0 (lines_of all) number line there)
+    ∙ ap (λ n. Some (cut_line n)) (omega arith)
+
 get_seam : (front : List (List ℕ)) (line : List ℕ) (more : List (List ℕ)) → slice_get (front ++ line ∷ more) (length front) ≡ Some line
 get_seam [] line more = refl
 get_seam (l ∷ ls) line more = get_seam ls line more
 
-come_at : (all : List ℕ) (at : Place) (line : List ℕ) (before more : List (List ℕ)) → lines_of all ≡ before ++ line ∷ more → at.number ≡ length before → at.start ≡ take most_kept line → IsWholeLine all at
-come_at all at line before more cut number kept =
-    (line, ap (λ lines. slice_get lines at.number) cut ∙ ap (slice_get (before ++ line ∷ more)) number ∙ get_seam before line more, kept)
+come_at : (all : List ℕ) (n : ℕ) (line : List ℕ) (before more : List (List ℕ)) → lines_of all ≡ before ++ line ∷ more → n ≡ length before → slice_get (lines_of all) n ≡ Some line
+come_at all n line before more cut number = ap (λ lines. slice_get lines n) cut ∙ ap (slice_get (before ++ line ∷ more)) number ∙ get_seam before line more
 
 -- the line that ends here has come
 pub line_came : (input : Option (List ℕ)) (at : Place) → ComesNext input at (10 ∷ []) → IfSome input (λ all. IsWholeLine all at)
 line_came input at before = if_known input _ (λ all known.
     let (rest, here) = before all known in
-    come_at all at (unfinished_from [] here.front) (whole_from [] here.front) (lines_of rest) (ap lines_of here.cut ∙ lines_of-line_end here.front rest)
-    (here.number_is ∙ sym (length-whole_from [] here.front)) here.start_is)
+    let there = come_at all at.number (unfinished_from [] here.front) (whole_from [] here.front) (lines_of rest) (ap lines_of here.cut ∙ lines_of-line_end here.front rest)
+    (here.number_is ∙ sym (length-whole_from [] here.front)) in
+    let sooner : line_ends here.front < line_ends all = rw here.cut (ends_sooner here.front rest) in
+    (unfinished_from [] here.front, there, here.start_is, omega (arith, sooner, here.number_is)))
 
 module _ (input : Option (List ℕ)) (at : Place) (ended : NothingIsLeft input at) where
   whole_front : (all : List ℕ) (known : input ≡ Some all) → (ended all known).front ≡ all
   whole_front all known = sym ((ended all known).cut ∙ append-nil (ended all known).front)
 
-  -- so has the last one, if it has no end
-  pub last_came : 0 < length at.start → IfSome input (λ all. IsWholeLine all at)
+  -- so has the last one, without its end
+  pub last_came : 0 < length at.start → IfSome input (λ all. IsCutLine all at.number)
   last_came some = if_known input _ (λ all known.
       let here = ended all known in
       let whole : here.front ≡ all = whole_front all known in
       let left : 0 < length (unfinished_from [] all) = rw whole at (some_kept at.start (unfinished_from [] here.front) here.start_is some) in
-      come_at all at (unfinished_from [] all) (whole_from [] all) [] (lines_of-unfinished all left)
-      (here.number_is ∙ ap line_ends whole ∙ sym (length-whole_from [] all)) (here.start_is ∙ ap (λ f. take most_kept (unfinished_from [] f)) whole))
+      let number : at.number ≡ line_ends all = here.number_is ∙ ap line_ends whole in
+      (unfinished_from [] all, come_at all at.number (unfinished_from [] all) (whole_from [] all) [] (lines_of-unfinished all left) (number ∙ sym (length-whole_from [] all)), number))
 
   -- and then all have
-  pub count_with_last : 0 < length at.start → (n : ℕ) → n ≡ at.number + 1 → IfSome input (λ all. n ≡ length (lines_of all))
-  count_with_last some n next = if_known input _ (λ all known.
+  pub count_with_last : 0 < length at.start → IfSome input (λ all. at.number + 1 ≡ length (lines_of all))
+  count_with_last some = if_known input _ (λ all known.
       let here = ended all known in
       let whole : here.front ≡ all = whole_front all known in
       let left : 0 < length (unfinished_from [] all) = rw whole at (some_kept at.start (unfinished_from [] here.front) here.start_is some) in
       let count : length (lines_of all) ≡ length (whole_from [] all) + 1 =
       ap length (lines_of-unfinished all left) ∙ length-append (whole_from [] all) (unfinished_from [] all ∷ []) in
       let number : at.number ≡ line_ends all = here.number_is ∙ ap line_ends whole in
-      omega (arith, next, count, number, length-whole_from [] all))
+      omega (arith, count, number, length-whole_from [] all))
 
   -- as they have if the last one has an end
-  pub count_ended : length at.start ≡ 0 → IfSome input (λ all. at.number ≡ length (lines_of all))
+  pub count_ended : length at.start ≡ 0 → IfSome input (λ all. at.number + 0 ≡ length (lines_of all))
   count_ended none = if_known input _ (λ all known.
       let here = ended all known in
       let whole : here.front ≡ all = whole_front all known in
       let left : unfinished_from [] all ≡ [] = rw whole at (none_kept at.start (unfinished_from [] here.front) here.start_is none) in
-      here.number_is ∙ ap line_ends whole ∙ sym (length-whole_from [] all) ∙ sym (ap length (lines_of-ended all left)))
+      let count : length (lines_of all) ≡ line_ends all = ap length (lines_of-ended all left) ∙ length-whole_from [] all in
+      let number : at.number ≡ line_ends all = here.number_is ∙ ap line_ends whole in
+      omega (arith, count, number))
+
+-- those that were handed on
+pub counted_all : (input : Option (List ℕ)) (n m : ℕ) → n ≡ m → IfSome input (λ all. n ≡ length (lines_of all)) → IfSome input (λ all. m ≡ length (lines_of all))
+counted_all None n m same all = tt
+counted_all (Some bytes) n m same all = sym same ∙ all
 
 line_ends-more : (front : List ℕ) (b : ℕ) → b ≢ 10 → line_ends (front ++ b ∷ []) ≡ line_ends front
 line_ends-more front b ne =

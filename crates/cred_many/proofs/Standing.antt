@@ -1,6 +1,7 @@
 -- What is told of a history.
-use Rattle.std.proofs.Common.{◌≡◌, ◌≢◌, ℕ, ◌+◌, ◌-◌, ◌≤◌, List, [], ◌∷◌, ◌++◌, Bool, true, Option, Some, None, MatchBool, IfSome, inl, inr, refl, sym, ap, subst, ◌∙◌, arith, take, drop, take-append-drop, length, slice_get, zero, suc}
+use Rattle.std.proofs.Common.{◌≡◌, ◌≢◌, ℕ, ◌+◌, ◌-◌, ◌≤◌, List, [], ◌∷◌, ◌++◌, Bool, true, Option, Some, None, MatchBool, IfSome, inl, inr, refl, sym, ap, subst, ◌∙◌, arith, take, drop, take-append-drop, length, slice_get, suc}
 use Rattle.std.proofs.lemmas.List.{length-append, take_all, take-append-le}
+use Rattle.std.proofs.lemmas.Option.{slice_get_within}
 use Rattle.std.specs.Io.KnownBytes.{Appends}
 use Rattle.cred_book.specs.Accounts.{Accounts}
 use Rattle.cred_cli.specs.Script.{lines_of}
@@ -10,8 +11,9 @@ use Rattle.cred_many.specs.declared.open.Open.{Open}
 use Rattle.cred_many.specs.Asks.{Entry}
 use Rattle.cred_many.specs.Scribe.{History, IsCut, is_torn, numbers}
 use Rattle.cred_many.specs.Served.{HasCause, IsWritten, Moment, Stands, answers, book_after, most_together}
-use Rattle.cred_many.specs.Service.{IsLine, Service, asked, asked_from}
+use Rattle.cred_many.specs.Service.{IsLine, Service, asked, asked_from, cut_line}
 use Rattle.cred_many.specs.Steps.{IsConcluded}
+use Rattle.cred_cli.proofs.Unended.{length-unended}
 use Rattle.cred_many.proofs.Serving.{answers-append}
 use Rattle.cred_many.proofs.Writes.{take-behind}
 
@@ -86,18 +88,13 @@ unfolding asked_from
 length-asked s n [] = refl
 length-asked s n (line ∷ lines) = let r = length-asked s (suc n) lines in omega (arith, r)
 
-within : {X : Type 0} (xs : List X) (i : ℕ) (x : X) → slice_get xs i ≡ Some x → i + 1 ≤ length xs
-within [] i x is = absurd cc
-within (y ∷ ys) zero x is = omega arith
-within (y ∷ ys) (suc i) x is = let r = within ys i x is in omega (arith, r)
-
 -- a line came behind one that didn't
 pub line_missing : (s : Service) (input : Option (List ℕ)) (e : Entry) (came : ℕ) → IfSome input (λ bytes. IsLine s bytes e) → came + 1 ≤ e.number
     → IfSome input (λ bytes. came ≢ length (lines_of bytes))
 line_missing s None e came h behind = tt
 line_missing s (Some bytes) e came h behind = λ all.
-    let many = within (asked s bytes) e.number e h in
-    let long = length-asked s 0 (lines_of bytes) in
+    let many = slice_get_within (asked s bytes) e.number e h in
+    let long = length-unended (λ e. cut_line e.number) bytes (asked_from s 0 (lines_of bytes)) ∙ length-asked s 0 (lines_of bytes) in
     absurd (omega (arith, all, many, long, behind))
 
 pub not_all : (input : Option (List ℕ)) (came lines : ℕ) → IfSome input (λ bytes. lines ≡ length (lines_of bytes)) → (came ≡ lines → ⊥) → IfSome input (λ bytes. came ≢ length (lines_of bytes))

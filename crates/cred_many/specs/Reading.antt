@@ -1,5 +1,5 @@
 -- Where the thread that reads is in its input. No public clause speaks of it.
-use Rattle.std.specs.Prelude.{◌≡◌, ℕ, List, [], ◌++◌, Option, Some, None, take, slice_get}
+use Rattle.std.specs.Prelude.{◌≡◌, ℕ, ◌<◌, List, [], ◌++◌, Option, Some, None, take, slice_get}
 use Rattle.cred_cli.specs.Events.{most_kept}
 use Rattle.cred_cli.specs.Feeding.{unfinished_from}
 use Rattle.cred_cli.specs.Script.{line_ends, lines_of}
@@ -36,7 +36,12 @@ MovesOver input old bytes new = (all rest : List ℕ) → input ≡ Some all
 -- the line of this number ends at this place; not all of it need be kept
 abbrev pub IsWholeLine : List ℕ → Place → Type 0
 IsWholeLine bytes at = (line : List ℕ) × (slice_get (lines_of bytes) at.number ≡ Some line)
-    × (at.start ≡ take most_kept line)
+    × (at.start ≡ take most_kept line) × (at.number < line_ends bytes)
+
+-- the line of this number is the last one, and has no end
+abbrev pub IsCutLine : List ℕ → ℕ → Type 0
+IsCutLine bytes number = (line : List ℕ) × (slice_get (lines_of bytes) number ≡ Some line)
+    × (number ≡ line_ends bytes)
 
 -- one or none
 abbrev pub how_many : {A : Type 0} → Option A → ℕ

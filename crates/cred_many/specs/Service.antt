@@ -1,13 +1,15 @@
 -- Which service it is.
-use Rattle.std.specs.Prelude.{◌≡◌, ℕ, zero, suc, List, [], ◌∷◌, Option, Some, None, slice_get}
+use Rattle.std.specs.Prelude.{◌≡◌, ℕ, zero, suc, List, [], ◌∷◌, Option, Some, None, slice_get, codes}
 use Rattle.std.specs.FinMap as map
 use Rattle.rand_core.specs.Stream.{Stream, fill_bytes}
 use Rattle.cred_phc.specs.declared.scheme.Scheme.{Scheme}
 use Rattle.cred_phc.specs.declared.scheme.Scheme.TheVariants.{Scrypt}
 use Rattle.cred_phc.specs.Values.{SettingValue, setting_of}
 use Rattle.cred_book.specs.Accounts.{Accounts}
-use Rattle.cred_cli.specs.Script.{lines_of}
-use Rattle.cred_many.specs.Asks.{Entry, entry_of}
+use Rattle.cred_cli.specs.declared.refusal.Refusal.TheVariants as refusal
+use Rattle.cred_cli.specs.Script.{lines_of, with_unended}
+use Rattle.cred_many.specs.declared.ask.Ask.TheVariants.{Bad}
+use Rattle.cred_many.specs.Asks.{Entry, entry, entry_of}
 use Rattle.cred_many.specs.declared.service.Means.{Means}
 
 -- the book at first, what the reader has to give, what was written before, with which costs and
@@ -47,9 +49,13 @@ asked_from s n [] = []
 asked_from s n (line ∷ lines) =
     entry_of n s.most (drawn_setting s n) line ∷ asked_from s (suc n) lines
 
+-- the last line, if it has no end: as more than that may be lost of it, it is refused under no tag
+abbrev pub cut_line : ℕ → Entry
+cut_line number = entry number (codes "*") (Bad refusal.Line)
+
 -- the lines of an input
 abbrev pub asked : Service → List ℕ → List Entry
-asked s bytes = asked_from s 0 (lines_of bytes)
+asked s bytes = with_unended (λ e. cut_line e.number) bytes (asked_from s 0 (lines_of bytes))
 
 -- it is the line of its number
 abbrev pub IsLine : Service → List ℕ → Entry → Type 0

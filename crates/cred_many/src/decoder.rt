@@ -1,6 +1,6 @@
 //! Lines as they come in.
 
-ghost use Rattle.std.specs.Prelude.{◌≡◌, [], ◌∷◌, ◌+◌, IfOk, IfSome, OnOk, OnErr, length};
+ghost use Rattle.std.specs.Prelude.{◌≡◌, [], ◌∷◌, ◌+◌, IfOk, IfSome, OnOk, length};
 ghost use Rattle.cred_cli.specs.Script.{line_ends, lines_of};
 ghost use Rattle.cred_many.specs.Reading.{MovesOver, IsWholeLine, NothingIsLeft, ComesNext, how_many, place};
 ghost use Rattle.cred_many.specs.Service.{salts_after};
@@ -71,22 +71,17 @@ impl<J: Naming, G: Rng> LineDecoder<J, G> {
         Ok(Some(line))
     }
 
-    /// Takes the end of the input, and gives the last line if it has no end of its own.
-    ///
-    /// Errors: `TooLong` after 2^64 - 1 lines.
-    pub(crate) fn finish(&mut self) -> Result<Option<Line<J>>, ServiceFault>
-        requires { NothingIsLeft J.service.input (place self.old.start self.old.number) }
-        ensures whole { OnOk result
-            (IfSome J.service.input (λ all. self.new.number ≡ length (lines_of all))) }
-        ensures next { IfOk result (λ came. IfSome came (λ line. line.number ≡ self.old.number)) }
-        ensures number { IfOk result
-            (λ came. self.new.number ≡ self.old.number + how_many came) }
+    /// The last line, if it has no end.
+    pub(crate) fn last(&self) -> Option<Line<J>>
+        requires { NothingIsLeft J.service.input (place self.now.start self.now.number) }
+        ensures next { IfSome result (λ line. line.number ≡ self.now.number) }
+        ensures whole { IfSome J.service.input
+            (λ all. self.now.number + how_many result ≡ length (lines_of all)) }
     {
         if self.start.bytes().is_empty() {
-            return Ok(None);
+            return None;
         }
-        let line = self.end_line()?;
-        Ok(Some(line))
+        Some(Line::cut(self.number))
     }
 
     /// The line that has come, after which the next begins.

@@ -4,7 +4,7 @@ ghost use Rattle.std.specs.Prelude.{◌≡◌, IfSome, codes, map, true};
 ghost use Rattle.std.specs.List.{list_all};
 ghost use Rattle.cred_phc.specs.Ranges.{is_current};
 ghost use Rattle.cred_many.specs.Asks.{IsSound, entry_of, is_tag_byte, tag_of, tagged, tagged_of};
-ghost use Rattle.cred_many.specs.Service.{IsLine};
+ghost use Rattle.cred_many.specs.Service.{IsLine, cut_line};
 
 use crate::ask::Ask;
 use crate::grammar::ask_of;
@@ -57,6 +57,19 @@ impl<J: Naming> Line<J> {
             number,
             tag,
             ask: ask.within(most),
+            of: PhantomData,
+        }
+    }
+
+    /// The last line of an input, if it has no end: more than that may be lost of it.
+    pub(crate) fn cut(number: u64) -> Line<J>
+        requires { IfSome J.service.input (λ bytes. IsLine J.service bytes (cut_line number)) }
+        ensures { result ≡ cut_line number }
+    {
+        Line {
+            number,
+            tag: star(),
+            ask: Ask::Bad(Refusal::Line),
             of: PhantomData,
         }
     }

@@ -91,20 +91,16 @@ fn read_lines<J: Naming, T: Wait, S: Source, G: Rng>(
     unreachable!()
 }
 
-/// Hands out the last line, if it has no end, at the end of the input.
+/// Hands out the last line, if it has no end.
 fn read_last<J: Naming, T: Wait, G: Rng>(
     rt: &T,
-    decoder: &mut LineDecoder<J, G>,
+    decoder: &LineDecoder<J, G>,
     sender: &mut LineSender<J>,
 ) -> Ending<J>
-    requires end { NothingIsLeft J.service.input (place decoder.old.start decoder.old.number) }
-    requires number { decoder.old.number ≡ sender.old.handed }
+    requires end { NothingIsLeft J.service.input (place decoder.now.start decoder.now.number) }
+    requires number { decoder.now.number ≡ sender.old.handed }
 {
-    let last = match decoder.finish() {
-        Ok(last) => last,
-        Err(fault) => return Ending::cut(fault),
-    };
-    if let Some(line) = last {
+    if let Some(line) = decoder.last() {
         if let Err(fault) = sender.hand_out(rt, line) {
             return Ending::cut(fault);
         }

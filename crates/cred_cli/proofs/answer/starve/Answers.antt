@@ -18,7 +18,7 @@ returns g c = λ slots some closed.
     let copied : c.in-Ok.now ≡ c.args.ticket.1 = c.is_equal.ensures.0 c.if-not-is_equal.false ∙ c.copy.ensures in
     inr (
       record {
-        answered = rw c.if-not-is_answered.false at c.is_answered.ensures;
+        answered = rw c.if-not-is_service.false at c.is_service.ensures;
         key = c.args.key;
         commits = refl;
         task = c.args.ticket;

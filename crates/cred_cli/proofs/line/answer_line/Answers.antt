@@ -1,6 +1,5 @@
-use Rattle.std.proofs.Common.{sym, ◌∙◌, ap, Some, inl, refl}
+use Rattle.std.proofs.Common.{inl, refl}
 use Rattle.std.proofs.lemmas.Result.{err_from_is_err_and}
-use Rattle.cred_cli.specs.Costs.{within}
 use Rattle.cred_cli.specs.Watched.{Contract}
 use Rattle.cred_cli.proofs.Starvings.{line_taken}
 use Rattle.cred_cli.proofs.Basis.{write_cause}
@@ -14,7 +13,7 @@ returns-in_err-answer-clause-answered g c = λ basis book events i before stands
 
 pub returns-clause-answered : goal.returns-clause-answered
 returns-clause-answered g c = λ basis book events i before stands held here.
-    line_taken _ book events i c.within-event.result c.within-event.ensures.sound (here ∙ ap Some (sym (c.within-event.ensures.event ∙ ap (within c.args.engine.now.policy.most) c.of_line.ensures.event))) before _ _ _ stands _ held _ _ _ c.in_ok-answer.answer _ c.write_to.result c.in_ok-answer.ensures.done (c.write_to.ensures.done basis) (c.write_to.ensures.fails basis)
+    line_taken _ book events i c.args.event c.requires here before _ _ _ stands _ held _ _ _ c.in_ok-answer.answer _ c.write_to.result c.in_ok-answer.ensures.done (c.write_to.ensures.done basis) (c.write_to.ensures.fails basis)
 
 pub returns-clause-cause : goal.returns-clause-cause
 returns-clause-cause g c = write_cause _ _ _ _ c.write_to.result (c.write_to.ensures.fails Contract)

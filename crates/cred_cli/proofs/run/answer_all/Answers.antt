@@ -1,6 +1,6 @@
 use Rattle.std.proofs.lemmas.Result.{err_from_is_err_and}
-use Rattle.cred_cli.specs.Costs.{events_within}
 use Rattle.cred_cli.specs.Script.{start_as}
+use Rattle.cred_cli.specs.Starving.{events_by}
 use Rattle.cred_cli.proofs.Programs.{unbegun}
 use Rattle.cred_cli.proofs.Readings.{if_known, opening}
 use Rattle.cred_cli.proofs.Basis.{none_logged}
@@ -14,8 +14,8 @@ returns-in_err-tickets-clause-ended g c =
 
 pub returns-clause-ended : goal.returns-clause-ended
 returns-clause-ended g c = λ basis fits. rw (← c.new-progress.ensures.limit)
-    (if_known _ _ (λ all known. c.read_all.ensures.ended basis fits (start_as _ all _ (events_within c.args.engine.now.policy.most all)) known (opening _ _ _ all _ _ _ c.in_ok-tickets.ensures c.new-progress.ensures.start c.new-progress.ensures.lines c.new-progress.ensures.taken)))
+    (if_known _ _ (λ all known. c.read_all.ensures.ended basis fits (start_as _ all _ (events_by c.args.engine.now.policy.mode c.args.engine.now.policy.most all)) known (opening _ _ _ all _ _ _ c.in_ok-tickets.ensures c.new-progress.ensures.start c.new-progress.ensures.lines c.new-progress.ensures.taken)))
 
 pub returns-clause-few : goal.returns-clause-few
 returns-clause-few g c = λ basis fits.
-    if_known _ _ (λ all known. c.read_all.ensures.few basis fits (start_as _ all _ (events_within c.args.engine.now.policy.most all)) known (opening _ _ _ all _ _ _ c.in_ok-tickets.ensures c.new-progress.ensures.start c.new-progress.ensures.lines c.new-progress.ensures.taken))
+    if_known _ _ (λ all known. c.read_all.ensures.few basis fits (start_as _ all _ (events_by c.args.engine.now.policy.mode c.args.engine.now.policy.most all)) known (opening _ _ _ all _ _ _ c.in_ok-tickets.ensures c.new-progress.ensures.start c.new-progress.ensures.lines c.new-progress.ensures.taken))

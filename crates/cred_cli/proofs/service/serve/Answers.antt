@@ -1,8 +1,8 @@
 use Rattle.std.proofs.Common.{◌+◌, ◌≤◌, ◌++◌, List, [], length, refl, sym, append-nil}
 use Rattle.cred_cli.specs.Outcome.{longest_service}
-use Rattle.cred_cli.specs.Costs.{events_within}
 use Rattle.cred_cli.specs.Script.{start_as}
-use Rattle.cred_cli.specs.Starving.{EndsAs, IsServed}
+use Rattle.cred_cli.specs.Starving.{EndsAs, IsServed, events_by}
+use Rattle.cred_cli.specs.declared.mode.Mode.TheVariants.{Service}
 use Rattle.cred_cli.specs.declared.event.Event.{Event}
 use Rattle.cred_cli.specs.Watched.{Contract, Transcript, given_of, transcript_writing}
 use Rattle.cred_cli.proofs.Basis.{alone, as_passed}
@@ -21,7 +21,7 @@ returns-clause-transcript g c = λ rest may.
     let reader = c.answer_all.new.reader in
     let writing = transcript_writing c.args.writer.now c.answer_all.new.writer in
     as_passed g.R.Read.remaining c.args.reader.now reader rest _ c.requires.new_reader.given refl
-    (λ r bytes. (events : List Event) × IsServed g.K.Keeper.capacity (g.K.Keeper.book c.args.keeper.now) (events_within c.args.most bytes) events
+    (λ r bytes. (events : List Event) × IsServed g.K.Keeper.capacity (g.K.Keeper.book c.args.keeper.now) (events_by Service c.args.most bytes) events
     × EndsAs longest_service g.K.Keeper.capacity (start_as (g.K.Keeper.book c.args.keeper.now) bytes writing.before events) r writing (g.K.Keeper.book c.answer_all.new.keeper) c.answer_all.result)
     (rw c.service.ensures at (c.answer_all.ensures.ended (Transcript (given_of reader ++ rest)) (rest, refl, may)))
 

@@ -2,9 +2,9 @@ use Rattle.std.proofs.Common.{◌≡◌, ◌≤◌, ◌<◌, arith, append_assoc
 use Rattle.std.proofs.lemmas.List.{length-append}
 use Rattle.std.proofs.lemmas.Option.{slice_get_within}
 use Rattle.std.proofs.lemmas.Result.{err_from_is_err_and}
-use Rattle.cred_cli.specs.Events.{event_of, most_kept}
-use Rattle.cred_cli.specs.Costs.{events_within, within}
+use Rattle.cred_cli.specs.Events.{most_kept}
 use Rattle.cred_cli.specs.Script.{with_events}
+use Rattle.cred_cli.specs.Starving.{events_by}
 use Rattle.cred_cli.proofs.Feeds.{ended_event, take-kept, take_front}
 use Rattle.cred_cli.proofs.Lines.{line_ends-end, line_ends-more, unfinished_from-end, unfinished_from-more}
 use Rattle.cred_cli.proofs.Runs.{fails_at}
@@ -52,10 +52,10 @@ returns-clause-fed g c = λ basis script front rest at_seam at.
     let cut = at_seam ∙ append_assoc front (c.args.byte ∷ []) rest in
     let here = rw c.if-byte-ne10.false at cut in
     let lines = c.args.self.now.progress.lines in
-    let most = c.args.engine.now.policy.most in
-    let event : slice_get script.events lines ≡ Some (within most (event_of c.bytes.result.now)) = at.behind lines (omega arith) ∙ rw (c.bytes.ensures, at.lines_are, at.start_is) (ended_event most script.bytes front rest here) in
+    let policy = c.args.engine.now.policy in
+    let event : slice_get script.events lines ≡ Some c.event_of-event.result = at.behind lines (omega arith) ∙ rw (c.event_of-event.ensures.event, c.bytes.ensures, at.lines_are, at.start_is) (ended_event policy.mode policy.most script.bytes front rest here) in
     let done = c.in_ok-answer_line.ensures.answered basis script.book script.events lines script.before at.stands at.tickets event in
-    let grown = grows _ _ script.book (events_within most script.bytes) script.events done.0 lines at.history at.behind done.1.becomes in (
+    let grown = grows _ _ script.book (events_by policy.mode policy.most script.bytes) script.events done.0 lines at.history at.behind done.1.becomes in (
       done.0,
       record {
         goes_on = record { same = λ j before. grown.same j (omega (arith, before, at.lines_are)); history = grown.history };
@@ -77,13 +77,13 @@ returns-in_err-answer_line-clause-fed g c = λ basis script front rest at_seam a
     let cut = at_seam ∙ append_assoc front (c.args.byte ∷ []) rest in
     let here = rw c.if-byte-ne10.false at cut in
     let lines = c.args.self.now.progress.lines in
-    let most = c.args.engine.now.policy.most in
-    let event : slice_get script.events lines ≡ Some (within most (event_of c.bytes.result.now)) = at.behind lines (omega arith) ∙ rw (c.bytes.ensures, at.lines_are, at.start_is) (ended_event most script.bytes front rest here) in
+    let policy = c.args.engine.now.policy in
+    let event : slice_get script.events lines ≡ Some c.event_of-event.result = at.behind lines (omega arith) ∙ rw (c.event_of-event.ensures.event, c.bytes.ensures, at.lines_are, at.start_is) (ended_event policy.mode policy.most script.bytes front rest here) in
     let done = c.in_err-answer_line.ensures.answered basis script.book script.events lines script.before at.stands at.tickets event in
-    let grown = grows _ _ script.book (events_within most script.bytes) script.events done.0 lines at.history at.behind done.1.becomes in
-    let old_size : length script.events ≡ length (events_within most script.bytes) = history-size _ _ _ _ _ at.history in
-    let size : length done.0 ≡ length (events_within most script.bytes) = history-size _ _ _ _ _ grown.history in
-    let there : lines < length script.events = slice_get_within script.events lines (within most (event_of c.bytes.result.now)) event in
+    let grown = grows _ _ script.book (events_by policy.mode policy.most script.bytes) script.events done.0 lines at.history at.behind done.1.becomes in
+    let old_size : length script.events ≡ length (events_by policy.mode policy.most script.bytes) = history-size _ _ _ _ _ at.history in
+    let size : length done.0 ≡ length (events_by policy.mode policy.most script.bytes) = history-size _ _ _ _ _ grown.history in
+    let there : lines < length script.events = slice_get_within script.events lines c.event_of-event.result event in
     let within : lines < length done.0 = omega (arith, there, old_size, size) in
     let told = err_from_is_err_and c.from_residual.result c.from_residual.ensures.1 in (
       done.0,

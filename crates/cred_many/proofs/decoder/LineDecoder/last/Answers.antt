@@ -1,20 +1,20 @@
 use Rattle.std.proofs.Common.{◌≡◌, ◌<◌, arith, length}
 use Rattle.std.proofs.lemmas.Bool.Decides.{nat_tests}
 use Rattle.cred_many.specs.Reading.{place}
-use Rattle.cred_many.proofs.Lines.{count_ended, count_with_last, last_came}
-use Rattle.cred_many.proofs.decoder.LineDecoder.finish.Goals as goal
+use Rattle.cred_many.proofs.Lines.{count_ended, count_with_last, cut_came, last_came}
+use Rattle.cred_many.proofs.decoder.LineDecoder.last.Goals as goal
 
 pub returns-then-is_empty-clause-whole : goal.returns-then-is_empty-clause-whole
 returns-then-is_empty-clause-whole g c =
     let none : length c.bytes.result.now ≡ 0 = grind (arith, nat_tests) in
     count_ended g.J.Naming.service.input (place c.args.self.now.start c.args.self.now.number) c.requires (rw c.bytes.ensures at none)
 
-pub end_line-requires : goal.end_line-requires
-end_line-requires g c =
+pub cut-requires : goal.cut-requires
+cut-requires g c =
     let some : 0 < length c.bytes.result.now = grind (arith, nat_tests) in
-    last_came g.J.Naming.service.input (place c.args.self.now.start c.args.self.now.number) c.requires (rw c.bytes.ensures at some)
+    cut_came g.J.Naming.service _ _ (last_came g.J.Naming.service.input (place c.args.self.now.start c.args.self.now.number) c.requires (rw c.bytes.ensures at some))
 
 pub returns-clause-whole : goal.returns-clause-whole
 returns-clause-whole g c =
     let some : 0 < length c.bytes.result.now = grind (arith, nat_tests) in
-    count_with_last g.J.Naming.service.input (place c.args.self.now.start c.args.self.now.number) c.requires (rw c.bytes.ensures at some) _ c.in_ok-line.ensures.number
+    count_with_last g.J.Naming.service.input (place c.args.self.now.start c.args.self.now.number) c.requires (rw c.bytes.ensures at some)

@@ -1,0 +1,58 @@
+-- Lines of which the last one may have no end.
+use Rattle.std.proofs.Common.{◌≡◌, ℕ, zero, suc, ◌<◌, ◌≤◌, List, [], ◌∷◌, ◌++◌, length, take, drop, map, option_map, refl, ap, arith, slice_get}
+use Rattle.std.proofs.lemmas.Bool.Decides.{eqb_tells}
+use Rattle.std.proofs.lemmas.List.{length-map}
+use Rattle.std.proofs.lemmas.Option.{slice_get-map}
+use Rattle.cred_cli.specs.Script.{line_ends, with_unended}
+
+-- a line that ends later isn't counted yet
+pub ends_sooner : (front rest : List ℕ) → line_ends front < line_ends (front ++ 10 ∷ rest)
+ends_sooner [] rest = omega arith
+ends_sooner (c ∷ cs) rest = elim (eqb_tells c 10) [
+  | inl w ↦ rw w.0 (let r = ends_sooner cs rest in omega (arith, r))
+  | inr w ↦ rw w.0 (ends_sooner cs rest)
+]
+
+module _ {A : Type 0} (f : A → A) where
+  first_stay : (n : ℕ) (xs : List A) (i : ℕ) → i < n → slice_get (take n xs ++ map f (drop n xs)) i ≡ slice_get xs i
+  first_stay zero xs i less = absurd (omega (arith, less))
+  first_stay (suc n) [] i less = refl
+  first_stay (suc n) (x ∷ xs) zero less = refl
+  first_stay (suc n) (x ∷ xs) (suc i) less = first_stay n xs i (omega (arith, less))
+
+  others_change : (n : ℕ) (xs : List A) (i : ℕ) → n ≤ i → slice_get (take n xs ++ map f (drop n xs)) i ≡ option_map f (slice_get xs i)
+  others_change zero xs i le = slice_get-map f xs i
+  others_change (suc n) [] i le = refl
+  others_change (suc n) (x ∷ xs) zero le = absurd (omega (arith, le))
+  others_change (suc n) (x ∷ xs) (suc i) le = others_change n xs i (omega (arith, le))
+
+  as_many : (n : ℕ) (xs : List A) → length (take n xs ++ map f (drop n xs)) ≡ length xs
+  as_many zero xs = length-map xs f
+  as_many (suc n) [] = refl
+  as_many (suc n) (x ∷ xs) = ap suc (as_many n xs)
+
+  all_stay : ((x : A) → f x ≡ x) → (n : ℕ) (xs : List A) → take n xs ++ map f (drop n xs) ≡ xs
+  all_stay same zero [] = refl
+  all_stay same zero (x ∷ xs) = rw (same x) (ap (λ ys. x ∷ ys) (all_stay same zero xs))
+  all_stay same (suc n) [] = refl
+  all_stay same (suc n) (x ∷ xs) = ap (λ ys. x ∷ ys) (all_stay same n xs)
+
+  module _ (bytes : List ℕ) (xs : List A) where
+    pub length-unended : length (with_unended f bytes xs) ≡ length xs
+    unfolding with_unended
+    length-unended = as_many (line_ends bytes) xs
+
+    -- the lines with their ends
+    pub unended_at : (i : ℕ) → i < line_ends bytes → slice_get (with_unended f bytes xs) i ≡ slice_get xs i
+    unfolding with_unended
+    unended_at i within = first_stay (line_ends bytes) xs i within
+
+    -- and the one without
+    pub unended_last : (i : ℕ) → i ≡ line_ends bytes → slice_get (with_unended f bytes xs) i ≡ option_map f (slice_get xs i)
+    unfolding with_unended
+    unended_last i last = others_change (line_ends bytes) xs i (omega (arith, last))
+
+    -- which may come to the same
+    pub unended_same : ((x : A) → f x ≡ x) → with_unended f bytes xs ≡ xs
+    unfolding with_unended
+    unended_same same = all_stay same (line_ends bytes) xs
