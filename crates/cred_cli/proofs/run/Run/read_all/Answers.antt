@@ -1,5 +1,6 @@
 use Rattle.std.proofs.Common.{rules, ◌≡◌, arith, sym, refl, ap, ◌∙◌, append-nil, [], ◌≤◌, ◌<◌, ◌+◌, ◌-◌, ◌^◌, length, length-take-le, take}
 use Rattle.std.proofs.Math.Nat.{min-eq_left}
+use Rattle.std.proofs.lemmas.List.{length-append}
 use Rattle.std.proofs.lemmas.Result.{err_from_is_err_and}
 use Rattle.cred_cli.specs.Script.{line_ends, with_events}
 use Rattle.cred_cli.specs.Starving.{IsSameBefore}
@@ -83,6 +84,15 @@ returns-in_err-take_bytes-in-Ok-clause-ended g c = λ basis fits script known at
         prompt = prompt_call _ read found logged done.0 done.1.goes_on.same;
       },
     )
+
+pub returns-in_err-take_bytes-in-Ok-clause-few : goal.returns-in_err-take_bytes-in-Ok-clause-few
+returns-in_err-take_bytes-in-Ok-clause-few g c = λ basis fits script known at.
+    let before = fits_before g.R.Read.remaining c.loop-call.reader c.read_beside.new.self basis _ c.in-Ok.ensures.passed c.loop-call.invariant.ended fits in
+    let read = c.loop-call.invariant.at basis before script known at in
+    let small : c.loop-call.reader.calls + 1 ≤ 2 ^ 64 - 1 = omega (arith, c.loop-call.invariant.calls) in
+    let calls = c.read_beside.ensures.calls ∙ min-eq_left small in
+    let size = ap length read.cut ∙ length-append read.front read.rest in
+    omega (arith, calls, size, c.loop-call.invariant.calls, c.loop-call.invariant.taken, read.at.taken_is)
 
 -- the reader failed
 pub returns-in-Err-clause-ended : goal.returns-in-Err-clause-ended
