@@ -6,7 +6,7 @@ import signal
 import time
 from typing import Any
 
-from tests.credkeep.books import CHEAP, DONE, SALT, TAG, BookTest, fails
+from tests.credkeep.books import CHEAP, DONE, OTHER, RECORD, SALT, TAG, BookTest, fails
 from tests.helpers import Ended
 
 # More than a script may have.
@@ -69,10 +69,10 @@ class LinesTest(BookTest):
         self.assertEqual(self.book.names(), ["ann"])
 
     def test_ends_of_input(self) -> None:
-        """The end of the input ends it in order; a last line needs no line end."""
+        """The end of the input ends it in order, whatever stands in the last line."""
         for given, answers in (
             ("", ""),
-            ("account ann\naccount bob", "ok\nok\n"),
+            ("account ann\naccount bob", "ok\nbad 11 line\n"),
             ("\nfrob\nshow zoe\n", "bad 11 line\nbad 11 line\nbad 5 noaccount\n"),
         ):
             self.assertEqual(self.book("serve", given=given), Ended(0, answers))
@@ -80,7 +80,21 @@ class LinesTest(BookTest):
             self.assertEqual(service.ask("account cat"), "ok")
             self.assertEqual(service.end(), DONE)
         self.assertLogIsEmpty(self.book)
-        self.assertEqual(self.book.names(), ["ann", "bob", "cat"])
+        self.assertEqual(self.book.names(), ["ann", "cat"])
+
+    def test_cut_lines(self) -> None:
+        """A last line without its end is refused, wherever it is cut, and nothing is done for it;
+        a script does it."""
+        standing = f"account ann\nload ann {RECORD}\n"
+        cut = f"load ann {OTHER}"
+        for size in range(1, len(cut) + 1):
+            self.begun()
+            done = self.book("serve", given=standing + cut[:size])
+            self.assertEqual((size, done), (size, Ended(0, "ok\nok\nbad 11 line\n")))
+            self.assertEqual(self.book.accounts(), {"ann": RECORD})
+        self.assertEqual(self.book("serve", given="x" * 5000), Ended(0, "bad 11 line\n"))
+        self.assertEqual(self.book("run", given=cut), Ended(0, "ok\n"))
+        self.assertEqual(self.book.accounts(), {"ann": OTHER})
 
     def test_answers_at_each_line(self) -> None:
         """Each answer comes before the next line is given, a stop of the process between, and its

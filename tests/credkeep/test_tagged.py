@@ -76,7 +76,7 @@ class LinesTest(BookTest):
         """A line without a tag, and one that is too long, are refused without one."""
         found = self.book.answers(*(line for line, _ in TAGS))
         self.assertEqual([*zip((line for line, _ in TAGS), found)], TAGS)
-        given = b"\x00\xff\n" * 3 + b"x" * 5_000_000 + b"\nt show ann"
+        given = b"\x00\xff\n" * 3 + b"x" * 5_000_000 + b"\nt show ann\n"
         with self.book.tagged() as service:
             written, faults = service.process.communicate(given, timeout=60)
         answers = b"* bad 11 line\n" * 3 + b"* bad 16 long\nt bad 5 noaccount\n"
@@ -119,18 +119,21 @@ class LinesTest(BookTest):
         self.assertEqual({len(base64.b64decode(f"{salt}==")) for salt in salts}, {16})
 
     def test_readers_end_anywhere(self) -> None:
-        """An input that ends at each byte: each whole line, and the cut one, are answered once."""
-        self.book.answers("a account ann", "a enrol ann -")
-        text = "b verify ann -\nc show bob\n"
-        for cut in range(len(text) + 1):
+        """An input that ends at each byte: each whole line is answered once; one that is cut is
+        refused without a tag, which may be cut too, and nothing is done for it."""
+        self.book.answers("a account ann", "a enrol ann -", "a account bo")
+        accounts, answers = self.book.accounts(), ["b yes", "c1 none"]
+        text = "b verify ann -\nc1 show bo\nd delete bob\n"
+        for cut in range(len(text)):
             with self.book.tagged("--at-once", "2") as service:
                 done = service.end(text[:cut])
-            lines = text[:cut].splitlines()
-            self.assertEqual((cut, len(done.written.splitlines())), (cut, len(lines)))
+            whole, _, rest = text[:cut].rpartition("\n")
+            wanted = answers[: len(whole.splitlines())] + ["* bad 11 line"] * bool(rest)
+            self.assertEqual((cut, sorted(done.written.splitlines())), (cut, sorted(wanted)))
             self.assertEqual(done._replace(written=""), DONE)
-            if cut == len(text):
-                answers = sorted(done.written.splitlines())
-                self.assertEqual(answers, ["b yes", "c bad 5 noaccount"])
+            self.assertEqual(self.book.accounts(), accounts)
+        with self.book.tagged() as service:
+            self.assertEqual(service.end("x" * 5000), (0, "* bad 11 line\n", ""))
 
     def test_slow_reader(self) -> None:
         """A client that doesn't read its answers holds the service back, and gets them all in the
