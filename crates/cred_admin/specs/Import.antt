@@ -15,6 +15,7 @@ use Rattle.cred_book.specs.Errors.{error_number as refusal_number, error_word as
 use Rattle.cred_book.specs.declared.error.BookError.{BookError}
 use Rattle.cred_book.specs.declared.error.BookError.TheVariants as error
 use Rattle.cred_cli.specs.Costs.{exceeds}
+use Rattle.cred_cli.specs.declared.costs.CostBounds.{CostBounds}
 use Rattle.cred_admin.specs.declared.entry.LineFault.{LineFault}
 use Rattle.cred_admin.specs.declared.entry.LineFault.TheVariants.{Line, Text, Book, Costly}
 use Rattle.cred_admin.specs.declared.entry.LineFault.TheVariants.{Locked as IsLocked}
@@ -168,10 +169,10 @@ abbrev pub with_locked : Rules → Accounts → Tally → ℕ → List ℕ → L
 with_locked rules book t n name locked.Refused = with_bad t n IsLocked
 with_locked rules book t n name locked.Disabled = with_entry rules.existing book t n (name, None)
 
--- a record asks for more memory than the bound, if there is one
-abbrev pub is_costly : Option ℕ → Option RecordValue → Bool
-is_costly (Some most) (Some stored) = exceeds most stored.setting.scheme
-is_costly _ _ = false
+-- a record asks for more memory or work than is allowed
+abbrev pub is_costly : CostBounds → Option RecordValue → Bool
+is_costly most (Some stored) = exceeds most stored.setting.scheme
+is_costly most None = false
 
 abbrev pub with_said : Rules → Accounts → Tally → ℕ → Said → Tally
 with_said rules book t n Nothing = t

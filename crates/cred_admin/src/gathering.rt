@@ -12,7 +12,7 @@ ghost use Rattle.cred_admin.specs.Seen.{FitsSince};
 
 use crate::entry::{LineFault, Said, said_of};
 use cred_book::{BookError, Name, Register};
-use cred_cli::{Watched, exceeds};
+use cred_cli::{CostBounds, Watched, exceeds};
 use cred_phc::{Pieces, Record};
 use std::alloc::Global;
 use std::io::Read;
@@ -45,18 +45,17 @@ pub enum LockedRecords {
 pub struct Rules {
     pub existing: Existing,
     pub locked: LockedRecords,
-    /// How many KiB a record may ask for, if there is a bound; a line whose record asks for more is
-    /// at fault.
-    pub most: Option<u64>,
+    /// What a record may ask for; a line whose record asks for more is at fault.
+    pub most: CostBounds,
 }
 
 impl Rules {
     fn is_costly(&self, stored: &Option<Record>) -> bool
         ensures { result ≡ is_costly self.now.most stored.now }
     {
-        match (self.most, stored) {
-            (Some(most), Some(stored)) => exceeds(most, &stored.setting()),
-            _ => false,
+        match stored {
+            Some(stored) => exceeds(&self.most, &stored.setting()),
+            None => false,
         }
     }
 }

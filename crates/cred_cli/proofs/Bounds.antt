@@ -1,13 +1,15 @@
--- Events within a bound.
-use Rattle.std.proofs.Common.{◌≡◌, ℕ, suc, List, [], ◌∷◌, ◌++◌, length, map, Option, Some, None, Bool, true, false, if◌then◌else◌, option_map, refl, ap, ◌∙◌, slice_get, codes}
+-- Events within bounds.
+use Rattle.std.proofs.Common.{◌≡◌, ℕ, suc, List, [], ◌∷◌, ◌++◌, length, map, Some, Bool, true, false, if◌then◌else◌, option_map, refl, ap, ◌∙◌, slice_get, codes}
 use Rattle.std.specs.Fmt.{digits}
 use Rattle.std.proofs.lemmas.List.{length-map}
 use Rattle.std.proofs.lemmas.Option.{slice_get-map}
 use Rattle.cred_book.specs.Accounts.{Accounts}
+use Rattle.cred_book.specs.declared.request.Request.TheVariants.{Enrol, Verify, Change, Upgrade, Remove}
+use Rattle.cred_cli.specs.declared.costs.CostBounds.{CostBounds}
 use Rattle.cred_cli.specs.declared.event.Event.{Event}
-use Rattle.cred_cli.specs.declared.event.Event.TheVariants.{Bad}
+use Rattle.cred_cli.specs.declared.event.Event.TheVariants.{Account, Load, Show, Begin, Commit, Bad}
 use Rattle.cred_cli.specs.declared.refusal.Refusal.TheVariants.{Costly}
-use Rattle.cred_cli.specs.Costs.{events_within, is_costly, within}
+use Rattle.cred_cli.specs.Costs.{events_within, is_costly, no_bounds, within}
 use Rattle.cred_cli.specs.History.{after, answer_at, answer_of, book_at, deed_of, deeds_before, names_at, open_after, open_at}
 use Rattle.cred_cli.specs.Script.{events_of}
 use Rattle.cred_cli.specs.Starving.{events_by, unended}
@@ -17,36 +19,49 @@ use Rattle.cred_cli.proofs.Names.{book_at-suc}
 use Rattle.cred_cli.proofs.Openings.{open_at-suc}
 use Rattle.cred_cli.proofs.Unended.{unended_same}
 
-map_unbounded : (events : List Event) → map (within None) events ≡ events
+-- nothing is too costly without bounds
+cheap : (event : Event) → is_costly no_bounds event ≡ false
+cheap (Account name) = refl
+cheap (Load name stored) = refl
+cheap (Show name) = refl
+cheap (Begin key (Enrol name pw setting)) = refl
+cheap (Begin key (Verify name pw)) = refl
+cheap (Begin key (Change name pw new setting)) = refl
+cheap (Begin key (Upgrade name pw setting)) = refl
+cheap (Begin key (Remove name pw)) = refl
+cheap (Commit key) = refl
+cheap (Bad why) = refl
+
+map_unbounded : (events : List Event) → map (within no_bounds) events ≡ events
 map_unbounded [] = refl
-map_unbounded (e ∷ es) = ap (λ rest. e ∷ rest) (map_unbounded es)
+map_unbounded (e ∷ es) = rw (cheap e) (ap (λ rest. e ∷ rest) (map_unbounded es))
 
 all_done : (event : Event) → unended Script event ≡ event
 all_done event = refl
 
--- without a bound each line of a script comes to what it asks for
-pub unbounded : (bytes : List ℕ) → events_by Script None bytes ≡ events_of bytes
-unbounded bytes = unended_same (unended Script) bytes (events_within None bytes) all_done ∙ map_unbounded (events_of bytes)
+-- without bounds each line of a script comes to what it asks for
+pub unbounded : (bytes : List ℕ) → events_by Script no_bounds bytes ≡ events_of bytes
+unbounded bytes = unended_same (unended Script) bytes (events_within no_bounds bytes) all_done ∙ map_unbounded (events_of bytes)
 
 -- there are as many
-pub length-within : (most : Option ℕ) (bytes : List ℕ) → length (events_within most bytes) ≡ length (events_of bytes)
+pub length-within : (most : CostBounds) (bytes : List ℕ) → length (events_within most bytes) ≡ length (events_of bytes)
 length-within most bytes = length-map (events_of bytes) (within most)
 
--- and the one at a place is within the bound
-pub within_at : (most : Option ℕ) (bytes : List ℕ) (i : ℕ) (event : Event) → slice_get (events_of bytes) i ≡ Some event → slice_get (events_within most bytes) i ≡ Some (within most event)
+-- and the one at a place is within the bounds
+pub within_at : (most : CostBounds) (bytes : List ℕ) (i : ℕ) (event : Event) → slice_get (events_of bytes) i ≡ Some event → slice_get (events_within most bytes) i ≡ Some (within most event)
 within_at most bytes i event here = slice_get-map (within most) (events_of bytes) i ∙ ap (option_map (within most)) here
 
--- ---- what is within a bound
+-- ---- what is within bounds
 
 -- brings nothing that asks for more
-pub brings_no_more : (most : ℕ) (event : Event) → is_costly most (within (Some most) event) ≡ false
+pub brings_no_more : (most : CostBounds) (event : Event) → is_costly most (within most event) ≡ false
 brings_no_more most event = by_test (is_costly most event) refl
   where
     by_test : (test : Bool) → is_costly most event ≡ test → is_costly most (if test then Bad Costly else event) ≡ false
     by_test true costly = refl
     by_test false cheap = cheap
 
-pub costly_refused : (most : ℕ) (event : Event) → is_costly most event ≡ true → within (Some most) event ≡ Bad Costly
+pub costly_refused : (most : CostBounds) (event : Event) → is_costly most event ≡ true → within most event ≡ Bad Costly
 costly_refused most event costly = ap (λ test. if test then Bad Costly else event) costly
 
 -- a line that is refused as too costly changes nothing

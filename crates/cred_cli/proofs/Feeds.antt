@@ -1,5 +1,5 @@
 -- What a byte more, or the end, makes of a script.
-use Rattle.std.proofs.Common.{◌≡◌, ℕ, suc, ◌+◌, ◌<◌, List, [], ◌∷◌, ◌++◌, length, take, map, option_map, Option, Some, refl, sym, ap, ◌∙◌, arith, slice_get, get_or, drop, append_assoc, take-append-drop, inl, inr}
+use Rattle.std.proofs.Common.{◌≡◌, ℕ, suc, ◌+◌, ◌<◌, List, [], ◌∷◌, ◌++◌, length, take, map, option_map, Some, refl, sym, ap, ◌∙◌, arith, slice_get, get_or, drop, append_assoc, take-append-drop, inl, inr}
 use Rattle.std.proofs.lemmas.Bool.{cases_lt}
 use Rattle.std.proofs.lemmas.List.{length-append, length-map, length-take, take-append-le, take_all, take_more}
 use Rattle.std.proofs.Math.Seq.{drop-cons}
@@ -8,6 +8,7 @@ use Rattle.cred_cli.specs.Feeding.{unfinished_from}
 use Rattle.cred_cli.specs.Costs.{events_within, within}
 use Rattle.cred_cli.specs.Script.{lines_of, line_ends}
 use Rattle.cred_cli.specs.Starving.{events_by, unended}
+use Rattle.cred_cli.specs.declared.costs.CostBounds.{CostBounds}
 use Rattle.cred_cli.specs.declared.mode.Mode.{Mode}
 use Rattle.cred_cli.proofs.Bounds.{length-within, within_at}
 use Rattle.cred_cli.proofs.Unended.{ends_sooner, length-unended, unended_at, unended_last}
@@ -18,7 +19,7 @@ get_seam [] line more = refl
 get_seam (l ∷ ls) line more = get_seam ls line more
 
 -- the line at place i, of which not all need be kept
-event_at : (most : Option ℕ) (all whole : List ℕ) (line : List ℕ) (more : List (List ℕ)) → lines_of all ≡ whole_from [] whole ++ line ∷ more →
+event_at : (most : CostBounds) (all whole : List ℕ) (line : List ℕ) (more : List (List ℕ)) → lines_of all ≡ whole_from [] whole ++ line ∷ more →
     slice_get (events_within most all) (line_ends whole) ≡ Some (within most (event_of (take most_kept line)))
 event_at most all whole line more cut = within_at most all (line_ends whole) (event_of (take most_kept line)) (
     ap (λ lines. slice_get (map event_of lines) (line_ends whole)) cut
@@ -28,7 +29,7 @@ event_at most all whole line more cut = within_at most all (line_ends whole) (ev
     )
 
 -- the line that ends behind the front
-pub ended_event : (mode : Mode) (most : Option ℕ) (all front rest : List ℕ) → all ≡ front ++ 10 ∷ rest → slice_get (events_by mode most all) (line_ends front) ≡ Some (within most (event_of (take most_kept (unfinished_from [] front))))
+pub ended_event : (mode : Mode) (most : CostBounds) (all front rest : List ℕ) → all ≡ front ++ 10 ∷ rest → slice_get (events_by mode most all) (line_ends front) ≡ Some (within most (event_of (take most_kept (unfinished_from [] front))))
 ended_event mode most all front rest cut =
     let later : line_ends front < line_ends all = rw cut (ends_sooner front rest) in
     unended_at (unended mode) all (events_within most all) (line_ends front) later
@@ -43,11 +44,11 @@ pub some_kept : (start line : List ℕ) → start ≡ take most_kept line → 0 
 some_kept start line kept some = omega (arith, some, ap length kept, length-take most_kept line)
 
 -- the line that the script leaves unfinished is its last
-pub record HasLast (mode : Mode) (most : Option ℕ) (all : List ℕ) : Type 0 where
+pub record HasLast (mode : Mode) (most : CostBounds) (all : List ℕ) : Type 0 where
   pub event : slice_get (events_by mode most all) (line_ends all) ≡ Some (unended mode (within most (event_of (take most_kept (unfinished_from [] all)))))
   pub count : length (events_by mode most all) ≡ suc (line_ends all)
 
-pub has_last : (mode : Mode) (most : Option ℕ) (all : List ℕ) → 0 < length (unfinished_from [] all) → HasLast mode most all
+pub has_last : (mode : Mode) (most : CostBounds) (all : List ℕ) → 0 < length (unfinished_from [] all) → HasLast mode most all
 has_last mode most all some = record {
   event = unended_last (unended mode) all (events_within most all) (line_ends all) refl
       ∙ ap (option_map (unended mode)) (event_at most all all (unfinished_from [] all) [] (lines_of-unfinished all some));
@@ -60,7 +61,7 @@ has_last mode most all some = record {
 }
 
 -- or every line has its end
-pub count-ended : (mode : Mode) (most : Option ℕ) (all : List ℕ) → unfinished_from [] all ≡ [] → length (events_by mode most all) ≡ line_ends all
+pub count-ended : (mode : Mode) (most : CostBounds) (all : List ℕ) → unfinished_from [] all ≡ [] → length (events_by mode most all) ≡ line_ends all
 count-ended mode most all none = length-unended (unended mode) all (events_within most all) ∙ length-within most all ∙ length-map (lines_of all) event_of ∙ ap length (lines_of-ended all none) ∙ length-whole_from [] all
 
 -- a byte more than is kept

@@ -27,6 +27,7 @@ use Rattle.cred_cli.specs.Prompt.{IsPrompt}
 use Rattle.cred_cli.specs.Watched.{Reading, Writing}
 use Rattle.cred_cli.specs.declared.script.End.{End}
 use Rattle.cred_cli.specs.Feeding.{IsAt, Standing, TakesLineAs, between}
+use Rattle.cred_cli.specs.Costs.{no_bounds}
 use Rattle.cred_cli.specs.declared.policy.Policy.{Policy}
 use Rattle.cred_cli.specs.Script.{ScriptStart, script_start, start_as, with_events}
 use Rattle.cred_cli.proofs.Bounds.{unbounded}
@@ -198,7 +199,7 @@ module _ (longest capacity : ℕ) (r : Reading) (w : Writing) (old new : Account
 
   -- where nothing is too costly
   abbrev pub Alone : List ℕ → Result End ScriptFault → Type 0
-  Alone bytes result = (events : List Event) × IsHistory Script capacity old (events_by Script None bytes) events × EndsAs longest capacity (start_as old bytes w.before events) r w new result
+  Alone bytes result = (events : List Event) × IsHistory Script capacity old (events_by Script no_bounds bytes) events × EndsAs longest capacity (start_as old bytes w.before events) r w new result
 
   pub asked_alone : (bytes : List ℕ) (result : Result End ScriptFault) → Alone bytes result → Asked bytes result
   asked_alone bytes result (events, is, ended) = rw (is ∙ unbounded bytes) at ended

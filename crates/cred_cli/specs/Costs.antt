@@ -1,12 +1,13 @@
--- How much memory hashes take, and which lines bring a setting or a record that asks for more than
--- a bound.
-use Rattle.std.specs.Prelude.{ℕ, ◌+◌, ◌*◌, ◌/◌, ◌^◌, Bool, false, if◌then◌else◌, nat_lt}
+-- How much memory and work hashes take, and which lines bring a setting or a record that asks for
+-- more than is allowed.
+use Rattle.std.specs.Prelude.{ℕ, ◌+◌, ◌*◌, ◌/◌, ◌^◌, Bool, false, ◌||◌, if◌then◌else◌, nat_lt}
 use Rattle.std.specs.Prelude.{List, Option, Some, None, map}
 use Rattle.cred_phc.specs.declared.scheme.Scheme.{Scheme}
 use Rattle.cred_phc.specs.declared.scheme.Scheme.TheVariants.{Argon2, Scrypt}
 use Rattle.cred_book.specs.declared.request.Request.{Request}
 use Rattle.cred_book.specs.declared.request.Request.TheVariants.{Enrol, Verify, Change, Upgrade}
 use Rattle.cred_book.specs.declared.request.Request.TheVariants.{Remove}
+use Rattle.cred_cli.specs.declared.costs.CostBounds.{CostBounds}
 use Rattle.cred_cli.specs.declared.event.Event.{Event}
 use Rattle.cred_cli.specs.declared.event.Event.TheVariants.{Load, Begin, Bad}
 use Rattle.cred_cli.specs.declared.refusal.Refusal.TheVariants.{Costly}
@@ -28,13 +29,28 @@ abbrev pub memory_alone : Scheme → ℕ
 memory_alone (Argon2 version variant m t p) = m
 memory_alone (Scrypt ln r p) = tables_kib 1 ln r
 
--- ---- within a bound in KiB
+-- How many KiB a hash goes over, each as often as it is gone over: the m of Argon2 in each of its t
+-- passes; scrypt's tables twice, as they are filled and as they are mixed (RFC 7914, section 5, steps
+-- 2 and 3).
+abbrev pub work_of : Scheme → ℕ
+work_of (Argon2 version variant m t p) = m * t
+work_of (Scrypt ln r p) = 2 * tables_kib p ln r
 
-abbrev pub exceeds : ℕ → Scheme → Bool
-exceeds most scheme = nat_lt most (memory_of scheme)
+-- ---- within bounds
+
+abbrev pub no_bounds : CostBounds
+no_bounds = record { memory = None; work = None }
+
+abbrev pub is_above : Option ℕ → ℕ → Bool
+is_above None cost = false
+is_above (Some most) cost = nat_lt most cost
+
+-- it takes more memory than one bound, or more work than the other
+abbrev pub exceeds : CostBounds → Scheme → Bool
+exceeds most scheme = is_above most.memory (memory_of scheme) || is_above most.work (work_of scheme)
 
 -- the setting of the record that it would make does
-abbrev pub request_exceeds : ℕ → Request → Bool
+abbrev pub request_exceeds : CostBounds → Request → Bool
 request_exceeds most (Enrol name pw setting) = exceeds most setting.scheme
 request_exceeds most (Change name pw new setting) = exceeds most setting.scheme
 request_exceeds most (Upgrade name pw setting) = exceeds most setting.scheme
@@ -42,16 +58,15 @@ request_exceeds most (Verify name pw) = false
 request_exceeds most (Remove name pw) = false
 
 -- the setting or the record that a line brings does
-abbrev pub is_costly : ℕ → Event → Bool
+abbrev pub is_costly : CostBounds → Event → Bool
 is_costly most (Load name stored) = exceeds most stored.setting.scheme
 is_costly most (Begin key request) = request_exceeds most request
 is_costly most _ = false
 
--- such a line is refused, if there is a bound
-abbrev pub within : Option ℕ → Event → Event
-within None event = event
-within (Some most) event = if is_costly most event then Bad Costly else event
+-- such a line is refused
+abbrev pub within : CostBounds → Event → Event
+within most event = if is_costly most event then Bad Costly else event
 
--- what the lines of these bytes come to, within the bound
-abbrev pub events_within : Option ℕ → List ℕ → List Event
+-- what the lines of these bytes come to, within the bounds
+abbrev pub events_within : CostBounds → List ℕ → List Event
 events_within most bytes = map (within most) (events_of bytes)

@@ -17,6 +17,7 @@ use Rattle.cred_cli.specs.Outcome.{FailsAs, IsAnsweredAs, longest_service}
 use Rattle.cred_cli.specs.Prompt.{IsPrompt}
 use Rattle.cred_cli.specs.Script.{ScriptStart, start_as, with_unended}
 use Rattle.cred_cli.specs.Watched.{Reading, Writing}
+use Rattle.cred_cli.specs.declared.costs.CostBounds.{CostBounds}
 use Rattle.cred_cli.specs.declared.event.Event.{Event}
 use Rattle.cred_cli.specs.declared.event.Event.TheVariants.{Commit, Bad}
 use Rattle.cred_cli.specs.declared.fault.ScriptFault.{ScriptFault}
@@ -34,8 +35,8 @@ abbrev pub unended : Mode → Event → Event
 unended Script event = event
 unended Service event = Bad Line
 
--- by the lines of these bytes, within the bound
-abbrev pub events_by : Mode → Option ℕ → List ℕ → List Event
+-- by the lines of these bytes, within the bounds
+abbrev pub events_by : Mode → CostBounds → List ℕ → List Event
 events_by mode most bytes = with_unended (unended mode) bytes (events_within most bytes)
 
 -- ---- commits for whose hash there is no memory
@@ -92,10 +93,10 @@ pub record EndsAs (longest capacity : ℕ) (script : ScriptStart) (r : Reading) 
   pub prompt : IsPrompt capacity script w.name r.log
 
 -- the same for lines that a service was sent, which come to some events of theirs; those that bring
--- a setting or a record that asks for more than the bound are refused, and so is a last one without
+-- a setting or a record that asks for more than the bounds are refused, and so is a last one without
 -- its end
-abbrev pub Serves : ℕ → Option ℕ → Reading → Writing → Accounts → Accounts → Result End ScriptFault
-    → Type 0
+abbrev pub Serves : ℕ → CostBounds → Reading → Writing → Accounts → Accounts
+    → Result End ScriptFault → Type 0
 Serves capacity most r w old new result = IfSome r.input (λ bytes. (events : List Event)
     × IsServed capacity old (events_by Service most bytes) events
     × EndsAs longest_service capacity (start_as old bytes w.before events) r w new result)

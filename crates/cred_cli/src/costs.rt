@@ -1,8 +1,8 @@
-//! How much memory hashes take, and what asks for more than a bound.
+//! How much memory and work hashes take, and what asks for more than is allowed.
 
 ghost use Rattle.std.specs.Prelude.{◌≡◌, ◌≤◌, ◌*◌, ◌^◌};
-ghost use Rattle.cred_cli.specs.Costs.{exceeds, memory_alone, memory_of, request_exceeds};
-ghost use Rattle.cred_cli.specs.Costs.{tables_kib};
+ghost use Rattle.cred_cli.specs.Costs.{exceeds, is_above, memory_alone, memory_of, no_bounds};
+ghost use Rattle.cred_cli.specs.Costs.{request_exceeds, tables_kib, work_of};
 
 use cred_book::Request;
 use cred_phc::{Scheme, Setting};
@@ -38,17 +38,58 @@ fn tables_kib(tables: u8, ln: u8, r: u8) -> u64
     (u64::from(tables) * rows + 7) / 8
 }
 
-/// Whether a hash of this setting takes more than so many KiB.
-pub fn exceeds(most: u64, setting: &Setting) -> bool
-    ensures { result ≡ exceeds most setting.now.scheme }
+/// How many KiB a hash of this setting goes over, each as often as it is gone over: `m` `t` of
+/// Argon2, and twice the memory of scrypt's tables, which are filled and then mixed.
+pub fn work_of(setting: &Setting) -> u64
+    ensures { result ≡ work_of setting.now.scheme }
 {
-    most < memory_of(setting)
+    match setting.scheme() {
+        Scheme::Argon2 { m, t, .. } => u64::from(m) * u64::from(t),
+        Scheme::Scrypt { ln, r, p } => 2 * tables_kib(p, ln, r),
+    }
 }
 
-/// Whether the record that the request would make is of a setting that asks for more than so many
-/// KiB.
-pub fn request_exceeds(most: u64, request: &Request) -> bool
-    ensures { result ≡ request_exceeds most request.now }
+/// What the settings and records that come with lines may ask for.
+#[derive(Clone, Copy, Debug, PartialEq, Eq)]
+pub struct CostBounds {
+    /// How many KiB of memory, if that is bounded ([`memory_of`]).
+    pub memory: Option<u64>,
+    /// How many KiB of work, if that is bounded ([`work_of`]).
+    pub work: Option<u64>,
+}
+
+impl CostBounds {
+    /// Any costs are allowed.
+    pub fn none() -> CostBounds
+        ensures { result ≡ no_bounds }
+    {
+        CostBounds {
+            memory: None,
+            work: None,
+        }
+    }
+}
+
+/// Whether a hash of this setting takes more memory or more work than is allowed.
+pub fn exceeds(most: &CostBounds, setting: &Setting) -> bool
+    ensures { result ≡ exceeds most.now setting.now.scheme }
+{
+    is_above(most.memory, memory_of(setting)) || is_above(most.work, work_of(setting))
+}
+
+fn is_above(most: Option<u64>, cost: u64) -> bool
+    ensures { result ≡ is_above most cost }
+{
+    match most {
+        Some(most) => most < cost,
+        None => false,
+    }
+}
+
+/// Whether the record that the request would make is of a setting that asks for more than is
+/// allowed.
+pub fn request_exceeds(most: &CostBounds, request: &Request) -> bool
+    ensures { result ≡ request_exceeds most.now request.now }
 {
     match request {
         Request::Enrol { setting, .. }

@@ -10,7 +10,7 @@ ghost use Rattle.cred_cli.specs.Events.{commit_event, event_of, event_of_pieces,
 ghost use Rattle.cred_cli.specs.Events.{longest_line, most_pieces, operation_of, own_setting};
 ghost use Rattle.cred_cli.specs.Events.{request_of, show_event};
 
-use crate::costs::{exceeds, request_exceeds};
+use crate::costs::{CostBounds, exceeds, request_exceeds};
 use crate::fields;
 use crate::key::Key;
 use crate::refusal::Refusal;
@@ -61,21 +61,21 @@ impl Event {
         }
     }
 
-    /// The event, or a refusal if it brings a setting or a record that asks for more than so many
-    /// KiB.
-    pub(crate) fn within(self, most: Option<u64>) -> Event
+    /// The event, or a refusal if it brings a setting or a record that asks for more than is
+    /// allowed.
+    pub(crate) fn within(self, most: &CostBounds) -> Event
         requires { IsSound self }
-        ensures event { result ≡ within most self }
+        ensures event { result ≡ within most.now self }
         ensures sound { IsSound result }
     {
-        match most {
-            Some(most) if self.is_costly(most) => Event::Bad(Refusal::Costly),
-            _ => self,
+        if self.is_costly(most) {
+            return Event::Bad(Refusal::Costly);
         }
+        self
     }
 
-    fn is_costly(&self, most: u64) -> bool
-        ensures { result ≡ is_costly most self.now }
+    fn is_costly(&self, most: &CostBounds) -> bool
+        ensures { result ≡ is_costly most.now self.now }
     {
         match self {
             Event::Load(_, stored) => exceeds(most, &stored.setting()),

@@ -5,6 +5,7 @@ ghost use Rattle.std.specs.Prelude.{Some, false, length, slice_get, suc, take, t
 ghost use Rattle.std.specs.List.{join_with_byte};
 ghost use Rattle.std.specs.FinMap as map;
 ghost use Rattle.cred_book.specs.Accounts.{Accounts};
+ghost use Rattle.cred_cli.specs.declared.costs.CostBounds.{CostBounds};
 ghost use Rattle.cred_cli.specs.declared.event.Event.{Event};
 ghost use Rattle.cred_cli.specs.declared.event.Event.TheVariants.{Bad};
 ghost use Rattle.cred_cli.specs.declared.refusal.Refusal.TheVariants.{Costly};
@@ -51,14 +52,14 @@ pub fn starved_commits_change_nothing()
         → line_of (answer_at capacity book events i) ≡ codes "bad 4 memory" ++ 10 ∷ [] }
 {}
 
-/// The law that what is within a bound brings no setting or record that asks for more, and that a
+/// The law that what is within bounds brings no setting or record that asks for more, and that a
 /// line that does is refused: the book stays, and so does each open number; and its answer is
 /// `bad 18 costly`.
 pub fn costly_lines_change_nothing()
-    ensures within { (most : ℕ) (event : Event)
-        → is_costly most (within (Some most) event) ≡ false }
-    ensures refused { (most : ℕ) (event : Event) → is_costly most event ≡ true
-        → within (Some most) event ≡ Bad Costly }
+    ensures within { (most : CostBounds) (event : Event)
+        → is_costly most (within most event) ≡ false }
+    ensures refused { (most : CostBounds) (event : Event) → is_costly most event ≡ true
+        → within most event ≡ Bad Costly }
     ensures book { (capacity : ℕ) (book : Accounts) (events : List Event) (i : ℕ)
         → slice_get events i ≡ Some (Bad Costly)
         → book_at capacity book events (suc i) ≡ book_at capacity book events i }

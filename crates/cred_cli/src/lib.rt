@@ -37,7 +37,7 @@ mod writing;
 
 pub use answer::reply_line;
 pub use call_log::CallLog;
-pub use costs::{exceeds, memory_alone, memory_of, request_exceeds};
+pub use costs::{CostBounds, exceeds, memory_alone, memory_of, request_exceeds, work_of};
 pub use event::{first_pieces, is_too_long};
 pub use fault::ScriptFault;
 pub use laws::{

@@ -5,6 +5,7 @@ ghost use Rattle.std.specs.Prelude.{◌≡◌};
 ghost use Rattle.cred_cli.specs.Costs.{within};
 ghost use Rattle.cred_cli.specs.Events.{IsSound, event_of};
 
+use crate::costs::CostBounds;
 use crate::event::Event;
 use crate::mode::Mode;
 use crate::tools::Tools;
@@ -13,8 +14,8 @@ use crate::tools::Tools;
 #[derive(Clone, Copy)]
 pub(crate) struct Policy {
     pub(crate) mode: Mode,
-    /// How many KiB a setting or a record that a line brings may ask for, if there is a bound.
-    pub(crate) most: Option<u64>,
+    /// What a setting or a record that a line brings may ask for.
+    pub(crate) most: CostBounds,
 }
 
 impl Policy {
@@ -23,7 +24,7 @@ impl Policy {
         ensures event { result ≡ within self.now.most (event_of line.now) }
         ensures sound { IsSound result }
     {
-        Event::of_line(line).within(self.most)
+        Event::of_line(line).within(&self.most)
     }
 }
 

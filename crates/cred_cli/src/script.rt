@@ -11,6 +11,7 @@ ghost use Rattle.cred_cli.specs.Watched.{GivesAsContracted, IsNew, MayFollow, Ta
 ghost use Rattle.cred_cli.specs.Watched.{calls_of, ended_of, failed_of, given_of, inner_of, log_of};
 ghost use Rattle.cred_cli.specs.Watched.{name_of, taken_of, transcript_reading, transcript_writing};
 
+use crate::costs::CostBounds;
 use crate::fault::ScriptFault;
 use crate::limit::Limit;
 use crate::mode::Mode;
@@ -88,7 +89,7 @@ pub fn run_script<T: Threads + Wait + Sync, K: Keeper, R: Read, W: Write>(
         tools: &tools,
         policy: Policy {
             mode: Mode::Script,
-            most: None,
+            most: CostBounds::none(),
         },
     };
     answer_all(&engine, Limit::script(), keeper, reader, writer)

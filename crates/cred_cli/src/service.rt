@@ -7,6 +7,7 @@ ghost use Rattle.cred_cli.specs.Watched.{GivesAsContracted, IsNew, MayFollow, Ta
 ghost use Rattle.cred_cli.specs.Watched.{calls_of, ended_of, failed_of, given_of, inner_of, reading};
 ghost use Rattle.cred_cli.specs.Watched.{transcript_reading, transcript_writing, writing};
 
+use crate::costs::CostBounds;
 use crate::fault::ScriptFault;
 use crate::limit::Limit;
 use crate::mode::Mode;
@@ -25,8 +26,9 @@ use std::thread::Threads;
 /// A commit that needs a hash for which there is no memory is refused as `bad 4 memory`: it does
 /// nothing, its number stays open, and the next line is answered. Memory may run out elsewhere.
 ///
-/// With `most`, a line whose setting or record asks for more than so many KiB is refused as
-/// `bad 18 costly`. A record that the book had before is hashed all the same.
+/// A line whose setting or record asks for more than `most` is refused as `bad 18 costly`. A record
+/// that the book had before is hashed all the same. A last line without its end is refused as
+/// `bad 11 line`, as more than that may be lost of it.
 ///
 /// Whenever the reader is called, each whole line that came is done and its answer is written, and
 /// nothing else is: what is written is the answers of one history of those lines, and the keeper's
@@ -41,7 +43,7 @@ use std::thread::Threads;
 /// `TooLong` after 2^64 - 2 bytes, which take centuries to come.
 pub fn serve<T: Threads + Wait + Sync, K: Keeper, R: Read, W: Write>(
     tools: &Tools<'_, T>,
-    most: Option<u64>,
+    most: CostBounds,
     keeper: &mut K,
     reader: &mut Watched<R>,
     writer: &mut Watched<W>,

@@ -21,6 +21,7 @@ use Rattle.cred_cli.specs.Outcome.{FailsAs, HasCause, IsAnswered, longest_script
 use Rattle.cred_cli.specs.Prompt.{IsPrompt}
 use Rattle.cred_cli.specs.Script.{script_start}
 use Rattle.cred_cli.specs.Starving.{Serves}
+use Rattle.cred_cli.specs.declared.costs.CostBounds.{CostBounds}
 use Rattle.cred_cli.specs.declared.fault.ScriptFault.{ScriptFault}
 use Rattle.cred_cli.specs.declared.fault.ScriptFault.TheVariants as script
 use Rattle.cred_cli.specs.declared.script.End.{End}
@@ -124,9 +125,9 @@ RunsWithin longest s (Err e) = HasCause s.reading.failed s.writing.failed e
     (script_start s.old bytes s.writing.before) s.reading.left s.writing.now s.new e) × RunsPrompt s
 
 -- lines were answered for as long as they came, but for those that bring a setting or a record that
--- asks for more than a bound, and for commits that need a hash and were refused memory for it; or
+-- asks for more than is allowed, for a last one without its end, and for commits that need a hash and were refused memory for it; or
 -- they met a fault
-pub record ServesLines (most : Option ℕ) (s : Seen) (r : Result End ScriptFault) : Type 0 where
+pub record ServesLines (most : CostBounds) (s : Seen) (r : Result End ScriptFault) : Type 0 where
   pub served : Serves register_capacity most s.reading s.writing s.old s.new r
   pub cause : IfErr r (HasCause s.reading.failed s.writing.failed)
 

@@ -3,6 +3,7 @@
 use crate::importing::Importing;
 use cred_admin::{NewPassword, NewSetting, Part};
 use cred_book::Name;
+use cred_cli::CostBounds;
 
 /// A command of `credkeep` on a book that is kept, with the words that it was given.
 #[derive(Clone, Copy)]
@@ -10,8 +11,8 @@ pub enum Order {
     /// Runs a script.
     Run,
     /// Answers the lines of a script for as long as they come. Those that bring a setting or a
-    /// record are refused if it asks for more than so many KiB, if there is a bound.
-    Serve { most: Option<u64> },
+    /// record are refused if it asks for more than this.
+    Serve { most: CostBounds },
     /// Makes the first record of an account, and the account if it isn't there.
     Add { name: Name, new: NewPassword },
     /// Asks whether a password is the account's.

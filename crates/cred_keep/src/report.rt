@@ -178,7 +178,10 @@ fn tell_why<F: Write>(faults: &mut F, why: LineFault) -> io::Result<()> {
         LineFault::Text(fault) => write!(faults, "{fault}"),
         LineFault::Book(refusal) => write!(faults, "{refusal}"),
         LineFault::Locked => write!(faults, "its record is locked: --disable-locked drops it"),
-        LineFault::Costly => write!(faults, "its record asks for more than --most-memory"),
+        LineFault::Costly => write!(
+            faults,
+            "its record asks for more than --most-memory or --most-work"
+        ),
     }
 }
 

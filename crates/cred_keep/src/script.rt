@@ -9,7 +9,7 @@ ghost use Rattle.cred_cli.specs.Watched.{transcript_reading, transcript_writing,
 ghost use Rattle.cred_file.specs.Keeps.{Keeps};
 ghost use Rattle.cred_keep.specs.Orders.{RunsWithin, ServesLines};
 
-use cred_cli::{End, ScriptFault, Tools, Watched, run_script, serve};
+use cred_cli::{CostBounds, End, ScriptFault, Tools, Watched, run_script, serve};
 use cred_file::FileBook;
 use sqlite::Alter;
 use std::alloc::Global;
@@ -53,13 +53,13 @@ pub fn run_on_file<T: Threads + Wait + Sync, S: Alter, R: Read, W: Write>(
 /// Answers lines on a kept book for as long as they come, as `serve` does.
 ///
 /// Each change is in the database before it is answered. A commit for whose hash there is no memory
-/// is refused, and the service goes on; the keeper's own want of memory ends it. With `most`, a
-/// line is refused if its setting or record asks for more than so many KiB. A crash leaves the book
-/// after the lines that were done, perhaps with the change that was under way as the database
-/// failed.
+/// is refused, and the service goes on; the keeper's own want of memory ends it. A line is refused
+/// if its setting or record asks for more than `most`, and so is a last one without its end. A crash
+/// leaves the book after the lines that were done, perhaps with the change that was under way as the
+/// database failed.
 pub fn serve_on_file<T: Threads + Wait + Sync, S: Alter, R: Read, W: Write>(
     tools: &Tools<'_, T>,
-    most: Option<u64>,
+    most: CostBounds,
     book: &mut FileBook<S>,
     reader: &mut Watched<R>,
     writer: &mut Watched<W>,

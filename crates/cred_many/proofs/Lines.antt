@@ -6,6 +6,7 @@ use Rattle.std.proofs.lemmas.List.{length-append, length-take, take_all, take_mo
 use Rattle.std.proofs.Math.Seq.{drop-cons}
 use Rattle.cred_phc.specs.Pieces.{pieces}
 use Rattle.cred_phc.specs.Values.{SettingValue}
+use Rattle.cred_cli.specs.declared.costs.CostBounds.{CostBounds}
 use Rattle.cred_cli.specs.declared.refusal.Refusal.TheVariants as refusal
 use Rattle.cred_cli.specs.Events.{longest_line, most_kept, most_pieces}
 use Rattle.cred_cli.specs.Feeding.{unfinished_from}
@@ -47,7 +48,7 @@ asked_at s n (l ∷ ls) (suc i) line is =
     asked_at s (suc n) ls i line is ∙ ap (λ m. Some (entry_of m s.most (drawn_setting s m) line)) next
 
 -- so what is kept of the line is read as the line
-pub kept_came : (s : Service) (input : Option (List ℕ)) (at : Place) (most : Option ℕ) (drawn : SettingValue) → most ≡ s.most → drawn ≡ drawn_setting s at.number
+pub kept_came : (s : Service) (input : Option (List ℕ)) (at : Place) (most : CostBounds) (drawn : SettingValue) → most ≡ s.most → drawn ≡ drawn_setting s at.number
     → IfSome input (λ all. IsWholeLine all at) → IfSome input (λ all. IsLine s all (entry_of at.number most drawn at.start))
 kept_came s None at most drawn same is came = tt
 kept_came s (Some all) at most drawn same is (line, there, kept, ended) =

@@ -15,6 +15,7 @@ use Rattle.cred_book.specs.declared.request.Request.TheVariants as request
 use Rattle.cred_cli.specs.Costs.{exceeds, request_exceeds}
 use Rattle.cred_cli.specs.Events.{longest_line, name_field, password_field, record_field}
 use Rattle.cred_cli.specs.Events.{setting_field}
+use Rattle.cred_cli.specs.declared.costs.CostBounds.{CostBounds}
 use Rattle.cred_cli.specs.declared.refusal.Refusal.{Refusal}
 use Rattle.cred_cli.specs.declared.refusal.Refusal.TheVariants as refusal
 use Rattle.cred_many.specs.declared.ask.Ask.{Ask}
@@ -155,19 +156,18 @@ IsSound (Login name pw setting) = is_current setting.scheme ≡ true
 IsSound (Reset name pw setting) = is_current setting.scheme ≡ true
 IsSound _ = Unit {0}
 
--- ---- within a bound in KiB
+-- ---- within bounds
 
 -- the setting or the record that a line brings asks for more; a login brings none
-abbrev pub is_costly : ℕ → Ask → Bool
+abbrev pub is_costly : CostBounds → Ask → Bool
 is_costly most (Load name stored) = exceeds most stored.setting.scheme
 is_costly most (Whole r) = request_exceeds most r
 is_costly most (Reset name pw setting) = exceeds most setting.scheme
 is_costly most _ = false
 
--- such a line is refused, if there is a bound
-abbrev pub within : Option ℕ → Ask → Ask
-within None ask = ask
-within (Some most) ask = if is_costly most ask then Bad refusal.Costly else ask
+-- such a line is refused
+abbrev pub within : CostBounds → Ask → Ask
+within most ask = if is_costly most ask then Bad refusal.Costly else ask
 
 -- ---- what is hashed
 
@@ -238,7 +238,7 @@ tagged_of drawn line =
     if nat_lt longest_line (length line) then untagged refusal.Long
     else tagged drawn (pieces 32 line)
 
--- the line of this number, by a service with this bound
-abbrev pub entry_of : ℕ → Option ℕ → SettingValue → List ℕ → Entry
+-- the line of this number, by a service with these bounds
+abbrev pub entry_of : ℕ → CostBounds → SettingValue → List ℕ → Entry
 entry_of number most drawn line =
     entry number (tagged_of drawn line).0 (within most (tagged_of drawn line).1)

@@ -6,6 +6,8 @@ use Rattle.cred_phc.specs.declared.scheme.Scheme.{Scheme}
 use Rattle.cred_phc.specs.declared.scheme.Scheme.TheVariants.{Scrypt}
 use Rattle.cred_phc.specs.Values.{SettingValue, setting_of}
 use Rattle.cred_book.specs.Accounts.{Accounts}
+use Rattle.cred_cli.specs.Costs.{no_bounds}
+use Rattle.cred_cli.specs.declared.costs.CostBounds.{CostBounds}
 use Rattle.cred_cli.specs.declared.refusal.Refusal.TheVariants as refusal
 use Rattle.cred_cli.specs.Script.{lines_of, with_unended}
 use Rattle.cred_many.specs.declared.ask.Ask.TheVariants.{Bad}
@@ -13,14 +15,14 @@ use Rattle.cred_many.specs.Asks.{Entry, entry, entry_of}
 use Rattle.cred_many.specs.declared.service.Means.{Means}
 
 -- the book at first, what the reader has to give, what was written before, with which costs and
--- from which source of salts settings are drawn, and how many KiB the costs of a line may ask for
+-- from which source of salts settings are drawn, and what the costs of a line may ask for
 pub record Service : Type 0 where
   pub opening : Accounts
   pub input : Option (List ℕ)
   pub before : Option (List ℕ)
   pub costs : Scheme
   pub salts : Stream
-  pub most : Option ℕ
+  pub most : CostBounds
 
 abbrev pub service : Accounts → Option (List ℕ) → Option (List ℕ) → Means → Stream → Service
 service opening input before means salts = record {
@@ -75,5 +77,5 @@ no_service = record {
     u64_after = λ _. 0;
     bytes_after = λ _ _. [];
   };
-  most = None;
+  most = no_bounds;
 }

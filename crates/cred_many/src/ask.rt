@@ -5,7 +5,7 @@ ghost use Rattle.cred_many.specs.Asks.{IsSound, is_costly, within};
 
 use crate::edit::Edit;
 use cred_book::{Name, Request};
-use cred_cli::{Refusal, exceeds, request_exceeds};
+use cred_cli::{CostBounds, Refusal, exceeds, request_exceeds};
 use cred_phc::{Password, Record, Setting};
 
 /// A whole operation with its fields, or why the line asks for none.
@@ -32,20 +32,20 @@ pub(crate) enum Ask {
 }
 
 impl Ask {
-    /// The same, or a refusal if its setting or record asks for more than so many KiB.
-    pub(crate) fn within(self, most: Option<u64>) -> Ask
+    /// The same, or a refusal if its setting or record asks for more than is allowed.
+    pub(crate) fn within(self, most: &CostBounds) -> Ask
         requires { IsSound self }
-        ensures ask { result ≡ within most self }
+        ensures ask { result ≡ within most.now self }
         ensures sound { IsSound result }
     {
-        match most {
-            Some(most) if self.is_costly(most) => Ask::Bad(Refusal::Costly),
-            _ => self,
+        if self.is_costly(most) {
+            return Ask::Bad(Refusal::Costly);
         }
+        self
     }
 
-    fn is_costly(&self, most: u64) -> bool
-        ensures { result ≡ is_costly most self.now }
+    fn is_costly(&self, most: &CostBounds) -> bool
+        ensures { result ≡ is_costly most.now self.now }
     {
         match self {
             Ask::Load(_, stored) => exceeds(most, &stored.setting()),

@@ -10,7 +10,7 @@ use crate::fault::ServiceFault;
 use crate::line::Line;
 use crate::naming::Naming;
 use crate::service::Means;
-use cred_cli::LineStart;
+use cred_cli::{CostBounds, LineStart};
 use cred_phc::draw_salt;
 use rand_core::Rng;
 use std::marker::PhantomData;
@@ -22,8 +22,8 @@ pub(crate) struct LineDecoder<J: Naming, G: Rng> {
     /// How many lines came before.
     pub(crate) number: u64,
     costs: Costs,
-    /// How many KiB the costs of a line may ask for, if there is a bound.
-    most: Option<u64>,
+    /// What the costs of a line may ask for.
+    most: CostBounds,
     salts: G,
     of: PhantomData<J>,
 
@@ -97,7 +97,7 @@ impl<J: Naming, G: Rng> LineDecoder<J, G> {
         };
         let salt = draw_salt(&mut self.salts);
         let drawn = self.costs.setting(&salt);
-        let line = Line::read(self.number, self.most, drawn, self.start.bytes());
+        let line = Line::read(self.number, &self.most, drawn, self.start.bytes());
         self.number = next;
         self.start.clear();
         Ok(line)

@@ -9,7 +9,7 @@ ghost use Rattle.cred_many.specs.Service.{IsLine, cut_line};
 use crate::ask::Ask;
 use crate::grammar::ask_of;
 use crate::naming::Naming;
-use cred_cli::{Refusal, first_pieces, is_too_long};
+use cred_cli::{CostBounds, Refusal, first_pieces, is_too_long};
 use cred_phc::{Setting, ShortBytes};
 use std::marker::{Model, PhantomData};
 
@@ -44,13 +44,13 @@ impl<J: Naming> Model for Line<J> {
 }
 
 impl<J: Naming> Line<J> {
-    /// Reads the line of this number, for which this setting is drawn, and whose costs may ask for
-    /// so many KiB.
-    pub(crate) fn read(number: u64, most: Option<u64>, drawn: Setting, line: &[u8]) -> Line<J>
+    /// Reads the line of this number, for which this setting is drawn, and whose costs are bounded
+    /// so.
+    pub(crate) fn read(number: u64, most: &CostBounds, drawn: Setting, line: &[u8]) -> Line<J>
         requires current { is_current drawn.scheme ≡ true }
         requires came { IfSome J.service.input
-            (λ bytes. IsLine J.service bytes (entry_of number most drawn line.now)) }
-        ensures { result ≡ entry_of number most drawn line.now }
+            (λ bytes. IsLine J.service bytes (entry_of number most.now drawn line.now)) }
+        ensures { result ≡ entry_of number most.now drawn line.now }
     {
         let (tag, ask) = parts(drawn, line);
         Line {

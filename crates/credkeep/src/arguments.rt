@@ -60,6 +60,9 @@ as 512M or 2G [default: 2G]";
 const MOST_MEMORY_HELP: &str = "Refuses each line whose setting or record asks for more memory \
 than this, in KiB or as 256M or 2G";
 
+const MOST_WORK_HELP: &str = "Refuses each line whose setting or record asks for more work than \
+this: the m of Argon2 times its t, or twice the memory of scrypt, in KiB or as 1G";
+
 const EMPTY_HELP: &str = "Takes an empty line as the new password, which is refused otherwise";
 
 const ECHO_HELP: &str = "Asks at a terminal, which shows what is typed; otherwise one is refused";
@@ -99,6 +102,7 @@ enum Word {
     AtOnce,
     Memory,
     MostMemory,
+    MostWork,
     EmptyPassword,
     Echo,
     Record,
@@ -142,6 +146,7 @@ static COMMANDS: [HelpText; 19] = [
             Word::AtOnce,
             Word::Memory,
             Word::MostMemory,
+            Word::MostWork,
             Word::Setting,
         ],
     },
@@ -241,6 +246,7 @@ static COMMANDS: [HelpText; 19] = [
             Word::SkipBad,
             Word::DisableLocked,
             Word::MostMemory,
+            Word::MostWork,
             Word::DryRun,
         ],
     },
@@ -350,6 +356,10 @@ fn arg_of<'a>(alloc: Global, word: Word) -> Arg<'a> {
             .long("most-memory")
             .value_name("SIZE")
             .help(MOST_MEMORY_HELP),
+        Word::MostWork => Arg::new(alloc, "most-work")
+            .long("most-work")
+            .value_name("SIZE")
+            .help(MOST_WORK_HELP),
         Word::EmptyPassword => flag(alloc, "empty-password", EMPTY_HELP),
         Word::Echo => flag(alloc, "echo", ECHO_HELP),
         Word::Record => flag(alloc, "record", RECORD_HELP),

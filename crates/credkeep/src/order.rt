@@ -10,7 +10,7 @@ use cred_admin::{
     EmptyPassword, Existing, LockedRecords, NewPassword, NewSetting, Part, Rules, setting_of,
 };
 use cred_book::{BookError, Name};
-use cred_cli::exceeds;
+use cred_cli::{CostBounds, exceeds};
 use cred_keep::{BadLines, Effect, Importing, Order};
 use cred_many::Costs;
 use cred_phc::{PhcError, draw_salt};
@@ -156,7 +156,7 @@ fn tagged_in<'a, R: RandomSource + AllocGlobal>(
     };
     let most = most_in(values)?;
     let setting = new_setting(rt, values)?.setting();
-    if most.is_some_and(|most| exceeds(most, &setting)) {
+    if exceeds(&most, &setting) {
         return Err(Refusal::Costly);
     }
     let Some(costs) = Costs::of(&setting) else {
@@ -170,14 +170,22 @@ fn tagged_in<'a, R: RandomSource + AllocGlobal>(
     })
 }
 
-/// How many KiB settings and records may ask for, if a bound is given.
-fn most_in<'a>(values: &ArgMatches<'a>) -> Result<Option<u64>, Refusal<'a>> {
-    let Some(text) = values.get_str("most-memory") else {
+/// What settings and records may ask for.
+fn most_in<'a>(values: &ArgMatches<'a>) -> Result<CostBounds, Refusal<'a>> {
+    Ok(CostBounds {
+        memory: size_in(values.get_str("most-memory"), "--most-memory")?,
+        work: size_in(values.get_str("most-work"), "--most-work")?,
+    })
+}
+
+/// The KiB of an option's size, if it is given.
+fn size_in<'a>(text: Option<&str>, option: &'static str) -> Result<Option<u64>, Refusal<'a>> {
+    let Some(text) = text else {
         return Ok(None);
     };
     match kib_of(text) {
         Some(kib) => Ok(Some(kib)),
-        None => Err(Refusal::Size("--most-memory")),
+        None => Err(Refusal::Size(option)),
     }
 }
 

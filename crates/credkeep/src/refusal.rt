@@ -43,7 +43,7 @@ pub(crate) fn answer_refusal(host: &HostRuntime, refusal: &Refusal<'_>) -> Statu
         }
         Refusal::Costly => say(
             host,
-            "--setting: it asks for more than --most-memory (18 costly)",
+            "--setting: it asks for more than --most-memory or --most-work (18 costly)",
             Status::Usage,
         ),
         Refusal::Existing => say(

@@ -11,7 +11,7 @@ use crate::files::{Access, DamagedLog, look_at, open_file};
 use crate::program::close;
 use crate::refusal::{refuse_file, refuse_unopened, say, warn_of_others};
 use cred_admin::Status;
-use cred_cli::{Tools, Watched};
+use cred_cli::{CostBounds, Tools, Watched};
 use cred_file::FileBook;
 use cred_keep::{Failure, explain, refuse};
 use cred_many::{Costs, Means, Naming, Scribe, Served, ServiceFault, serve_file};
@@ -34,8 +34,8 @@ pub(crate) struct Tagged {
     pub(crate) memory: u64,
     /// The costs of new records.
     pub(crate) costs: Costs,
-    /// How many KiB a setting or a record of a line may ask for, if there is a bound.
-    pub(crate) most: Option<u64>,
+    /// What a setting or a record of a line may ask for.
+    pub(crate) most: CostBounds,
 }
 
 /// Opens the file, answers tagged lines from standard input, and closes it.

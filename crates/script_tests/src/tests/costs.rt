@@ -1,7 +1,7 @@
 //! Lines that bring settings and records: within a bound, and above it.
 use super::dialogue::Dialogue;
 use super::{Line, empty_book, hold_bytes, hold_end};
-use cred_cli::{End, Tools, Watched, serve};
+use cred_cli::{CostBounds, End, Tools, Watched, serve};
 use std::alloc::Global;
 use std::process::Abort;
 use std::sync::Wait;
@@ -88,11 +88,52 @@ static UNBOUNDED: [Line; 4] = [
     ),
 ];
 
-/// Holds the lines against a service with this bound in KiB.
+/// What a service answers whose bound is 192 KiB of work.
+static BOUNDED_WORK: [Line; 10] = [
+    (
+        "load a $argon2id$v=19$m=64,t=3,p=1$c29tZXNhbHQ$AAAAAA",
+        "ok",
+    ),
+    (
+        "load a $argon2id$v=19$m=192,t=1,p=1$c29tZXNhbHQ$AAAAAA",
+        "ok",
+    ),
+    (
+        "load a $argon2id$v=19$m=64,t=4,p=1$c29tZXNhbHQ$AAAAAA",
+        "bad 18 costly",
+    ),
+    (
+        "load a $argon2id$v=19$m=8,t=4294967295,p=1$c29tZXNhbHQ$AAAAAA",
+        "bad 18 costly",
+    ),
+    (
+        "load a $argon2d$v=16$m=193,t=1,p=1$c29tZXNhbHQ$AAAAAA",
+        "bad 18 costly",
+    ),
+    ("load a $scrypt$ln=8,r=3,p=1$c29tZXNhbHQ$AAAAAA", "ok"),
+    (
+        "load a $scrypt$ln=8,r=1,p=4$c29tZXNhbHQ$AAAAAA",
+        "bad 18 costly",
+    ),
+    (
+        "begin 1 enrol a - $argon2id$v=19$m=64,t=4,p=1$c29tZXNhbHQ",
+        "bad 18 costly",
+    ),
+    (
+        "begin 1 change a - - $scrypt$ln=8,r=3,p=1$c29tZXNhbHQ",
+        "begun",
+    ),
+    (
+        "begin 2 change a - - $scrypt$ln=8,r=2,p=2$c29tZXNhbHQ",
+        "bad 18 costly",
+    ),
+];
+
+/// Holds the lines against a service with these bounds.
 fn judge_served<R: Threads + Wait + Sync + Abort>(
     rt: &R,
     alloc: Global,
-    most: Option<u64>,
+    most: CostBounds,
     lines: &'static [Line<'static>],
 ) {
     let dialogue = Dialogue::behind_account(rt, alloc, "costs", lines);
@@ -110,12 +151,21 @@ fn judge_served<R: Threads + Wait + Sync + Abort>(
 }
 
 #[test]
-fn costs_within_a_bound(rt: HostRuntime) {
-    judge_served(&rt, rt.alloc(), Some(64), &BOUNDED);
+fn costs_within_bounds(rt: HostRuntime) {
+    let memory = CostBounds {
+        memory: Some(64),
+        work: None,
+    };
+    judge_served(&rt, rt.alloc(), memory, &BOUNDED);
+    let work = CostBounds {
+        memory: None,
+        work: Some(192),
+    };
+    judge_served(&rt, rt.alloc(), work, &BOUNDED_WORK);
 }
 
 #[test]
-fn costs_without_a_bound(rt: HostRuntime) {
-    judge_served(&rt, rt.alloc(), None, &UNBOUNDED);
+fn costs_without_bounds(rt: HostRuntime) {
+    judge_served(&rt, rt.alloc(), CostBounds::none(), &UNBOUNDED);
     Dialogue::behind_account(&rt, rt.alloc(), "costs", &UNBOUNDED).judge(&rt, rt.alloc());
 }

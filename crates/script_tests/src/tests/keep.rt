@@ -123,7 +123,7 @@ fn texts_of_lines(rt: HostRuntime) {
         credkeep: line 20: a field is missing, or there is one too many (1 shape)\n\
         credkeep: line 300: the name is there already (1 exists)\n\
         credkeep: line 4000: its record is locked: --disable-locked drops it (17 locked)\n\
-        credkeep: line 50000: its record asks for more than --most-memory (18 costly)";
+        credkeep: line 50000: its record asks for more than --most-memory or --most-work (18 costly)";
     hold_failure(&rt, rt.alloc(), &failure, 6, text);
 }
 

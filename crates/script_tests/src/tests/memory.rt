@@ -4,7 +4,7 @@ use super::committers::run_on_committer;
 use super::keepers::Shelf;
 use super::{Shown, hold, hold_bytes, hold_shown};
 use cred_book::{Book, BookError, Keeper};
-use cred_cli::{End, ScriptFault, Tools, Watched, command, run_script, serve};
+use cred_cli::{CostBounds, End, ScriptFault, Tools, Watched, command, run_script, serve};
 use std::alloc::Global;
 use std::process::Abort;
 use std::sync::Wait;
@@ -141,7 +141,13 @@ fn refused_service(rt: HostRuntime) {
         alloc: rt.alloc(),
         workers: 1,
     };
-    let end = serve(&tools, None, &mut book, &mut reader, &mut writer);
+    let end = serve(
+        &tools,
+        CostBounds::none(),
+        &mut book,
+        &mut reader,
+        &mut writer,
+    );
     let written = writer.into_inner();
     if end != Ok(End { lines: 5 }) {
         assert_eq!(rt; end, Err(ScriptFault::Memory));

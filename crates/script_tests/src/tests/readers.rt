@@ -1,7 +1,7 @@
 //! Readers that fail, that give too much or little at once, and one that waits for its answers.
 use super::{empty_book, hold, hold_bytes, hold_end, hold_shown, run_on_book};
 use cred_book::BookError;
-use cred_cli::{End, ScriptFault, Tools, Watched, run_script, serve};
+use cred_cli::{CostBounds, End, ScriptFault, Tools, Watched, run_script, serve};
 use std::alloc::Global;
 use std::cell::Cell;
 use std::io;
@@ -210,7 +210,13 @@ fn served_before_the_next_call(rt: HostRuntime) {
             alloc: rt.alloc(),
             workers: 1,
         };
-        let end = serve(&tools, None, &mut book, &mut reader, &mut writer);
+        let end = serve(
+            &tools,
+            CostBounds::none(),
+            &mut book,
+            &mut reader,
+            &mut writer,
+        );
         hold_end(&rt, most, end, Ok(End { lines: 6 }));
         hold(
             &rt,

@@ -5,16 +5,16 @@ use Rattle.cred_cli.proofs.Basis.{alone, answers_of, as_passed}
 use Rattle.cred_cli.proofs.script.run_script.Goals as goal
 
 pub returns-clause-done : goal.returns-clause-done
-returns-clause-done g c = (as_asked _ _ _ _ _ _ _ (c.answer_all.ensures.ended Contract tt)).0
+returns-clause-done g c = (as_asked _ _ _ _ _ _ _ (rw c.none.ensures at (c.answer_all.ensures.ended Contract tt))).0
 
 pub returns-clause-short : goal.returns-clause-short
-returns-clause-short g c = rw c.script.ensures at (as_asked _ _ _ _ _ _ _ (c.answer_all.ensures.ended Contract tt)).1
+returns-clause-short g c = rw c.script.ensures at (as_asked _ _ _ _ _ _ _ (rw c.none.ensures at (c.answer_all.ensures.ended Contract tt))).1
 
 pub returns-clause-fault : goal.returns-clause-fault
-returns-clause-fault g c = rw c.script.ensures at (as_asked _ _ _ _ _ _ _ (c.answer_all.ensures.ended Contract tt)).2
+returns-clause-fault g c = rw c.script.ensures at (as_asked _ _ _ _ _ _ _ (rw c.none.ensures at (c.answer_all.ensures.ended Contract tt))).2
 
 pub returns-clause-prompt : goal.returns-clause-prompt
-returns-clause-prompt g c = (as_asked _ _ _ _ _ _ _ (c.answer_all.ensures.ended Contract tt)).3
+returns-clause-prompt g c = (as_asked _ _ _ _ _ _ _ (rw c.none.ensures at (c.answer_all.ensures.ended Contract tt))).3
 
 pub returns-clause-few : goal.returns-clause-few
 returns-clause-few g c = c.answer_all.ensures.few Contract tt
@@ -25,7 +25,7 @@ pub returns-clause-transcript : goal.returns-clause-transcript
 returns-clause-transcript g c = λ rest may.
     let reader = c.answer_all.new.reader in
     let writing = transcript_writing c.args.writer.now c.answer_all.new.writer in
-    let told = c.answer_all.ensures.ended (Transcript (given_of reader ++ rest)) (rest, refl, may) in
+    let told = rw c.none.ensures at (c.answer_all.ensures.ended (Transcript (given_of reader ++ rest)) (rest, refl, may)) in
     rw c.script.ensures at (asked_alone _ _ _ writing _ _ _ _ (as_passed g.R.Read.remaining c.args.reader.now reader rest _ c.requires.new_reader.given refl
     (λ r bytes. Alone c.script.result g.K.Keeper.capacity r writing (g.K.Keeper.book c.args.keeper.now) (g.K.Keeper.book c.answer_all.new.keeper) bytes c.answer_all.result) told))
 
@@ -33,7 +33,7 @@ pub returns-clause-answers : goal.returns-clause-answers
 returns-clause-answers g c =
     let reader = c.answer_all.new.reader in
     let writing = transcript_writing c.args.writer.now c.answer_all.new.writer in
-    let told = c.answer_all.ensures.ended (Transcript (given_of reader)) (alone reader) in
+    let told = rw c.none.ensures at (c.answer_all.ensures.ended (Transcript (given_of reader)) (alone reader)) in
     let ended = asked_alone _ _ _ writing _ _ _ _ (as_passed g.R.Read.remaining c.args.reader.now reader [] _ c.requires.new_reader.given (sym (append-nil (given_of reader)))
     (λ r bytes. Alone c.script.result g.K.Keeper.capacity r writing (g.K.Keeper.book c.args.keeper.now) (g.K.Keeper.book c.answer_all.new.keeper) bytes c.answer_all.result) told) in
     answers_of g.K.Keeper.capacity (g.K.Keeper.book c.args.keeper.now) (g.K.Keeper.book c.answer_all.new.keeper) (given_of reader) _ _ c.answer_all.result c.requires.new_writer.taken ended.done
