@@ -33,12 +33,36 @@ use std::thread::Threads;
 /// The bytes of an answer with its line end. Only a record's text is made; all others are fixed, so
 /// that no change that was made and no line that is refused can want memory for its answer.
 #[derive(Drop)]
-pub(crate) enum AnswerLine {
+pub enum AnswerLine {
     Fixed(&'static [u8]),
     Made(Vec<u8>),
 }
 
 impl AnswerLine {
+    /// That of a refused line.
+    pub fn bad(why: Refusal) -> AnswerLine
+        ensures { line_bytes result ≡ line_of (Refused why) }
+    {
+        AnswerLine::Fixed(why.line())
+    }
+
+    /// The record's text.
+    pub fn shown(alloc: Global, stored: &Record) -> Result<AnswerLine, AllocError>
+        ensures { IfOk result (λ line. line_bytes line ≡ line_of (Shown (Some stored.now))) }
+    {
+        let text = record_line(alloc, stored)?;
+        Ok(AnswerLine::Made(text))
+    }
+
+    pub fn bytes(&self) -> &[u8]
+        ensures { result.now ≡ line_bytes self.now }
+    {
+        match self {
+            AnswerLine::Fixed(bytes) => bytes,
+            AnswerLine::Made(bytes) => bytes,
+        }
+    }
+
     /// Writes the line whole. If that fails a proper prefix of it is written.
     pub(crate) fn write_to<W: Write>(self, writer: &mut Watched<W>) -> Result<(), ScriptFault>
         ensures done { (basis : Basis) → OnOk result
@@ -79,12 +103,12 @@ pub(crate) fn do_event<T: Threads + Wait + Sync, K: Keeper>(
         },
         Event::Show(name) => match keeper.show(&name) {
             Ok(None) => Ok(AnswerLine::Fixed(b"none\n")),
-            Ok(Some(stored)) => shown(engine.tools.alloc, &stored),
+            Ok(Some(stored)) => AnswerLine::shown(engine.tools.alloc, &stored),
             Err(refusal) => refused(refusal),
         },
         Event::Begin(key, request) => Ok(begin(keeper, tickets, key, request)),
         Event::Commit(key) => commit(engine, keeper, tickets, key),
-        Event::Bad(why) => Ok(bad(why)),
+        Event::Bad(why) => Ok(AnswerLine::bad(why)),
     }
 }
 
@@ -94,14 +118,14 @@ fn begin<K: Keeper>(keeper: &K, tickets: &mut Tickets, key: Key, request: Reques
         (K.book keeper.now) tickets.new result }
 {
     if tickets.is_open(key) {
-        return bad(Refusal::Busy);
+        return AnswerLine::bad(Refusal::Busy);
     }
     match keeper.begin(request) {
         Ok(ticket) => {
             tickets.open(key, ticket);
             AnswerLine::Fixed(b"begun\n")
         }
-        Err((_, refusal)) => bad(Refusal::Book(refusal)),
+        Err((_, refusal)) => AnswerLine::bad(Refusal::Book(refusal)),
     }
 }
 
@@ -116,7 +140,7 @@ fn commit<T: Threads + Wait + Sync, K: Keeper>(
     ensures refused { OnErr result (K.book keeper.new ≡ K.book keeper.old) }
 {
     let Some(ticket) = tickets.close(key) else {
-        return Ok(bad(Refusal::Idle));
+        return Ok(AnswerLine::bad(Refusal::Idle));
     };
     let tools = engine.tools;
     let worked = match ticket.work(tools.rt, tools.alloc, tools.workers, &NoGate) {
@@ -157,7 +181,7 @@ fn starve<K: Keeper>(
         return Err(AllocError);
     }
     tickets.open(key, ticket);
-    Ok(bad(Refusal::Book(BookError::Memory)))
+    Ok(AnswerLine::bad(Refusal::Book(BookError::Memory)))
 }
 
 fn is_equal(a: &Option<Record>, b: &Option<Record>) -> bool
@@ -207,21 +231,8 @@ fn refused(refusal: BookError) -> Result<AnswerLine, AllocError>
 {
     match refusal {
         BookError::Memory => Err(AllocError),
-        _ => Ok(bad(Refusal::Book(refusal))),
+        _ => Ok(AnswerLine::bad(Refusal::Book(refusal))),
     }
-}
-
-fn bad(why: Refusal) -> AnswerLine
-    ensures { line_bytes result ≡ line_of (Refused why) }
-{
-    AnswerLine::Fixed(why.line())
-}
-
-fn shown(alloc: Global, stored: &Record) -> Result<AnswerLine, AllocError>
-    ensures { IfOk result (λ line. line_bytes line ≡ line_of (Shown (Some stored.now))) }
-{
-    let text = record_line(alloc, stored)?;
-    Ok(AnswerLine::Made(text))
 }
 
 /// A record's text with its line end.

@@ -35,7 +35,7 @@ mod transcript;
 mod watched;
 mod writing;
 
-pub use answer::reply_line;
+pub use answer::{AnswerLine, reply_line};
 pub use call_log::CallLog;
 pub use costs::{CostBounds, exceeds, memory_alone, memory_of, request_exceeds, work_of};
 pub use event::{first_pieces, is_too_long};

@@ -4,14 +4,8 @@ use Rattle.std.specs.Io.KnownBytes.{Appends}
 use Rattle.cred_book.specs.declared.reply.Reply.{Reply}
 use Rattle.cred_book.specs.declared.reply.Reply.TheVariants as reply
 use Rattle.cred_cli.specs.Outcome.{FrontWritten}
-use Rattle.cred_many.specs.declared.answer.Text.{Text}
-use Rattle.cred_many.specs.declared.answer.Text.TheVariants.{Fixed, Made}
 use Rattle.cred_many.specs.declared.fault.ServiceFault.{ServiceFault}
 use Rattle.cred_many.specs.declared.fault.ServiceFault.TheVariants.{Write}
-
-abbrev pub text_bytes : Text → List ℕ
-text_bytes (Fixed bytes) = bytes.now
-text_bytes (Made bytes) = bytes.items
 
 -- a line is written, or the writer failed in it
 abbrev pub IsConcluded : List ℕ → Option (List ℕ) → Option (List ℕ) → Option ServiceFault → Type 0

@@ -3,10 +3,9 @@
 ghost use Rattle.std.specs.Prelude.{◌≡◌, IfOk, OnErr, OnOk, true};
 ghost use Rattle.cred_book.specs.declared.error.BookError.{BookError};
 ghost use Rattle.std.specs.FinMap as map;
-ghost use Rattle.cred_cli.specs.History.{Refused, Replied, Shown};
-ghost use Rattle.cred_cli.specs.Texts.{line_of};
+ghost use Rattle.cred_cli.specs.Answers.{line_bytes};
+ghost use Rattle.cred_cli.specs.History.{Replied};
 ghost use Rattle.cred_many.specs.Asks.{NeedsNoHash};
-ghost use Rattle.cred_many.specs.Steps.{text_bytes};
 ghost use Rattle.cred_many.specs.Served.{NeedsMemory, Script, done, reset_at, told_line};
 
 use crate::ask::Ask;
@@ -14,63 +13,49 @@ use crate::host::Host;
 use crate::listing::names_line;
 use cred_admin::edit_line;
 use cred_book::{BookError, Name, Reply};
-use cred_cli::Refusal;
-use cred_phc::{Record, write_record};
+use cred_cli::{AnswerLine, Refusal};
+use cred_phc::Record;
 use std::alloc::{AllocError, Global};
 
-/// The text of an answer with its line end.
-#[derive(Drop)]
-pub(crate) enum Text {
-    Fixed(&'static [u8]),
-    Made(Vec<u8>),
-}
-
-impl Text {
-    pub(crate) fn bytes(&self) -> &[u8]
-        ensures { result.now ≡ text_bytes self.now }
-    {
-        match self {
-            Text::Fixed(bytes) => bytes,
-            Text::Made(bytes) => bytes,
-        }
-    }
-}
-
 /// Does what needs no hash. If memory runs out the book stays.
-pub(crate) fn do_ask<K: Host>(alloc: Global, keeper: &mut K, ask: Ask) -> Result<Text, AllocError>
+pub(crate) fn do_ask<K: Host>(
+    alloc: Global,
+    keeper: &mut K,
+    ask: Ask,
+) -> Result<AnswerLine, AllocError>
     requires { NeedsNoHash ask }
-    ensures answer { IfOk result (λ text.
-        text_bytes text ≡ told_line (done K.capacity (K.book keeper.old) ask).0) }
+    ensures answer { IfOk result (λ line.
+        line_bytes line ≡ told_line (done K.capacity (K.book keeper.old) ask).0) }
     ensures book { OnOk result (K.book keeper.new ≡ (done K.capacity (K.book keeper.old) ask).1) }
     ensures refused { OnErr result (K.book keeper.new ≡ K.book keeper.old) }
     ensures needs { OnErr result (NeedsMemory K.capacity (K.book keeper.old) ask) }
 {
     match ask {
         Ask::Account(name) => match keeper.admit(name) {
-            Ok(()) => Ok(Text::Fixed(b"ok\n")),
+            Ok(()) => Ok(AnswerLine::Fixed(b"ok\n")),
             Err(BookError::Memory) => Err(AllocError),
-            Err(refusal) => Ok(bad(Refusal::Book(refusal))),
+            Err(refusal) => Ok(AnswerLine::bad(Refusal::Book(refusal))),
         },
         Ask::Load(name, stored) => match keeper.load(&name, stored) {
-            Ok(()) => Ok(Text::Fixed(b"ok\n")),
+            Ok(()) => Ok(AnswerLine::Fixed(b"ok\n")),
             Err(BookError::Memory) => Err(AllocError),
-            Err(refusal) => Ok(bad(Refusal::Book(refusal))),
+            Err(refusal) => Ok(AnswerLine::bad(Refusal::Book(refusal))),
         },
         Ask::Show(name) => match keeper.accounts().show(&name) {
-            Ok(None) => Ok(Text::Fixed(b"none\n")),
-            Ok(Some(stored)) => shown(alloc, &stored),
-            Err(refusal) => Ok(bad(Refusal::Book(refusal))),
+            Ok(None) => Ok(AnswerLine::Fixed(b"none\n")),
+            Ok(Some(stored)) => AnswerLine::shown(alloc, &stored),
+            Err(refusal) => Ok(AnswerLine::bad(Refusal::Book(refusal))),
         },
         Ask::List(from, most) => {
             let line = names_line(alloc, keeper.accounts(), &from, most)?;
-            Ok(Text::Made(line))
+            Ok(AnswerLine::Made(line))
         }
         Ask::Edit(edit) => match keeper.edit(&edit) {
-            Ok(reply) => Ok(Text::Fixed(edit_line(reply))),
+            Ok(reply) => Ok(AnswerLine::Fixed(edit_line(reply))),
             Err(BookError::Memory) => Err(AllocError),
-            Err(refusal) => Ok(bad(Refusal::Book(refusal))),
+            Err(refusal) => Ok(AnswerLine::bad(Refusal::Book(refusal))),
         },
-        Ask::Bad(why) => Ok(bad(why)),
+        Ask::Bad(why) => Ok(AnswerLine::bad(why)),
         Ask::Whole(_) | Ask::Login(..) | Ask::Reset(..) => unreachable!(),
     }
 }
@@ -96,18 +81,4 @@ pub(crate) fn put_in_place<K: Host>(
         Ok(()) => Ok(reply),
         Err(_) => Err(AllocError),
     }
-}
-
-fn bad(why: Refusal) -> Text
-    ensures { text_bytes result ≡ line_of (Refused why) }
-{
-    Text::Fixed(why.line())
-}
-
-fn shown(alloc: Global, stored: &Record) -> Result<Text, AllocError>
-    ensures { IfOk result (λ text. text_bytes text ≡ line_of (Shown (Some stored.now))) }
-{
-    let mut text = write_record(alloc, stored).map_err(|_| AllocError)?;
-    text.push(b'\n')?;
-    Ok(Text::Made(text))
 }
