@@ -15,6 +15,7 @@ ghost use Rattle.cred_cli.specs.Watched.{Basis, IsWritten, failed_of, held_on};
 
 use crate::event::Event;
 use crate::fault::ScriptFault;
+use crate::keeper_by::KeeperBy;
 use crate::key::Key;
 use crate::mode::Mode;
 use crate::policy::Engine;
@@ -27,7 +28,6 @@ use cred_phc::{Record, write_record};
 use cred_pool::NoGate;
 use std::alloc::{AllocError, Global};
 use std::io::Write;
-use std::sync::Wait;
 use std::thread::Threads;
 
 /// The bytes of an answer with its line end. Only a record's text is made; all others are fixed, so
@@ -81,7 +81,7 @@ impl AnswerLine {
 }
 
 /// Does the event on the keeper's book and the open tickets. If memory runs out the book stays.
-pub(crate) fn do_event<T: Threads + Wait + Sync, K: Keeper>(
+pub(crate) fn do_event<Way, T: Threads + Sync, K: KeeperBy<Way, T>>(
     engine: &Engine<'_, T>,
     keeper: &mut K,
     tickets: &mut Tickets,
@@ -93,11 +93,11 @@ pub(crate) fn do_event<T: Threads + Wait + Sync, K: Keeper>(
     ensures refused { OnErr result (K.book keeper.new ≡ K.book keeper.old) }
 {
     match event {
-        Event::Account(name) => match keeper.admit(engine.tools.rt, name) {
+        Event::Account(name) => match keeper.admit_by(engine.tools.rt, name) {
             Ok(()) => Ok(AnswerLine::Fixed(b"ok\n")),
             Err(refusal) => refused(refusal),
         },
-        Event::Load(name, stored) => match keeper.load(engine.tools.rt, &name, stored) {
+        Event::Load(name, stored) => match keeper.load_by(engine.tools.rt, &name, stored) {
             Ok(()) => Ok(AnswerLine::Fixed(b"ok\n")),
             Err(refusal) => refused(refusal),
         },
@@ -129,7 +129,7 @@ fn begin<K: Keeper>(keeper: &K, tickets: &mut Tickets, key: Key, request: Reques
     }
 }
 
-fn commit<T: Threads + Wait + Sync, K: Keeper>(
+fn commit<Way, T: Threads + Sync, K: KeeperBy<Way, T>>(
     engine: &Engine<'_, T>,
     keeper: &mut K,
     tickets: &mut Tickets,
@@ -147,7 +147,7 @@ fn commit<T: Threads + Wait + Sync, K: Keeper>(
         Ok(worked) => worked,
         Err(ticket) => return starve(engine.policy.mode, keeper, tickets, key, ticket),
     };
-    let Ok(reply) = keeper.commit(tools.rt, worked) else {
+    let Ok(reply) = keeper.commit_by(tools.rt, worked) else {
         return Err(AllocError);
     };
     Ok(AnswerLine::Fixed(reply_line(&reply)))

@@ -14,6 +14,7 @@ mod event;
 mod exit_status;
 mod fault;
 pub mod fields;
+mod keeper_by;
 mod key;
 mod laws;
 mod limit;
@@ -40,6 +41,7 @@ pub use call_log::CallLog;
 pub use costs::{CostBounds, exceeds, memory_alone, memory_of, request_exceeds, work_of};
 pub use event::{first_pieces, is_too_long};
 pub use fault::ScriptFault;
+pub use keeper_by::{KeeperBy, Waiting};
 pub use laws::{
     costly_lines_change_nothing, history_is_a_front, line_is_its_events, names_are_the_books,
     prompt_calls_are_answered, starved_commits_change_nothing,

@@ -9,16 +9,15 @@ ghost use Rattle.cred_cli.specs.Watched.{Basis, IsWritten, failed_of, held_on};
 use crate::answer::do_event;
 use crate::event::Event;
 use crate::fault::ScriptFault;
+use crate::keeper_by::KeeperBy;
 use crate::policy::Engine;
 use crate::tickets::Tickets;
 use crate::watched::Watched;
-use cred_book::Keeper;
 use std::io::Write;
-use std::sync::Wait;
 use std::thread::Threads;
 
 /// Does what a line comes to, and writes its answer.
-pub(crate) fn answer_line<T: Threads + Wait + Sync, K: Keeper, W: Write>(
+pub(crate) fn answer_line<Way, T: Threads + Sync, K: KeeperBy<Way, T>, W: Write>(
     engine: &Engine<'_, T>,
     keeper: &mut K,
     tickets: &mut Tickets,

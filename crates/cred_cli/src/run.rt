@@ -13,6 +13,7 @@ ghost use Rattle.cred_cli.specs.Watched.{left_on, reading_on, writing_on};
 ghost use Rattle.cred_cli.specs.declared.event.Event.{Event};
 
 use crate::fault::ScriptFault;
+use crate::keeper_by::KeeperBy;
 use crate::limit::Limit;
 use crate::line::answer_line;
 use crate::policy::Engine;
@@ -20,16 +21,14 @@ use crate::progress::Progress;
 use crate::script::End;
 use crate::tickets::Tickets;
 use crate::watched::Watched;
-use cred_book::Keeper;
 use std::io::{Read, Write};
-use std::sync::Wait;
 use std::thread::Threads;
 
 /// How many bytes are asked for at once.
 const CHUNK: usize = 4096;
 
 /// Answers the lines that the reader gives, to its end or to the limit.
-pub(crate) fn answer_all<T: Threads + Wait + Sync, K: Keeper, R: Read, W: Write>(
+pub(crate) fn answer_all<Way, T: Threads + Sync, K: KeeperBy<Way, T>, R: Read, W: Write>(
     engine: &Engine<'_, T>,
     limit: Limit,
     keeper: &mut K,
@@ -69,7 +68,7 @@ pub(crate) struct Run {
 
 impl Run {
     /// Takes one byte more. At a line end the line is answered.
-    pub(crate) fn take_byte<T: Threads + Wait + Sync, K: Keeper, W: Write>(
+    pub(crate) fn take_byte<Way, T: Threads + Sync, K: KeeperBy<Way, T>, W: Write>(
         &mut self,
         engine: &Engine<'_, T>,
         keeper: &mut K,
@@ -101,7 +100,7 @@ impl Run {
     }
 
     /// Takes the bytes in turn.
-    pub(crate) fn take_bytes<T: Threads + Wait + Sync, K: Keeper, W: Write>(
+    pub(crate) fn take_bytes<Way, T: Threads + Sync, K: KeeperBy<Way, T>, W: Write>(
         &mut self,
         engine: &Engine<'_, T>,
         keeper: &mut K,
@@ -124,7 +123,7 @@ impl Run {
     }
 
     /// Answers a last line that has no end, when no further byte comes, and counts the lines.
-    pub(crate) fn finish<T: Threads + Wait + Sync, K: Keeper, W: Write>(
+    pub(crate) fn finish<Way, T: Threads + Sync, K: KeeperBy<Way, T>, W: Write>(
         &mut self,
         engine: &Engine<'_, T>,
         keeper: &mut K,
@@ -146,7 +145,7 @@ impl Run {
     }
 
     /// Reads the script to its end.
-    pub(crate) fn read_all<T: Threads + Wait + Sync, K: Keeper, R: Read, W: Write>(
+    pub(crate) fn read_all<Way, T: Threads + Sync, K: KeeperBy<Way, T>, R: Read, W: Write>(
         &mut self,
         engine: &Engine<'_, T>,
         keeper: &mut K,

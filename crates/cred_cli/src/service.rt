@@ -9,6 +9,7 @@ ghost use Rattle.cred_cli.specs.Watched.{transcript_reading, transcript_writing,
 
 use crate::costs::CostBounds;
 use crate::fault::ScriptFault;
+use crate::keeper_by::KeeperBy;
 use crate::limit::Limit;
 use crate::mode::Mode;
 use crate::policy::{Engine, Policy};
@@ -16,9 +17,7 @@ use crate::run::answer_all;
 use crate::script::End;
 use crate::tools::Tools;
 use crate::watched::Watched;
-use cred_book::Keeper;
 use std::io::{Read, Write};
-use std::sync::Wait;
 use std::thread::Threads;
 
 /// Answers lines as [`run_script`](crate::run_script) does, however many come.
@@ -39,9 +38,13 @@ use std::thread::Threads;
 /// threads hash. No call was made on the reader or the writer before. The writer is one that holds
 /// nothing back, as it is never flushed.
 ///
+/// It waits only where a call of the reader, the writer or the keeper does. Over a keeper whose
+/// changes wait for nobody there is no body that answers for ever without being bound by this: it
+/// would have to return.
+///
 /// Errors: `Read` or `Write` if a call on the reader or the writer failed; `Memory` if it runs out;
 /// `TooLong` after 2^64 - 2 bytes, which take centuries to come.
-pub fn serve<T: Threads + Wait + Sync, K: Keeper, R: Read, W: Write>(
+pub fn serve<Way, T: Threads + Sync, K: KeeperBy<Way, T>, R: Read, W: Write>(
     tools: &Tools<'_, T>,
     most: CostBounds,
     keeper: &mut K,

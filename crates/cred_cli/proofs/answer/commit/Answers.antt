@@ -12,4 +12,4 @@ returns-in-Err-clause-done g c =
 
 pub returns-clause-done : goal.returns-clause-done
 returns-clause-done g c =
-    inl (rw (commits_done _ _ _ _ _ _ _ c.in-Ok-commit.reply c.in-Some.ensures.ticket c.close.ensures.closed c.in-Ok.ensures.worked c.in-Ok-commit.ensures) (c.reply_line.ensures ∙ line_of_reply c.in-Ok-commit.reply, refl, refl))
+    inl (rw (commits_done _ _ _ _ _ _ _ c.in-Ok-commit_by.reply c.in-Some.ensures.ticket c.close.ensures.closed c.in-Ok.ensures.worked c.in-Ok-commit_by.ensures) (c.reply_line.ensures ∙ line_of_reply c.in-Ok-commit_by.reply, refl, refl))
