@@ -9,8 +9,10 @@ ghost use Rattle.cred_cli.specs.Watched.{transcript_reading, transcript_writing,
 ghost use Rattle.cred_file.specs.Keeps.{Keeps};
 ghost use Rattle.cred_keep.specs.Orders.{RunsWithin, ServesLines};
 
-use cred_cli::{CostBounds, End, ScriptFault, Tools, Watched, run_script, serve};
+use cred_book::{BookError, Name, Reply, Worked};
+use cred_cli::{CostBounds, End, KeeperBy, ScriptFault, Tools, Watched, run_script, serve};
 use cred_file::FileBook;
+use cred_phc::Record;
 use sqlite::Alter;
 use std::alloc::Global;
 use std::io::{Read, Write};
@@ -50,14 +52,34 @@ pub fn run_on_file<T: Threads + Wait + Sync, S: Alter, R: Read, W: Write>(
     result
 }
 
-/// Answers lines on a kept book for as long as they come, as `serve` does.
+/// The way of a kept book: its changes wait for nobody.
+#[derive(Drop)]
+pub(crate) struct AtOnce;
+
+impl<H, S: Alter> KeeperBy<AtOnce, H> for FileBook<S> {
+    fn admit_by(&mut self, _handle: &H, name: Name) -> Result<(), BookError> {
+        FileBook::admit(self, name)
+    }
+
+    fn load_by(&mut self, _handle: &H, name: &Name, stored: Record) -> Result<(), BookError> {
+        FileBook::load(self, name, stored)
+    }
+
+    fn commit_by(&mut self, _handle: &H, worked: Worked) -> Result<Reply, (Worked, BookError)> {
+        FileBook::commit(self, worked)
+    }
+}
+
+/// Answers lines on a kept book for as long as they come, as `serve` does. It waits only where a
+/// call of the reader or the writer does: no body of it answers for ever without being bound by
+/// this, since it would have to return.
 ///
 /// Each change is in the database before it is answered. A commit for whose hash there is no memory
 /// is refused, and the service goes on; the keeper's own want of memory ends it. A line is refused
 /// if its setting or record asks for more than `most`, and so is a last one without its end. A crash
 /// leaves the book after the lines that were done, perhaps with the change that was under way as the
 /// database failed.
-pub fn serve_on_file<T: Threads + Wait + Sync, S: Alter, R: Read, W: Write>(
+pub fn serve_on_file<T: Threads + Sync, S: Alter, R: Read, W: Write>(
     tools: &Tools<'_, T>,
     most: CostBounds,
     book: &mut FileBook<S>,
@@ -79,7 +101,7 @@ pub fn serve_on_file<T: Threads + Wait + Sync, S: Alter, R: Read, W: Write>(
     ensures takes { TakesAsContracted W.contents writer.old writer.new }
     ensures keeps { Keeps S.Store book.new.conn book.new.book book.new.lost }
 {
-    let result = serve(tools, most, book, reader, writer);
+    let result = serve::<AtOnce, T, FileBook<S>, R, W>(tools, most, book, reader, writer);
     book.keeps();
     result
 }
