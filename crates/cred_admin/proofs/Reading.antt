@@ -2,7 +2,7 @@
 use Rattle.std.proofs.Common.{◌≡◌, ◌≢◌, ℕ, ◌<◌, List, [], ◌∷◌, ◌++◌, length, take, Option, Some, None, IfSome, IfOk, OnOk, ◌⊎◌, inl, inr, Result, Ok, Err, subst, false, ◌==◌, if◌then◌else◌, refl, sym, ap, ◌∙◌, arith, append_assoc, append-nil, slice_index_or}
 use Rattle.std.proofs.lemmas.Bool.Decides.{eqb_tells}
 use Rattle.std.proofs.lemmas.List.{length-append}
-use Rattle.std.specs.Io.KnownBytes.{Consumes, IsAtEnd}
+use Rattle.std.specs.Io.KnownBytes.{Consumes}
 use Rattle.cred_admin.specs.declared.fault.Fault.{Fault}
 use Rattle.cred_admin.specs.Lines.{line_before, behind_line, ReadsLine, Takes}
 
@@ -17,11 +17,6 @@ pub takes_one : (old now : Option (List ℕ)) (buf : List ℕ) (n : ℕ) → Con
 takes_one None now buf n consumed size one = tt
 takes_one (Some xs) None buf n consumed size one = absurd consumed
 takes_one (Some xs) (Some ys) buf n consumed size one = (ys, rw (one_taken buf n size one) at consumed, refl)
-
-pub takes_none : (old now : Option (List ℕ)) (buf : List ℕ) (n : ℕ) → Consumes old now (take n buf) → n ≡ 0 → IsAtEnd now → IfSome old (λ bytes. Takes bytes now None)
-takes_none None now buf n consumed none end = tt
-takes_none (Some xs) None buf n consumed none end = absurd consumed
-takes_none (Some xs) (Some ys) buf n consumed none end = let these : xs ≡ ys = rw none at consumed in (these ∙ end, ap Some end)
 
 -- ---- a line
 
