@@ -52,6 +52,11 @@ def says(answer: str) -> Ended:
     return Ended(4 if is_no else 0, f"{answer}\n")
 
 
+def imported(added: int, updated: int = 0, there: int = 0, bad: int = 0) -> str:
+    """What an import writes that has these counts."""
+    return f"{added} added, {updated} updated, {there} there already, {bad} bad\n"
+
+
 def fails(status: int, text: str) -> Ended:
     """How an order ends that says why it failed."""
     return Ended(status, "", f"credkeep: {text}\n")
@@ -69,13 +74,13 @@ class Book:
         self.path = path
         self.log = pathlib.Path(f"{path}-wal")
 
-    def command(self, *words: str, wait: int | None = None) -> list[str]:
+    def command(self, *words: str, wait: object = None) -> list[str]:
         """The program's words on the file."""
         first = [] if wait is None else ["--wait", str(wait)]
         return [program("credkeep"), *first, str(self.path), *words]
 
     def __call__(
-        self, *words: str, given: str = "", wait: int | None = None, **options: Any
+        self, *words: str, given: str = "", wait: object = None, **options: Any
     ) -> Ended:
         """Runs the program on the file with these words."""
         return ended(self.command(*words, wait=wait), given, **options)
@@ -212,7 +217,7 @@ class BookTest(unittest.TestCase):
         book.remove()
         self.assertEqual(book("init"), DONE)
         if accounts:
-            self.assertEqual(book("import", given=lines_of(accounts)), DONE)
+            self.assertEqual(book("import", "--quiet", given=lines_of(accounts)), DONE)
         return book
 
     def killed_after(self, book: Book, *lines: str) -> None:

@@ -23,7 +23,8 @@ def record(chance: random.Random) -> str:
 
 def counted(accounts: int, changes: int) -> Ended:
     """The answer of a copy."""
-    return Ended(0, f"{accounts} accounts, {changes} changes in the log\n")
+    these, those = "" if accounts == 1 else "s", "" if changes == 1 else "s"
+    return Ended(0, f"{accounts} account{these}, {changes} change{those} in the log\n")
 
 
 def pair_of(book: Book) -> tuple[bytes, bytes | None]:
@@ -223,7 +224,7 @@ class RestoreTest(CopyTest):
         for source, texts in (
             (text, ()),
             (other, ()),
-            (self.file("none.db"), ()),
+            (self.file("none.db"), (f"{self.room}/none.db: there is no such file\n",)),
             (self.file("."), ()),
             (bad, ("row 2: there is no name", str(bad.path))),
         ):
@@ -247,7 +248,7 @@ class RestoreTest(CopyTest):
             self.assertIsNone(waits.poll())
             self.assertEqual(service.end(), DONE)
             found = waits.communicate(timeout=LONGEST)
-            self.assertEqual(found, (b"1 accounts, 0 changes in the log\n", b""))
+            self.assertEqual(found, (b"1 account, 0 changes in the log\n", b""))
         self.assertEqual(self.book.accounts(), {"bob": ""})
         for _ in range(5):
             command = self.book.command("list", wait=30)

@@ -44,7 +44,7 @@ NO_BOOKS = [
     ),
     (
         database(TABLE + "INSERT INTO account VALUES ('ann', NULL), ('Bob', NULL)"),
-        "row 2: there is no name; names are",
+        "row 2: there is no name; a name has",
     ),
     (
         database(TABLE + "INSERT INTO account VALUES ('ann', 'abc')"),
@@ -94,7 +94,7 @@ class FormatTest(BookTest):
         self.book.add("cat")
         self.assertEqual(self.book("rename", "ann", "dan"), says("renamed"))
         self.assertEqual(self.book("delete", "bob"), says("deleted"))
-        self.assertEqual(self.book("import", given="eve:\n"), DONE)
+        self.assertEqual(self.book("import", "--quiet", given="eve:\n"), DONE)
         self.assertEqual(self.book.names(), ["cat", "dan", "eve"])
         self.assertSound(self.book)
         self.assertEqual(rows(self.book.path, "SELECT * FROM sqlite_stat1"), statistics)

@@ -1,6 +1,6 @@
 """Lines of an import: their forms, their faults, and those that other programs write."""
 
-import pathlib
+import json
 import re
 import subprocess
 
@@ -12,6 +12,8 @@ from tests.credkeep.books import (
     SCRYPT,
     Accounts,
     BookTest,
+    fails,
+    imported,
     lines_of,
     says,
 )
@@ -75,12 +77,12 @@ class LinesTest(BookTest):
         for end in ("\n", "\r\n"):
             book = self.begun()
             lines = ["", "# made by hand", "#", "#ann:x", f"ann:{RECORD}", "", "bob:", "", ""]
-            self.assertEqual(book("import", given=end.join(lines)), DONE)
+            self.assertEqual(book("import", given=end.join(lines)), Ended(0, imported(2)))
             done = book("import", given=end.join(["", "# x", "cat", "", " #", "dan:"]))
             self.assertNames(done, 6, {3: "11 line", 5: "11 line"})
             self.assertEqual(book.accounts(), {"ann": RECORD, "bob": ""})
         for given in ("", "#\n\n", "# the last line has no end"):
-            self.assertEqual(book("import", given=given), DONE)
+            self.assertEqual(book("import", given=given), Ended(0, imported(0)))
 
     def test_bad_lines(self) -> None:
         """Each bad line is named with its fault, and nothing is changed; with --skip-bad the others
@@ -92,19 +94,20 @@ class LinesTest(BookTest):
             self.assertNames(book("import", given=given), 6, wanted)
             self.assertEqual(book.accounts(), {"ann": RECORD})
             done = book("import", "--skip-bad", given=given)
-            self.assertEqual((done.status, done.written, named_lines(done)), (0, "", wanted))
-            left_out = f"left out {len(BAD_LINES)} lines, which are bad"
-            self.assertEqual(other_texts(done), [left_out])
+            told = imported(3, bad=len(BAD_LINES))
+            self.assertEqual((done.status, done.written, named_lines(done)), (0, told, wanted))
+            self.assertEqual(other_texts(done), [])
             added = {"new": RECORD, "last": OTHER, "none": ""}
             self.assertEqual(book.accounts(), {"ann": RECORD, **added})
             self.assertSound(book)
 
     def test_only_bad_lines(self) -> None:
-        """Where no line is good nothing is added, and that is no failure; without a bad line
-        nothing is said."""
+        """Where no line is good nothing is added, and that is no failure."""
         done = self.book("import", "--skip-bad", given="x\ny\n")
-        self.assertEqual((done.status, named_lines(done)), (0, {1: "11 line", 2: "11 line"}))
-        self.assertEqual(self.book("import", "--skip-bad", given="bob:\n"), DONE)
+        self.assertEqual(done[:2], (0, imported(0, bad=2)))
+        self.assertEqual(named_lines(done), {1: "11 line", 2: "11 line"})
+        done = self.book("import", "--skip-bad", given="bob:\n")
+        self.assertEqual(done, Ended(0, imported(1)))
         self.assertEqual(self.book.names(), ["bob"])
 
     def test_many_lines(self) -> None:
@@ -128,11 +131,33 @@ class LinesTest(BookTest):
         wanted = {line.split(":")[0]: record for line, record in FORMS}
         for end in ("\n", "\r\n"):
             book = self.begun()
-            self.assertEqual(book("import", given="".join(line + end for line, _ in FORMS)), DONE)
+            done = book("import", given="".join(line + end for line, _ in FORMS))
+            self.assertEqual(done, Ended(0, imported(len(FORMS))))
             self.assertEqual(book.accounts(), dict(sorted(wanted.items())))
             for name in (name for name, record in wanted.items() if record):
                 self.assertEqual(book("check", name, given="password\n"), says("yes"))
             self.assertSound(book)
+
+    def test_counts(self) -> None:
+        """In JSON they are numbers by name; --quiet hides them, and bad lines are named all the
+        same. An answer that can't be written is told, and its change is made."""
+        lines = f"ann:{OTHER}\nx\nbob:\n"
+        for options, counts in (
+            (["--update"], {"added": 1, "updated": 1, "there": 0, "bad": 1}),
+            (["--skip-existing"], {"added": 1, "updated": 0, "there": 1, "bad": 1}),
+        ):
+            for words, told in (([], imported(*counts.values())), (["--quiet"], "")):
+                book = self.begun({"ann": RECORD})
+                done = book("import", "--skip-bad", *options, *words, given=lines)
+                self.assertEqual((done.status, done.written), (0, told))
+                self.assertEqual((named_lines(done), other_texts(done)), ({2: "11 line"}, []))
+            book = self.begun({"ann": RECORD})
+            done = book("import", "--skip-bad", "--json", *options, given=lines)
+            self.assertEqual(json.loads(done.written), counts)
+        with open("/dev/full", "wb") as full:
+            done = self.book("import", given="cat:\n", stdout=full)
+        self.assertEqual(done, fails(2, "writing failed"))
+        self.assertEqual(self.book.names(), ["ann", "bob", "cat"])
 
     def test_costs(self) -> None:
         """A list of costs has each record's scheme and numbers, and neither a salt nor a hash."""
@@ -213,7 +238,8 @@ class OthersTest(BookTest):
         self.assertEqual(stored, [RECORD, f"!{RECORD}", "*"])
         done = self.book("import", given=shadow)
         self.assertEqual((done.status, named_lines(done)), (6, {2: "17 locked", 3: "17 locked"}))
-        self.assertEqual(self.book("import", "--disable-locked", given=shadow), DONE)
+        done = self.book("import", "--disable-locked", given=shadow)
+        self.assertEqual(done, Ended(0, imported(3)))
         self.assertEqual(self.book.accounts(), {"ann": RECORD, "bob": "", "cat": ""})
 
     def test_records_of_dovecot(self) -> None:
@@ -229,7 +255,8 @@ class OthersTest(BookTest):
         done = self.book("import", given=lines)
         self.assertEqual((done.status, sorted(named_lines(done))), (6, [2, 3, 5, 6]))
         written = run("sh", "-c", command, given=lines)
-        self.assertEqual(self.book("import", given=written), DONE)
+        done = self.book("import", given=written)
+        self.assertEqual(done, Ended(0, imported(len(forms))))
         for form in forms:
             self.assertEqual(self.book("check", form.lower(), given="secret\n"), says("yes"))
             self.assertEqual(self.book("check", form.lower(), given="guess\n"), says("no"))

@@ -3,7 +3,6 @@
 import itertools
 
 from tests.credkeep.books import (
-    DONE,
     OTHER,
     RECORD,
     SALT,
@@ -12,6 +11,7 @@ from tests.credkeep.books import (
     Accounts,
     BookTest,
     fails,
+    imported,
     lines_of,
     says,
 )
@@ -35,11 +35,11 @@ class ExistingTest(BookTest):
     def test_skip_existing(self) -> None:
         """Accounts that are there stay as they are, and the lines that name them are counted."""
         skip = ("import", "--skip-existing")
-        left_out = "credkeep: left out {} lines, whose accounts are there already\n"
-        self.assertEqual(self.book(*skip, given="ann:\nbob:\n"), DONE)
+        self.assertEqual(self.book(*skip, given="ann:\nbob:\n"), Ended(0, imported(2)))
         lines = f"ann:{RECORD}\ncat:{RECORD}\nbob:{RECORD}\nann:\n"
-        for count in (3, 4):
-            self.assertEqual(self.book(*skip, given=lines), Ended(0, "", left_out.format(count)))
+        for there in (3, 4):
+            told = imported(4 - there, there=there)
+            self.assertEqual(self.book(*skip, given=lines), Ended(0, told))
             self.assertEqual(self.book.accounts(), {"ann": "", "bob": "", "cat": RECORD})
         # A name that comes twice among the lines isn't one that is there.
         for given in ("ann:\ndan:\ndan:\n", "ann:\nx\n"):
@@ -52,8 +52,8 @@ class ExistingTest(BookTest):
         for lines, changed in UPDATES:
             book = self.begun(BEFORE)
             done = book("import", "--update", given=lines_of(lines))
-            told = f"credkeep: {changed} accounts that were there have the records of their lines\n"
-            self.assertEqual((lines, done), (lines, Ended(0, "", told if changed else "")))
+            told = imported(len(lines) - changed, changed)
+            self.assertEqual((lines, done), (lines, Ended(0, told)))
             after = dict(sorted({**BEFORE, **lines}.items()))
             self.assertEqual((lines, book.accounts()), (lines, after))
             self.assertSound(book)
@@ -83,7 +83,8 @@ class ExistingTest(BookTest):
         for size in (1, 2, 4095, 4096, 4097, 5000, 20000):
             book = self.begun({f"n{at:05}": RECORD for at in range(0, size, 2)})
             lines = {f"n{at:05}": OTHER if at % 3 else "" for at in range(size)}
-            self.assertEqual(book("import", "--update", given=lines_of(lines))[:2], (0, ""))
+            done = book("import", "--update", given=lines_of(lines))
+            self.assertEqual(done, Ended(0, imported(size // 2, size - size // 2)))
             self.assertTrue(book.accounts() == lines, size)
             self.assertSound(book)
 
@@ -103,7 +104,8 @@ class LockedTest(BookTest):
             done = book("import", given=given)
             self.assertEqual((text, done.status, named_lines(done)), (text, 6, {2: "17 locked"}))
             self.assertEqual(book.names(), [])
-            self.assertEqual((text, book("import", "--disable-locked", given=given)), (text, DONE))
+            done = book("import", "--disable-locked", given=given)
+            self.assertEqual((text, done), (text, Ended(0, imported(2))))
             self.assertEqual(book.accounts(), {"ann": RECORD, "bob": ""})
             self.assertEqual(book("check", "bob", given="password\n"), says("absent"))
         # The name counts first, and a lock behind a scheme is none.
@@ -135,12 +137,12 @@ class BoundTest(BookTest):
         within, above, twice = (f"{it}${SALT}${TAG}" for it in costs)
         lines = f"ann:{within}\nbob:{above}\ncat:\n# {above}\ndan:{twice}:x\neve:!{above}\n"
         bound = ("import", "--disable-locked", "--most-memory", "256K")
-        costly = "credkeep: line {}: its record asks for more than --most-memory (18 costly)\n"
+        costly = "credkeep: line {}: its record needs more than --most-memory (18 costly)\n"
         told = costly.format(2) + costly.format(5)
         self.assertEqual(self.book(*bound, given=lines), Ended(6, "", told))
         self.assertEqual(self.book.names(), [])
-        told += "credkeep: left out 2 lines, which are bad\n"
-        self.assertEqual(self.book(*bound, "--skip-bad", given=lines), Ended(0, "", told))
+        done = self.book(*bound, "--skip-bad", given=lines)
+        self.assertEqual(done, Ended(0, imported(3, bad=2), told))
         after = {"ann": within, "cat": "", "eve": ""}
         self.assertEqual(self.book.accounts(), after)
         # An account that is there keeps its record, and its line is bad too.
@@ -151,8 +153,10 @@ class BoundTest(BookTest):
             self.assertEqual(done, Ended(6, "", costly.format(1)))
         self.assertEqual(self.book.accounts(), after)
         # Without a bound they are taken in; and so they are with one that is as high.
-        self.assertEqual(self.book("import", "--update", given=update)[:2], (0, ""))
-        self.assertEqual(self.book("import", "--most-memory", "1M", given=f"dan:{twice}\n"), DONE)
+        done = self.book("import", "--update", given=update)
+        self.assertEqual(done, Ended(0, imported(0, 2)))
+        done = self.book("import", "--most-memory", "1M", given=f"dan:{twice}\n")
+        self.assertEqual(done, Ended(0, imported(1)))
         after = {"ann": above, "cat": within, "dan": twice, "eve": ""}
         self.assertEqual(self.book.accounts(), after)
         self.assertSound(self.book)
@@ -164,11 +168,7 @@ class BoundTest(BookTest):
 
 
 class DryRunTest(BookTest):
-    def text(self, added: int, changed: int) -> str:
-        return (
-            f"nothing was changed; {added} accounts would be added, "
-            f"and {changed} would have the records of their lines"
-        )
+    TEXT = "a dry run: nothing was changed"
 
     def test_dry_runs(self) -> None:
         """With every choice of options a dry run says what the import does then, and not a byte of
@@ -191,22 +191,15 @@ class DryRunTest(BookTest):
                 if made.status:
                     self.assertEqual((dry.faults, after), (made.faults, before))
                     continue
-                *told, last = other_texts(dry)
-                added, changed = len(after) - len(before), int("--update" in options)
-                self.assertEqual(last, self.text(added, changed))
-                self.assertEqual(told, [it for it in other_texts(made) if "left out" in it])
+                self.assertEqual((other_texts(dry), other_texts(made)), ([self.TEXT], []))
 
     def test_dry_run_of_good_lines(self) -> None:
         """The counts of a dry run are those of the lines."""
         self.begun({"ann": RECORD})
         for how, given, told in (
-            ("--update", f"ann:\nbob:{RECORD}\ncat:\n", [self.text(2, 1)]),
-            (
-                "--skip-existing",
-                "ann:\nbob:\n",
-                ["left out 1 lines, whose accounts are there already", self.text(1, 0)],
-            ),
+            ("--update", f"ann:\nbob:{RECORD}\ncat:\n", imported(2, 1)),
+            ("--skip-existing", "ann:\nbob:\n", imported(1, there=1)),
         ):
             done = self.book("import", "--dry-run", how, given=given)
-            self.assertEqual((done[:2], other_texts(done)), ((0, ""), told))
+            self.assertEqual((done[:2], other_texts(done)), ((0, told), [self.TEXT]))
         self.assertEqual(self.book.accounts(), {"ann": RECORD})

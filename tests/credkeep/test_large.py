@@ -88,7 +88,7 @@ class LargeTest(LostTest):
     def test_bad_rows(self) -> None:
         """A row that is no account is named by its number, wherever it is."""
         no_record = "the text there is no record: a field is missing, or there is one too many"
-        no_name = "there is no name; names are a-z, 0-9, '.', '_', '-', 1 to 32 of them"
+        no_name = "there is no name; a name has 1 to 32 of a-z, 0-9, '.', '_', '-'"
         hurt = self.file("hurt.db")
         for row in (1, COUNT // 2, COUNT):
             for change, why in (

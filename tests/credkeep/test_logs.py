@@ -1,5 +1,6 @@
 """The log beside a file: what is in it, what is damaged in it, and whose it is."""
 
+import json
 import random
 import subprocess
 import sys
@@ -42,6 +43,9 @@ class LogsTest(CopyTest):
         nothing."""
         book = self.begun({"ann": RECORD})
         self.assertEqual(book("verify"), counted(1, 0))
+        self.assertEqual(book("verify", "--quiet"), DONE)
+        done = book("verify", "--json")
+        self.assertEqual((done.status, json.loads(done.written)), (0, {"accounts": 1, "changes": 0}))
         with book.start("serve") as service:
             for at in range(1, 21):
                 self.assertEqual(service.ask(f"account k{at}"), "ok")

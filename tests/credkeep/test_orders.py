@@ -1,9 +1,10 @@
 """Orders on an account: what they read, the records that they make, and what they show."""
 
 import base64
+import json
 import pathlib
 
-from tests.credkeep.books import CHEAP, DONE, RECORD, SETTING, TAG, BookTest, fails, says
+from tests.credkeep.books import CHEAP, DONE, OTHER, RECORD, SETTING, TAG, BookTest, fails, says
 from tests.helpers import Ended, need_module
 
 # RFC 9106's second recommended choice.
@@ -39,7 +40,7 @@ class PasswordsTest(BookTest):
 
     def test_empty_passwords(self) -> None:
         """A new password is empty only if that is asked for."""
-        refused = fails(6, "the password is empty: --empty-password takes it")
+        refused = fails(6, "the password is empty: --empty-password accepts it")
         orders = [("add", "\n", "enrolled"), ("reset", "\n", "replaced")]
         orders += [("change", "\n\n", "replaced")]
         for order, given, answer in orders:
@@ -146,6 +147,43 @@ class RecordsTest(BookTest):
             costs = record.rsplit("$", 2)[0]
             self.assertEqual(self.book("show", name), Ended(0, f"{costs}\n"))
             self.assertEqual(self.book("show", name, "--record"), Ended(0, f"{record}\n"))
+
+    def test_json(self) -> None:
+        """An object a line, with null for no record; null alone is no account."""
+        self.begun({"ann": "", "one": RECORD})
+        costs = {"ann": None, "one": RECORD.rsplit("$", 2)[0]}
+        found = self.book("list", "--json")
+        self.assertEqual(found[::2], (0, ""))
+        objects = [{"name": name, "costs": it} for name, it in costs.items()]
+        self.assertEqual([json.loads(line) for line in found.written.splitlines()], objects)
+        for words, status, value in (
+            (["one"], 0, objects[1]),
+            (["one", "--record"], 0, {"name": "one", "record": RECORD}),
+            (["ann"], 4, objects[0]),
+            (["ann", "--record"], 4, {"name": "ann", "record": None}),
+            (["zoe"], 4, None),
+        ):
+            done = self.book("show", "--json", *words)
+            self.assertEqual((done.status, json.loads(done.written)), (status, value))
+
+    def test_disabled_with_its_line(self) -> None:
+        """`disable --show` writes the line that `import --update` puts back, and nothing else does
+        without it. A line that can't be written leaves the record where it is."""
+        before = {"ann": RECORD, "bob": OTHER, "cat": ""}
+        self.begun(before)
+        with open("/dev/full", "wb") as full:
+            done = self.book("disable", "bob", "--show", stdout=full)
+        self.assertEqual(done, fails(2, "writing failed"))
+        self.assertEqual(self.book.accounts(), before)
+        for name, answer in (("cat", "absent"), ("zoe", "noaccount")):
+            self.assertEqual(self.book("disable", name, "--show"), says(answer))
+        line = f"bob:{OTHER}\n"
+        self.assertEqual(self.book("disable", "bob", "--show"), Ended(0, line))
+        self.assertEqual(self.book.accounts(), {**before, "bob": ""})
+        self.assertEqual(self.book("check", "bob", given="password\n"), says("absent"))
+        self.assertEqual(self.book("import", "--update", given=line).status, 0)
+        self.assertEqual(self.book.accounts(), before)
+        self.assertEqual(self.book("disable", "bob"), says("disabled"))
 
     def test_adds(self) -> None:
         """`add` makes the account too, and nothing where there is one with a record."""

@@ -57,6 +57,20 @@ class TerminalsTest(BookTest):
                 self.assertEqual(self.book.names(), [])
         self.assertEqual(self.book("check", "ann", given="third\n"), says("yes"))
 
+    def test_progress(self) -> None:
+        """A terminal sees how far a long import is, and neither --quiet nor a short one tells."""
+        lines = "".join(f"n{at}:\n" for at in range(12_000))
+        for given, words, is_told in ((lines, [], 1), (lines, ["--quiet"], 0), ("ann:\n", [], 0)):
+            book = self.begun()
+            terminal, faults = pty.openpty()
+            self.addCleanup(os.close, terminal)
+            self.assertEqual(book("import", *words, given=given, stderr=faults).status, 0)
+            os.write(faults, b".")
+            os.close(faults)
+            shown = os.read(terminal, 1000).decode()
+            self.assertEqual(shown.count("credkeep: 12000 lines read"), is_told)
+            self.assertTrue(is_told or shown == ".", shown)
+
     def test_credkeep_ask(self) -> None:
         """It shows nothing of what is typed, and its status is credkeep's."""
         script = [str(TOP / "bin" / "credkeep-ask"), "--wait", "5", str(self.book.path)]

@@ -1,17 +1,22 @@
 -- What the orders do that change an account without its password.
-use Rattle.std.specs.Prelude.{◌≡◌, ℕ, ◌≤◌, ◌<◌, Bool, true, false, List, [], ◌∷◌, ◌++◌, codes, Option}
-use Rattle.std.specs.Prelude.{Some, None, Result, Ok, Err}
+use Rattle.std.specs.Prelude.{◌≡◌, ◌⊎◌, ℕ, Bool, true, false, ◌&&◌, not, List, [], ◌∷◌, ◌++◌, codes}
+use Rattle.std.specs.Prelude.{nat_lt, Option, Some, None, Result, Ok, Err}
 use Rattle.std.specs.FinMap as map
-use Rattle.std.specs.Io.KnownBytes.{Keeps}
+use Rattle.std.specs.Io.KnownBytes.{Appends, Keeps}
 use Rattle.cred_phc.specs.Values.{RecordValue}
 use Rattle.cred_book.specs.Accounts.{Accounts}
+use Rattle.cred_book.specs.declared.error.BookError.{BookError}
+use Rattle.cred_book.specs.declared.error.BookError.TheVariants as error
 use Rattle.cred_admin.specs.declared.edit_reply.EditReply.{EditReply}
 use Rattle.cred_admin.specs.declared.edit_reply.EditReply.TheVariants as reply
+use Rattle.cred_admin.specs.declared.edits.Edit.{Edit}
+use Rattle.cred_admin.specs.declared.edits.Edit.TheVariants.{Disable, Delete, Rename}
 use Rattle.cred_admin.specs.declared.fault.Fault.{Fault}
 use Rattle.cred_admin.specs.declared.fault.Fault.TheVariants as fault
 use Rattle.cred_admin.specs.declared.status.Status.{Status}
 use Rattle.cred_admin.specs.declared.status.Status.TheVariants.{Done, No}
-use Rattle.cred_admin.specs.Listing.{Tells}
+use Rattle.cred_admin.specs.Listing.{Tells, passwd_line}
+use Rattle.cred_cli.specs.Outcome.{FrontWritten}
 use Rattle.cred_cli.specs.Watched.{Writing}
 
 -- ---- what is answered
@@ -70,17 +75,54 @@ abbrev pub renaming : Accounts → List ℕ → List ℕ → EditReply × Accoun
 renaming book name other =
     renaming_at book name other (map.get book name) (map.contains_key book other)
 
+abbrev pub edited : Accounts → Edit → EditReply × Accounts
+edited book (Disable name) = disabling book name
+edited book (Delete name) = deletion book name
+edited book (Rename name other) = renaming book name other
+
+abbrev pub is_renamed : EditReply → Bool
+is_renamed reply.Renamed = true
+is_renamed _ = false
+
+-- an account would be renamed, and there is no room for one more name, which that takes
+abbrev pub lacks_room : ℕ → Accounts → Edit → Bool
+lacks_room room book edit = is_renamed (edited book edit).0 && not (nat_lt (map.len book) room)
+
+-- what a keeper does; memory runs out only if the change could have been made
+abbrev pub EditsWithin : ℕ → Accounts → Accounts → Edit → Result EditReply BookError → Type 0
+EditsWithin room old new edit (Ok r) =
+    (lacks_room room old edit ≡ false) × ((r, new) ≡ edited old edit)
+EditsWithin room old new edit (Err error.Full) = (lacks_room room old edit ≡ true) × (new ≡ old)
+EditsWithin room old new edit (Err error.Memory) = (edit_status (edited old edit).0 ≡ Done)
+    × (lacks_room room old edit ≡ false) × (new ≡ old)
+EditsWithin room old new edit (Err error.Name) = ⊥
+EditsWithin room old new edit (Err error.Exists) = ⊥
+EditsWithin room old new edit (Err error.NoAccount) = ⊥
+
 -- ---- what comes of it
 
--- the step is done and answered, or done and not answered, or not done; a book in which a name is
--- changed has to have room for one more, and memory runs out only if the step could have been done
-abbrev pub Edits : ℕ → EditReply × Accounts → Accounts → Accounts → Writing → Result Status Fault
-    → Type 0
-Edits capacity step old new w (Ok status) = (new ≡ step.1) × Tells (told step.0) w (Ok status)
-Edits capacity step old new w (Err fault.Write) =
-    (new ≡ step.1) × Tells (told step.0) w (Err fault.Write)
-Edits capacity step old new w (Err fault.Memory) = (edit_status step.0 ≡ Done)
-    × (step.0 ≡ reply.Renamed → map.len old < capacity) × (new ≡ old) × Keeps w.before w.now
-Edits capacity step old new w (Err fault.Full) =
-    (step.0 ≡ reply.Renamed) × (capacity ≤ map.len old) × (new ≡ old) × Keeps w.before w.now
-Edits capacity step old new w (Err _) = ⊥
+-- the change is made and answered, or made and not answered, or not made
+abbrev pub Edits : ℕ → Accounts → Accounts → Edit → Writing → Result Status Fault → Type 0
+Edits room old new edit w (Ok status) =
+    (r : EditReply) × EditsWithin room old new edit (Ok r) × Tells (told r) w (Ok status)
+Edits room old new edit w (Err fault.Write) =
+    (r : EditReply) × EditsWithin room old new edit (Ok r) × Tells (told r) w (Err fault.Write)
+Edits room old new edit w (Err fault.Memory) =
+    EditsWithin room old new edit (Err error.Memory) × Keeps w.before w.now
+Edits room old new edit w (Err fault.Full) =
+    EditsWithin room old new edit (Err error.Full) × Keeps w.before w.now
+Edits room old new edit w (Err _) = ⊥
+
+-- The line of the account is written, and then its record is taken away; a fault leaves the account
+-- as it is. Where there is no record, that is answered.
+abbrev pub DisablesShown : Accounts → Accounts → List ℕ → Option (Option RecordValue) → Writing
+    → Result Status Fault → Type 0
+DisablesShown old new name None w r = (new ≡ old) × Tells (told reply.NoAccount) w r
+DisablesShown old new name (Some None) w r = (new ≡ old) × Tells (told reply.Absent) w r
+DisablesShown old new name (Some (Some v)) w (Ok status) = (new ≡ map.insert old name None)
+    × Appends w.before w.now (passwd_line (name, Some v)) × (status ≡ Done)
+DisablesShown old new name (Some (Some v)) w (Err fault.Write) = (new ≡ old)
+    × (w.failed ≡ true) × FrontWritten w.before w.now (passwd_line (name, Some v))
+DisablesShown old new name (Some (Some v)) w (Err fault.Memory) = (new ≡ old)
+    × (Keeps w.before w.now ⊎ Appends w.before w.now (passwd_line (name, Some v)))
+DisablesShown old new name (Some (Some v)) w (Err _) = ⊥

@@ -1,18 +1,18 @@
 -- What lists and exports write.
 use Rattle.std.specs.Prelude.{◌≡◌, ℕ, List, [], ◌∷◌, ◌++◌, Option, Some, None, Result, Ok, Err}
-use Rattle.std.specs.Prelude.{true, ◌⊎◌, ◌<◌, length, take}
+use Rattle.std.specs.Prelude.{true, ◌⊎◌, ◌<◌, codes, length, take}
 use Rattle.std.specs.Io.KnownBytes.{Appends, Keeps}
 use Rattle.cred_phc.specs.Values.{RecordValue}
 use Rattle.cred_phc.specs.Text.{record_text, scheme_text}
 use Rattle.cred_book.specs.declared.reply.Reply.TheVariants as reply
 use Rattle.cred_admin.specs.declared.listing.Line.{Line}
 use Rattle.cred_admin.specs.declared.listing.Line.TheVariants as line
-use Rattle.cred_admin.specs.declared.showing.Part.{Part}
-use Rattle.cred_admin.specs.declared.showing.Part.TheVariants.{Costs, Record}
+use Rattle.cred_admin.specs.declared.part.Part.{Part}
+use Rattle.cred_admin.specs.declared.part.Part.TheVariants.{Costs, Record}
 use Rattle.cred_admin.specs.declared.fault.Fault.{Fault}
 use Rattle.cred_admin.specs.declared.fault.Fault.TheVariants as fault
 use Rattle.cred_admin.specs.declared.status.Status.{Status}
-use Rattle.cred_admin.specs.declared.status.Status.TheVariants.{Done}
+use Rattle.cred_admin.specs.declared.status.Status.TheVariants.{Done, No}
 use Rattle.cred_admin.specs.Statuses.{status_of}
 use Rattle.cred_cli.specs.Outcome.{FrontWritten}
 use Rattle.cred_cli.specs.Texts.{reply_line}
@@ -26,26 +26,44 @@ Entry = List ℕ × Option RecordValue
 abbrev pub name_line : Entry → List ℕ
 name_line e = e.0 ++ 10 ∷ []
 
-abbrev pub stored_text : Option RecordValue → List ℕ
-stored_text None = []
-stored_text (Some v) = record_text v
+-- what is shown of a record
+abbrev pub part_text : Part → RecordValue → List ℕ
+part_text Costs v = scheme_text v.setting.scheme
+part_text Record v = record_text v
 
-abbrev pub costs_of : Option RecordValue → List ℕ
-costs_of None = []
-costs_of (Some v) = scheme_text v.setting.scheme
+abbrev pub part_of : Part → Option RecordValue → List ℕ
+part_of part None = []
+part_of part (Some v) = part_text part v
 
--- the name, a colon (byte 58), the scheme and the costs or nothing, and a line end
-abbrev pub costs_line : Entry → List ℕ
-costs_line e = e.0 ++ 58 ∷ costs_of e.1 ++ 10 ∷ []
+-- the name, a colon (byte 58), the part or nothing, and a line end
+abbrev pub part_line : Part → Entry → List ℕ
+part_line part e = e.0 ++ 58 ∷ part_of part e.1 ++ 10 ∷ []
 
--- the name, a colon (byte 58), the record's text or nothing, and a line end
+-- as a passwd-file has it
 abbrev pub passwd_line : Entry → List ℕ
-passwd_line e = e.0 ++ 58 ∷ stored_text e.1 ++ 10 ∷ []
+passwd_line e = part_line Record e
+
+-- ---- in JSON (RFC 8259), where neither a name nor a record has a byte that wants an escape
+
+abbrev pub part_word : Part → List ℕ
+part_word Costs = codes "costs"
+part_word Record = codes "record"
+
+-- the part in quotation marks (byte 34)
+abbrev pub json_part : Part → Option RecordValue → List ℕ
+json_part part None = codes "null"
+json_part part (Some v) = 34 ∷ part_text part v ++ 34 ∷ []
+
+abbrev pub json_line : Part → Entry → List ℕ
+json_line part e = codes "{\"name\":\"" ++ e.0 ++ codes "\",\"" ++ part_word part ++ codes "\":"
+    ++ json_part part e.1 ++ codes "}\n"
+
+-- ---- all of them
 
 abbrev pub line_text : Line → Entry → List ℕ
 line_text line.Name = name_line
-line_text line.Costs = costs_line
-line_text line.Passwd = passwd_line
+line_text (line.Passwd part) = part_line part
+line_text (line.Json part) = json_line part
 
 -- a line each
 unfoldable pub lines_text : (Entry → List ℕ) → List Entry → List ℕ
@@ -54,16 +72,17 @@ lines_text line (e ∷ es) = line e ++ lines_text line es
 
 -- ---- one account
 
--- what is shown of a record
-abbrev pub part_text : Part → RecordValue → List ℕ
-part_text Costs v = scheme_text v.setting.scheme
-part_text Record v = record_text v
-
 -- what is written of an account's entry, and the status that goes with it
 abbrev pub shown_at : Part → Option (Option RecordValue) → List ℕ × Status
 shown_at part None = (reply_line reply.NoAccount, status_of reply.NoAccount None)
 shown_at part (Some None) = (reply_line reply.Absent, status_of reply.Absent None)
 shown_at part (Some (Some v)) = (part_text part v ++ 10 ∷ [], Done)
+
+-- the same in JSON
+abbrev pub json_at : Part → List ℕ → Option (Option RecordValue) → List ℕ × Status
+json_at part name None = (codes "null\n", No None)
+json_at part name (Some None) = (json_line part (name, None), No None)
+json_at part name (Some (Some v)) = (json_line part (name, Some v), Done)
 
 -- ---- what becomes of a text
 

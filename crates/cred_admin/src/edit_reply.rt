@@ -6,7 +6,7 @@ ghost use Rattle.cred_admin.specs.Edits.{edit_line, edit_status, told};
 ghost use Rattle.cred_admin.specs.Listing.{Tells};
 
 use crate::fault::Fault;
-use crate::printing::write_whole;
+use crate::printing::tell;
 use crate::status::Status;
 use cred_cli::Watched;
 use std::io::Write;
@@ -36,8 +36,7 @@ pub fn answer_edit<W: Write>(reply: EditReply, writer: &mut Watched<W>) -> Resul
         (writing_on basis W.contents writer.old writer.new) result }
     ensures fault { IfErr result (λ e. e ≡ Fault.Write) }
 {
-    write_whole(writer, edit_line(reply))?;
-    Ok(edit_status(reply))
+    tell(edit_line(reply), edit_status(reply), writer)
 }
 
 /// The reply's word with the line end.

@@ -1,6 +1,6 @@
 //! What an administrator does with a book of accounts: add, check, change, upgrade, remove and
-//! reset by a password that is read from a reader; show, list and export; and what an import and an
-//! order without a password read and answer, for a book whose names change.
+//! reset by a password that is read from a reader; show and list; disable, delete and rename, for
+//! which a book is kept in a database; and what the lines of an import come to.
 //!
 //! Each command reads, changes the book by its keeper, and then writes its answer: so an answer is
 //! never written before its change is made.
@@ -9,12 +9,14 @@
 mod account;
 mod answer;
 mod edit_reply;
+mod edits;
 mod entry;
 mod fault;
 mod gathering;
 mod laws;
 mod listing;
 mod new_password;
+mod part;
 mod password;
 mod printing;
 mod setting;
@@ -22,13 +24,16 @@ mod showing;
 mod status;
 
 pub use account::{add, change, check, remove, reset, upgrade};
-pub use edit_reply::{EditReply, answer_edit, edit_line};
+pub use edit_reply::{EditReply, edit_line};
+pub use edits::{Edit, disable_shown, edit_account, make_edit};
 pub use entry::LineFault;
 pub use fault::Fault;
 pub use gathering::{BadLine, Existing, Gathered, ImportFault, LockedRecords, Rules, gather};
 pub use laws::imports_are_of_their_lines;
-pub use listing::{a_piece_has_64_kib, export, list, list_costs};
+pub use listing::{Line, a_piece_has_64_kib, list};
 pub use new_password::{EmptyPassword, NewPassword};
+pub use part::Part;
+pub use printing::tell;
 pub use setting::{NewSetting, setting_of};
-pub use showing::{Part, show};
+pub use showing::{show, show_json};
 pub use status::{Hint, Status};

@@ -1,21 +1,22 @@
 //! The commands that write the accounts, in the order of their names.
 
-ghost use Rattle.std.specs.Prelude.{◌≡◌, ◌++◌, ◌<◌, length, IfErr, OnErr, OnOk, true};
+ghost use Rattle.std.specs.Prelude.{◌≡◌, ◌++◌, ◌<◌, length, IfErr, IfOk, None, OnErr};
+ghost use Rattle.std.specs.Prelude.{OnOk, true};
 ghost use Rattle.std.specs.FinMap as map;
 ghost use Rattle.cred_phc.specs.Values.{RecordValue};
 ghost use Rattle.cred_cli.specs.Outcome.{FrontWritten};
 ghost use Rattle.cred_cli.specs.Watched.{Basis, failed_of, held_on, writing_on};
-ghost use Rattle.cred_admin.specs.Listing.{IsPiece, Prints, costs_line, line_text, name_line};
-ghost use Rattle.cred_admin.specs.Listing.{passwd_line};
+ghost use Rattle.cred_admin.specs.Listing.{IsPiece, Prints, json_line, json_part, line_text};
+ghost use Rattle.cred_admin.specs.Listing.{name_line, part_line, part_word};
 ghost use Rattle.cred_admin.specs.declared.listing.TheConstants.{PIECE};
 
 use crate::fault::Fault;
+use crate::part::{Part, part_text};
 use crate::printing::write_whole;
-use crate::showing::costs_text;
 use crate::status::Status;
-use cred_book::{Name, Register, Slot};
+use cred_book::{Name, Register};
 use cred_cli::Watched;
-use cred_phc::write_record;
+use cred_phc::Record;
 use std::alloc::{AllocError, Global};
 use std::io::Write;
 
@@ -27,64 +28,22 @@ pub fn a_piece_has_64_kib()
     ensures { PIECE ≡ 65536 }
 {}
 
-/// What a line tells of an account.
-#[derive(Clone, Copy)]
-pub(crate) enum Line {
-    /// Its name.
+/// How a line tells of an account.
+#[derive(Clone, Copy, Debug, PartialEq, Eq)]
+pub enum Line {
+    /// By its name.
     Name,
-    /// Its name, and the scheme and the costs of its record.
-    Costs,
-    /// Its name and its record, as a passwd-file has them.
-    Passwd,
+    /// As a passwd-file does: `NAME:` and this part of its record, if it has one.
+    Passwd(Part),
+    /// In JSON: `{"name":"NAME","record":"RECORD"}`, or with `"costs"`; `null` is no record.
+    Json(Part),
 }
 
-/// Writes the names, a line each. It keeps about 64 KiB of them at a time, however many there are.
+/// Writes a line of each account, in the order of their names. It keeps about 64 KiB of them at a
+/// time, however many there are. `import` reads those of `Line::Passwd(Part::Record)`.
 ///
 /// Errors: `Memory`, and some first lines are written, perhaps none and never all; `Write`.
 pub fn list<W: Write>(
-    alloc: Global,
-    book: &Register,
-    writer: &mut Watched<W>,
-) -> Result<Status, Fault>
-    ensures { (basis : Basis) → Prints name_line (map.entries book.now)
-        (writing_on basis W.contents writer.old writer.new) result }
-{
-    write_lines(alloc, book, Line::Name, writer)
-}
-
-/// Writes the accounts with the schemes and the costs of their records, a line
-/// `NAME:$argon2id$v=19$m=65536,t=3,p=4` each, or `NAME:` if it has no record: so neither salts nor
-/// tags. It keeps about 64 KiB of them at a time, however many there are.
-///
-/// Errors: `Memory`, and some first lines are written, perhaps none and never all; `Write`.
-pub fn list_costs<W: Write>(
-    alloc: Global,
-    book: &Register,
-    writer: &mut Watched<W>,
-) -> Result<Status, Fault>
-    ensures { (basis : Basis) → Prints costs_line (map.entries book.now)
-        (writing_on basis W.contents writer.old writer.new) result }
-{
-    write_lines(alloc, book, Line::Costs, writer)
-}
-
-/// Writes the accounts as a passwd-file has them, a line `NAME:RECORD` each, or `NAME:` if it has
-/// no record. `import` reads them. It keeps about 64 KiB of them at a time, however many there are.
-///
-/// Errors: `Memory`, and some first lines are written, perhaps none and never all; `Write`.
-pub fn export<W: Write>(
-    alloc: Global,
-    book: &Register,
-    writer: &mut Watched<W>,
-) -> Result<Status, Fault>
-    ensures { (basis : Basis) → Prints passwd_line (map.entries book.now)
-        (writing_on basis W.contents writer.old writer.new) result }
-{
-    write_lines(alloc, book, Line::Passwd, writer)
-}
-
-/// Writes a line of each account, a piece at a time.
-fn write_lines<W: Write>(
     alloc: Global,
     book: &Register,
     line: Line,
@@ -95,7 +54,7 @@ fn write_lines<W: Write>(
 {
     let mut text = Vec::new(alloc);
     for (name, slot) in book.iter() {
-        push_line(alloc, &mut text, line, name, slot)?;
+        push_line(alloc, &mut text, line, name, slot.stored())?;
         write_piece(writer, &mut text)?;
     }
     write_whole(writer, &text)?;
@@ -119,20 +78,34 @@ fn write_piece<W: Write>(writer: &mut Watched<W>, text: &mut Vec<u8>) -> Result<
     Ok(())
 }
 
+/// The line of one account.
+pub(crate) fn line_of(
+    alloc: Global,
+    line: Line,
+    name: &Name,
+    stored: Option<Record>,
+) -> Result<Vec<u8>, AllocError>
+    ensures { IfOk result (λ text. text.items ≡ line_text line (name.now, stored)) }
+{
+    let mut text = Vec::new(alloc);
+    push_line(alloc, &mut text, line, name, stored)?;
+    Ok(text)
+}
+
 fn push_line(
     alloc: Global,
     text: &mut Vec<u8>,
     line: Line,
     name: &Name,
-    slot: &Slot,
+    stored: Option<Record>,
 ) -> Result<(), AllocError>
     ensures { OnOk result
-        (text.new.items ≡ text.old.items ++ line_text line (name.now, slot.now)) }
+        (text.new.items ≡ text.old.items ++ line_text line (name.now, stored)) }
 {
     match line {
         Line::Name => push_name(text, name),
-        Line::Costs => push_costs(alloc, text, name, slot),
-        Line::Passwd => push_entry(alloc, text, name, slot),
+        Line::Passwd(part) => push_passwd(alloc, text, part, name, stored),
+        Line::Json(part) => push_json(alloc, text, part, name, stored),
     }
 }
 
@@ -144,32 +117,70 @@ fn push_name(text: &mut Vec<u8>, name: &Name) -> Result<(), AllocError>
     Ok(())
 }
 
-fn push_costs(alloc: Global, text: &mut Vec<u8>, name: &Name, slot: &Slot) -> Result<(), AllocError>
-    ensures { OnOk result (text.new.items ≡ text.old.items ++ costs_line (name.now, slot.now)) }
+fn push_passwd(
+    alloc: Global,
+    text: &mut Vec<u8>,
+    part: Part,
+    name: &Name,
+    stored: Option<Record>,
+) -> Result<(), AllocError>
+    ensures { OnOk result
+        (text.new.items ≡ text.old.items ++ part_line part (name.now, stored)) }
 {
     text.extend_from_slice(name.bytes())?;
     text.push(b':')?;
-    if let Some(stored) = slot.stored() {
-        let Ok(costs) = costs_text(alloc, &stored.setting()) else {
-            return Err(AllocError);
-        };
-        text.extend_from_slice(&costs)?;
+    if let Some(stored) = stored {
+        let shown = part_text(alloc, &stored, part)?;
+        text.extend_from_slice(&shown)?;
     }
     text.push(b'\n')?;
     Ok(())
 }
 
-fn push_entry(alloc: Global, text: &mut Vec<u8>, name: &Name, slot: &Slot) -> Result<(), AllocError>
-    ensures { OnOk result (text.new.items ≡ text.old.items ++ passwd_line (name.now, slot.now)) }
+fn push_json(
+    alloc: Global,
+    text: &mut Vec<u8>,
+    part: Part,
+    name: &Name,
+    stored: Option<Record>,
+) -> Result<(), AllocError>
+    ensures { OnOk result
+        (text.new.items ≡ text.old.items ++ json_line part (name.now, stored)) }
 {
+    text.extend_from_slice(b"{\"name\":\"")?;
     text.extend_from_slice(name.bytes())?;
-    text.push(b':')?;
-    if let Some(stored) = slot.stored() {
-        let Ok(written) = write_record(alloc, &stored) else {
-            return Err(AllocError);
-        };
-        text.extend_from_slice(&written)?;
+    text.extend_from_slice(b"\",\"")?;
+    text.extend_from_slice(part_word(part))?;
+    text.extend_from_slice(b"\":")?;
+    push_json_part(alloc, text, part, stored)?;
+    text.extend_from_slice(b"}\n")?;
+    Ok(())
+}
+
+fn part_word(part: Part) -> &'static [u8]
+    ensures { result.now ≡ part_word part }
+{
+    match part {
+        Part::Costs => b"costs",
+        Part::Record => b"record",
     }
-    text.push(b'\n')?;
+}
+
+/// A record's part as a string, or null.
+fn push_json_part(
+    alloc: Global,
+    text: &mut Vec<u8>,
+    part: Part,
+    stored: Option<Record>,
+) -> Result<(), AllocError>
+    ensures { OnOk result (text.new.items ≡ text.old.items ++ json_part part stored) }
+{
+    let Some(stored) = stored else {
+        return text.extend_from_slice(b"null");
+    };
+    let shown = part_text(alloc, &stored, part)?;
+    text.push(b'"')?;
+    text.extend_from_slice(&shown)?;
+    text.push(b'"')?;
     Ok(())
 }

@@ -1,11 +1,13 @@
-//! Writing a text whole.
+//! Writing a text whole, and answering by one.
 
 ghost use Rattle.std.specs.Prelude.{◌≡◌, IfErr, OnErr, OnOk, true};
 ghost use Rattle.std.specs.Io.KnownBytes.{Appends};
 ghost use Rattle.cred_cli.specs.Outcome.{FrontWritten};
-ghost use Rattle.cred_cli.specs.Watched.{Basis, failed_of, held_on};
+ghost use Rattle.cred_cli.specs.Watched.{Basis, failed_of, held_on, writing_on};
+ghost use Rattle.cred_admin.specs.Listing.{Tells};
 
 use crate::fault::Fault;
+use crate::status::Status;
 use cred_cli::Watched;
 use std::io::Write;
 
@@ -21,4 +23,16 @@ pub(crate) fn write_whole<W: Write>(writer: &mut Watched<W>, bytes: &[u8]) -> Re
         Ok(()) => Ok(()),
         Err(_) => Err(Fault::Write),
     }
+}
+
+/// Writes all of a text, with which this status goes.
+///
+/// Errors: `Write`.
+pub fn tell<W: Write>(text: &[u8], status: Status, writer: &mut Watched<W>) -> Result<Status, Fault>
+    ensures told { (basis : Basis) → Tells (text.now, status)
+        (writing_on basis W.contents writer.old writer.new) result }
+    ensures fault { IfErr result (λ e. e ≡ Fault.Write) }
+{
+    write_whole(writer, text)?;
+    Ok(status)
 }

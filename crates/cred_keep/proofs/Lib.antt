@@ -1,5 +1,4 @@
 mod Copied
-mod Edited
 mod NotTaken
 mod OnBasis
 mod Ran

@@ -1,6 +1,6 @@
 -- What an import makes of a kept book.
-use Rattle.std.specs.Prelude.{◌≡◌, ℕ, ◌+◌, ◌≤◌, ◌<◌, true, false, List, [], length}
-use Rattle.std.specs.Prelude.{IfSome, Result, Ok, Err}
+use Rattle.std.specs.Prelude.{◌≡◌, ℕ, ◌+◌, ◌≤◌, ◌<◌, true, false, List, [], ◌++◌, length, codes}
+use Rattle.std.specs.Prelude.{decimal, IfSome, Result, Ok, Err}
 use Rattle.std.specs.FinMap as map
 use Rattle.cred_book.specs.Accounts.{Accounts, register_capacity}
 use Rattle.cred_admin.specs.Import.{Tally, tally}
@@ -9,6 +9,8 @@ use Rattle.cred_admin.specs.declared.gathering.ImportFault.TheVariants as fault
 use Rattle.cred_cli.specs.Watched.{Reading}
 use Rattle.cred_file.specs.Edits.{taken_in}
 use Rattle.cred_keep.specs.declared.importing.BadLines.TheVariants.{Refused}
+use Rattle.cred_keep.specs.declared.importing.Counts.{Counts}
+use Rattle.cred_keep.specs.declared.importing.Counts.TheVariants.{Hidden, Plain, Json}
 use Rattle.cred_keep.specs.declared.importing.Effect.{Effect}
 use Rattle.cred_keep.specs.declared.importing.Effect.TheVariants.{Made, Foretold}
 use Rattle.cred_keep.specs.declared.importing.Imported.{Imported}
@@ -30,6 +32,17 @@ Takes effect old new added changed (Err fault.Memory) = new ≡ old
 Takes effect old new added changed (Err fault.Read) = ⊥
 Takes effect old new added changed (Err (fault.Lines bad)) = ⊥
 
+-- how many accounts are new, how many have another record, and how many lines name one that is
+-- there and stays, or aren't good
+abbrev pub counts_text : Counts → ℕ → ℕ → ℕ → ℕ → List ℕ
+counts_text Hidden added changed kept bad = []
+counts_text Plain added changed kept bad = decimal added ++ codes " added, " ++ decimal changed
+    ++ codes " updated, " ++ decimal kept ++ codes " there already, " ++ decimal bad
+    ++ codes " bad\n"
+counts_text Json added changed kept bad = codes "{\"added\":" ++ decimal added
+    ++ codes ",\"updated\":" ++ decimal changed ++ codes ",\"there\":" ++ decimal kept
+    ++ codes ",\"bad\":" ++ decimal bad ++ codes "}\n"
+
 -- No line is bad, or the bad ones are left out; what the others come to is taken in; and what is
 -- told of it is so.
 pub record TakesAll (how : Importing) (old new : Accounts) (t : Tally) (made : Imported)
@@ -42,6 +55,8 @@ pub record TakesAll (how : Importing) (old new : Accounts) (t : Tally) (made : I
   pub changed : made.changed ≡ map.len t.changed
   pub kept : made.kept ≡ t.kept
   pub bad : made.bad.items ≡ t.bad
+  pub text : made.text.items
+      ≡ counts_text how.counts made.added made.changed made.kept (length made.bad.items)
 
 -- What the lines come to is taken in; or some lines are bad, there would be too many accounts, a call
 -- on the reader failed, or none did and there was no memory, and the book is as it was.

@@ -2,28 +2,28 @@
 use Rattle.std.specs.Prelude.{◌≡◌, ℕ, ◌≤◌, Bool, true, false, List, length, Option, Some, None}
 use Rattle.std.specs.Prelude.{IfErr, IfSome, Result, Ok, Err}
 use Rattle.std.specs.FinMap as map
-use Rattle.std.specs.Io.KnownBytes.{Keeps}
+use Rattle.std.specs.Io.KnownBytes.{Appends, Keeps}
 use Rattle.cred_book.specs.Accounts.{Accounts, register_capacity}
 use Rattle.cred_book.specs.declared.request.Request.TheVariants as request
 use Rattle.cred_admin.specs.Commands.{Adds, Asks, AsksTwice, Resets}
-use Rattle.cred_admin.specs.Edits.{Edits, deletion, disabling, renaming}
-use Rattle.cred_admin.specs.Listing.{Entry, Prints, Tells, costs_line, name_line}
-use Rattle.cred_admin.specs.Listing.{passwd_line, shown_at}
+use Rattle.cred_admin.specs.Edits.{DisablesShown, Edits}
+use Rattle.cred_admin.specs.Listing.{Prints, Tells, json_at, line_text, shown_at}
 use Rattle.cred_admin.specs.Seen.{Seen}
 use Rattle.cred_admin.specs.Statuses.{status_of_fault}
-use Rattle.cred_admin.specs.declared.edit_reply.EditReply.{EditReply}
 use Rattle.cred_admin.specs.declared.fault.Fault.{Fault}
+use Rattle.cred_admin.specs.declared.fault.Fault.TheVariants as fault
 use Rattle.cred_admin.specs.declared.gathering.ImportFault.{ImportFault}
 use Rattle.cred_admin.specs.declared.gathering.ImportFault.TheVariants as import
 use Rattle.cred_admin.specs.declared.status.Status.{Status}
 use Rattle.cred_admin.specs.declared.status.Status.TheVariants.{Done, Io, Memory, Database, Data}
-use Rattle.cred_cli.specs.Outcome.{FailsAs, HasCause, IsAnswered, longest_script}
+use Rattle.cred_cli.specs.Outcome.{FailsAs, FrontWritten, HasCause, IsAnswered, longest_script}
 use Rattle.cred_cli.specs.Prompt.{IsPrompt}
 use Rattle.cred_cli.specs.Script.{script_start}
 use Rattle.cred_cli.specs.Starving.{Serves}
 use Rattle.cred_cli.specs.declared.costs.CostBounds.{CostBounds}
 use Rattle.cred_cli.specs.declared.fault.ScriptFault.{ScriptFault}
 use Rattle.cred_cli.specs.declared.fault.ScriptFault.TheVariants as script
+use Rattle.cred_cli.specs.Watched.{Writing}
 use Rattle.cred_cli.specs.declared.script.End.{End}
 use Rattle.cred_file.specs.Keeps.{Keeps as IsKept}
 use Rattle.cred_file.specs.Kept.{Kept}
@@ -43,9 +43,9 @@ use Rattle.cred_keep.specs.declared.failure.Failure.{Failure}
 use Rattle.cred_keep.specs.declared.failure.Failure.TheVariants as failure
 use Rattle.cred_keep.specs.declared.order.Order.{Order}
 use Rattle.cred_keep.specs.declared.order.Order.TheVariants.{Run, Serve, Add, Check, Change}
-use Rattle.cred_keep.specs.declared.order.Order.TheVariants.{Upgrade, Reset, Remove, Show}
-use Rattle.cred_keep.specs.declared.order.Order.TheVariants.{Disable, Delete, Rename}
-use Rattle.cred_keep.specs.declared.order.Order.TheVariants.{List as Names, ListCosts, Export, Import}
+use Rattle.cred_keep.specs.declared.order.Order.TheVariants.{Upgrade, Reset, Remove, Edit}
+use Rattle.cred_keep.specs.declared.order.Order.TheVariants.{DisableShown, Show, ShowJson}
+use Rattle.cred_keep.specs.declared.order.Order.TheVariants.{List as Lines, Import}
 
 -- ---- how it ends
 
@@ -53,9 +53,13 @@ abbrev pub command_end : Result Status Fault → Result Ending Failure
 command_end (Ok status) = Ok (ending.Answered status)
 command_end (Err e) = Err (failure.Command e)
 
-abbrev pub import_end : Result Imported ImportFault → Result Ending Failure
-import_end (Ok made) = Ok (ending.Imported made)
-import_end (Err e) = Err (failure.Import e)
+-- the counts of an import are written; one that failed writes nothing
+abbrev pub EndsImport : Result Imported ImportFault → Writing → Result Ending Failure → Type 0
+EndsImport (Ok made) w (Ok e) =
+    Appends w.before w.now made.text.items × (e ≡ ending.Imported made)
+EndsImport (Ok made) w (Err e) = (w.failed ≡ true)
+    × FrontWritten w.before w.now made.text.items × (e ≡ failure.Command fault.Write)
+EndsImport (Err why) w ended = Keeps w.before w.now × (ended ≡ Err (failure.Import why))
 
 abbrev pub run_end : Result End ScriptFault → Result Ending Failure
 run_end (Ok end) = Ok (ending.Answered Done)
@@ -135,16 +139,6 @@ pub record ServesLines (most : CostBounds) (s : Seen) (r : Result End ScriptFaul
 abbrev pub Commands : (Result Status Fault → Type 0) → Result Ending Failure → Type 0
 Commands Holds ended = (r : Result Status Fault) × Holds r × (ended ≡ command_end r)
 
--- a line of each account is written, and the book stays as it is
-abbrev pub Lists : (Entry → List ℕ) → Seen → Result Ending Failure → Type 0
-Lists line s ended =
-    Commands (Prints line (map.entries s.old) s.writing) ended × (s.new ≡ s.old)
-
--- a change without a password
-abbrev pub Edited : EditReply × Accounts → Seen → Result Ending Failure → Type 0
-Edited step s ended =
-    Commands (Edits register_capacity step s.old s.new s.writing) ended
-
 abbrev pub Performs : Order → Seen → Result Ending Failure → Type 0
 Performs Run s ended =
     (r : Result End ScriptFault) × RunsWithin longest_script s r × (ended ≡ run_end r)
@@ -158,17 +152,18 @@ Performs (Reset name new) s ended = Commands (Resets name new s) ended
 Performs (Upgrade name setting) s ended =
     Commands (Asks (λ pw. request.Upgrade name pw setting) s) ended
 Performs (Remove name) s ended = Commands (Asks (λ pw. request.Remove name pw) s) ended
-Performs (Disable name) s ended = Edited (disabling s.old name) s ended
-Performs (Delete name) s ended = Edited (deletion s.old name) s ended
-Performs (Rename name other) s ended = Edited (renaming s.old name other) s ended
+Performs (Edit edit) s ended =
+    Commands (Edits register_capacity s.old s.new edit s.writing) ended
+Performs (DisableShown name) s ended =
+    Commands (DisablesShown s.old s.new name (map.get s.old name) s.writing) ended
 Performs (Show name part) s ended =
     Commands (Tells (shown_at part (map.get s.old name)) s.writing) ended × (s.new ≡ s.old)
-Performs Names s ended = Lists name_line s ended
-Performs ListCosts s ended = Lists costs_line s ended
-Performs Export s ended = Lists passwd_line s ended
-Performs (Import how) s ended =
-    ((r : Result Imported ImportFault) × Imports how s.reading s.old s.new r
-    × (ended ≡ import_end r)) × Keeps s.writing.before s.writing.now
+Performs (ShowJson name part) s ended =
+    Commands (Tells (json_at part name (map.get s.old name)) s.writing) ended × (s.new ≡ s.old)
+Performs (Lines line) s ended =
+    Commands (Prints (line_text line) (map.entries s.old) s.writing) ended × (s.new ≡ s.old)
+Performs (Import how) s ended = (r : Result Imported ImportFault)
+    × Imports how s.reading s.old s.new r × EndsImport r s.writing ended
 
 -- as it ends for the shell: Ok means that no change is lost
 abbrev pub Ends : Order → Seen → Option Lost → Result Ending Failure → Type 0
@@ -184,13 +179,11 @@ pub record Leaves {S : Type 0} (g : Ghosts S) (order : Order) (s : Seen) (kept :
 
 -- the order reads nothing
 abbrev pub is_unread : Order → Bool
-is_unread Names = true
-is_unread ListCosts = true
-is_unread Export = true
+is_unread (Lines line) = true
 is_unread (Show name part) = true
-is_unread (Disable name) = true
-is_unread (Delete name) = true
-is_unread (Rename name other) = true
+is_unread (ShowJson name part) = true
+is_unread (Edit edit) = true
+is_unread (DisableShown name) = true
 is_unread Run = false
 is_unread (Serve most) = false
 is_unread (Add name new) = false

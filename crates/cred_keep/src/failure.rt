@@ -1,12 +1,14 @@
 //! Why an order ends without what was asked.
 
 ghost use Rattle.std.specs.Prelude.{◌≡◌};
-ghost use Rattle.cred_keep.specs.Orders.{command_end, import_end, run_end, status_of_failure};
+ghost use Rattle.cred_cli.specs.Watched.{Basis, writing_on};
+ghost use Rattle.cred_keep.specs.Orders.{EndsImport, command_end, run_end, status_of_failure};
 
 use crate::ending::Ending;
 use crate::importing::Imported;
-use cred_admin::{Fault, ImportFault, Status};
-use cred_cli::{End, ScriptFault};
+use cred_admin::{Fault, ImportFault, Status, tell};
+use cred_cli::{End, ScriptFault, Watched};
+use std::io::Write;
 
 /// What ended an order.
 #[derive(Debug, Drop)]
@@ -49,12 +51,19 @@ pub(crate) fn command_end(ended: Result<Status, Fault>) -> Result<Ending, Failur
     }
 }
 
-/// How an import's end is that of an order.
-pub(crate) fn import_end(ended: Result<Imported, ImportFault>) -> Result<Ending, Failure>
-    ensures { result ≡ import_end ended }
+/// Writes the counts of an import, which ends an order.
+pub(crate) fn import_end<W: Write>(
+    ended: Result<Imported, ImportFault>,
+    writer: &mut Watched<W>,
+) -> Result<Ending, Failure>
+    ensures { (basis : Basis) → EndsImport ended
+        (writing_on basis W.contents writer.old writer.new) result }
 {
     match ended {
-        Ok(made) => Ok(Ending::Imported(made)),
+        Ok(made) => match tell(&made.text, Status::Done, writer) {
+            Ok(_) => Ok(Ending::Imported(made)),
+            Err(fault) => Err(Failure::Command(fault)),
+        },
         Err(fault) => Err(Failure::Import(fault)),
     }
 }

@@ -1,16 +1,16 @@
 //! Taking in the lines of a passwd-file, all or none.
 
-ghost use Rattle.std.specs.Prelude.{◌≡◌, false};
+ghost use Rattle.std.specs.Prelude.{◌≡◌, IfErr, IfOk, false, length, string_bytes};
 ghost use Rattle.cred_admin.specs.Seen.{FitsSince};
 ghost use Rattle.cred_cli.specs.Watched.{Basis, failed_of, reading_on};
-ghost use Rattle.cred_keep.specs.Importing.{Imports, Takes};
+ghost use Rattle.cred_keep.specs.Importing.{Imports, Takes, counts_text};
 
 use cred_admin::{BadLine, Gathered, ImportFault, Rules, gather};
 use cred_book::{BookError, Register};
 use cred_cli::Watched;
 use cred_file::FileBook;
 use sqlite::Alter;
-use std::alloc::Global;
+use std::alloc::{AllocError, Global};
 use std::io::Read;
 
 /// What an import does with lines that aren't good.
@@ -30,12 +30,23 @@ pub enum Effect {
     Foretold,
 }
 
+/// How the counts of an import are written.
+#[derive(Clone, Copy, Debug, PartialEq, Eq)]
+pub enum Counts {
+    Hidden,
+    /// In words, in a line.
+    Plain,
+    /// In JSON, in a line.
+    Json,
+}
+
 /// How an import is done.
 #[derive(Clone, Copy, Debug, PartialEq, Eq)]
 pub struct Importing {
     pub rules: Rules,
     pub bad: BadLines,
     pub effect: Effect,
+    pub counts: Counts,
 }
 
 /// What an import made, or would make.
@@ -50,6 +61,8 @@ pub struct Imported {
     pub kept: u64,
     /// The lines that are left out since they aren't good, in their order.
     pub bad: Vec<BadLine>,
+    /// These counts, as they are written.
+    pub text: Vec<u8>,
 }
 
 /// Takes in the lines that the reader has, by one transaction of the database: a crash leaves the
@@ -78,15 +91,67 @@ pub(crate) fn import<S: Alter, R: Read>(
         BadLines::Refused if !bad.is_empty() => return Err(ImportFault::Lines(bad)),
         BadLines::Refused | BadLines::LeftOut => {}
     }
-    let made = Imported {
+    let mut made = Imported {
         effect: how.effect,
         added: accounts.len(),
         changed: changed.len(),
         kept,
         bad,
+        text: Vec::new(alloc),
     };
+    made.text = counts_text(alloc, how.counts, &made)?;
     take(book, how.effect, accounts, changed)?;
     Ok(made)
+}
+
+fn counts_text(alloc: Global, counts: Counts, made: &Imported) -> Result<Vec<u8>, ImportFault>
+    ensures text { IfOk result (λ text. text.items ≡ counts_text counts made.now.added
+        made.now.changed made.now.kept (length made.now.bad.items)) }
+    ensures memory { IfErr result (λ e. e ≡ ImportFault.Memory) }
+{
+    match written_counts(alloc, counts, made) {
+        Ok(text) => Ok(text.into_bytes()),
+        Err(_) => Err(ImportFault::Memory),
+    }
+}
+
+fn written_counts(alloc: Global, counts: Counts, made: &Imported) -> Result<String, AllocError>
+    ensures { IfOk result (λ text. string_bytes text ≡ counts_text counts made.now.added
+        made.now.changed made.now.kept (length made.now.bad.items)) }
+{
+    match counts {
+        Counts::Hidden => Ok(String::new(alloc)),
+        Counts::Plain => plain_counts(alloc, made.added, made.changed, made.kept, made.bad.len()),
+        Counts::Json => json_counts(alloc, made.added, made.changed, made.kept, made.bad.len()),
+    }
+}
+
+fn plain_counts(
+    alloc: Global,
+    added: usize,
+    changed: usize,
+    kept: u64,
+    bad: usize,
+) -> Result<String, AllocError>
+    ensures { IfOk result (λ text.
+        string_bytes text ≡ counts_text Counts.Plain added changed kept bad) }
+{
+    format!(in alloc; "{added} added, {changed} updated, {kept} there already, {bad} bad\n")
+}
+
+fn json_counts(
+    alloc: Global,
+    added: usize,
+    changed: usize,
+    kept: u64,
+    bad: usize,
+) -> Result<String, AllocError>
+    ensures { IfOk result (λ text.
+        string_bytes text ≡ counts_text Counts.Json added changed kept bad) }
+{
+    format!(in alloc;
+        "{{\"added\":{added},\"updated\":{changed},\"there\":{kept},\"bad\":{bad}}}\n"
+    )
 }
 
 /// Adds accounts and replaces the records of others, or tells whether there is room for them.

@@ -4,7 +4,6 @@
 #![tactic(auto)]
 
 mod copying;
-mod editing;
 mod ending;
 mod failure;
 mod importing;
@@ -16,7 +15,7 @@ mod script;
 pub use copying::{CopyFault, copy_book, copy_into, count_accounts};
 pub use ending::Ending;
 pub use failure::Failure;
-pub use importing::{BadLines, Effect, Imported, Importing};
+pub use importing::{BadLines, Counts, Effect, Imported, Importing};
 pub use order::Order;
 pub use performing::{perform, serve};
 pub use report::{NAME_RULE, explain, refuse};

@@ -1,7 +1,7 @@
 //! What is asked of a kept book.
 
 use crate::importing::Importing;
-use cred_admin::{NewPassword, NewSetting, Part};
+use cred_admin::{Edit, Line, NewPassword, NewSetting, Part};
 use cred_book::Name;
 use cred_cli::CostBounds;
 
@@ -25,20 +25,16 @@ pub enum Order {
     Upgrade { name: Name, setting: NewSetting },
     /// Takes the account's record away.
     Remove { name: Name },
-    /// Takes the account's record away without its password.
-    Disable { name: Name },
-    /// Takes the account out of the book.
-    Delete { name: Name },
-    /// Gives the account another name.
-    Rename { name: Name, other: Name },
+    /// Disables, deletes or renames an account without its password.
+    Edit { edit: Edit },
+    /// Writes the account's line of a passwd-file, and takes its record away without its password.
+    DisableShown { name: Name },
     /// Writes this part of the account's record.
     Show { name: Name, part: Part },
-    /// Writes the names.
-    List,
-    /// Writes the names with the schemes and the costs of their records.
-    ListCosts,
-    /// Writes the accounts as a passwd-file.
-    Export,
+    /// Writes the account with this part of its record in JSON.
+    ShowJson { name: Name, part: Part },
+    /// Writes a line of each account.
+    List { line: Line },
     /// Takes in a passwd-file.
     Import { how: Importing },
 }

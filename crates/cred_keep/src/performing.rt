@@ -9,7 +9,6 @@ ghost use Rattle.cred_keep.specs.Orders.{Leaves, Performs, is_unread, status_of_
 ghost use Rattle.sqlite.specs.State.{HasCleanDisk};
 ghost use Rattle.sqlite.specs.Held.{state};
 
-use crate::editing::{delete, disable, rename};
 use crate::ending::Ending;
 use crate::failure::{Failure, command_end, import_end, run_end};
 use crate::importing::import;
@@ -17,7 +16,8 @@ use crate::order::Order;
 use crate::report::{advise, explain};
 use crate::script::{run_on_file, serve_on_file};
 use cred_admin::{
-    Status, add, change, check, export, list, list_costs, remove, reset, show, upgrade,
+    Status, add, change, check, disable_shown, edit_account, list, remove, reset, show, show_json,
+    upgrade,
 };
 use cred_cli::{Tools, Watched};
 use cred_file::FileBook;
@@ -119,13 +119,15 @@ fn obey<T: Threads + Wait + Sync, S: Alter, R: Read, W: Write>(
             command_end(upgrade(tools, book, name, setting, reader, writer))
         }
         Order::Remove { name } => command_end(remove(tools, book, name, reader, writer)),
-        Order::Disable { name } => command_end(disable(book, name, writer)),
-        Order::Delete { name } => command_end(delete(book, name, writer)),
-        Order::Rename { name, other } => command_end(rename(book, name, other, writer)),
+        Order::Edit { edit } => command_end(edit_account(book, edit, writer)),
+        Order::DisableShown { name } => {
+            command_end(disable_shown(tools.alloc, book, name, writer))
+        }
         Order::Show { name, part } => command_end(show(tools.alloc, book, name, *part, writer)),
-        Order::List => command_end(list(tools.alloc, book.book(), writer)),
-        Order::ListCosts => command_end(list_costs(tools.alloc, book.book(), writer)),
-        Order::Export => command_end(export(tools.alloc, book.book(), writer)),
-        Order::Import { how } => import_end(import(tools.alloc, book, *how, reader)),
+        Order::ShowJson { name, part } => {
+            command_end(show_json(tools.alloc, book, name, *part, writer))
+        }
+        Order::List { line } => command_end(list(tools.alloc, book.book(), *line, writer)),
+        Order::Import { how } => import_end(import(tools.alloc, book, *how, reader), writer),
     }
 }

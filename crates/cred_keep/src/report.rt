@@ -18,16 +18,16 @@ use std::io::Write;
 const MOST_NAMED: usize = 64;
 
 /// What a name is, as faults say it.
-pub const NAME_RULE: &str = "names are a-z, 0-9, '.', '_', '-', 1 to 32 of them";
+pub const NAME_RULE: &str = "a name has 1 to 32 of a-z, 0-9, '.', '_', '-'";
 
 /// Says what the ending has beside its status: why a password may be wrong, if the book says no to
-/// it, and what an import left out or would do. Whether `faults` takes its text changes nothing.
+/// it, and which lines an import left out. Whether `faults` takes its text changes nothing.
 pub(crate) fn advise<F: Write>(faults: &mut F, ending: &Ending) {
     let _ = match ending {
         Ending::Answered(Status::No(Some(Hint::CarriageReturn))) => writeln!(
             faults,
             "credkeep: hint: the password that was read ends in a carriage return, which counts: \
-             tr -d '\\r' takes it off"
+             tr -d '\\r' removes it"
         ),
         Ending::Answered(_) => Ok(()),
         Ending::Imported(made) => tell_imported(faults, made),
@@ -35,45 +35,13 @@ pub(crate) fn advise<F: Write>(faults: &mut F, ending: &Ending) {
 }
 
 fn tell_imported<F: Write>(faults: &mut F, made: &Imported) -> io::Result<()> {
-    let (added, changed) = (made.added, made.changed);
-    tell_left_out(faults, made)?;
-    match made.effect {
-        Effect::Foretold => writeln!(
-            faults,
-            "credkeep: nothing was changed; {added} accounts would be added, and {changed} would \
-             have the records of their lines"
-        ),
-        Effect::Made if changed > 0 => writeln!(
-            faults,
-            "credkeep: {changed} accounts that were there have the records of their lines"
-        ),
-        Effect::Made => Ok(()),
-    }
-}
-
-fn tell_left_out<F: Write>(faults: &mut F, made: &Imported) -> io::Result<()> {
     for line in &made.bad {
         tell_line(faults, line)?;
     }
-    tell_bad(faults, made.bad.len())?;
-    tell_kept(faults, made.kept)
-}
-
-fn tell_bad<F: Write>(faults: &mut F, lines: usize) -> io::Result<()> {
-    if lines == 0 {
-        return Ok(());
+    match made.effect {
+        Effect::Made => Ok(()),
+        Effect::Foretold => writeln!(faults, "credkeep: a dry run: nothing was changed"),
     }
-    writeln!(faults, "credkeep: left out {lines} lines, which are bad")
-}
-
-fn tell_kept<F: Write>(faults: &mut F, lines: u64) -> io::Result<()> {
-    if lines == 0 {
-        return Ok(());
-    }
-    writeln!(
-        faults,
-        "credkeep: left out {lines} lines, whose accounts are there already"
-    )
 }
 
 /// Says why an order failed; the book's lost change is named if the database failed. Whether
@@ -142,7 +110,7 @@ fn tell_command<F: Write>(faults: &mut F, fault: &Fault) -> io::Result<()> {
     match fault {
         Fault::Empty => writeln!(
             faults,
-            "credkeep: the password is empty: --empty-password takes it"
+            "credkeep: the password is empty: --empty-password accepts it"
         ),
         _ => writeln!(faults, "credkeep: {fault}"),
     }
@@ -175,12 +143,19 @@ fn tell_line<F: Write>(faults: &mut F, line: &BadLine) -> io::Result<()> {
 fn tell_why<F: Write>(faults: &mut F, why: LineFault) -> io::Result<()> {
     match why {
         LineFault::Line => write!(faults, "it is neither NAME:RECORD nor NAME:"),
-        LineFault::Text(fault) => write!(faults, "{fault}"),
+        LineFault::Text(PhcError::Scheme) => {
+            write!(faults, "its record is not of Argon2 or scrypt")
+        }
+        LineFault::Text(fault) => write!(faults, "its record: {fault}"),
+        LineFault::Book(BookError::Name) => write!(
+            faults,
+            "its first field is no name: {NAME_RULE}"
+        ),
         LineFault::Book(refusal) => write!(faults, "{refusal}"),
         LineFault::Locked => write!(faults, "its record is locked: --disable-locked drops it"),
         LineFault::Costly => write!(
             faults,
-            "its record asks for more than --most-memory or --most-work"
+            "its record needs more than --most-memory or --most-work"
         ),
     }
 }

@@ -8,14 +8,17 @@ use crate::files::{
     open_file, tries_in,
 };
 use crate::log::LogLook;
+use crate::order::{Asked, Remarks};
 use crate::part::{OldLog, Part};
+use crate::progress::Progress;
 use crate::refusal::{refuse_file, refuse_unopened, say, warn_of_others};
 use crate::sidecar::{len_of, look_at_its_log, real_path};
 use crate::snapshot::take_snapshot;
 use cred_admin::Status;
 use cred_file::OpenFault;
-use cred_keep::{CopyFault, copy_book, count_accounts, refuse};
+use cred_keep::{CopyFault, Counts, copy_book, count_accounts, refuse};
 use sqlite::{Alter, Connection, Error, ErrorCode};
+use std::io;
 use std::io::Write;
 use std::thread::sleep;
 use std::time::Duration;
@@ -28,25 +31,25 @@ pub(crate) const NEW: &str = "-new";
 
 /// Writes a copy of the book to another place, and says how many accounts it has. The book may be
 /// in use.
-pub(crate) fn back_up(host: &HostRuntime, file: &str, to: &str) -> Status {
-    match backed_up(host, file, to) {
-        Ok(found) => found.tell(host),
+pub(crate) fn back_up(host: &HostRuntime, asked: &Asked<'_>, to: &str, counts: Counts) -> Status {
+    match backed_up(host, asked, to) {
+        Ok(found) => found.tell(host, counts),
         Err(status) => status,
     }
 }
 
 /// Puts a copy in the book's place, and says how many accounts it has.
-pub(crate) fn restore(host: &HostRuntime, file: &str, from: &str, wait: u16) -> Status {
-    match restored(host, file, from, wait) {
-        Ok(found) => found.tell(host),
+pub(crate) fn restore(host: &HostRuntime, asked: &Asked<'_>, from: &str, counts: Counts) -> Status {
+    match restored(host, asked, from) {
+        Ok(found) => found.tell(host, counts),
         Err(status) => status,
     }
 }
 
 /// Reads the file and its log to their ends, and says what is in them. The book may be in use, and
 /// nothing is written into its files.
-pub(crate) fn verify(host: &HostRuntime, file: &str) -> Status {
-    match verified(host, file) {
+pub(crate) fn verify(host: &HostRuntime, asked: &Asked<'_>, counts: Counts) -> Status {
+    match verified(host, asked, counts) {
         Ok(status) => status,
         Err(status) => status,
     }
@@ -60,12 +63,25 @@ struct Found {
 }
 
 impl Found {
-    fn tell(&self, host: &HostRuntime) -> Status {
-        let (accounts, changes) = (self.accounts, self.log.commits);
-        let mut writer = host.stdout();
-        match writeln!(writer, "{accounts} accounts, {changes} changes in the log") {
+    fn tell(&self, host: &HostRuntime, counts: Counts) -> Status {
+        match self.write(&mut host.stdout(), counts) {
             Ok(()) => Status::Done,
             Err(_) => say(host, "writing failed", Status::Io),
+        }
+    }
+
+    fn write<W: Write>(&self, out: &mut W, counts: Counts) -> io::Result<()> {
+        let (accounts, changes) = (self.accounts, self.log.commits);
+        match counts {
+            Counts::Hidden => Ok(()),
+            Counts::Plain => {
+                let (these, those) = (plural(accounts == 1), plural(changes == 1));
+                writeln!(
+                    out,
+                    "{accounts} account{these}, {changes} change{those} in the log"
+                )
+            }
+            Counts::Json => writeln!(out, "{{\"accounts\":{accounts},\"changes\":{changes}}}"),
         }
     }
 }
@@ -81,38 +97,50 @@ where
     }
 }
 
-fn backed_up(host: &HostRuntime, file: &str, to: &str) -> Result<Found, Status> {
-    seen(host, file)?;
+fn backed_up(host: &HostRuntime, asked: &Asked<'_>, to: &str) -> Result<Found, Status> {
+    let file = asked.file;
+    seen(host, file, asked.remarks)?;
     let source = told(host, file, real_path(host, file))?;
     let place = told(host, to, real_path(host, to))?;
     if place == source {
         return Err(refuse_file(host, to, &FileFault::Same));
     }
     told(host, to, look_at_old(host, place.as_str()))?;
-    let read = told(host, to, Part::make(host, place.as_str(), READ))?;
-    let ended = back_up_through(host, file, &read, place.as_str());
+    let read = part_at(host, place.as_str(), READ)?;
+    let ended = back_up_through(host, asked, &read, place.as_str());
     read.remove(host);
     ended
 }
 
 /// Looks at a file that may hold a book.
-fn seen(host: &HostRuntime, file: &str) -> Result<(), Status> {
-    match told(host, file, look_at(host, file))? {
-        Access::OwnerAlone => {}
-        Access::Others => warn_of_others(host, file),
+fn seen(host: &HostRuntime, file: &str, remarks: Remarks) -> Result<(), Status> {
+    if told(host, file, look_at(host, file))? == Access::Others && remarks == Remarks::Told {
+        warn_of_others(host, file);
     }
     Ok(())
 }
 
+/// Makes a part beside a place. A fault names the part: the place itself may be readable.
+fn part_at(host: &HostRuntime, place: &str, end: &str) -> Result<Part, Status> {
+    match Part::make(host, place, end) {
+        Ok(part) => Ok(part),
+        Err(why) => {
+            let _ = writeln!(host.stderr(), "credkeep: {place}{end}: {why}");
+            Err(why.status())
+        }
+    }
+}
+
 fn back_up_through(
     host: &HostRuntime,
-    file: &str,
+    asked: &Asked<'_>,
     read: &Part,
     place: &str,
 ) -> Result<Found, Status> {
-    let log = log_read(host, file, read)?;
+    let file = asked.file;
+    let log = log_read(host, file, read, asked.remarks)?;
     told(host, file, is_whole(log))?;
-    let new = told(host, place, Part::make(host, place, NEW))?;
+    let new = part_at(host, place, NEW)?;
     let ended = copied(host, file, read, &new);
     let accounts = unless_failed(host, &new, ended)?;
     let put = told(host, place, new.put_at(host, place, OldLog::Kept));
@@ -129,9 +157,19 @@ fn unless_failed<T>(host: &HostRuntime, new: &Part, ended: Result<T, Status>) ->
 }
 
 /// Copies the book's files as they are at one moment, and looks at their log.
-fn log_read(host: &HostRuntime, file: &str, read: &Part) -> Result<LogLook, Status> {
+fn log_read(
+    host: &HostRuntime,
+    file: &str,
+    read: &Part,
+    remarks: Remarks,
+) -> Result<LogLook, Status> {
     let source = told(host, file, real_path(host, file))?;
-    told(host, file, take_snapshot(host, source.as_str(), read))?;
+    let mut progress = Progress::new(host, remarks);
+    let taken = take_snapshot(host, source.as_str(), read, &mut progress);
+    if let Err(FileFault::System(error)) = taken {
+        return Err(refuse_file(host, read.path(), &FileFault::System(error)));
+    }
+    told(host, file, taken)?;
     told(host, file, look_at_its_log(host, read.path()))
 }
 
@@ -202,33 +240,38 @@ fn refuse_copy(host: &HostRuntime, path: &str, why: OpenFault) -> Status {
     status
 }
 
-fn restored(host: &HostRuntime, file: &str, from: &str, wait: u16) -> Result<Found, Status> {
-    seen(host, from)?;
+fn restored(host: &HostRuntime, asked: &Asked<'_>, from: &str) -> Result<Found, Status> {
+    if let Err(FileFault::Absent) = look_at(host, from) {
+        let _ = writeln!(host.stderr(), "credkeep: {from}: there is no such file");
+        return Err(Status::Database);
+    }
+    seen(host, from, asked.remarks)?;
+    let file = asked.file;
     let place = told(host, file, real_path(host, file))?;
     told(host, file, look_at_old(host, place.as_str()))?;
-    let read = told(host, file, Part::make(host, place.as_str(), READ))?;
-    let ended = restore_through(host, from, &read, place.as_str(), wait);
+    let read = part_at(host, place.as_str(), READ)?;
+    let ended = restore_through(host, asked, from, &read, place.as_str());
     read.remove(host);
     ended
 }
 
 fn restore_through(
     host: &HostRuntime,
+    asked: &Asked<'_>,
     from: &str,
     read: &Part,
     place: &str,
-    wait: u16,
 ) -> Result<Found, Status> {
-    let log = log_read(host, from, read)?;
+    let log = log_read(host, from, read, asked.remarks)?;
     // From itself a book comes back without the changes that are damaged.
     let source = told(host, from, real_path(host, from))?;
     if source.as_str() != place {
         told(host, from, is_whole(log))?;
     }
-    let new = told(host, place, Part::make(host, place, NEW))?;
+    let new = part_at(host, place, NEW)?;
     let ended = copied(host, from, read, &new);
     let accounts = unless_failed(host, &new, ended)?;
-    let put = put_back(host, &new, place, wait);
+    let put = put_back(host, &new, place, asked.wait);
     unless_failed(host, &new, put)?;
     Ok(Found { accounts, log })
 }
@@ -317,17 +360,24 @@ fn folded(host: &HostRuntime, place: &str) -> Result<OldLog, Unput> {
     }
 }
 
-fn verified(host: &HostRuntime, file: &str) -> Result<Status, Status> {
-    seen(host, file)?;
+fn verified(host: &HostRuntime, asked: &Asked<'_>, counts: Counts) -> Result<Status, Status> {
+    let file = asked.file;
+    seen(host, file, asked.remarks)?;
     let place = told(host, file, real_path(host, file))?;
-    let read = told(host, file, Part::make(host, place.as_str(), READ))?;
-    let ended = verify_through(host, file, &read);
+    let read = part_at(host, place.as_str(), READ)?;
+    let ended = verify_through(host, asked, &read, counts);
     read.remove(host);
     ended
 }
 
-fn verify_through(host: &HostRuntime, file: &str, read: &Part) -> Result<Status, Status> {
-    let log = log_read(host, file, read)?;
+fn verify_through(
+    host: &HostRuntime,
+    asked: &Asked<'_>,
+    read: &Part,
+    counts: Counts,
+) -> Result<Status, Status> {
+    let file = asked.file;
+    let log = log_read(host, file, read, asked.remarks)?;
     let conn = opened(host, file, read.path(), DamagedLog::Cut)?;
     let (conn, counted) = count_accounts(host.alloc(), conn);
     drop(conn);
@@ -335,7 +385,12 @@ fn verify_through(host: &HostRuntime, file: &str, read: &Part) -> Result<Status,
         Ok(accounts) => accounts,
         Err(why) => return Err(refuse_copy(host, file, why)),
     };
-    let status = Found { accounts, log }.tell(host);
+    let status = Found { accounts, log }.tell(host, counts);
     told(host, file, is_whole(log))?;
     Ok(status)
+}
+
+/// The end of a word of which there is one, or not.
+fn plural(is_one: bool) -> &'static str {
+    if is_one { "" } else { "s" }
 }

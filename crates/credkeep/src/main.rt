@@ -3,7 +3,9 @@
 #![tactic(auto)]
 
 mod arguments;
+mod commands;
 mod copies;
+mod costs;
 mod files;
 mod log;
 mod order;

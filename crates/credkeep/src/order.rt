@@ -1,17 +1,19 @@
 //! What the words of the command line ask for.
 
-use crate::arguments::{credkeep, names_command};
+use crate::arguments::credkeep;
+use crate::commands::{CommandText, command_in};
 use crate::size::kib_of;
 use crate::tagged::Tagged;
 use crate::terminal::Echo;
 use clap::error::ErrorKind;
 use clap::{ArgMatches, Error};
 use cred_admin::{
-    EmptyPassword, Existing, LockedRecords, NewPassword, NewSetting, Part, Rules, setting_of,
+    Edit, EmptyPassword, Existing, Line, LockedRecords, NewPassword, NewSetting, Part, Rules,
+    setting_of,
 };
 use cred_book::{BookError, Name};
 use cred_cli::{CostBounds, exceeds};
-use cred_keep::{BadLines, Effect, Importing, Order};
+use cred_keep::{BadLines, Counts, Effect, Importing, Order};
 use cred_many::Costs;
 use cred_phc::{PhcError, draw_salt};
 use rand::rngs::StdRng;
@@ -34,7 +36,15 @@ pub(crate) struct Asked<'a> {
     pub(crate) file: &'a str,
     /// For how many seconds a busy file is tried.
     pub(crate) wait: u16,
+    pub(crate) remarks: Remarks,
     pub(crate) act: Act<'a>,
+}
+
+/// Whether warnings and progress are told.
+#[derive(Clone, Copy, PartialEq, Eq)]
+pub(crate) enum Remarks {
+    Told,
+    Hidden,
 }
 
 #[derive(Drop)]
@@ -44,13 +54,17 @@ pub(crate) enum Act<'a> {
     /// Writes a copy of the book.
     Backup {
         to: &'a str,
+        counts: Counts,
     },
     /// Puts a copy in the book's place.
     Restore {
         from: &'a str,
+        counts: Counts,
     },
     /// Reads all of the book, and its log.
-    Verify,
+    Verify {
+        counts: Counts,
+    },
     /// Answers tagged lines of many clients.
     Tagged(Tagged),
     /// Does what is asked of a book, with at most so many threads.
@@ -66,14 +80,26 @@ pub(crate) enum Act<'a> {
 pub(crate) enum Refusal<'a> {
     /// They don't parse, or ask for help or the version.
     Words(Error),
-    /// They don't parse, and none of them is a command.
-    NoCommand(Error),
+    /// There is a word or an option too many for this command, or for any.
+    Unknown(Option<&'static CommandText>),
     /// No account can have this name.
-    Name { text: &'a str, why: BookError },
+    Name {
+        text: &'a str,
+        why: BookError,
+    },
     /// The text of the setting has this fault.
-    Setting(PhcError),
+    Setting {
+        text: &'a str,
+        why: PhcError,
+    },
     /// The text of this option is no size.
     Size(&'static str),
+    /// The text of this option is no number from the one to the other.
+    Number {
+        option: &'static str,
+        low: u16,
+        high: u16,
+    },
     /// The setting asks for more memory than the bound on the lines.
     Costly,
     /// Accounts that are there can't both stay as they are and be updated.
@@ -101,23 +127,49 @@ pub(crate) fn asked_by<'a, R: RandomSource + AllocGlobal>(
     rt: &R,
     words: &'a [String],
 ) -> Result<Asked<'a>, Refusal<'a>> {
-    let matches = match credkeep(rt.alloc())?.try_get_matches_from(words) {
+    let matches = match parsed(rt.alloc(), words) {
         Ok(matches) => matches,
         Err(error) => return Err(refusal_of(words, error)),
     };
     let file = matches.get_str("file").unwrap_or("");
+    let wait = number_in(&matches, "wait", 0, 3600)?.unwrap_or(0);
+    let remarks = if matches.get_flag("quiet") {
+        Remarks::Hidden
+    } else {
+        Remarks::Told
+    };
     let act = match matches.subcommand() {
         Some((word, values)) => act_of(rt, word, values)?,
         None => Act::Init,
     };
-    let wait = matches.get_one("wait").unwrap_or(0);
-    Ok(Asked { file, wait, act })
+    Ok(Asked {
+        file,
+        wait,
+        remarks,
+        act,
+    })
 }
 
-/// Why the words don't parse.
+/// A single word may ask for help or the version as a command does elsewhere.
+fn parsed<'a>(alloc: Global, words: &'a [String]) -> Result<ArgMatches<'a>, Error> {
+    let command = credkeep(alloc)?;
+    match words {
+        [_, word] if word.as_str() == "help" => {
+            command.try_get_matches_from(&["credkeep", "--help"])
+        }
+        [_, word] if word.as_str() == "version" => {
+            command.try_get_matches_from(&["credkeep", "--version"])
+        }
+        _ => command.try_get_matches_from(words),
+    }
+}
+
+/// Why the words don't parse. A word too many isn't repeated: it may be a password.
 fn refusal_of<'a>(words: &[String], error: Error) -> Refusal<'a> {
     match error.kind() {
-        ErrorKind::UnknownArgument if !names_command(words) => Refusal::NoCommand(error),
+        ErrorKind::UnknownArgument | ErrorKind::InvalidSubcommand => {
+            Refusal::Unknown(command_in(words))
+        }
         _ => Refusal::Words(error),
     }
 }
@@ -131,15 +183,19 @@ fn act_of<'a, R: RandomSource + AllocGlobal>(
         "init" => Ok(Act::Init),
         "backup" => Ok(Act::Backup {
             to: values.get_str("to").unwrap_or(""),
+            counts: counts_in(values),
         }),
         "restore" => Ok(Act::Restore {
             from: values.get_str("from").unwrap_or(""),
+            counts: counts_in(values),
         }),
-        "verify" => Ok(Act::Verify),
+        "verify" => Ok(Act::Verify {
+            counts: counts_in(values),
+        }),
         "serve" if values.get_flag("tagged") => Ok(Act::Tagged(tagged_in(rt, values)?)),
         _ => Ok(Act::Perform {
             order: order_of(rt, word, values)?,
-            workers: values.get_one("workers").unwrap_or(LANES),
+            workers: threads_in(values, "workers", 64)?.unwrap_or(LANES),
             echo: echo_in(values),
         }),
     }
@@ -160,10 +216,13 @@ fn tagged_in<'a, R: RandomSource + AllocGlobal>(
         return Err(Refusal::Costly);
     }
     let Some(costs) = Costs::of(&setting) else {
-        return Err(Refusal::Setting(PhcError::Version));
+        return Err(Refusal::Setting {
+            text: "",
+            why: PhcError::Version,
+        });
     };
     Ok(Tagged {
-        at_once: values.get_one("at-once"),
+        at_once: threads_in(values, "at-once", 255)?,
         memory,
         costs,
         most,
@@ -189,6 +248,43 @@ fn size_in<'a>(text: Option<&str>, option: &'static str) -> Result<Option<u64>, 
     }
 }
 
+/// The number of an option, if it is given.
+fn number_in<'a>(
+    values: &ArgMatches<'a>,
+    option: &'static str,
+    low: u16,
+    high: u16,
+) -> Result<Option<u16>, Refusal<'a>> {
+    let Some(text) = values.get_str(option) else {
+        return Ok(None);
+    };
+    match text.parse::<u16>() {
+        Ok(number) if (low..=high).contains(&number) => Ok(Some(number)),
+        _ => Err(Refusal::Number { option, low, high }),
+    }
+}
+
+/// How many threads an option gives, if it is given.
+fn threads_in<'a>(
+    values: &ArgMatches<'a>,
+    option: &'static str,
+    most: u8,
+) -> Result<Option<u8>, Refusal<'a>> {
+    let number = number_in(values, option, 1, u16::from(most))?;
+    Ok(number.map(|number| u8::try_from(number).unwrap_or(most)))
+}
+
+/// How counts are written.
+fn counts_in(values: &ArgMatches<'_>) -> Counts {
+    if values.get_flag("json") {
+        Counts::Json
+    } else if values.get_flag("quiet") {
+        Counts::Hidden
+    } else {
+        Counts::Plain
+    }
+}
+
 fn echo_in(values: &ArgMatches<'_>) -> Echo {
     if values.get_flag("echo") {
         Echo::Taken
@@ -207,9 +303,12 @@ fn order_of<'a, R: RandomSource + AllocGlobal>(
         "serve" => Ok(Order::Serve {
             most: most_in(values)?,
         }),
-        "list" if values.get_flag("costs") => Ok(Order::ListCosts),
-        "list" => Ok(Order::List),
-        "export" => Ok(Order::Export),
+        "list" => Ok(Order::List {
+            line: line_in(values),
+        }),
+        "export" => Ok(Order::List {
+            line: Line::Passwd(Part::Record),
+        }),
         "import" => Ok(Order::Import {
             how: importing_in(values)?,
         }),
@@ -227,11 +326,19 @@ fn order_on<'a, R: RandomSource + AllocGlobal>(
     match word {
         "check" => Ok(Order::Check { name }),
         "remove" => Ok(Order::Remove { name }),
-        "disable" => Ok(Order::Disable { name }),
-        "delete" => Ok(Order::Delete { name }),
-        "rename" => Ok(Order::Rename {
+        "disable" if values.get_flag("show") => Ok(Order::DisableShown { name }),
+        "disable" => Ok(Order::Edit {
+            edit: Edit::Disable(name),
+        }),
+        "delete" => Ok(Order::Edit {
+            edit: Edit::Delete(name),
+        }),
+        "rename" => Ok(Order::Edit {
+            edit: Edit::Rename(name, name_in(values.get_str("new").unwrap_or(""))?),
+        }),
+        "show" if values.get_flag("json") => Ok(Order::ShowJson {
             name,
-            other: name_in(values.get_str("new").unwrap_or(""))?,
+            part: part_in(values),
         }),
         "show" => Ok(Order::Show {
             name,
@@ -266,6 +373,17 @@ fn part_in(values: &ArgMatches<'_>) -> Part {
     }
 }
 
+/// How the accounts are listed.
+fn line_in(values: &ArgMatches<'_>) -> Line {
+    if values.get_flag("json") {
+        Line::Json(Part::Costs)
+    } else if values.get_flag("costs") {
+        Line::Passwd(Part::Costs)
+    } else {
+        Line::Name
+    }
+}
+
 /// How an import is done.
 fn importing_in<'a>(values: &ArgMatches<'a>) -> Result<Importing, Refusal<'a>> {
     let locked = if values.get_flag("disable-locked") {
@@ -288,7 +406,12 @@ fn importing_in<'a>(values: &ArgMatches<'a>) -> Result<Importing, Refusal<'a>> {
         locked,
         most: most_in(values)?,
     };
-    Ok(Importing { rules, bad, effect })
+    Ok(Importing {
+        rules,
+        bad,
+        effect,
+        counts: counts_in(values),
+    })
 }
 
 fn existing_in<'a>(values: &ArgMatches<'a>) -> Result<Existing, Refusal<'a>> {
@@ -323,12 +446,12 @@ fn new_setting<'a, R: RandomSource + AllocGlobal>(
 /// The setting of this text, with a salt of its own or the next one of the source.
 fn setting_in<'a, G: Rng>(
     alloc: Global,
-    text: &str,
+    text: &'a str,
     source: &mut G,
 ) -> Result<NewSetting, Refusal<'a>> {
     match setting_of(alloc, text.as_bytes(), &draw_salt(source)) {
         Ok(setting) => Ok(setting),
         Err(PhcError::Memory) => Err(Refusal::Memory),
-        Err(fault) => Err(Refusal::Setting(fault)),
+        Err(why) => Err(Refusal::Setting { text, why }),
     }
 }

@@ -6,9 +6,9 @@ use crate::copies::{NEW, back_up, restore, verify};
 use crate::files::{
     Access, Beginning, DamagedLog, Database, FileFault, look_at, look_before_init, open_file,
 };
-use crate::order::{Act, Asked, asked_by};
+use crate::order::{Act, Asked, Remarks, asked_by};
 use crate::part::{OldLog, Part};
-use crate::progress::{Counted, Telling};
+use crate::progress::{Counted, Progress};
 use crate::refusal::{
     answer_refusal, refuse_file, refuse_typing, refuse_unopened, say, warn_of_others,
 };
@@ -20,7 +20,7 @@ use cred_file::{FileBook, OpenFault};
 use cred_keep::{Order, refuse, serve};
 use sqlite::{Alter, Connection};
 use std::alloc::Global;
-use std::io::{ErrorKind, IsTerminal, Read, Write};
+use std::io::{ErrorKind, Read, Write};
 use std::sync::Wait;
 use std::thread::Threads;
 use std::{env, io};
@@ -57,9 +57,9 @@ fn act<T: Threads + Wait + Sync + Copy + Send + 'static>(
 ) -> Status {
     match &asked.act {
         Act::Init => init(host, asked),
-        Act::Backup { to } => back_up(host, asked.file, to),
-        Act::Restore { from } => restore(host, asked.file, from, asked.wait),
-        Act::Verify => verify(host, asked.file),
+        Act::Backup { to, counts } => back_up(host, asked, to, *counts),
+        Act::Restore { from, counts } => restore(host, asked, from, *counts),
+        Act::Verify { counts } => verify(host, asked, *counts),
         Act::Tagged(tagged) => serve_tagged(host, rt, asked.file, asked.wait, tagged),
         Act::Perform {
             order,
@@ -71,7 +71,7 @@ fn act<T: Threads + Wait + Sync + Copy + Send + 'static>(
                 alloc: host.alloc(),
                 workers: *workers,
             };
-            match before_opening(host, asked.file, order, *echo) {
+            match before_opening(host, asked, order, *echo) {
                 Ok(typed) => on_file(host, &tools, asked, order, &typed),
                 Err(status) => status,
             }
@@ -141,13 +141,14 @@ fn close_whole(host: &HostRuntime, conn: Database, status: Status) -> Status {
 /// Looks at the file of a book, and asks for what is to be typed.
 fn before_opening(
     host: &HostRuntime,
-    path: &str,
+    asked: &Asked<'_>,
     order: &Order,
     echo: Echo,
 ) -> Result<Typed, Status> {
+    let path = asked.file;
     match look_at(host, path) {
-        Ok(Access::OwnerAlone) => {}
-        Ok(Access::Others) => warn_of_others(host, path),
+        Ok(Access::Others) if asked.remarks == Remarks::Told => warn_of_others(host, path),
+        Ok(_) => {}
         Err(why) => return Err(refuse_file(host, path, &why)),
     }
     match asked_for(host, order, echo) {
@@ -175,7 +176,7 @@ fn on_file<T: Threads + Wait + Sync>(
     };
     let input = lines.chain(host.stdin().take(rest));
     let streams = Streams {
-        reader: Counted::new(host, input, telling_of(host, order)),
+        reader: Counted::new(input, Progress::new(host, remarks_of(asked, order))),
         writer: host.stdout(),
         faults: host.stderr(),
     };
@@ -183,11 +184,11 @@ fn on_file<T: Threads + Wait + Sync>(
     close(host, conn, status)
 }
 
-/// Whether the lines of the input are counted: those of an import, if somebody sees it.
-fn telling_of(host: &HostRuntime, order: &Order) -> Telling {
+/// Whether progress is told: that of an import.
+fn remarks_of(asked: &Asked<'_>, order: &Order) -> Remarks {
     match order {
-        Order::Import { .. } if host.stderr().is_terminal() => Telling::AtTheEnd,
-        _ => Telling::Silent,
+        Order::Import { .. } => asked.remarks,
+        _ => Remarks::Hidden,
     }
 }
 

@@ -1,38 +1,105 @@
-//! How far an import is, told at a terminal.
+//! How far an order is, told on a terminal.
 
 ghost use Rattle.std.specs.Io.{ReadsAtMost};
 ghost use Rattle.std.specs.Io.KnownBytes.{ReadConsumes};
 
+use crate::order::Remarks;
 use std::io;
-use std::io::{Read, Write};
+use std::io::{IsTerminal, Read, Write};
+use std::time::{Duration, Instant};
 
-/// An input of more lines than these is told of.
-const MANY_LINES: u64 = 1000;
+/// The time before the first line of progress, and between two of them.
+const PAUSE: Duration = Duration::from_secs(1);
 
-/// Whether a reader's lines are counted.
-#[derive(Clone, Copy, PartialEq, Eq)]
-pub(crate) enum Telling {
-    Silent,
-    AtTheEnd,
+/// An import of more lines takes long after they are read.
+const MANY_LINES: u64 = 10_000;
+
+const LINES: &str = "lines read, which are taken in together";
+
+/// A line on standard error that is written over as an order goes on.
+#[derive(Drop)]
+pub(crate) struct Progress<'a> {
+    host: &'a HostRuntime,
+    /// When the line was written, or the order begun; nothing if nobody sees it.
+    last: Option<Instant>,
+    shown: bool,
 }
 
-/// A reader that says on standard error how many lines it read, if there are many.
+impl<'a> Progress<'a> {
+    pub(crate) fn new(host: &'a HostRuntime, remarks: Remarks) -> Progress<'a> {
+        let is_seen = remarks == Remarks::Told && host.stderr().is_terminal();
+        let last = if is_seen {
+            Instant::now(host).ok()
+        } else {
+            None
+        };
+        Progress {
+            host,
+            last,
+            shown: false,
+        }
+    }
+
+    /// Says how much of something is done, if the last time was a second ago.
+    pub(crate) fn tell(&mut self, done: u64, what: &str) {
+        let Some(last) = self.last else {
+            return;
+        };
+        match last.elapsed(self.host) {
+            Ok(passed) if passed >= PAUSE => {}
+            _ => return,
+        }
+        self.write(done, what);
+    }
+
+    /// Says so at once.
+    pub(crate) fn write(&mut self, done: u64, what: &str) {
+        if self.last.is_none() {
+            return;
+        }
+        let _ = write!(self.host.stderr(), "\rcredkeep: {done} {what}");
+        self.last = Instant::now(self.host).ok();
+        self.shown = true;
+    }
+
+    /// Ends the line.
+    pub(crate) fn end(&mut self) {
+        if self.shown {
+            let _ = writeln!(self.host.stderr());
+        }
+        self.shown = false;
+    }
+}
+
+/// A reader whose lines are counted as it is read.
 #[derive(Drop)]
 pub(crate) struct Counted<'a, R> {
-    host: &'a HostRuntime,
     inner: R,
-    telling: Telling,
     lines: u64,
+    progress: Progress<'a>,
 }
 
 impl<'a, R> Counted<'a, R> {
-    pub(crate) fn new(host: &'a HostRuntime, inner: R, telling: Telling) -> Counted<'a, R> {
+    pub(crate) fn new(inner: R, progress: Progress<'a>) -> Counted<'a, R> {
         Counted {
-            host,
             inner,
-            telling,
             lines: 0,
+            progress,
         }
+    }
+}
+
+impl<R> Counted<'_, R> {
+    /// Says how many lines were read before a read of so many bytes.
+    fn tell(&mut self, count: usize) {
+        if count != 0 {
+            self.progress.tell(self.lines, LINES);
+            return;
+        }
+        if self.lines > MANY_LINES {
+            self.progress.write(self.lines, LINES);
+        }
+        self.progress.end();
     }
 }
 
@@ -45,12 +112,10 @@ impl<R: Read> Read for Counted<'_, R> {
             (R.remaining self.new.inner) result buf.new }
     {
         let taken = self.inner.read(buf);
-        if let (Telling::AtTheEnd, Ok(count)) = (self.telling, &taken) {
+        if let Ok(count) = &taken {
             let (read, _) = buf.split_at(*count);
             self.lines = lines_with(self.lines, read);
-            if *count == 0 && self.lines > MANY_LINES {
-                tell(self.host, self.lines);
-            }
+            self.tell(*count);
         }
         taken
     }
@@ -65,11 +130,4 @@ fn lines_with(lines: u64, read: &[u8]) -> u64 {
         }
     }
     lines
-}
-
-fn tell(host: &HostRuntime, lines: u64) {
-    let _ = writeln!(
-        host.stderr(),
-        "credkeep: {lines} lines were read, and are taken in together"
-    );
 }

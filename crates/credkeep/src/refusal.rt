@@ -1,6 +1,7 @@
 //! What is said if nothing was opened, and the exit status that goes with it.
 
-use crate::arguments::write_commands;
+use crate::commands::{CommandText, write_commands};
+use crate::costs::tell_range;
 use crate::files::{FileFault, Unopened};
 use crate::order::Refusal;
 use crate::terminal::TypingFault;
@@ -10,57 +11,28 @@ use cred_admin::Status;
 use cred_book::BookError;
 use cred_file::OpenFault;
 use cred_keep::{NAME_RULE, refuse};
+use cred_phc::PhcError;
 use sqlite::{Error as DatabaseError, ErrorCode};
+use std::io;
 use std::io::Write;
-
-/// What is longer isn't a name.
-const MAX_NAME: usize = 32;
 
 /// Help and the version are written on standard output, and done.
 pub(crate) fn answer_refusal(host: &HostRuntime, refusal: &Refusal<'_>) -> Status {
     match refusal {
-        Refusal::Words(error) => answer_words(host, error),
-        Refusal::NoCommand(error) => {
-            let _ = error.print(host);
-            let _ = write_commands(&mut host.stderr());
-            Status::Usage
-        }
-        Refusal::Name { text, why } => refuse_name(host, text, *why),
-        Refusal::Setting(why) => {
-            let (number, word) = (why.number(), why.word());
-            let _ = writeln!(
-                host.stderr(),
-                "credkeep: --setting: {why} ({number} {word})"
-            );
-            Status::Usage
-        }
-        Refusal::Size(option) => {
-            let _ = writeln!(
-                host.stderr(),
-                "credkeep: {option}: a size is a number of KiB, or one with K, M or G behind it"
-            );
-            Status::Usage
-        }
-        Refusal::Costly => say(
-            host,
-            "--setting: it asks for more than --most-memory or --most-work (18 costly)",
-            Status::Usage,
-        ),
-        Refusal::Existing => say(
-            host,
-            "--skip-existing and --update: an account that is there is left, or updated",
-            Status::Usage,
-        ),
-        Refusal::Memory => say(host, "out of memory", Status::Memory),
-        Refusal::Salt => say(host, "the system has no random bytes", Status::Io),
+        Refusal::Words(error) => return answer_words(host, error),
+        Refusal::Memory => return say(host, "out of memory", Status::Memory),
+        Refusal::Salt => return say(host, "the system has no random bytes", Status::Io),
+        _ => {}
     }
+    let _ = tell_refusal(&mut host.stderr(), refusal);
+    Status::Usage
 }
 
 fn answer_words(host: &HostRuntime, error: &Error) -> Status {
     match error.kind() {
         WordsKind::DisplayHelp | WordsKind::DisplayVersion => match error.print(host) {
             Ok(()) => Status::Done,
-            Err(_) => Status::Io,
+            Err(_) => say(host, "writing failed", Status::Io),
         },
         WordsKind::OutOfMemory => say(host, "out of memory", Status::Memory),
         _ => {
@@ -70,37 +42,88 @@ fn answer_words(host: &HostRuntime, error: &Error) -> Status {
     }
 }
 
-fn refuse_name(host: &HostRuntime, text: &str, why: BookError) -> Status {
-    let (cause, number, word) = (name_cause(text), why.number(), why.word());
-    let shown = if is_plain(text) { text } else { "..." };
-    let _ = writeln!(
-        host.stderr(),
-        "credkeep: the name '{shown}': {cause}; {NAME_RULE} ({number} {word})"
-    );
-    Status::Usage
-}
-
-/// Whether a terminal shows the text as it is.
-fn is_plain(text: &str) -> bool {
-    text.as_bytes().iter().all(|byte| (32..127).contains(byte))
-}
-
-/// Why a text is no name.
-fn name_cause(text: &str) -> &'static str {
-    let bytes = text.as_bytes();
-    if bytes.is_empty() {
-        "it is empty"
-    } else if bytes.len() > MAX_NAME {
-        "it is too long"
-    } else if bytes.contains(&b'\r') {
-        "a carriage return"
-    } else if bytes.iter().any(|byte| byte.is_ascii_uppercase()) {
-        "a capital letter"
-    } else if bytes.contains(&b'@') {
-        "an '@'"
-    } else {
-        "a character that no name has"
+fn tell_refusal<W: Write>(out: &mut W, refusal: &Refusal<'_>) -> io::Result<()> {
+    match refusal {
+        Refusal::Unknown(command) => tell_unknown(out, *command),
+        Refusal::Name { text, why } => tell_name(out, text, *why),
+        Refusal::Setting { text, why } => tell_setting(out, text, *why),
+        Refusal::Size(option) => writeln!(
+            out,
+            "credkeep: {option}: a size is a number of KiB, or one with K, M or G behind it"
+        ),
+        Refusal::Number { option, low, high } => {
+            writeln!(
+                out,
+                "credkeep: --{option}: it is a number from {low} to {high}"
+            )
+        }
+        Refusal::Costly => writeln!(
+            out,
+            "credkeep: --setting: it needs more than --most-memory or --most-work (18 costly)"
+        ),
+        Refusal::Existing => writeln!(
+            out,
+            "credkeep: --skip-existing and --update: an account that exists is left, or updated"
+        ),
+        _ => Ok(()),
     }
+}
+
+/// A word too many isn't repeated.
+fn tell_unknown<W: Write>(out: &mut W, command: Option<&'static CommandText>) -> io::Result<()> {
+    match command {
+        Some(text) => {
+            writeln!(
+                out,
+                "credkeep: {}: a word or an option too many, which isn't shown: it may be a \
+                 password, which standard input has\n\nUsage: {}",
+                text.word, text.usage
+            )?;
+        }
+        None => {
+            writeln!(out, "credkeep: no word is a command")?;
+            write_commands(out)?;
+        }
+    }
+    writeln!(out, "\nFor more information, try '--help'.")
+}
+
+fn tell_name<W: Write>(out: &mut W, text: &str, why: BookError) -> io::Result<()> {
+    let (number, word) = (why.number(), why.word());
+    write!(out, "credkeep: {NAME_RULE}; this ")?;
+    tell_name_cause(out, text.as_bytes())?;
+    writeln!(out, " ({number} {word})")
+}
+
+/// Why bytes are no name.
+fn tell_name_cause<W: Write>(out: &mut W, bytes: &[u8]) -> io::Result<()> {
+    let bad = bytes.iter().find(|byte| !is_name_byte(**byte));
+    match bad {
+        Some(b'\r') => write!(out, "has a carriage return"),
+        Some(b'A'..=b'Z') => write!(out, "has a capital letter"),
+        Some(byte @ 32..=126) => write!(out, "has '{}'", char::from(*byte)),
+        Some(byte) => write!(out, "has the byte {byte}"),
+        None => write!(out, "has {}", bytes.len()),
+    }
+}
+
+fn is_name_byte(byte: u8) -> bool {
+    matches!(byte, b'a'..=b'z' | b'0'..=b'9' | b'.' | b'_' | b'-')
+}
+
+/// Names the number that is outside its range.
+fn tell_setting<W: Write>(out: &mut W, text: &str, why: PhcError) -> io::Result<()> {
+    let (number, word) = (why.number(), why.word());
+    write!(out, "credkeep: --setting: ")?;
+    match why {
+        PhcError::Range => tell_range(out, text)?,
+        PhcError::Params => write!(
+            out,
+            "the costs are written as m=65536,t=3,p=4, or ln=17,r=8,p=1 for scrypt"
+        )?,
+        _ => write!(out, "{why}")?,
+    }
+    writeln!(out, " ({number} {word})")
 }
 
 /// Says why the file isn't opened.

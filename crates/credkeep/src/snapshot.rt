@@ -7,6 +7,7 @@
 
 use crate::files::FileFault;
 use crate::part::Part;
+use crate::progress::Progress;
 use crate::sidecar::{LOG, sidecar};
 use std::fs::{File, OpenOptions};
 use std::io::{ErrorKind, Read, Write};
@@ -20,6 +21,11 @@ const TRIES: u32 = 100;
 
 const PAUSE: u64 = 20;
 
+/// How many bytes are copied at once.
+const CHUNK: usize = 65536;
+
+const MIB: u64 = 1024 * 1024;
+
 /// The bytes of a log's header, which has its salt.
 const LOG_HEADER: usize = 32;
 
@@ -31,13 +37,21 @@ struct Stamp {
     head: [u8; LOG_HEADER],
 }
 
+/// A file of more MiB takes long to read once it is copied.
+const MANY: u64 = 16;
+
 /// Copies a database into a part, with its log beside it.
 ///
 /// Errors: `Busy` if its log begins anew at each try.
-pub(crate) fn take_snapshot(rt: &HostRuntime, path: &str, part: &Part) -> Result<(), FileFault> {
+pub(crate) fn take_snapshot(
+    rt: &HostRuntime,
+    path: &str,
+    part: &Part,
+    progress: &mut Progress<'_>,
+) -> Result<(), FileFault> {
     for _ in 0..TRIES {
         let before = stamp_of(rt, path)?;
-        copy_both(rt, path, part)?;
+        copy_both(rt, path, part, progress)?;
         if stamp_of(rt, path)? == before {
             return Ok(());
         }
@@ -73,17 +87,42 @@ fn open_if_there(rt: &HostRuntime, path: &str) -> io::Result<Option<File>> {
 }
 
 /// Copies the file, and then the log.
-fn copy_both(rt: &HostRuntime, path: &str, part: &Part) -> io::Result<()> {
+fn copy_both(
+    rt: &HostRuntime,
+    path: &str,
+    part: &Part,
+    progress: &mut Progress<'_>,
+) -> io::Result<()> {
     part.file().set_len(0)?;
     let mut to = OpenOptions::new().write(true).open(rt, part.path())?;
-    io::copy(&mut File::open(rt, path)?, &mut to)?;
+    let size = copy_all(&mut File::open(rt, path)?, &mut to, progress)?;
     let log = sidecar(rt, path, LOG)?;
     let copied = sidecar(rt, part.path(), LOG)?;
     let mut options = OpenOptions::new();
     options.write(true).create(true).truncate(true).mode(0o600);
     let mut to = options.open(rt, copied.as_str())?;
     if let Some(mut from) = open_if_there(rt, log.as_str())? {
-        io::copy(&mut from, &mut to)?;
+        copy_all(&mut from, &mut to, progress)?;
     }
+    if size > MANY {
+        progress.write(size, "MiB copied, which are read now");
+    }
+    progress.end();
     to.flush()
+}
+
+/// Copies what is left of a file, and says how many MiB it was.
+fn copy_all(from: &mut File, to: &mut File, progress: &mut Progress<'_>) -> io::Result<u64> {
+    let mut chunk = [0; CHUNK];
+    let mut copied: u64 = 0;
+    for _ in 0..u64::MAX {
+        let count = from.read(&mut chunk)?;
+        if count == 0 {
+            break;
+        }
+        to.write_all(&chunk[..count])?;
+        copied = copied.saturating_add(count as u64);
+        progress.tell(copied / MIB, "MiB copied");
+    }
+    Ok(copied / MIB)
 }

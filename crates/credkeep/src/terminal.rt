@@ -90,13 +90,11 @@ fn passwords_of(order: &Order) -> Passwords {
         Order::Change { .. } => Passwords::PresentAndNew,
         Order::Run
         | Order::Serve { .. }
-        | Order::Disable { .. }
-        | Order::Delete { .. }
-        | Order::Rename { .. }
+        | Order::Edit { .. }
+        | Order::DisableShown { .. }
         | Order::Show { .. }
-        | Order::List
-        | Order::ListCosts
-        | Order::Export
+        | Order::ShowJson { .. }
+        | Order::List { .. }
         | Order::Import { .. } => Passwords::None,
     }
 }

@@ -26,23 +26,17 @@ returns-in-Serve-clause-done g c = λ basis fits.
 
 -- ---- orders that read nothing
 
-pub returns-in-Disable-clause-done : goal.returns-in-Disable-clause-done
-returns-in-Disable-clause-done g c = λ basis fits. search (rules, c.disable.ensures basis)
+pub returns-in-Edit-clause-done : goal.returns-in-Edit-clause-done
+returns-in-Edit-clause-done g c = λ basis fits. search (rules, c.edit_account.ensures basis)
 
-pub returns-in-Delete-clause-done : goal.returns-in-Delete-clause-done
-returns-in-Delete-clause-done g c = λ basis fits. search (rules, c.delete.ensures basis)
-
-pub returns-in-Rename-clause-done : goal.returns-in-Rename-clause-done
-returns-in-Rename-clause-done g c = λ basis fits. search (rules, c.rename.ensures basis)
+pub returns-in-DisableShown-clause-done : goal.returns-in-DisableShown-clause-done
+returns-in-DisableShown-clause-done g c = λ basis fits. search (rules, c.disable_shown.ensures basis)
 
 pub returns-in-Show-clause-done : goal.returns-in-Show-clause-done
 returns-in-Show-clause-done g c = λ basis fits. search (rules, c.show.ensures basis)
 
+pub returns-in-ShowJson-clause-done : goal.returns-in-ShowJson-clause-done
+returns-in-ShowJson-clause-done g c = λ basis fits. search (rules, c.show_json.ensures basis)
+
 pub returns-in-List-clause-done : goal.returns-in-List-clause-done
 returns-in-List-clause-done g c = λ basis fits. search (rules, c.list.ensures basis)
-
-pub returns-in-ListCosts-clause-done : goal.returns-in-ListCosts-clause-done
-returns-in-ListCosts-clause-done g c = λ basis fits. search (rules, c.list_costs.ensures basis)
-
-pub returns-in-Export-clause-done : goal.returns-in-Export-clause-done
-returns-in-Export-clause-done g c = λ basis fits. search (rules, c.export.ensures basis)

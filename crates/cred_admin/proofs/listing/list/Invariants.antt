@@ -2,7 +2,7 @@ use Rattle.std.specs.FinMap as map
 use Rattle.cred_admin.specs.Listing.{line_text}
 use Rattle.cred_cli.specs.Watched.{Basis, held_on}
 use Rattle.cred_admin.proofs.Printed.{Goes}
-use Rattle.cred_admin.proofs.listing.write_lines.Given as goal
+use Rattle.cred_admin.proofs.listing.list.Given as goal
 
 abbrev pub invariant-loop-name : goal.invariant-loop-name
 invariant-loop-name g l =

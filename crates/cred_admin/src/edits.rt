@@ -1,0 +1,147 @@
+//! The orders that change an account of a kept book without its password.
+
+ghost use Rattle.std.specs.Prelude.{◌≡◌};
+ghost use Rattle.std.specs.FinMap as map;
+ghost use Rattle.cred_book.specs.Accounts.{register_capacity};
+ghost use Rattle.cred_cli.specs.Watched.{Basis, writing_on};
+ghost use Rattle.cred_admin.specs.Edits.{DisablesShown, Edits, EditsWithin};
+ghost use Rattle.cred_admin.specs.declared.edits.Edit.TheVariants as change;
+
+use crate::edit_reply::{EditReply, answer_edit};
+use crate::fault::Fault;
+use crate::listing::{Line, line_of};
+use crate::part::Part;
+use crate::printing::write_whole;
+use crate::status::Status;
+use cred_book::{BookError, Name};
+use cred_cli::Watched;
+use cred_file::FileBook;
+use sqlite::Alter;
+use std::alloc::Global;
+use std::io::Write;
+
+/// A change of an account for which no password is asked.
+#[derive(Clone, Copy)]
+pub enum Edit {
+    /// Takes the record away, and leaves the name.
+    Disable(Name),
+    /// Takes the name out, with its record.
+    Delete(Name),
+    /// Gives the account of the first name the second one.
+    Rename(Name, Name),
+}
+
+/// Changes an account, and writes what became of it: `disabled`, `deleted` or `renamed`; `absent`
+/// if it has no record to take away; `exists` if the second name is there; or `noaccount`.
+///
+/// Errors: `Memory`, and `Full` if an account would be renamed and the book has no room for one
+/// more name: nothing is written or changed; `Write`.
+pub fn edit_account<S: Alter, W: Write>(
+    book: &mut FileBook<S>,
+    edit: &Edit,
+    writer: &mut Watched<W>,
+) -> Result<Status, Fault>
+    ensures { (basis : Basis)
+        → Edits register_capacity book.old.book book.new.book edit.now
+        (writing_on basis W.contents writer.old writer.new) result }
+{
+    match make_edit(book, edit) {
+        Ok(reply) => answer_edit(reply, writer),
+        Err(BookError::Full) => Err(Fault::Full),
+        Err(_) => Err(Fault::Memory),
+    }
+}
+
+/// Changes an account, and says what became of it.
+///
+/// Errors: `Full` if an account would be renamed, and there is no room for one more name;
+/// `Memory`. The book stays.
+pub fn make_edit<S: Alter>(book: &mut FileBook<S>, edit: &Edit) -> Result<EditReply, BookError>
+    ensures { EditsWithin register_capacity book.old.book book.new.book edit.now result }
+{
+    match *edit {
+        Edit::Disable(name) => disable(book, &name),
+        Edit::Delete(name) => delete(book, &name),
+        Edit::Rename(name, other) => rename(book, &name, &other),
+    }
+}
+
+fn disable<S: Alter>(book: &mut FileBook<S>, name: &Name) -> Result<EditReply, BookError>
+    ensures { EditsWithin register_capacity book.old.book book.new.book
+        (change.Disable name.now) result }
+{
+    match book.book().show(name) {
+        Ok(Some(_)) => {}
+        Ok(None) => return Ok(EditReply::Absent),
+        Err(_) => return Ok(EditReply::NoAccount),
+    }
+    match book.put(name, None) {
+        Ok(()) => Ok(EditReply::Disabled),
+        Err(_) => Err(BookError::Memory),
+    }
+}
+
+#[tactic(auto, using(crate::proofs::Renaming::renaming))]
+fn delete<S: Alter>(book: &mut FileBook<S>, name: &Name) -> Result<EditReply, BookError>
+    ensures { EditsWithin register_capacity book.old.book book.new.book
+        (change.Delete name.now) result }
+{
+    match book.delete(name) {
+        Ok(()) => Ok(EditReply::Deleted),
+        Err(BookError::NoAccount) => Ok(EditReply::NoAccount),
+        Err(_) => Err(BookError::Memory),
+    }
+}
+
+#[tactic(auto, using(crate::proofs::Renaming::renaming))]
+fn rename<S: Alter>(
+    book: &mut FileBook<S>,
+    name: &Name,
+    other: &Name,
+) -> Result<EditReply, BookError>
+    ensures { EditsWithin register_capacity book.old.book book.new.book
+        (change.Rename name.now other.now) result }
+{
+    let accounts = book.book();
+    if !accounts.contains(name) {
+        return Ok(EditReply::NoAccount);
+    }
+    if accounts.contains(other) {
+        return Ok(EditReply::Exists);
+    }
+    if accounts.is_full() {
+        return Err(BookError::Full);
+    }
+    match book.rename(name, other) {
+        Ok(()) => Ok(EditReply::Renamed),
+        Err(_) => Err(BookError::Memory),
+    }
+}
+
+/// Writes the account's line of a passwd-file, and then takes its record away. The line comes
+/// first, so that a record isn't lost by a failed write.
+///
+/// It writes `absent` or `noaccount` if there is no record. Errors: `Memory`, and `Write`: the
+/// account stays as it is.
+pub fn disable_shown<S: Alter, W: Write>(
+    alloc: Global,
+    book: &mut FileBook<S>,
+    name: &Name,
+    writer: &mut Watched<W>,
+) -> Result<Status, Fault>
+    ensures { (basis : Basis) → DisablesShown book.old.book book.new.book name.now
+        (map.get book.old.book name.now)
+        (writing_on basis W.contents writer.old writer.new) result }
+{
+    let stored = match book.book().show(name) {
+        Ok(Some(stored)) => stored,
+        Ok(None) => return answer_edit(EditReply::Absent, writer),
+        Err(_) => return answer_edit(EditReply::NoAccount, writer),
+    };
+    let line = line_of(alloc, Line::Passwd(Part::Record), name, Some(stored))?;
+    write_whole(writer, &line)?;
+    let Ok(()) = book.put(name, None) else {
+        return Err(Fault::Memory);
+    };
+    Ok(Status::Done)
+}

@@ -1,0 +1,218 @@
+//! The commands, and what help says of each.
+
+use crate::arguments::Word;
+use std::io;
+use std::io::Write;
+
+/// A command, its help with lines of at most 80 columns, and its words.
+pub(crate) struct CommandText {
+    pub(crate) word: &'static str,
+    pub(crate) about: &'static str,
+    pub(crate) long: &'static str,
+    pub(crate) usage: &'static str,
+    pub(crate) words: &'static [Word],
+}
+
+pub(crate) static COMMANDS: [CommandText; 19] = [
+    CommandText {
+        word: "init",
+        about: "Begins an empty book in a new file",
+        long: "Begins an empty book in a new file, which only its owner may read and write.",
+        usage: "credkeep <FILE> init",
+        words: &[],
+    },
+    CommandText {
+        word: "run",
+        about: "Answers a script from standard input",
+        long: "Answers a script from standard input. Each change is on the disk before its line\n\
+            is answered. rigzumal-script(5) has the language.",
+        usage: "credkeep <FILE> run [OPTIONS]",
+        words: &[Word::Workers],
+    },
+    CommandText {
+        word: "serve",
+        about: "Answers lines for as long as they come",
+        long: "Answers lines for as long as they come. Each change is on the disk before its\n\
+            line is answered. The lines are those of a script; with --tagged they come from\n\
+            many clients, each TAG OPERATION .., and are answered in any order.",
+        usage: "credkeep <FILE> serve [OPTIONS]",
+        words: &[
+            Word::Workers,
+            Word::Tagged,
+            Word::AtOnce,
+            Word::Memory,
+            Word::MostMemory,
+            Word::MostWork,
+            Word::Setting,
+        ],
+    },
+    CommandText {
+        word: "add",
+        about: "Makes the first record of an account",
+        long: "Makes the first record of an account, and the account if it is new. The new\n\
+            password is one line of standard input.\n\
+            Answers enrolled; or exists with status 4.",
+        usage: "credkeep <FILE> add [OPTIONS] <NAME>",
+        words: &[Word::Name, Word::Setting, Word::EmptyPassword, Word::Echo],
+    },
+    CommandText {
+        word: "check",
+        about: "Says whether a password is right",
+        long: "Says whether a password, one line of standard input, is right.\n\
+            Answers yes; or no, absent (no record) or noaccount with status 4.",
+        usage: "credkeep <FILE> check [OPTIONS] <NAME>",
+        words: &[Word::Name, Word::Echo],
+    },
+    CommandText {
+        word: "change",
+        about: "Replaces a password by a new one",
+        long: "Replaces a password, the first line of standard input, by a new one, the second.\n\
+            Answers replaced; or wrong, absent or noaccount with status 4.",
+        usage: "credkeep <FILE> change [OPTIONS] <NAME>",
+        words: &[Word::Name, Word::Setting, Word::EmptyPassword, Word::Echo],
+    },
+    CommandText {
+        word: "reset",
+        about: "Gives an account a new password, without the old one",
+        long: "Gives an account a new password, one line of standard input, without the old\n\
+            one.\n\
+            Answers replaced, or enrolled if it had no record; or noaccount with status 4.",
+        usage: "credkeep <FILE> reset [OPTIONS] <NAME>",
+        words: &[Word::Name, Word::Setting, Word::EmptyPassword, Word::Echo],
+    },
+    CommandText {
+        word: "upgrade",
+        about: "Rehashes a password by another scheme or costs",
+        long: "Rehashes a password, one line of standard input, if its record has another\n\
+            scheme or other costs than --setting.\n\
+            Answers upgraded or kept; or wrong, absent or noaccount with status 4.",
+        usage: "credkeep <FILE> upgrade [OPTIONS] <NAME>",
+        words: &[Word::Name, Word::Setting, Word::Echo],
+    },
+    CommandText {
+        word: "remove",
+        about: "Removes the record of an account, with its password",
+        long: "Removes the record of an account if the password, one line of standard input, is\n\
+            right. The name stays.\n\
+            Answers removed; or wrong, absent or noaccount with status 4.",
+        usage: "credkeep <FILE> remove [OPTIONS] <NAME>",
+        words: &[Word::Name, Word::Echo],
+    },
+    CommandText {
+        word: "disable",
+        about: "Removes the record of an account, without its password",
+        long: "Removes the record of an account without its password. The name stays, and no\n\
+            password is right for it.\n\
+            Answers disabled; or absent or noaccount with status 4. With --show it answers\n\
+            the line NAME:RECORD instead, which import --update puts back.",
+        usage: "credkeep <FILE> disable [OPTIONS] <NAME>",
+        words: &[Word::Name, Word::Show],
+    },
+    CommandText {
+        word: "delete",
+        about: "Deletes an account, name and record",
+        long: "Deletes an account, name and record, without its password.\n\
+            Answers deleted; or noaccount with status 4.",
+        usage: "credkeep <FILE> delete <NAME>",
+        words: &[Word::Name],
+    },
+    CommandText {
+        word: "rename",
+        about: "Gives an account another name",
+        long: "Gives an account another name, which no account has yet.\n\
+            Answers renamed; or exists or noaccount with status 4.",
+        usage: "credkeep <FILE> rename <NAME> <NEW>",
+        words: &[Word::Name, Word::NewName],
+    },
+    CommandText {
+        word: "show",
+        about: "Shows the costs of a record, or the record",
+        long: "Shows the scheme and the costs of an account's record, or the whole record.\n\
+            Answers absent or noaccount with status 4 if there is none.",
+        usage: "credkeep <FILE> show [OPTIONS] <NAME>",
+        words: &[Word::Name, Word::Record, Word::Json],
+    },
+    CommandText {
+        word: "list",
+        about: "Lists the names, a line each",
+        long: "Lists the names, a line each, in their order.",
+        usage: "credkeep <FILE> list [OPTIONS]",
+        words: &[Word::Costs, Word::Json],
+    },
+    CommandText {
+        word: "export",
+        about: "Writes the accounts, a line NAME:RECORD each",
+        long: "Writes the accounts, a line NAME:RECORD each, or NAME: if there is no record.",
+        usage: "credkeep <FILE> export",
+        words: &[],
+    },
+    CommandText {
+        word: "import",
+        about: "Adds the accounts of lines NAME:RECORD",
+        long: "Adds the accounts of lines NAME:RECORD from standard input. Lines in the form of\n\
+            htpasswd's, Dovecot's or Django's are read too, if their records are of Argon2\n\
+            or scrypt. If a line is bad, each bad line is named and nothing is added. Empty\n\
+            lines and lines that begin with # are skipped.\n\
+            Answers how many accounts were added and updated, how many lines were left since\n\
+            their accounts exist, and how many were bad.",
+        usage: "credkeep <FILE> import [OPTIONS]",
+        words: &[
+            Word::SkipExisting,
+            Word::Update,
+            Word::SkipBad,
+            Word::DisableLocked,
+            Word::MostMemory,
+            Word::MostWork,
+            Word::DryRun,
+            Word::Json,
+        ],
+    },
+    CommandText {
+        word: "backup",
+        about: "Copies the book into another file, also while it is served",
+        long: "Copies the book into another file, also while it is served. The copy is whole\n\
+            and has no log.\n\
+            Answers how many accounts it has, and how many changes were in the log.",
+        usage: "credkeep <FILE> backup <TO>",
+        words: &[Word::To],
+    },
+    CommandText {
+        word: "restore",
+        about: "Puts a copy in the book's place",
+        long: "Puts a copy in the place of the book, which no process may have open, and\n\
+            removes the old log.\n\
+            Answers how many accounts it has.",
+        usage: "credkeep [--wait <SECONDS>] <FILE> restore <FROM>",
+        words: &[Word::From],
+    },
+    CommandText {
+        word: "verify",
+        about: "Reads all of the book, also while it is served",
+        long: "Reads all of the book and its log, also while it is served.\n\
+            Answers how many accounts it has, and how many changes are in the log; or says\n\
+            what is damaged.",
+        usage: "credkeep <FILE> verify [OPTIONS]",
+        words: &[Word::Json],
+    },
+];
+
+/// The command of the first word that is one, if any is.
+pub(crate) fn command_in(words: &[String]) -> Option<&'static CommandText> {
+    for word in words {
+        for text in &COMMANDS {
+            if text.word == word.as_str() {
+                return Some(text);
+            }
+        }
+    }
+    None
+}
+
+/// Writes the words of all commands, in a line.
+pub(crate) fn write_commands<W: Write>(out: &mut W) -> io::Result<()> {
+    write!(out, "The commands:")?;
+    for text in &COMMANDS {
+        write!(out, " {}", text.word)?;
+    }
+    writeln!(out)
+}
