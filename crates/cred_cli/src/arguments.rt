@@ -10,10 +10,9 @@ ghost use Rattle.cred_cli.specs.Arguments.{base_app, workers_rule};
 use clap::{Arg, ArgMatches, Command, Error};
 use std::alloc::{AllocError, Global};
 
-const ABOUT: &str = "Password records, proved: scripts on a book of accounts, hashes and checks";
+const ABOUT: &str = "Answers scripts on a book of password records, hashes and checks";
 
-const RUN_ABOUT: &str =
-    "Runs a script from standard input on an empty book, and answers each line on standard output";
+const RUN_ABOUT: &str = "Answers a script from standard input, on an empty book";
 
 /// What help says of a subcommand.
 struct HelpTexts {
@@ -37,12 +36,14 @@ Examples:
   salt=$(head -c 16 /dev/urandom | base64 -w0 | tr -d =)
   credbook hash '$argon2id$v=19$m=65536,t=3,p=4$'\"$salt\" c2VjcmV0
   credbook check \"$record\" c2VjcmV0
-A password stands in base64: printf %s secret | base64 -w0 | tr -d =
-A salt has to be fresh for each record: equal ones show which accounts have equal passwords.
+A password is written in base64: printf %s secret | base64 -w0 | tr -d =
+A salt has to be fresh for each record: equal salts show which accounts have
+equal passwords.
 
 Exit statuses:
   0  done, whatever lines of a script were refused; `check` said yes
-  1  a word, a setting, a record or a password was refused, or help was asked for
+  1  a word, a setting, a record or a password was refused, or help was asked
+     for
   2  reading or writing failed, or the script has over 1048576 bytes
   3  out of memory
   4  `check` said no
@@ -162,7 +163,7 @@ fn setting<'a>(alloc: Global) -> Arg<'a>
 {
     Arg::new(alloc, "setting")
         .value_name("SETTING")
-        .help("A scheme, its numbers and a salt, as $argon2id$v=19$m=256,t=2,p=1$c29tZXNhbHQ")
+        .help("A scheme, its costs and a salt, as\n$argon2id$v=19$m=256,t=2,p=1$c29tZXNhbHQ")
         .required(true)
 }
 
@@ -181,7 +182,7 @@ fn password<'a>(alloc: Global) -> Arg<'a>
     ensures local { result.global ≡ false }
 {
     Arg::new(alloc, "password").value_name("PASSWORD").help(
-        "The password in base64 without '='; the empty one if it is left away",
+        "The password in base64 without '='; without it the empty one",
     )
 }
 
