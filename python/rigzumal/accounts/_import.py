@@ -25,21 +25,27 @@ Line = tuple[Key, str]
 
 
 class Import:
-    """Adds accounts with their records, in transactions of a batch each."""
+    """Adds accounts with their records, in transactions of a batch each.
 
-    def __init__(self, accounts: Accounts, dialect: Dialect, pool: Pool) -> None:
-        self.accounts, self.dialect, self.pool = accounts, dialect, pool
+    Args:
+        takes_foreign: records of other schemes too, for a hook to judge.
+    """
 
-    def take(
+    def __init__(
         self,
-        file: pathlib.Path,
-        key: Callable[[str], Key],
-        fault_of: Callable[[str], Optional[str]],
-    ) -> dict[str, int]:
+        accounts: Accounts,
+        dialect: Dialect,
+        pool: Pool,
+        takes_foreign: bool = False,
+    ) -> None:
+        self.accounts, self.dialect, self.pool = accounts, dialect, pool
+        self.takes_foreign = takes_foreign
+
+    def take(self, file: pathlib.Path, key_of: Callable[[str], Key]) -> dict[str, int]:
         """Adds the accounts of lines "NAME RECORD", and counts what became of them."""
         counts = {"added": 0, "there": 0, "another": 0}
         with open(file, encoding="utf-8", errors="surrogateescape") as lines:
-            records = list(self._records(lines, key, fault_of))
+            records = list(self._records(lines, key_of))
         begun = time.monotonic()
         for start in range(0, len(records), BATCH):
             for word, _ in self.put(records[start : start + BATCH]):
@@ -48,24 +54,16 @@ class Import:
         return counts
 
     def _records(
-        self,
-        lines: Iterable[str],
-        key_of: Callable[[str], Key],
-        fault_of: Callable[[str], Optional[str]],
+        self, lines: Iterable[str], key_of: Callable[[str], Key]
     ) -> Iterator[Line]:
         """The names and records of an import, all read before anything is put."""
         for number, line in enumerate(lines, 1):
             try:
-                yield self._record(line.rstrip("\r\n"), key_of, fault_of)
+                yield self._record(line.rstrip("\r\n"), key_of)
             except Refusal as refusal:
                 raise Refusal(f"line {number}: {refusal}") from None
 
-    def _record(
-        self,
-        line: str,
-        key_of: Callable[[str], Key],
-        fault_of: Callable[[str], Optional[str]],
-    ) -> Line:
+    def _record(self, line: str, key_of: Callable[[str], Key]) -> Line:
         name, _, record = line.rpartition(" ")
         if any("\udc80" <= it <= "\udcff" for it in line):
             raise Refusal("it is not in UTF-8")
@@ -74,9 +72,11 @@ class Import:
         key = key_of(name)
         if not self.dialect.can_stand(key):
             raise Refusal("no column holds this name")
-        fault = fault_of(record)
-        if fault is not None:
-            raise Refusal(fault)
+        try:
+            parts(record)
+        except InvalidRecordError as fault:
+            if not (self.takes_foreign and _is_foreign(record)):
+                raise Refusal(why(record, fault)) from None
         return key, record
 
     def put(self, batch: Sequence[Line]) -> list[tuple[str, Copy]]:
@@ -112,7 +112,7 @@ def shown(name: object) -> str:
     return text if text.isprintable() else ascii(text)
 
 
-def is_foreign(record: str) -> bool:
+def _is_foreign(record: str) -> bool:
     """Whether a column of ours holds it: 1 to 512 letters of ASCII without blanks."""
     return 0 < len(record) <= 512 and all("!" <= it <= "~" for it in record)
 

@@ -34,11 +34,10 @@ from typing import Any, Optional, Union
 from rigzumal import PasswordHasher, RigzumalError, ScryptHasher
 from rigzumal._library import InvalidRecordError, bytes_of
 from rigzumal._newline import hint
-from rigzumal._parts import parts
 from rigzumal._statuses import Refusal, Status, status_of
 from rigzumal.accounts._accounts import Accounts
 from rigzumal.accounts._arguments import parser
-from rigzumal.accounts._import import Import, costs_of, is_foreign, made_by, shown, why
+from rigzumal.accounts._import import Import, costs_of, made_by, shown, why
 from rigzumal.accounts._session import Session, run
 from rigzumal.accounts._values import LONGEST_PASSWORD, AccountsError, Key, Reply
 from rigzumal.accounts.database import Database
@@ -152,7 +151,7 @@ class _Command:
         if isinstance(accounts.begin(Request(Kind.ENROL, key)).copy, str):
             return self.say(Reply.EXISTS)
         record = accounts.new_record(password)
-        ((word, _),) = self.importing(accounts).put([(key, record)])
+        ((word, _),) = Import(accounts, self.dialect, self.pool).put([(key, record)])
         reply = Reply.ENROLLED if word == "added" else Reply.EXISTS
         return self.say(reply, Reply.ENROLLED)
 
@@ -212,28 +211,17 @@ class _Command:
             cursor.close()
         return Status.DONE
 
-    def importing(self, accounts: Accounts) -> Import:
-        return Import(accounts, self.dialect, self.pool)
-
     def take(self) -> int:
         """The import: whole batches are committed, and existing accounts stay."""
-        importing = self.importing(self.accounts())
-        counts = importing.take(self.given.file, self.key, self._check_record)
+        given = self.given
+        importing = Import(self.accounts(), self.dialect, self.pool, given.foreign)
+        counts = importing.take(given.file, self.key)
         said = f"{counts['added']} added, {counts['there']} there already"
         another = counts["another"]
         if another:
             said += f", {another} with another record, which stays"
         self.write(said, **counts)
         return Status.NO if another else Status.DONE
-
-    def _check_record(self, record: str) -> Optional[str]:
-        """What is wrong with a line's record."""
-        try:
-            parts(record)
-        except InvalidRecordError as fault:
-            if not (self.given.foreign and is_foreign(record)):
-                return why(record, fault)
-        return None
 
     def torture(self) -> int:
         from rigzumal.accounts import torture
