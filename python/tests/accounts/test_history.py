@@ -457,6 +457,7 @@ class Said(unittest.TestCase):
             ("upgrade", "upgraded", "up"),
             ("enrol", "enrolled", "new"),
             ("remove", "absent", "old"),
+            ("remove", "removed", "new"),
             ("verify", "noaccount", "old"),
         ):
             ops = [operation("a", kind, 1, 2, reply, "old", put)]
