@@ -7,6 +7,7 @@ Neither depends on what else the machine does. Each hash is one of many in one p
 thread, after two that aren't counted, so that what is kept between calls is there. The libraries are
 librigzumal.so.1 of this tree, and those that are named, as one that was built before a change.
 """
+
 import argparse
 import ctypes
 import os
@@ -18,42 +19,21 @@ import subprocess
 import sys
 import tempfile
 
-TOP = pathlib.Path(__file__).resolve().parent.parent.parent
-OURS = TOP / "c/out/librigzumal.so.1"
+from libraries import OURS, rigzumal_argon2
+
 # Memory in KiB, passes, lanes.
 SETTINGS = [(65536, 3, 1), (65536, 1, 1), (65536, 3, 4), (102400, 2, 8), (19456, 2, 1), (1024, 2, 1)]
 TURNS, WARM = 5, 2
 
 
-class Numbers(ctypes.Structure):
-    """struct rigzumal_argon2."""
-
-    _fields_ = [(name, ctypes.c_uint32) for name in ("kind", "version", "memory", "passes", "lanes")]
-
-
-def hasher(path, setting):
-    """A function that makes one tag."""
-    call = ctypes.CDLL(str(path)).rigzumal_argon2
-    data = [ctypes.c_char_p, ctypes.c_size_t]
-    call.argtypes = [*data, ctypes.POINTER(Numbers), *data * 4]
-    numbers, tag = Numbers(2, 0x13, *setting), ctypes.create_string_buffer(32)
-    inputs = (b"password", 8, b"sixteen of salt.", 16, None, 0, None, 0)
-
-    def hashed():
-        if call(tag, 32, ctypes.byref(numbers), *inputs) != 0:
-            sys.exit("it refuses")
-
-    return hashed
-
-
 def faults(path, setting):
     """Page faults of a hash."""
-    hashed = hasher(path, setting)
+    hashed = rigzumal_argon2(ctypes.CDLL(str(path)))
     for _ in range(WARM):
-        hashed()
+        hashed(*setting)
     before = resource.getrusage(resource.RUSAGE_SELF).ru_minflt
     for _ in range(TURNS):
-        hashed()
+        hashed(*setting)
     return (resource.getrusage(resource.RUSAGE_SELF).ru_minflt - before) / TURNS
 
 
@@ -80,16 +60,16 @@ def main():
     words.add_argument("given", nargs="*", help="other libraries")
     given = words.parse_args()
     if given.turns is not None:
-        hashed = hasher(given.given[3], tuple(map(int, given.given[:3])))
+        hashed = rigzumal_argon2(ctypes.CDLL(given.given[3]))
         for _ in range(given.turns):
-            hashed()
+            hashed(*map(int, given.given[:3]))
         return
     has_strace = shutil.which("strace") is not None
     print("| Library | m (KiB), t, p | Page faults a hash | System calls a hash |\n|---|---|---|---|")
     for path in [OURS, *map(pathlib.Path, given.given)]:
         for setting in SETTINGS:
             made = calls_of_a_hash(path, setting) if has_strace else "not counted"
-            name = os.path.relpath(path, TOP)
+            name = os.path.relpath(path)
             print(f"| {name} | {', '.join(map(str, setting))} | {faults(path, setting):g} | {made} |")
 
 

@@ -3,16 +3,18 @@
 
     python3 bench/scrypt/run.py [--times N] [--installed CREDBOOK]
 
-All work one key in turn, in one run, N times over. The time of each is the least of its turns, and the keys are compared.
-OpenSSL works the p pieces one after another; ours are worked by as many threads as the row says.
+All work one key in turn, in one run, N times over. The time of each is the least of its turns, and the
+keys are compared. OpenSSL works the p pieces one after another; ours are worked by as many threads as
+the row says.
 
-The crate bench_hashes is proved and built with `rt`, in its own folder, for any x86-64 and for this processor. The second is
-run as `make install` has programs run, with huge pages (bin/launcher.in). Its time is taken inside it, from before the call to
-after it, as OpenSSL's is inside Python. What it prints of scrypt is never the same twice, so the gate has it print a tag of
-Argon2.
+The crate bench_hashes is proved and built with `rt`, in its own folder, for any x86-64 and for this
+processor. The second is run as `make install` has programs run, with huge pages (bin/launcher.in). Its
+time is taken inside it, from before the call to after it, as OpenSSL's is inside Python. What it prints
+of scrypt is never the same twice, so the gate has it print a tag of Argon2.
 
-With --installed a second table has the command that was installed, PREFIX/bin/credbook, which makes a record: the whole of it
-beside OpenSSL's call alone, and less what the same command takes for a hash of next to nothing.
+With --installed a second table has the command that was installed, PREFIX/bin/credbook, which makes a
+record: the whole of it beside OpenSSL's call alone, and less what the same command takes for a hash of
+next to nothing.
 """
 
 import argparse
@@ -21,113 +23,94 @@ import contextlib
 import hashlib
 import os
 import pathlib
-import shutil
 import subprocess
 import sys
 import tempfile
-import time
 
-TOP = pathlib.Path(__file__).resolve().parent.parent.parent
-CRATE = TOP / "crates" / "bench_hashes"
-sys.path.insert(0, str(TOP / "tools"))
+TOP = pathlib.Path(__file__).resolve().parents[2]
+sys.path[1:1] = [str(TOP / "bench"), str(TOP / "tools")]
 
 from build import level_of
+from programs import HUGE_PAGES, built
+from turns import best, print_head, print_row, take_turns, timed
 
 # ln, r, p, workers
 ROWS = [(14, 8, 1, 1), (17, 8, 1, 1), (14, 8, 8, 1), (14, 8, 8, 4)]
-HUGE_PAGES = {**os.environ, "GLIBC_TUNABLES": "glibc.malloc.hugetlb=1"}
 PASSWORD, SALT, KEY_LEN = b"password", b"NaCl", 64
 SETTING_SALT, TAG_LEN = b"sodiumchloride", 32
 
 
-def build(room, level):
-    """Proves and builds the program for a level, and gives the path of a copy."""
-    program = CRATE / "out/bench_hashes"
-    command = ["rt", "run", f"--cpu={level}", "--", "scrypt", "14", "8", "1", "1"]
-    done = subprocess.run(command, cwd=CRATE, stdin=subprocess.DEVNULL, capture_output=True, text=True)
-    if done.returncode != 0 or not program.exists():
-        sys.exit(done.stdout + done.stderr)
-    return shutil.copy(program, pathlib.Path(room) / level)
-
-
 def openssl(costs, salt, size):
-    """The seconds that OpenSSL takes, and its key."""
+    """The milliseconds that OpenSSL takes, and its key."""
     ln, r, p, _ = costs
-    start = time.perf_counter()
-    key = hashlib.scrypt(PASSWORD, salt=salt, n=2**ln, r=r, p=p, dklen=size, maxmem=2**31 - 1)
-    return time.perf_counter() - start, key
+    numbers = {"n": 2**ln, "r": r, "p": p, "maxmem": 2**31 - 1}
+    return timed(lambda: hashlib.scrypt(PASSWORD, salt=salt, dklen=size, **numbers))
 
 
 @contextlib.contextmanager
 def running(program, costs, env):
-    """A call that has a key worked by the program, which runs on, and gives the seconds and the key."""
+    """A call that has a key worked by the program, which runs on, and gives the milliseconds and the
+    key."""
     command = [program, "scrypt", *map(str, costs)]
-    ours = subprocess.Popen(command, env=env, stdin=subprocess.PIPE, stdout=subprocess.PIPE, text=True, bufsize=1)
+    pipes = {"stdin": subprocess.PIPE, "stdout": subprocess.PIPE, "text": True, "bufsize": 1}
+    ours = subprocess.Popen(command, env=env, **pipes)
 
     def work():
         ours.stdin.write("next\n")
         nanoseconds, key = ours.stdout.readline().split()
-        return int(nanoseconds) / 1e9, bytes.fromhex(key)
+        return (int(nanoseconds) / 1e6,), bytes.fromhex(key)
 
     yield work
     ours.stdin.close()
     ours.wait()
 
 
+def unpadded(data):
+    return base64.b64encode(data).decode().rstrip("=")
+
+
 def record(credbook, costs):
-    """The seconds that the command takes for a record, and the record's tag."""
+    """The milliseconds that the command takes for a record, and the record's tag."""
     ln, r, p, workers = costs
-    salt = base64.b64encode(SETTING_SALT).decode().rstrip("=")
-    password = base64.b64encode(PASSWORD).decode().rstrip("=")
-    command = [credbook, "hash", "--workers", str(workers), f"$scrypt$ln={ln},r={r},p={p}${salt}", password]
-    start = time.perf_counter()
-    said = subprocess.run(command, stdout=subprocess.PIPE, check=True).stdout
-    seconds = time.perf_counter() - start
-    return seconds, base64.b64decode(said.split(b"$")[-1].strip() + b"==")
+    setting = f"$scrypt$ln={ln},r={r},p={p}${unpadded(SETTING_SALT)}"
+    command = [credbook, "hash", "--workers", str(workers), setting, unpadded(PASSWORD)]
+    times, said = timed(lambda: subprocess.run(command, stdout=subprocess.PIPE, check=True).stdout)
+    return times, base64.b64decode(said.split(b"$")[-1].strip() + b"==")
 
 
-def best(ways, turns, costs):
-    """The least seconds of each way, which take turns. All keys have to be equal."""
-    times = [[] for _ in ways]
-    for _ in range(turns):
-        results = [way() for way in ways]
-        if len({key for _, key in results}) != 1:
-            sys.exit(f"other keys at {costs}: {[key.hex() for _, key in results]}")
-        for found, (seconds, _) in zip(times, results):
-            found.append(seconds)
-    return [min(it) for it in times]
-
-
-def line(costs, cells):
+def print_costs(costs, times, ratios):
     ln, r, p, workers = costs
-    return f"| {2**ln} | {r} | {p} | {workers} | " + " | ".join(cells) + " |"
+    figures = [f"{it:.1f}" for it in times] + [f"{it:.2f}" for it in ratios]
+    print_row([2**ln, r, p, workers, *figures])
 
 
-def compare(turns, room):
+def compare(turns, any_processor, this_processor, level):
     """The first table."""
-    any_processor = build(room, "x86-64")
-    level = level_of(pathlib.Path("/proc/cpuinfo").read_text())
-    this_processor = build(room, level)
-    print(f"| N | r | p | workers | for any x86-64, ms | as installed ({level}, huge pages), ms | OpenSSL, ms | any over OpenSSL's | installed over OpenSSL's |")
-    print("|---|---|---|---|---|---|---|---|---|")
+    installed = f"as installed ({level}, huge pages), ms"
+    names = ["N", "r", "p", "workers", "for any x86-64, ms", installed, "OpenSSL, ms"]
+    print_head([*names, "any over OpenSSL's", "installed over OpenSSL's"])
     for costs in ROWS:
-        with running(any_processor, costs, None) as any_way, running(this_processor, costs, HUGE_PAGES) as installed:
-            ways = [any_way, installed, lambda: openssl(costs, SALT, KEY_LEN)]
-            plain, chosen, theirs = best(ways, turns, costs)
-        ratios = [f"{plain / theirs:.2f}", f"{chosen / theirs:.2f}"]
-        print(line(costs, [f"{it * 1e3:.1f}" for it in (plain, chosen, theirs)] + ratios), flush=True)
+        plain = running(any_processor, costs, None)
+        chosen = running(this_processor, costs, HUGE_PAGES)
+        with plain as any_way, chosen as this_way:
+            theirs = lambda: openssl(costs, SALT, KEY_LEN)
+            ways = {"any": any_way, "this": this_way, "OpenSSL": theirs}
+            found = take_turns({costs: ways}, turns)[costs]
+        times = [best(found[name]) for name in ways]
+        print_costs(costs, times, [it / times[2] for it in times[:2]])
 
 
 def compare_command(turns, credbook):
     """The second table, of the installed command."""
-    print("| N | r | p | workers | the command, ms | its start, ms | OpenSSL, ms | the command over OpenSSL's | without its start |")
-    print("|---|---|---|---|---|---|---|---|---|")
+    names = ["N", "r", "p", "workers", "the command, ms", "its start, ms", "OpenSSL, ms"]
+    print_head([*names, "the command over OpenSSL's", "without its start"])
     for costs in ROWS:
-        start = min(record(credbook, (1, 8, 1, 1))[0] for _ in range(turns))
-        ways = [lambda: record(credbook, costs), lambda: openssl(costs, SETTING_SALT, TAG_LEN)]
-        ours, theirs = best(ways, turns, costs)
-        ratios = [f"{ours / theirs:.2f}", f"{(ours - start) / theirs:.2f}"]
-        print(line(costs, [f"{it * 1e3:.1f}" for it in (ours, start, theirs)] + ratios), flush=True)
+        start = best([record(credbook, (1, 8, 1, 1))[0] for _ in range(turns)])
+        theirs = lambda: openssl(costs, SETTING_SALT, TAG_LEN)
+        ways = {"ours": lambda: record(credbook, costs), "OpenSSL": theirs}
+        found = take_turns({costs: ways}, turns)[costs]
+        ours, other = best(found["ours"]), best(found["OpenSSL"])
+        print_costs(costs, [ours, start, other], [ours / other, (ours - start) / other])
 
 
 def main():
@@ -135,8 +118,11 @@ def main():
     words.add_argument("--times", type=int, default=9, metavar="N", help="turns of each (9)")
     words.add_argument("--installed", metavar="CREDBOOK", help="the installed command, for a second table")
     given = words.parse_args()
+    level = level_of(pathlib.Path("/proc/cpuinfo").read_text())
+    work = ("scrypt", "14", "8", "1", "1")
     with tempfile.TemporaryDirectory(prefix="scrypt-") as room:
-        compare(given.times, room)
+        programs = [built(room, it, *work) for it in ("x86-64", level)]
+        compare(given.times, *programs, level)
     if given.installed:
         print()
         compare_command(given.times, given.installed)

@@ -1,0 +1,67 @@
+"""What the benchmarks share: what is compared takes turns, so that the machine's other work meets all
+of it, and the best turn of each counts, or the median of their ratios."""
+
+import os
+import random
+import statistics
+import sys
+import time
+
+
+def timed(work, *given):
+    """The wall time and the processor time of a call in milliseconds, and what it made."""
+    wall, cpu = time.perf_counter(), time.process_time()
+    made = work(*given)
+    return (1000 * (time.perf_counter() - wall), 1000 * (time.process_time() - cpu)), made
+
+
+def take_turns(rows, times, warm=1):
+    """The figures of each way of each row, turn by turn.
+
+    A way of a row is a call that gives its figures and what it made, which all of a row make the
+    same. The rows take turns, and their ways in any order. The first turns load and warm up.
+    """
+    found = {row: {name: [] for name in ways} for row, ways in rows.items()}
+    for turn in range(warm + times):
+        for row, ways in rows.items():
+            all_made = set()
+            for name in random.sample(sorted(ways), len(ways)):
+                figures, made = ways[name]()
+                all_made.add(made)
+                if turn >= warm:
+                    found[row][name].append(figures)
+            if len(all_made) != 1:
+                sys.exit(f"they make different ones at {row}")
+    return found
+
+
+def best(turns, part=0):
+    return min(it[part] for it in turns)
+
+
+def median(turns, part=0):
+    return statistics.median(it[part] for it in turns)
+
+
+def ratio(turns, others, part=0):
+    """That of the best turns."""
+    return best(turns, part) / best(others, part)
+
+
+def median_ratio(turns, others, part=0):
+    """The median of the turns' ratios."""
+    return statistics.median(one[part] / other[part] for one, other in zip(turns, others))
+
+
+def print_row(cells):
+    print("| " + " | ".join(map(str, cells)) + " |", flush=True)
+
+
+def print_head(names):
+    print_row(names)
+    print("|" + "---|" * len(names))
+
+
+def print_load(before):
+    now, processors = os.getloadavg()[0], os.cpu_count()
+    print(f"\nThe load was {before:.1f} before and {now:.1f} after, on {processors} processors.")
