@@ -56,9 +56,11 @@ class Foreign(Case):
         self.assertEqual(sorted(it.name for it in self.folder.iterdir()), ["htpasswd"])
 
     def test_moved_by_a_change(self) -> None:
-        """A change with the right old password moves the user too."""
+        """A change with the right old password moves the user too, whatever its length."""
         self.add("ada", "-s")
+        self.add("bob", "-s", "word")
         service = self.over()
+        service.talk("login change bob d29yZA {fresh} -> replaced")
         service.talk(
             "login change ada {secret} {fresh} -> replaced\nlogin verify ada {fresh} -> yes"
         )
@@ -164,10 +166,14 @@ class Foreign(Case):
 
     def test_a_file_that_goes(self) -> None:
         """Without it the book decides alone; it has to be there at the start."""
+        self.add("bob", "-s")
         service = self.over()
-        self.file.unlink()
+        self.file.rename(self.folder / "away")
         service.talk("login verify ada {secret} -> noaccount\nadmin account ada -> ok")
         self.assertIn(f"{self.file}: No such file", service.log())
+        (self.folder / "away").rename(self.file)
+        service.talk("login known bob -> yes")
+        self.file.unlink()
         late = self.serving("--foreign", str(self.file), waits=False)
         self.assertEqual(late.process.wait(timeout=20), 1)
         self.assertEqual(late.log(), f"credkeep-server: {self.file}: No such file or directory\n")

@@ -146,8 +146,10 @@ class Asking:
     async def go(self, end: float) -> None:
         for turn in itertools.count():
             if time.monotonic() > end:
-                return
+                break
             await self.one(f"c{self.number}.{turn}")
+        for _, writer in self.connections.values():
+            writer.close()
 
     async def one(self, made: str) -> None:
         name = self.chance.choice(NAMES)
