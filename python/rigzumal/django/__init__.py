@@ -1,9 +1,9 @@
 """Django's logins over the proved library, with an upgrade that undoes no change.
 
-Django makes a record of old costs anew at a right login, by an UPDATE without a
-condition: a login that began with the old password, before a change of it, puts the
-old password back. Here each record is put by an UPDATE that asks whether the record
-that was judged still stands. docs/DJANGO.md has the settings.
+At a right login Django rehashes a record of old costs, by an UPDATE without a
+condition. A login that began before a change of the password then puts the old password
+back. Here an UPDATE writes a record only if the row still has the record that was
+judged. docs/DJANGO.md has the settings.
 
     backends    CompareAndSetBackend
     users       a mixin for user models, and how a stock User gets it
@@ -11,6 +11,6 @@ that was judged still stands. docs/DJANGO.md has the settings.
     forms       the forms of a change and of a reset; views, urls: with these forms
     admin       UserAdmin; site: an AdminSite; management: changepassword
     hashers     Argon2 and scrypt, in Django's own strings
-    checks      what `manage.py check` says
-    records     what all of these stand on
+    checks      the checks of `manage.py check`
+    records     the base of all of these
 """

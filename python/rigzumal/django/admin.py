@@ -2,7 +2,7 @@
 
     admin.site.register(Person, UserAdmin)
 
-With RIGZUMAL_USER_COMPARES a stock User has it already, in the place of Django's own.
+With RIGZUMAL_USER_COMPARES a stock User has it already, instead of Django's own.
 """
 
 # mypy: allow-subclassing-any
@@ -43,7 +43,7 @@ class UserAdmin(admin.UserAdmin):
         obj.save(update_fields=names)
 
     def changeform_view(self, request: Any, *given: Any, **named: Any) -> Any:
-        """The page of a user, which is shown anew where a password couldn't be put."""
+        """The page of a user, which is shown again if a password couldn't be written."""
         try:
             return super().changeform_view(request, *given, **named)
         except RecordChanged:
@@ -51,7 +51,7 @@ class UserAdmin(admin.UserAdmin):
             return HttpResponseRedirect(request.get_full_path())
 
     def user_change_password(self, request: Any, id: str, form_url: str = "") -> Any:
-        """The page that sets a password, with an error if another was put meanwhile."""
+        """The page that sets a password, with an error if another was set meanwhile."""
         try:
             with forms.lost_as_error():
                 return super().user_change_password(request, id, form_url)

@@ -1,4 +1,4 @@
-"""The app: `manage.py check` says what is amiss, and a stock User compares if told to."""
+"""The app: its checks for `manage.py check`, and a stock User that compares if asked to."""
 
 # mypy: allow-subclassing-any
 
@@ -51,11 +51,10 @@ class AdminConfig(djangos.AdminConfig):
 
 
 def require_app() -> None:
-    """Refuses a project of users whose INSTALLED_APPS lacks the app: nobody would tell
-    what its settings leave unprotected.
+    """Refuses a project of users whose INSTALLED_APPS lacks the app, and so its checks.
 
     Raises:
-        ImproperlyConfigured: it lacks it.
+        ImproperlyConfigured: the app is missing.
     """
     has_users = apps.ready and apps.is_installed("django.contrib.auth")
     if has_users and not RigzumalConfig.has_started:

@@ -22,11 +22,11 @@ from rigzumal.django.records import hidden
 class CompareAndSetBackend(ModelBackend):
     """Django's ModelBackend, which undoes no change of a password.
 
-    - A record of old costs is made anew at a right login by an UPDATE that asks whether
-      it still stands; otherwise the password is judged at what stands.
-    - The user is read from the database that is written, so a replica may lag.
-    - A name that isn't there and an inactive user cost one hash and two queries, as a
-      wrong password does; an inactive user's record isn't made anew.
+    - At a right login it rehashes a record of old costs, by an UPDATE that compares the
+      row's record; if that has changed, it judges the password at the new one.
+    - It reads the user from the database that it writes to, so a replica may lag.
+    - An unknown name and an inactive user cost one hash and two queries, as a wrong
+      password does; an inactive user's record isn't rehashed.
     """
 
     def __init__(self) -> None:
@@ -40,7 +40,7 @@ class CompareAndSetBackend(ModelBackend):
         password: Optional[str] = None,
         **kwargs: Any,
     ) -> Any:
-        """The user, or None: the name, the password or the user won't do."""
+        """The user, or None: the name, the password or the user is refused."""
         model = get_user_model()
         if username is None:
             username = kwargs.get(model.USERNAME_FIELD)

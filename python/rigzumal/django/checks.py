@@ -1,4 +1,4 @@
-"""What `manage.py check` says of the settings, and of what they leave unprotected.
+"""The checks of `manage.py check`: the settings, and all that they leave unprotected.
 
 `manage.py check --database default`, and `migrate`, look at the records too.
 """
@@ -35,7 +35,7 @@ OURS = (hashers.Argon2PasswordHasher, hashers.ScryptPasswordHasher)
 _SNAPSHOTS = {"repeatable read", "serializable"}
 _PSYCOPG2_SNAPSHOTS = {2, 3}  # psycopg2's numbers of the same
 _LEVEL = re.compile(r"isolation(?:[ _-]level)?[ =']+(repeatable|serializable)")
-"""As it stands in PostgreSQL's `options` and in MySQL's `init_command`."""
+"""Its form in PostgreSQL's `options` and in MySQL's `init_command`."""
 
 
 def register() -> None:
@@ -87,7 +87,7 @@ def backends(**_: Any) -> Messages:
         if issubclass(it, ModelBackend) and not issubclass(it, judging_none):
             name = f"{it.__module__}.{it.__qualname__}"
             text = f"{name} upgrades records at login without a comparison."
-            hint = "Take it out, or derive it from CompareAndSetBackend."
+            hint = "Remove it, or derive it from CompareAndSetBackend."
             amiss.append(_warning(2, text, hint))
     return amiss
 
@@ -125,14 +125,14 @@ def shadowed_hashers(**_: Any) -> Messages:
         judge = [it for it in listed if it.algorithm == ours.algorithm][-1]
         if not issubclass(judge, OURS):
             name = f"{judge.__module__}.{judge.__qualname__}"
-            text = f"{name} stands behind {path}, so Django asks it in its place."
-            hint = f"Take {name} out: Rigzumal's reads its records."
+            text = f"{name} comes after {path}, so Django asks it instead."
+            hint = f"Remove {name}: Rigzumal's reads its records."
             amiss.append(checks.Error(text, hint=hint, id="rigzumal.E013"))
     return amiss
 
 
 def isolation(**_: Any) -> Messages:
-    """W005: a transaction would read what stood when it began."""
+    """W005: a transaction would read the record as it was when it began."""
     text = (
         "The database {!r} has an isolation level of snapshots: in a transaction an old"
         " password is right, or the request fails."
@@ -147,7 +147,7 @@ def isolation(**_: Any) -> Messages:
 def _has_snapshots(database: Any) -> bool:
     options = database.get("OPTIONS", {})
     for option in ("options", "init_command"):
-        # libpq takes a space with a backslash before it.
+        # libpq reads a space with a backslash before it.
         if _LEVEL.search(str(options.get(option, "")).replace("\\", "").lower()):
             return True
     level = options.get("isolation_level")
@@ -163,9 +163,9 @@ def _has_snapshots(database: Any) -> bool:
 
 
 def own_methods(**_: Any) -> Messages:
-    """E006: a method of the user model's own would be passed over."""
+    """E006: a method of the user model's own would be skipped."""
     hint = "Give the model the CompareAndSetMixin, behind the class that has it."
-    text = "{} would be passed over, so logins are refused."
+    text = "{} would be skipped, so logins are refused."
     return [
         checks.Error(text.format(name), hint=hint, id="rigzumal.E006")
         for name in users.unreached_methods(get_user_model())
@@ -215,7 +215,7 @@ def url_views(**_: Any) -> Messages:
     """W009: a URL leads to Django's own view of a change or of a reset."""
     if not getattr(settings, "ROOT_URLCONF", None):
         return []
-    hint = "Include 'rigzumal.django.urls', or take the views of rigzumal.django.views."
+    hint = "Include 'rigzumal.django.urls', or use the views of rigzumal.django.views."
     return [
         _warning(9, f"The URL {route!r} is Django's {view}: {_outcome()}.", hint)
         for route, view, form in _password_views(get_resolver().url_patterns)
@@ -241,13 +241,13 @@ def command(**_: Any) -> Messages:
     if get_commands().get("changepassword") != "django.contrib.auth":
         return []
     outcome = "a traceback" if _compares() else "undone"
-    text = f"changepassword is Django's own: a change that came between is {outcome}."
+    text = f"changepassword is Django's own: a change that came meanwhile is {outcome}."
     hint = "Put 'rigzumal.django' before 'django.contrib.auth' in INSTALLED_APPS."
     return [_warning(10, text, hint)]
 
 
 def unlisted_hashers(databases: Any = None, **_: Any) -> Messages:
-    """W011: records stand whose hasher isn't listed, so their users can't log in."""
+    """W011: the table has records whose hasher isn't listed: their users can't log in."""
     field, amiss = _password_field(), Messages()
     for alias in databases or []:
         if field is None or not router.allow_migrate_model(alias, field.model):
@@ -258,15 +258,15 @@ def unlisted_hashers(databases: Any = None, **_: Any) -> Messages:
                 f"The database {alias!r} has records of {found}, which PASSWORD_HASHERS"
                 " doesn't list: their users can't log in."
             )
-            hint = "List the hashers that were there before, behind Rigzumal's."
+            hint = "List the hashers that you had before, behind Rigzumal's."
             amiss.append(_warning(11, text, hint))
     return amiss
 
 
 def _unlisted(holder: Any, alias: str) -> Optional[str]:
-    """What made a record that no listed hasher takes; None if there is no such record."""
+    """The maker of a record that no listed hasher accepts; None if no record is such."""
     if holder._meta.db_table not in connections[alias].introspection.table_names():
-        return None  # It is `migrate` that asks, before it makes the table.
+        return None  # `migrate` asks, before it makes the table.
     others = holder._base_manager.using(alias).exclude(password="")
     others = others.exclude(password__startswith=djangos.UNUSABLE_PASSWORD_PREFIX)
     for algorithm in djangos.get_hashers_by_algorithm():

@@ -1,8 +1,7 @@
 """Django's forms of a change, of a reset and of the admin, which compare as they write.
 
-`save` raises a ValidationError where the record was changed after the form was validated:
-our views show it, and a view of your own does by `show(form, error)`. There is no
-`commit=False`, which is a ValueError.
+`save` raises a ValidationError if the record was changed after the form was validated. Our
+views show it, and your own view does by `show(form, error)`. `commit=False` is a ValueError.
 """
 
 # mypy: allow-subclassing-any
@@ -43,7 +42,7 @@ def _only_whole(commit: bool) -> None:
 
 
 class _Hidden:
-    """A form whose cleaning, in whose frames passwords stand, no report shows."""
+    """A form whose cleaning no report of an error shows: its frames have passwords."""
 
     @hidden
     def full_clean(self) -> None:
@@ -57,7 +56,7 @@ class PasswordChangeForm(_Hidden, forms.PasswordChangeForm):
     _judged: Optional[str] = None
 
     def clean_old_password(self) -> Any:
-        """Judges the old password at what stands, and makes no record anew."""
+        """Judges the old password at the row's record, and doesn't rehash."""
         old_password = self.cleaned_data["old_password"]
         with lost_as_error():
             if not passwords.verify_password(self.user, old_password):
@@ -67,7 +66,7 @@ class PasswordChangeForm(_Hidden, forms.PasswordChangeForm):
 
     @hidden
     def save(self, commit: bool = True) -> Any:
-        """Puts the new password, if the old one is right yet."""
+        """Writes the new password, if the old one is still right."""
         _only_whole(commit)
         old, new = self.cleaned_data["old_password"], self.cleaned_data["new_password1"]
         with lost_as_error():
@@ -85,7 +84,7 @@ class SetPasswordForm(_Hidden, forms.SetPasswordForm):
 
     @hidden
     def save(self, commit: bool = True) -> Any:
-        """Puts the new password over the record that the link was made for."""
+        """Writes the new password over the record that the link was made for."""
         _only_whole(commit)
         with lost_as_error():
             passwords.set_password(self.user, self.cleaned_data["new_password1"])
@@ -97,10 +96,10 @@ class AdminPasswordChangeForm(_Hidden, forms.AdminPasswordChangeForm):
 
     @hidden
     def save(self, commit: bool = True) -> Any:
-        """Puts the new password over the record that the user was read with."""
+        """Writes the new password over the record that the user was read with."""
         _only_whole(commit)
         given = self.cleaned_data
-        # From Django 5.1 on there is a button that takes the password away.
+        # From Django 5.1 on a button removes the password.
         is_usable = given.get("set_usable_password", True)
         with lost_as_error():
             passwords.set_password(self.user, given["password1"] if is_usable else None)

@@ -1,9 +1,8 @@
 """Password hashers for Django's own strings, over the proved library.
 
-They read what Django's own hashers of the same names have written, and write what those
-read. The numbers are class attributes, as there: a service that wants others makes a
-subclass. A subclass may wrap old hashes as Django's page "Password management" has it: an
-`algorithm` and an `encode` of its own are enough.
+They read and write the strings of Django's own hashers of the same names. The numbers are
+class attributes, as there: make a subclass for others. A subclass may wrap old hashes as
+Django's page "Password management" shows: its own `algorithm` and `encode` are enough.
 """
 
 # mypy: allow-subclassing-any
@@ -28,13 +27,13 @@ from rigzumal.django.records import hidden
 Password = Union[str, bytes]
 
 _DJANGOS_SCRYPT = getattr(hashers, "ScryptPasswordHasher", None)
-_SALT_LETTERS = 62  # of how many Django draws a salt
+_SALT_LETTERS = 62  # from so many letters Django makes a salt
 _KEY_SIZE = 64
 """Bytes of a key of scrypt, as Django's own writes it."""
 
 _TAG_OF_CFFI = 16
-"""Bytes of a tag of argon2-cffi before 21.2. It isn't old: beside a server with Django's
-own hasher each would make the other's record anew, by turns."""
+"""Bytes of a tag of argon2-cffi before 21.2. Such a record stays: a server with ours and
+one with Django's own hasher would rehash each other's records by turns."""
 
 _ARGON2 = re.compile(
     r"(argon2(?:id|i|d))\$(?:v=(16|19)\$)?"
@@ -62,13 +61,13 @@ def _unbase64(text: str) -> bytes:
 
 
 class _RecordHasher(BasePasswordHasher):
-    """What both hashers share: how a string is compared, shown and seen to be old."""
+    """The part that both hashers share: comparing, showing and aging of strings."""
 
     def __init__(self) -> None:
         require_app()
 
     def _behind_name(self, encoded: str) -> str:
-        """What stands behind this hasher's own name; "" of another's record."""
+        """The text after this hasher's own name; "" of another's record."""
         name, _, rest = encoded.partition("$")
         return rest if name == self.algorithm else ""
 
@@ -78,10 +77,10 @@ class _RecordHasher(BasePasswordHasher):
 
     @hidden
     def verify(self, password: Password, encoded: str) -> bool:
-        """Whether the record is one of the password; OutOfMemoryError if memory lacks.
+        """Whether the password is the record's; OutOfMemoryError if memory lacks.
 
-        A broken record, or one of numbers that the library doesn't take, is one of no
-        password, and costs a hash like any other.
+        For a broken record, or numbers that the library refuses, every password is wrong,
+        and costs a hash like any other.
         """
         try:
             parts = self.decode(encoded)
@@ -93,7 +92,7 @@ class _RecordHasher(BasePasswordHasher):
         return hmac.compare_digest(made, _unbase64(parts["hash"]))
 
     def safe_summary(self, encoded: str) -> dict[str, Any]:
-        """What may be shown of a record; of a broken one, that it is broken."""
+        """The parts of a record that may be shown; of a broken one, its fault."""
         try:
             parts = self.decode(encoded)
         except ValueError as fault:
@@ -103,7 +102,7 @@ class _RecordHasher(BasePasswordHasher):
         return {name.replace("_", " "): value for name, value in parts.items()}
 
     def must_update(self, encoded: str) -> bool:
-        """Whether the record's numbers are others than a new one's."""
+        """Whether the record's numbers differ from a new one's."""
         try:
             return self._is_old(self.decode(encoded))
         except ValueError:
@@ -122,13 +121,13 @@ def _check_salt(salt: str) -> None:
 
 
 class Argon2PasswordHasher(_RecordHasher):
-    """argon2$argon2id$v=19$m=102400,t=2,p=8$SALT$TAG: a record behind a word.
+    """argon2$argon2id$v=19$m=102400,t=2,p=8$SALT$TAG: a record after a word.
 
     Attributes:
         time_cost: passes.
         memory_cost: in KiB, 8 a lane to 2097152.
         parallelism: lanes, 1 to 255; a login works all of them on its own thread.
-        hash_len: bytes of the tag; a record's may have fewer, down to 16.
+        hash_len: bytes of the tag; an existing record may have fewer, down to 16.
     """
 
     algorithm = "argon2"
@@ -155,7 +154,7 @@ class Argon2PasswordHasher(_RecordHasher):
         return "$".join(it.rstrip("=") for it in parts)
 
     def decode(self, encoded: str) -> dict[str, Any]:
-        """The parts of a record; ValueError, which shows none of it, if it is none."""
+        """The parts of a record; ValueError for another text, which it doesn't show."""
         found = _ARGON2.fullmatch(self._behind_name(encoded))
         if not found:
             raise ValueError("the text is not a record of Argon2")
@@ -210,8 +209,8 @@ class ScryptPasswordHasher(_RecordHasher):
     Attributes:
         work_factor: N, a power of two.
         block_size: r, 1 to 255.
-        parallelism: p, 1 to 255; as in the Django that is there, whose records would be
-            old otherwise, or 5.
+        parallelism: p, 1 to 255; the installed Django's, since its records would be old
+            otherwise, or 5.
     """
 
     algorithm = "scrypt"
@@ -236,7 +235,7 @@ class ScryptPasswordHasher(_RecordHasher):
         return f"{self.algorithm}${n}${salt}${r}${p}${key}"
 
     def decode(self, encoded: str) -> dict[str, Any]:
-        """The parts of a record; ValueError, which shows none of it, if it is none."""
+        """The parts of a record; ValueError for another text, which it doesn't show."""
         found = _SCRYPT.fullmatch(self._behind_name(encoded))
         if not found:
             raise ValueError("the text is not a record of scrypt")

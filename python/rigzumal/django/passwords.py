@@ -1,13 +1,13 @@
 """The operations on a user's password, each of which compares before it writes.
 
-A model's own `check_password` and `set_password` are called, if it has the mixin of
+They call a model's own `check_password` and `set_password`, if it has the mixin of
 `rigzumal.django.users`; another model with such methods is refused.
 
 Each may raise:
     ValueError: the user isn't saved.
-    RecordChanged: another record stands than the one that was read, and nothing was
-        done; of the first three, that was so eight times.
-    ImproperlyConfigured: the model has a method that would be passed over.
+    RecordChanged: the row's record has changed since it was read, and stays as it is;
+        for the first three, it changed eight times.
+    ImproperlyConfigured: the model has a method that these calls would skip.
 """
 
 from __future__ import annotations
@@ -26,8 +26,8 @@ from rigzumal.django.records import RecordChanged as RecordChanged
 def check_password(user: Any, password: Any) -> bool:
     """Whether the password is the user's, as `user.check_password`.
 
-    A record of old costs, or of another of PASSWORD_HASHERS, is made anew if it still
-    stands. Afterwards `user.password` is the record at which a right password was
+    A record of old costs, or of another of PASSWORD_HASHERS, is rehashed if the row
+    still has it. Afterwards `user.password` is the record at which a right password was
     judged.
     """
     if users.has_own_methods(user):
@@ -37,7 +37,7 @@ def check_password(user: Any, password: Any) -> bool:
 
 @hidden
 def verify_password(user: Any, password: Any) -> bool:
-    """`check_password`, which makes no record anew, unless the model's own does."""
+    """Like `check_password`, but never rehashes (unless the model's own method does)."""
     if users.has_own_methods(user):
         return bool(user.check_password(password))
     return records.judge_alone(user, password).right
@@ -45,12 +45,12 @@ def verify_password(user: Any, password: Any) -> bool:
 
 @hidden
 def change_password(user: Any, old_password: Any, new_password: Any) -> bool:
-    """Puts the new password if the old one is right; False if it is wrong.
+    """Writes the new password if the old one is right; False if it is wrong.
 
     The old password is judged at the record that the new one replaces, so a reset that
-    came between isn't undone. No validator is asked; `password_changed` of the
-    validators is called. One column is written and no signal is sent, but for a model
-    with a `set_password` of its own, which is saved whole.
+    came meanwhile stays. Validators aren't asked, but their `password_changed` is called.
+    The call writes one column and sends no signal; a model with its own `set_password`
+    is saved whole.
     """
     return change_judged(user, old_password, new_password, None)
 
@@ -59,9 +59,9 @@ def change_password(user: Any, old_password: Any, new_password: Any) -> bool:
 def change_judged(
     user: Any, old_password: Any, new_password: Any, judged: Optional[str]
 ) -> bool:
-    """`change_password`, where the old one was found right at a record already.
+    """`change_password`, after the old password was found right at the record `judged`.
 
-    If that record still stands, it isn't judged once more.
+    If the row still has that record, the password isn't judged again.
     """
     if users.has_own_methods(user):
         return _change_by_methods(user, old_password, new_password)
@@ -73,11 +73,11 @@ def change_judged(
 
 @hidden
 def set_password(user: Any, new_password: Any) -> None:
-    """Puts a new password in the place of the record that the user was read with.
+    """Writes a new password over the record that the user was read with.
 
-    For a reset: the token was checked with that record, so another one that stands by
-    now is left alone, as is a user who is gone. With None no password is right any more.
-    What is written is as in `change_password`.
+    For a reset: the token was checked with that record, so a newer record stays, and so
+    does a deleted user. With None no password is right any more. Columns, signals and
+    validators are as in `change_password`.
     """
     if users.has_own_methods(user):
         _set_by_methods(user, new_password)
@@ -108,7 +108,7 @@ def aset_password(user: Any, new_password: Any) -> Awaitable[None]:
 
 
 def _copy_of(user: Any, database: str) -> Copy:
-    """What the user was read with, also after a transaction that was rolled back."""
+    """The record that the user was read with, also after a rollback."""
     copy = records.known_copy(user, database)
     compares = isinstance(user, users.CompareAndSetMixin)
     if copy is None or not (compares or copy.newest == user.password):

@@ -1,14 +1,14 @@
-"""A user's record: where it stands, what is known of it, and how another is put.
+"""A user's record: its row, the known copies of it, and its comparing replacement.
 
 `user.password` is the copy: the record as it was when the user was read. A record is
-judged and hashed with nothing held, and is put by an UPDATE that asks whether the copy
-still stands. If it doesn't, what stands is judged in its place. So the answer is that of
-the record that stands, and no change is lost to a slower one.
+judged and hashed without a lock, and an UPDATE writes the new one if the row still has
+the copy. If it hasn't, the row's record is judged instead. So the answer is that of the
+row's record, and no change is lost to a slower one.
 
-In a transaction of the caller's (`ATOMIC_REQUESTS`) a change stands when that has been
-committed. On PostgreSQL, MySQL and MariaDB its isolation has to be READ COMMITTED, as it
-is where Django's settings say nothing else. A transaction of SQLite that has read fails
-("database is locked") if another process writes before it does.
+In a transaction of the caller's (`ATOMIC_REQUESTS`) a change counts once that has been
+committed. On PostgreSQL, MySQL and MariaDB its isolation must be READ COMMITTED, Django's
+default. A transaction of SQLite that has read fails ("database is locked") if another
+process writes before it does.
 """
 
 from __future__ import annotations
@@ -26,7 +26,7 @@ T = TypeVar("T")
 Function = TypeVar("Function", bound=Callable[..., Any])
 
 TRIES = 8
-"""How often an operation is done anew where its copy doesn't stand any more."""
+"""How often an operation is tried, if the row's record changes meanwhile."""
 
 
 def hidden(function: Function) -> Function:
@@ -35,9 +35,9 @@ def hidden(function: Function) -> Function:
 
 
 class RecordChanged(Exception):
-    """Another record stands than the one that was read, and nothing was done.
+    """The row's record has changed since the user was read, and stays as it is.
 
-    To go on, read the user anew (`refresh_from_db`) and decide again.
+    To go on, read the user again (`refresh_from_db`) and decide again.
     """
 
     def __str__(self) -> str:
@@ -60,10 +60,10 @@ def database_of(user: Any) -> str:
 
 
 class Copy:
-    """The record that a user was read with, or that was put since.
+    """The record that a user was read with, or that was written since.
 
-    Until the transaction in which it was put is committed, `records` has those before it
-    too, the newest last: after a rollback one of them stands.
+    Until the transaction that wrote it is committed, `records` has the older ones too,
+    the newest last: after a rollback the row has one of them.
     """
 
     def __init__(self, *records: str) -> None:
@@ -71,7 +71,7 @@ class Copy:
 
     @property
     def newest(self) -> str:
-        """The record that stands, if nothing was rolled back or changed elsewhere."""
+        """The row's record, unless a rollback or another process changed it."""
         return self.records[-1]
 
     def settle(self) -> None:
@@ -79,12 +79,12 @@ class Copy:
         self.records = self.records[-1:]
 
     def is_in_doubt(self, database: str) -> bool:
-        """Whether what was put may have been rolled back: nothing waits for its commit."""
+        """Whether a rollback may have undone the write: no callback waits for its commit."""
         waiting = [entry[1] for entry in connections[database].run_on_commit]
         return len(self.records) > 1 and self.settle not in waiting
 
     def followed_by(self, record: str, database: str) -> Copy:
-        """What is known once the record was put over this one."""
+        """The copy after the record was written over this one."""
         if not connections[database].in_atomic_block:
             return Copy(record)
         copy = Copy(*self.records, record)
@@ -92,26 +92,26 @@ class Copy:
         return copy
 
     def __deepcopy__(self, memo: Any) -> Copy:
-        return self  # of TestCase's class data too, whose commit is waited for yet
+        return self  # of TestCase's class data too, which isn't committed yet
 
     def __reduce__(self) -> tuple[Any, ...]:
         return Copy, self.records[-1:]
 
 
 def note_read(user: Any, database: str, record: str) -> None:
-    """Keeps what a user was read with; what was known before is out of date."""
+    """Keeps the record that a user was read with, in place of older ones."""
     user._record_copies = {database: Copy(record)}
 
 
 def note_put(user: Any, database: str, copy: Copy) -> None:
-    """Keeps what was put."""
+    """Keeps the record that was written."""
     user._record_copies = {**getattr(user, "_record_copies", {}), database: copy}
 
 
 def known_copy(user: Any, database: str) -> Optional[Copy]:
-    """What the user's record in a database was; None where it wasn't read or put.
+    """The user's record in a database; None if it wasn't read or written there.
 
-    Of the database that is written it is also what was read elsewhere: from a replica.
+    For the database that is written it may come from another one: a replica.
     """
     copies: dict[str, Copy] = getattr(user, "_record_copies", {})
     if copies and database not in copies and database == database_of(user):
@@ -120,7 +120,7 @@ def known_copy(user: Any, database: str) -> Optional[Copy]:
 
 
 class Row:
-    """Where a user's record stands: in the database that is written."""
+    """The row of a user's record, in the database that is written."""
 
     def __init__(self, user: Any) -> None:
         if user.pk is None:
@@ -133,19 +133,19 @@ class Row:
         )
 
     def look(self) -> Optional[str]:
-        """The record that stands, or None if the user is gone."""
+        """The row's record, or None if the user is gone."""
         found: Optional[str] = self._rows.values_list("password", flat=True).first()
         return found
 
     def put(self, copy: str, record: str) -> bool:
-        """Puts the record if the copy stands; the user then has it."""
+        """Writes the record if the row has the copy; the user then has it."""
         known = known_copy(self.user, self.database)
         if known is None or known.newest != copy:
             known = Copy(copy)
         return self._put(self._rows.filter(password=copy), known, record)
 
     def put_over(self, copy: Copy, record: str) -> bool:
-        """Puts the record if any of the copy's stands; the user then has it."""
+        """Writes the record if the row has one of the copy's; the user then has it."""
         return self._put(self._rows.filter(password__in=copy.records), copy, record)
 
     def _put(self, rows: Any, copy: Copy, record: str) -> bool:
@@ -156,7 +156,7 @@ class Row:
         return True
 
     def found(self, record: str) -> None:
-        """Gives the user the record that stands."""
+        """Gives the user the row's record."""
         self.user.password = record
         copy = known_copy(self.user, self.database)
         if copy is None or copy.newest != record:
@@ -165,7 +165,7 @@ class Row:
 
 @hidden
 def _at_what_stands(user: Any, judge: Callable[[str], Judged]) -> Judged:
-    """Judges the copy, puts the record after it, and does so anew where another stands."""
+    """Judges the copy and writes the record after it; begins again if the row has another."""
     row, copy = Row(user), user.password
     for _ in range(TRIES):
         judged = judge(copy)
@@ -184,7 +184,7 @@ def _at_what_stands(user: Any, judge: Callable[[str], Judged]) -> Judged:
 
 @hidden
 def judge_alone(user: Any, password: Any) -> Judged:
-    """A check of the password that makes no record anew."""
+    """A check of the password that doesn't rehash."""
 
     def judge(copy: str) -> Judged:
         return Judged(hashers.check_password(password, copy), copy, copy)
@@ -194,7 +194,7 @@ def judge_alone(user: Any, password: Any) -> Judged:
 
 @hidden
 def judge_login(user: Any, password: Any) -> Judged:
-    """A check of the password, which makes a record of old costs anew."""
+    """A check of the password, which rehashes a record of old costs."""
 
     def judge(copy: str) -> Judged:
         after = [copy]
@@ -212,8 +212,7 @@ def judge_login(user: Any, password: Any) -> Judged:
 def judge_change(
     user: Any, old_password: Any, new_password: Any, judged: Optional[str] = None
 ) -> Judged:
-    """A change of the password, if the old one is right, as it is at the record that was
-    judged already."""
+    """A change of the password, if the old one is right; at the record `judged` it is."""
 
     def judge(copy: str) -> Judged:
         right = copy == judged or hashers.check_password(old_password, copy)
@@ -224,7 +223,8 @@ def judge_change(
 
 
 def in_thread(work: Callable[[], T]) -> Awaitable[T]:
-    """What the work answers, done in a thread. No frame that waits, which a report of an
-    error would show, has a password: the work takes none, and no coroutine makes it."""
+    """The work's answer, from a thread. No waiting frame, which a report of an error would
+    show, has a password: the work gets none as an argument, and no coroutine makes it.
+    """
     answer: Awaitable[T] = sync_to_async(hidden(work))()
     return answer

@@ -24,18 +24,18 @@ from rigzumal.django.records import RecordChanged, hidden
 
 
 class CompareAndSetMixin(models.Model):
-    """Stands in front of AbstractBaseUser or AbstractUser among a model's bases.
+    """Put this in front of AbstractBaseUser or AbstractUser among a model's bases.
 
-    - `check_password` compares before it makes a record anew.
+    - `check_password` compares before it rehashes.
     - `save` writes the password only if it was set since the user was read, and then
-      only over the record that was read; otherwise it raises RecordChanged, with
-      nothing written. So a form of other fields doesn't bring an old password back.
+      only over the record that was read; otherwise it raises RecordChanged and writes
+      no field. So a form of other fields doesn't bring an old password back.
 
-    All else is Model's. A method of your own that judges or sets passwords stands in
-    front of the mixin and calls `super()`. Not compared are `update`, `bulk_create`,
+    All else is Model's. Put your own methods that judge or set passwords in front of the
+    mixin, and let them call `super()`. These don't compare: `update`, `bulk_create`,
     `bulk_update`, fixtures, and a save to another database than the router's.
 
-    It is an abstract model without fields, so that no migration names it.
+    The mixin is an abstract model without fields, so no migration names it.
     """
 
     password: str
@@ -56,14 +56,12 @@ class CompareAndSetMixin(models.Model):
         fields: Optional[Collection[str]] = None,
         **kwargs: Any,
     ) -> None:
-        """Reads the fields anew, as Model's."""
+        """Reads the fields again, as Model's."""
         read_from = super().refresh_from_db
         read_from(using=using, fields=fields, **kwargs)
         if fields is None or "password" in fields:
             self._note_read()
-            self._password = (
-                None  # what was set and not saved is no password to tell of
-            )
+            self._password = None  # it wasn't saved: no validator hears of it
 
     def _note_read(self) -> None:
         if "password" in self.__dict__:
@@ -74,7 +72,7 @@ class CompareAndSetMixin(models.Model):
         """Whether the password is right; RecordChanged if it was changed eight times."""
         copy = records.known_copy(self, records.database_of(self))
         if self._state.adding or copy is None or self.password != copy.newest:
-            # It was set and isn't saved.
+            # A password was set and isn't saved.
             return bool(hashers.check_password(raw_password, self.password))
         return records.judge_login(self, raw_password).right
 
@@ -89,7 +87,7 @@ class CompareAndSetMixin(models.Model):
         super().set_password(raw_password)
 
     def set_unusable_password(self) -> None:
-        """Sets that no password is right, which `save` writes."""
+        """Makes every password wrong, which `save` writes."""
         _ = self.password
         super().set_unusable_password()
 
@@ -104,7 +102,7 @@ class CompareAndSetMixin(models.Model):
         """Writes the user, as Model's.
 
         Raises:
-            RecordChanged: the password was set, and another record stands by now. The
+            RecordChanged: the password was set, and the row's record has changed. The
                 caller's transaction can go on.
         """
         if update_fields is not None:
@@ -122,7 +120,7 @@ class CompareAndSetMixin(models.Model):
                     update_fields=update_fields,
                 )
         except RecordChanged:
-            self._password = None  # it was never put, so nobody is told of it
+            self._password = None  # it wasn't saved: no validator hears of it
             raise
 
     def _may_lose(
@@ -175,14 +173,14 @@ class CompareAndSetMixin(models.Model):
         return made
 
 
-# Otherwise it would stand in front of AbstractUser's own.
+# Otherwise it would come before AbstractUser's own.
 del CompareAndSetMixin.Meta
 
 
 def make_comparing(model: Any) -> None:
-    """Puts the mixin in front of a model's bases, as if it stood there in its source.
+    """Puts the mixin in front of a model's bases, as if its source had it there.
 
-    The app does it to the user model where RIGZUMAL_USER_COMPARES is True.
+    The app does this to the user model if RIGZUMAL_USER_COMPARES is True.
     """
     if not issubclass(model, CompareAndSetMixin):
         model.__bases__ = (CompareAndSetMixin, *model.__bases__)
@@ -200,14 +198,14 @@ def comparing(model: Any) -> Iterator[None]:
 
 
 def own_methods(classes: Any, *names: str) -> list[str]:
-    """Which of these methods are neither Django's nor the mixin's."""
+    """Those of these methods that are neither Django's nor the mixin's."""
     known = (AbstractBaseUser, CompareAndSetMixin)
     having = [(it, name) for name in names for it in classes if name in vars(it)]
     return [f"{it.__qualname__}.{name}" for it, name in having if it not in known]
 
 
 def unreached_methods(model: Any) -> list[str]:
-    """Which methods of a model's own would be passed over, or would not compare."""
+    """A model's own methods that would be skipped, or would not compare."""
     classes = model.__mro__
     if not issubclass(model, CompareAndSetMixin):
         return own_methods(classes, "check_password", "set_password")

@@ -3,8 +3,8 @@
     book = Client("/run/rigzumal/users/login.sock")
     if book.verify("ada", password) is Reply.YES: ...
 
-`rigzumal.server.aio` is the same for asyncio. The login socket takes verify, change and
-known, the admin socket all.
+`rigzumal.server.aio` is the same for asyncio. The login socket allows verify, change and
+known, the admin socket all operations.
 """
 
 from rigzumal.server._client import Client

@@ -27,12 +27,12 @@ TAG = b"1"
 class Client:
     """Asks a book through a socket of credkeep-server.
 
-    Each call has a connection of its own. So a client may be used by many threads at
-    once, and after a fork, and holds nothing.
+    Each call makes its own connection. So many threads may use a client at once, also
+    after a fork, and it needs no close.
 
     Args:
         path: the socket.
-        timeout: seconds for a call, in all.
+        timeout: seconds of a whole call.
 
     Each call may raise `ServerError`, and an administrator's calls ValueError for a
     password of over 256 bytes.
@@ -46,7 +46,7 @@ class Client:
     def verify(self, name: str, password: Secret) -> Reply:
         """YES or NO; ABSENT if the account has no record; NO_ACCOUNT.
 
-        What no book can have, such as a name with a space, is NO.
+        A name or a password that no book can have, such as a name with a space, is NO.
         """
         no = Reply.NO
         asked = question_of_user("verify", name, password, no_name=no, wrong=no)
@@ -67,15 +67,15 @@ class Client:
         return self._reply(question_of_user("known", name, no_name=no))
 
     def account(self, name: str) -> Reply:
-        """OK: adds the name, with no record. `Refused` (1 exists) if it is there."""
+        """OK: adds the name, with no record. `Refused` (1 exists) if it exists."""
         return self._reply(question("account", name))
 
     def enrol(self, name: str, password: Secret) -> Reply:
-        """ENROLLED, or EXISTS if there is a record; NO_ACCOUNT."""
+        """ENROLLED, or EXISTS if the account has a record; NO_ACCOUNT."""
         return self._reply(question("enrol", name, passwords=(password,)))
 
     def reset(self, name: str, new_password: Secret) -> Reply:
-        """REPLACED, or ENROLLED if there was no record; NO_ACCOUNT."""
+        """REPLACED, or ENROLLED if the account had no record; NO_ACCOUNT."""
         return self._reply(question("reset", name, passwords=(new_password,)))
 
     def disable(self, name: str) -> Reply:
@@ -87,11 +87,11 @@ class Client:
         return self._reply(question("delete", name))
 
     def rename(self, name: str, new_name: str) -> Reply:
-        """RENAMED, or EXISTS if the new name is there; NO_ACCOUNT."""
+        """RENAMED, or EXISTS if the new name exists; NO_ACCOUNT."""
         return self._reply(question("rename", name, new_name))
 
     def names(self, first: str = "-", count: int = 100) -> list[str]:
-        """Up to so many names (1 to 1000) from the first on, in order."""
+        """Up to `count` names (1 to 1000), in order, from `first` on."""
         return self._answer(question("list", first, str(count))).split()[1:]
 
     def _reply(self, asked: Union[Question, Reply]) -> Reply:
@@ -121,7 +121,7 @@ class Client:
         return answer_of(TAG, line)
 
     def _connect(self, connection: socket.socket, until: float) -> None:
-        """Connects, and waits while too many others wait to be let in."""
+        """Connects, and waits while too many other clients wait for the server."""
         while True:
             try:
                 return connection.connect(self._path)

@@ -1,4 +1,4 @@
-"""What is sent to credkeep-server, and what its answers mean."""
+"""The lines for credkeep-server, and the meaning of its answers."""
 
 from __future__ import annotations
 
@@ -10,7 +10,7 @@ from typing import TYPE_CHECKING, Final, Optional, Union
 from rigzumal._library import Secret, bytes_of
 
 LOGIN_SOCKET: Final = "/run/rigzumal/users/login.sock"
-"""Where a book called users is asked, by default."""
+"""The default socket, of a book called users."""
 
 LONGEST_PASSWORD: Final = 256
 """Bytes of the longest password."""
@@ -23,10 +23,10 @@ LONGEST_ANSWER: Final = 65536
 
 
 class Reply(enum.Enum):
-    """What the book answers to an operation.
+    """The book's answer to an operation.
 
-    An answer is never true or false by itself, since NO would be true too: compare it, as
-    in `reply is Reply.YES`.
+    It is never true or false by itself, since NO would be true too: compare it, as in
+    `reply is Reply.YES`.
     """
 
     YES = "yes"
@@ -55,23 +55,23 @@ class Reply(enum.Enum):
 
 
 class ServerError(Exception):
-    """What a question may raise of its own."""
+    """The base of a question's own exceptions."""
 
 
 class Unavailable(ServerError):
-    """No answer came in time: a change that was asked for may be made or not."""
+    """No answer came in time: a requested change may be made or not."""
 
 
 class Later(ServerError):
-    """Too many tries at this name, or of this user, failed: nothing was hashed or done."""
+    """Too many tries at this name, or of this user, failed: this one wasn't hashed."""
 
 
 class Denied(ServerError):
-    """The socket's clients may not ask for this operation: nothing was done."""
+    """The socket's clients may not ask for this operation."""
 
 
 class Refused(ServerError):
-    """The line was refused, by a number and a word of docs/ERRORS.md: nothing was done.
+    """The line was refused, by a number and a word of docs/ERRORS.md, and changed nothing.
 
     Attributes:
         number: such as 3.
@@ -88,7 +88,7 @@ class Question:
     """An operation and its fields, without a tag.
 
     Attributes:
-        no_name: the reply if the name can be in no book; otherwise `Refused` is raised.
+        no_name: the reply if no book can have the name; without it `Refused` is raised.
     """
 
     fields: tuple[bytes, ...]
@@ -111,7 +111,7 @@ def question(
     Raises:
         TypeError: a password is neither bytes nor text.
         ValueError: a password has over 256 bytes, or is text that has no UTF-8.
-        Refused: a name can be in no book (3 name).
+        Refused: no book can have a name (3 name).
     """
     fields = [operation.encode()]
     for name in names:
@@ -132,7 +132,7 @@ def question_of_user(
     no_name: Reply,
     wrong: Reply = Reply.WRONG,
 ) -> Union[Question, Reply]:
-    """A question with what a user typed, or the reply where it can't be right.
+    """A question with a user's words, or the reply if they can't be right.
 
     The first password is the present one; a new one may raise as in `question`.
     """
@@ -144,7 +144,7 @@ def question_of_user(
 
 
 def may_be_name(name: str) -> bool:
-    """Whether a name can be sent: as one field, and no longer than an address."""
+    """Whether a name is one field of a line, and no longer than an address."""
     try:
         sent = name.encode()
     except UnicodeEncodeError:
@@ -153,7 +153,7 @@ def may_be_name(name: str) -> bool:
 
 
 def may_be_password(password: Secret) -> bool:
-    """Whether a record can be of this password."""
+    """Whether a record can have this password."""
     try:
         return len(bytes_of(password)) <= LONGEST_PASSWORD
     except ValueError:
@@ -161,21 +161,21 @@ def may_be_password(password: Secret) -> bool:
 
 
 def answer_of(tag: bytes, line: bytes) -> str:
-    """What a line says under a tag.
+    """The answer in a line with this tag.
 
     Raises:
-        ServerError: one of those above; Unavailable also for what is no answer.
+        ServerError: one of those above; Unavailable also for a line that is no answer.
     """
     found, _, said = line.partition(b" ")
     if found != tag or not line.endswith(b"\n") or not said[:-1].isascii():
-        raise Unavailable("what came is no answer")
+        raise Unavailable("the line that came is no answer")
     text = said[:-1].decode()
     if text == "unavailable":
         raise Unavailable("the book has ended")
     if text == "later":
         raise Later("too many tries failed")
     if text == "denied":
-        raise Denied("the socket doesn't take this operation")
+        raise Denied("the socket doesn't allow this operation")
     kind, _, rest = text.partition(" ")
     number, _, word = rest.partition(" ")
     if kind == "bad" and number.isdigit():
@@ -184,12 +184,12 @@ def answer_of(tag: bytes, line: bytes) -> str:
 
 
 def reply_of(text: str) -> Reply:
-    """The reply that an answer is.
+    """The reply of an answer.
 
     Raises:
-        Unavailable: it is none.
+        Unavailable: the answer is no reply.
     """
     try:
         return Reply(text)
     except ValueError:
-        raise Unavailable("what came is no reply") from None
+        raise Unavailable("the answer is no reply") from None

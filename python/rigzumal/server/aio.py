@@ -27,14 +27,14 @@ from rigzumal.server._lines import (
 
 
 class Client:
-    """`rigzumal.server.Client` with calls that are awaited, on one connection.
+    """`rigzumal.server.Client` with coroutines, on one connection.
 
-    Many tasks of one event loop may call at once: answers find their calls by tags. A
-    connection that has ended is made anew by the next call.
+    Many tasks of one event loop may call at once: answers find their calls by tags. After
+    a connection has ended the next call makes another.
 
     Args:
         path: the socket.
-        timeout: seconds for a call, in all.
+        timeout: seconds of a whole call.
     """
 
     def __init__(
@@ -59,7 +59,7 @@ class Client:
         await self.close()
 
     async def close(self) -> None:
-        """Ends the connection; calls that wait raise `Unavailable`."""
+        """Ends the connection; waiting calls raise `Unavailable`."""
         if self._reading is not None:
             self._reading.cancel()
             await asyncio.gather(self._reading, return_exceptions=True)
@@ -68,7 +68,7 @@ class Client:
     async def verify(self, name: str, password: Secret) -> Reply:
         """YES or NO; ABSENT if the account has no record; NO_ACCOUNT.
 
-        What no book can have, such as a name with a space, is NO.
+        A name or a password that no book can have, such as a name with a space, is NO.
         """
         no = Reply.NO
         asked = question_of_user("verify", name, password, no_name=no, wrong=no)
@@ -89,15 +89,15 @@ class Client:
         return await self._reply(question_of_user("known", name, no_name=no))
 
     async def account(self, name: str) -> Reply:
-        """OK: adds the name, with no record. `Refused` (1 exists) if it is there."""
+        """OK: adds the name, with no record. `Refused` (1 exists) if it exists."""
         return await self._reply(question("account", name))
 
     async def enrol(self, name: str, password: Secret) -> Reply:
-        """ENROLLED, or EXISTS if there is a record; NO_ACCOUNT."""
+        """ENROLLED, or EXISTS if the account has a record; NO_ACCOUNT."""
         return await self._reply(question("enrol", name, passwords=(password,)))
 
     async def reset(self, name: str, new_password: Secret) -> Reply:
-        """REPLACED, or ENROLLED if there was no record; NO_ACCOUNT."""
+        """REPLACED, or ENROLLED if the account had no record; NO_ACCOUNT."""
         return await self._reply(question("reset", name, passwords=(new_password,)))
 
     async def disable(self, name: str) -> Reply:
@@ -109,11 +109,11 @@ class Client:
         return await self._reply(question("delete", name))
 
     async def rename(self, name: str, new_name: str) -> Reply:
-        """RENAMED, or EXISTS if the new name is there; NO_ACCOUNT."""
+        """RENAMED, or EXISTS if the new name exists; NO_ACCOUNT."""
         return await self._reply(question("rename", name, new_name))
 
     async def names(self, first: str = "-", count: int = 100) -> list[str]:
-        """Up to so many names (1 to 1000) from the first on, in order."""
+        """Up to `count` names (1 to 1000), in order, from `first` on."""
         return (await self._answer(question("list", first, str(count)))).split()[1:]
 
     async def _reply(self, asked: Union[Question, Reply]) -> Reply:
@@ -158,7 +158,7 @@ class Client:
     async def _read(
         self, reader: asyncio.StreamReader, writer: asyncio.StreamWriter
     ) -> None:
-        """Hands answers to those who wait, until the connection ends."""
+        """Hands answers to waiting calls, until the connection ends."""
         try:
             while line := await reader.readline():
                 waiting = self._waiting.pop(line.partition(b" ")[0], None)
