@@ -18,18 +18,15 @@ from rigzumal.accounts.database import Database
 
 class Commands(Base):
     def run_command(self, *words, given=b"", status=0, database=None):
-        url = database or f"sqlite:///{self.server.path}"
-        costs = "--memory 64 --passes 1 --lanes 1".split()
-        done = subprocess.run(
-            [sys.executable, "-m", "rigzumal", "accounts", *costs, *words],
-            input=given,
-            capture_output=True,
-            env={**os.environ, "RIGZUMAL_DATABASE": url},
-        )
-        text = done.stdout.decode() + done.stderr.decode()
-        self.assertEqual(done.returncode, status, text)
-        self.assertNotIn("Traceback", text)
-        return text
+        """What the command prints on both streams."""
+        said, costs = io.StringIO(), "--memory 64 --passes 1 --lanes 1".split()
+        stdin = io.TextIOWrapper(io.BytesIO(given))
+        url = {"RIGZUMAL_DATABASE": database or self.server.url}
+        with mock.patch.dict(os.environ, url), mock.patch.object(sys, "stdin", stdin):
+            with contextlib.redirect_stdout(said), contextlib.redirect_stderr(said):
+                found = cli.main([*costs, *words])
+        self.assertEqual(found, status, said.getvalue())
+        return said.getvalue()
 
     def says(self, said, *words, **more):
         self.assertEqual(self.run_command(*words, **more), said)
@@ -42,7 +39,7 @@ class Commands(Base):
         self.says("yes\n", "check", "ann@x", given=b"one\n")
         for wrong in (b"two", b"one ", b"one\n\n"):
             said = self.run_command("check", "ann@x", given=wrong, status=4)
-            self.assertEqual(said.splitlines()[0], "no")
+            self.assertEqual(said.splitlines()[-1], "no")
         self.says("no account\n", "check", "bob", given=b"one", status=4)
         self.says("replaced\n", "reset", "ann@x", given=b"two")
         self.says("yes\n", "check", "ann@x", given=b"two")
