@@ -9,8 +9,11 @@ import pathlib
 import re
 import shlex
 import subprocess
+from unittest import mock
 
 from served import FAST_BOOK, PYTHON, SECRET, SERVER, TOP, WRONG, Case, need, until
+from daemon import tally
+from daemon.options import OPERATIONS, Options
 
 
 def stats(text: str) -> dict[str, str]:
@@ -130,6 +133,15 @@ class Seen(Case):
         when = datetime.datetime.strptime(moment, "%Y-%m-%dT%H:%M:%SZ")
         self.assertEqual(said, "last")
         self.assertTrue(before <= when <= before + datetime.timedelta(seconds=20), moment)
+
+    def test_last_logins_are_bounded(self) -> None:
+        """Of too many right logins the oldest is forgotten."""
+        verify = OPERATIONS[b"verify"]
+        with mock.patch.object(tally, "REMEMBERED", 2):
+            counted = tally.Tally(Options())
+            for name in "abac":
+                counted.note(verify, name, 0, "yes")
+        self.assertEqual([counted.last(name)[:4] for name in "abc"], ["last", "none", "last"])
 
 
 class Audited(Case):
