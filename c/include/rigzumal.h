@@ -1,7 +1,7 @@
 /* Argon2 (RFC 9106), scrypt (RFC 7914) and the strings of password records, for programs in C.
  *
- * The hashing and the reading and writing of strings are proved. In front of them stands a thin
- * layer of C, which is not.
+ * The hashing and the reading and writing of strings are proved. The thin layer of C in front of
+ * them is not.
  *
  *     char record[RIGZUMAL_TEXT_SIZE];
  *     int fault = rigzumal_record(record, sizeof record, RIGZUMAL_TAG_SIZE, RIGZUMAL_ARGON2_COSTS,
@@ -16,35 +16,35 @@
  *         let_in();
  *     }
  *
- * Every call answers RIGZUMAL_OK or the number of a fault, and with a fault it has written nothing.
- * All sizes are in bytes but those of a memory cost. Strings end with a zero byte.
+ * Every call answers RIGZUMAL_OK or the number of a fault, and writes no output with a fault. All
+ * sizes are in bytes but those of a memory cost. Strings end with a zero byte.
  *
- * Any number of threads may call at the same time, and each call works on its own thread alone, but
- * for the calls at the end: with those several threads may work the lanes of one tag.
- * Nothing stays after a call but cleared memory, which the next calls take again: as much as calls
- * took at one time, and 64 MiB at most, or as much as rigzumal_keep or RIGZUMAL_KEEP in the
- * environment say. Tools count it as the process's own until the system, when it is short of
- * memory, takes it back by itself; rigzumal_trim gives it back at once.
+ * Any number of threads may call at the same time. Each call works on its own thread alone, but for
+ * the calls at the end: with those several threads may work the lanes of one tag. After a call only
+ * cleared memory stays, for the next calls: as much as calls used at one time, and at most 64 MiB
+ * or the bound of rigzumal_keep or of RIGZUMAL_KEEP in the environment. Tools count it as the
+ * process's own until the system is short of memory and reclaims it; rigzumal_trim gives it back at
+ * once.
  *
- * Memory is cleared as it is given back; the stack below the call, 22 KiB of it, and all vector
- * registers that the processor has are cleared after each call. Blocks of 64 KiB and more are in no
- * core dump, and read as zero in a forked child. Where the memory is large it has huge pages.
+ * A call clears its memory before it gives it back, and at its end 22 KiB of the stack below it and
+ * all vector registers of the processor. Blocks of 64 KiB and more are in no core dump, and read as
+ * zero in a forked child. Large memory has huge pages.
  *
- * Any x86-64 processor runs the library. One that has every feature of x86-64-v2 or x86-64-v3 gets
- * a build for it, which is chosen as the first call is made.
+ * Any x86-64 processor runs the library. The first call chooses a build for x86-64-v2 or x86-64-v3
+ * if the processor has all of its features.
  *
- * What the caller owes:
- * - A pointer that comes with a size reaches that many bytes; it may be null if the size is 0, and
- *   a salt where a call says so. Other pointers are never null.
- * - What a call writes overlaps nothing that it reads.
+ * The caller owes this:
+ * - A pointer with a size reaches that many bytes; it may be null if the size is 0, and so may a
+ *   salt of some calls. Other pointers are never null.
+ * - The output of a call doesn't overlap its inputs.
  * - The stack has RIGZUMAL_STACK_SIZE bytes left below the call: threads with a stack of 32 KiB may
  *   call. The memory of a hash is not on the stack, whatever its costs.
  * - No call is made in a signal handler, nor in the child of a process of several threads that
  *   forked and has not called exec.
  *
- * The ABI, for programs that were built before: in librigzumal.so.1 no call, structure or number of
- * this header changes, and calls and faults are only added; a program treats a fault that it
- * doesn't know as a refusal. What would break this gets another number after ".so". */
+ * The ABI: in librigzumal.so.1 no call, structure or number of this header changes. Calls and
+ * faults are only added; treat an unknown fault as a refusal. An incompatible change gets another
+ * number after ".so". */
 #ifndef RIGZUMAL_H
 #define RIGZUMAL_H
 
@@ -60,7 +60,7 @@ extern "C" {
 
 /* Sizes in bytes. */
 enum rigzumal_size {
-    RIGZUMAL_TEXT_SIZE = 513,    /* into which every record fits, with its zero byte */
+    RIGZUMAL_TEXT_SIZE = 513,    /* room for every record, with its zero byte */
     RIGZUMAL_STACK_SIZE = 24576, /* of the caller's stack, enough for any call */
     RIGZUMAL_SALT_SIZE = 16,     /* as usual */
     RIGZUMAL_TAG_SIZE = 32,
@@ -123,17 +123,17 @@ enum rigzumal_fault {
     RIGZUMAL_OTHER_COSTS = 27 /* the record has other costs, or another salt or tag size */
 };
 
-/* The version of the library in use, as "0.2.0". */
+/* The version of the library in use, such as "0.2.0". */
 const char *rigzumal_version(void);
 
-/* Gives the memory that is kept between calls back to the system, and answers how many bytes it
- * has. Calls that are under way keep theirs. It is for a program that hashes seldom: the next call
- * has the system map and clear its memory anew, which takes longer. */
+/* Gives the memory that is kept between calls back to the system, and answers its size. Running
+ * calls keep theirs. Use it in a program that hashes seldom: the system maps and clears the memory
+ * of the next call again, which needs longer. */
 size_t rigzumal_trim(void);
 
-/* Has at most so many bytes kept from now on, in whole huge pages of 2 MiB: 0 keeps nothing, and
- * 134217728 keeps the table of RIGZUMAL_SCRYPT_COSTS. Gives back what is kept, and answers the
- * bound that there was. At the start the bound is what RIGZUMAL_KEEP says in bytes, or 64 MiB. */
+/* Bounds the bytes that are kept from now on, in whole huge pages of 2 MiB: 0 keeps none, and
+ * 134217728 keeps the table of RIGZUMAL_SCRYPT_COSTS. It gives back the memory that is kept now,
+ * and answers the old bound: at the start RIGZUMAL_KEEP of the environment, or 64 MiB. */
 size_t rigzumal_keep(size_t most);
 
 /* The same of libargon2.so.1, the drop-in library, which has its own memory and no other call of
@@ -141,27 +141,26 @@ size_t rigzumal_keep(size_t most);
 size_t rigzumal_libargon2_trim(void);
 size_t rigzumal_libargon2_keep(size_t most);
 
-/* What a fault means in words, and its name in one word, as "mismatch". Never null. */
+/* The meaning of a fault in words, and its name in one word, such as "mismatch". Never null. */
 const char *rigzumal_strerror(int fault);
 const char *rigzumal_word(int fault);
 
 /* Writes a new record of the password into text, which has room for text_size bytes. The tag gets
- * tag_size bytes. The costs are those at the front of the record, as RIGZUMAL_ARGON2_COSTS.
- * A salt that is null is drawn by the system's getrandom, salt_size bytes of it; one that isn't is
- * to be fresh. If salt_size is 0, the costs have a salt after them already:
- * "$argon2id$v=19$m=65536,t=3,p=4$c29tZXNhbHQ".
+ * tag_size bytes. The costs are the front of the record, such as RIGZUMAL_ARGON2_COSTS.
+ * If salt is null, the system's getrandom generates salt_size bytes; otherwise give a fresh salt.
+ * If salt_size is 0, the costs already have a salt: "$argon2id$v=19$m=65536,t=3,p=4$c29tZXNhbHQ".
  * Faults: NO_RANDOM; SHAPE to TOO_LONG, of costs and salt as a text; TAG; INPUT_SIZE; MEMORY;
  * NO_ROOM. */
 int rigzumal_record(char *text, size_t text_size, size_t tag_size, const char *costs,
                     const void *salt, size_t salt_size, const void *password, size_t password_size);
 
-/* Whether a record is one of the password: OK, otherwise MISMATCH.
+/* Whether the password is the record's: OK, otherwise MISMATCH.
  * Faults: SHAPE to TOO_LONG, of the record; INPUT_SIZE; MEMORY. */
 int rigzumal_check(const char *record, const void *password, size_t password_size);
 
-/* The two calls above with a secret beside the password, as a pepper that the program keeps apart
- * from its records: K of RFC 9106, section 3.1. The text is that of any record; without the same
- * secret no password is right. Scrypt has no secret: SCHEME.
+/* The two calls above with a secret beside the password: a pepper that the program keeps apart from
+ * its records, K of RFC 9106, section 3.1. The text doesn't show it; without the same secret no
+ * password is right. Scrypt has no secret: SCHEME.
  * Faults: those of rigzumal_record and of rigzumal_check; INPUT_SIZE of the secret too. */
 int rigzumal_record_with_secret(char *text, size_t text_size, size_t tag_size, const char *costs,
                                 const void *salt, size_t salt_size, const void *password,
@@ -174,7 +173,7 @@ int rigzumal_check_with_secret(const char *record, const void *password, size_t 
 int rigzumal_record_fault(const char *record);
 int rigzumal_setting_fault(const char *setting);
 
-/* What stands in a record, or in costs. */
+/* The numbers of a record, or of costs. */
 struct rigzumal_parts {
     uint32_t scheme;    /* RIGZUMAL_ARGON2D to RIGZUMAL_SCRYPT */
     uint32_t version;   /* of scrypt 0 */
@@ -185,13 +184,13 @@ struct rigzumal_parts {
     uint32_t tag_size;  /* 0 of costs */
 };
 
-/* Reads the numbers of a record, or of costs, with or without a salt after them: what has no tag is
- * no record. Faults: SHAPE to TOO_LONG. */
+/* Reads the numbers of a record, or of costs, with or without a salt after them: a text without a
+ * tag is no record. Faults: SHAPE to TOO_LONG. */
 int rigzumal_parts(struct rigzumal_parts *parts, const char *text);
 
-/* Whether a record is to be made again, because its scheme, costs, or the sizes of its salt and tag
- * are others than those of a new one: OK if it may stay, otherwise OTHER_COSTS. A login that was
- * right is the moment for it, since it has the password. If the costs have a salt, salt_size is 0.
+/* Whether a record needs a rehash: OTHER_COSTS if its scheme, its costs, or the sizes of its salt
+ * and tag differ from a new one's, otherwise OK. Rehash after a right login, which has the
+ * password. If the costs have a salt, salt_size is 0.
  * Faults: SHAPE to TOO_LONG, of the record, and then of the costs. */
 int rigzumal_needs_rehash(const char *record, const char *costs, size_t salt_size, size_t tag_size);
 
@@ -199,25 +198,25 @@ int rigzumal_needs_rehash(const char *record, const char *costs, size_t salt_siz
 enum rigzumal_operation {
     RIGZUMAL_ENROL = 1,   /* make the first record */
     RIGZUMAL_VERIFY = 2,  /* is it the password? */
-    RIGZUMAL_CHANGE = 3,  /* put a record of a new password in the place of the old one's */
-    RIGZUMAL_UPGRADE = 4, /* make the record of the same password anew under other costs */
-    RIGZUMAL_REMOVE = 5   /* take the record away */
+    RIGZUMAL_CHANGE = 3,  /* replace the record by one of a new password */
+    RIGZUMAL_UPGRADE = 4, /* rehash the same password under other costs */
+    RIGZUMAL_REMOVE = 5   /* remove the record */
 };
 
-/* The replies to them. After ENROLLED, REPLACED, UPGRADED and REMOVED another record is to stand,
- * or none. The last two are for a store to answer: a step never does. */
+/* The replies to them. After ENROLLED, REPLACED, UPGRADED and REMOVED the store has to change the
+ * record. The store answers the last two: a step never does. */
 enum rigzumal_reply {
-    RIGZUMAL_REPLY_ENROLLED = 1,   /* to an enrol: there was no record */
-    RIGZUMAL_REPLY_EXISTS = 2,     /* to an enrol: a record stands already */
+    RIGZUMAL_REPLY_ENROLLED = 1,   /* to an enrol: the account had no record */
+    RIGZUMAL_REPLY_EXISTS = 2,     /* to an enrol: the account has a record */
     RIGZUMAL_REPLY_YES = 3,        /* to a verify: the password is right */
-    RIGZUMAL_REPLY_NO = 4,         /* to a verify: it is wrong */
-    RIGZUMAL_REPLY_ABSENT = 5,     /* to all but an enrol: there is no record */
+    RIGZUMAL_REPLY_NO = 4,         /* to a verify: the password is wrong */
+    RIGZUMAL_REPLY_ABSENT = 5,     /* to all but an enrol: the account has no record */
     RIGZUMAL_REPLY_REPLACED = 6,   /* to a change */
     RIGZUMAL_REPLY_WRONG = 7,      /* to a change, an upgrade, a remove: the password is wrong */
     RIGZUMAL_REPLY_UPGRADED = 8,   /* to an upgrade */
-    RIGZUMAL_REPLY_KEPT = 9,       /* to an upgrade: the record has these costs already */
+    RIGZUMAL_REPLY_KEPT = 9,       /* to an upgrade: the record already has these costs */
     RIGZUMAL_REPLY_REMOVED = 10,   /* to a remove */
-    RIGZUMAL_REPLY_CHANGED = 11,   /* another record stands than the copy; nothing was done */
+    RIGZUMAL_REPLY_CHANGED = 11,   /* the record isn't the copy any more, and stays */
     RIGZUMAL_REPLY_NO_ACCOUNT = 12 /* the store doesn't have the account */
 };
 
@@ -233,21 +232,20 @@ enum rigzumal_reply {
  * before 3.39 IS. With = alone an ENROL would never find its copy. The comparison is to be that of
  * bytes, whatever the column's collation.
  *
- * If the store does an update only if what stands is still the copy, and nothing comes between that
- * look and the writing, the replies to the updates that it does are those of one history, in which
- * each operation was done whole at its update. That holds whatever else clients do to the rows, if
- * each compares and writes so: a reset, a record of another scheme, or a new row, whose copy is no
- * row. An update that changes no row is answered CHANGED, or begun anew with what stands. A reply
- * that makes no change needs a second look in place of the update.
+ * If the store updates a row only if it still has the copy, and compares and writes in one step,
+ * its replies are those of one history, in which each operation was done whole at its update. This
+ * holds whatever else clients do to the rows, if each compares and writes so: a reset, a record of
+ * another scheme, or a new row, whose copy is no row. If an update changes no row, answer CHANGED,
+ * or begin again with the row's record. A reply that makes no change needs a second look instead of
+ * the update.
  *
- * copy is the record's text, or null if none stands. password is the new one of an ENROL, and
- * otherwise the one that is judged; new_password is read for a CHANGE, and setting, which is costs
- * with a fresh salt behind them, for an ENROL, a CHANGE and an UPGRADE: others may pass null. A new
- * tag has 32 bytes. With OK, reply is one of rigzumal_reply. After ENROLLED, REPLACED and UPGRADED
- * text is the record that is to stand, and it is empty otherwise; if nothing is written, text_size
- * may be 0. A password of over 256 bytes is never cut but refused; rigzumal_check takes one of any
- * size. Faults, in this order: NO_OPERATION; COPY; LONG_PASSWORD; SHAPE to TOO_LONG, of the
- * setting; MEMORY; NO_ROOM. */
+ * copy is the record's text, or null if the account has none. password is the new password of an
+ * ENROL, and otherwise the judged one. A CHANGE reads new_password; an ENROL, a CHANGE and an
+ * UPGRADE read setting, which is costs with a fresh salt; others may pass null. A new tag has 32
+ * bytes. With OK, reply is one of rigzumal_reply. After ENROLLED, REPLACED and UPGRADED text is the
+ * new record, and otherwise it is empty; then text_size may be 0. A password of over 256 bytes is
+ * refused; rigzumal_check accepts one of any size. Faults, in this order: NO_OPERATION; COPY;
+ * LONG_PASSWORD; SHAPE to TOO_LONG, of the setting; MEMORY; NO_ROOM. */
 int rigzumal_step(char *text, size_t text_size, uint32_t *reply, uint32_t operation,
                   const char *copy, const void *password, size_t password_size,
                   const void *new_password, size_t new_password_size, const char *setting);
@@ -269,7 +267,7 @@ int rigzumal_argon2(void *tag, size_t tag_size, const struct rigzumal_argon2 *nu
                     const void *secret, size_t secret_size, const void *associated,
                     size_t associated_size);
 
-/* Writes a record of these parts into text, as rigzumal_record does, and hashes nothing.
+/* Writes a record of these parts into text, as rigzumal_record does, without a hash.
  * Faults: NO_KIND, NO_VERSION; RANGE to TAG; MEMORY; NO_ROOM. */
 int rigzumal_argon2_write(char *text, size_t text_size, const struct rigzumal_argon2 *numbers,
                           const void *salt, size_t salt_size, const void *tag, size_t tag_size);
@@ -286,19 +284,18 @@ struct rigzumal_scrypt {
 int rigzumal_scrypt(void *key, size_t key_size, const struct rigzumal_scrypt *numbers,
                     const void *password, size_t password_size, const void *salt, size_t salt_size);
 
-/* The calls below are those of the same names without _threads, with the same answers, but that up
- * to so many threads work the lanes of Argon2, the caller's among them; 0 is as 1. There are never
- * more than lanes, nor than processors that the caller may run on; below 4 MiB of memory there is
- * one, and with scrypt. One that the system refuses is done without. The others have ended when the
- * call is over; meanwhile they handle no signal, and the caller's can't be cancelled. Their stacks
- * are cleared and unmapped with the call; they are in no core dump, and read as zero in a child
- * that is forked meanwhile.
+/* The calls below answer as those of the same names without _threads, but up to so many threads
+ * work the lanes of Argon2, the caller's among them; 0 means 1. The call uses at most one thread a
+ * lane and one for each processor that the caller may run on, and only one below 4 MiB of memory
+ * and for scrypt. If the system refuses a thread, the others do its work. They end before the call
+ * does; meanwhile they handle no signal, and the caller can't be cancelled. The call clears and
+ * unmaps their stacks, which are in no core dump, and read as zero in a child forked meanwhile.
  *
- * When which: threads make one login faster on a machine that has nothing else to do. Of 64 MiB,
- * three passes and four lanes, on four processors, a tag took 102 ms on one thread and 32 ms on
- * four. A service has as many logins at once as it has processors, and threads gain it nothing:
- * four callers made a tag every 30 ms with one thread each, and every 28 ms with four; at 19 MiB
- * and two passes every 6.0 ms either way. */
+ * Use threads to make one login faster on an idle machine. Of 64 MiB, three passes and four lanes,
+ * on four processors, a tag took 102 ms on one thread and 32 ms on four. They gain a service
+ * little, since it has as many logins at once as processors: four callers made a tag every 30 ms
+ * with one thread each, and every 28 ms with four; at 19 MiB and two passes every 6.0 ms either
+ * way. */
 int rigzumal_argon2_threads(void *tag, size_t tag_size, const struct rigzumal_argon2 *numbers,
                             const void *password, size_t password_size, const void *salt,
                             size_t salt_size, const void *secret, size_t secret_size,
@@ -316,7 +313,7 @@ int rigzumal_check_with_secret_threads(const char *record, const void *password,
                                        size_t password_size, const void *secret, size_t secret_size,
                                        uint32_t threads);
 
-/* The inputs of the next calls by their names, of which those that aren't given are none:
+/* The inputs of the next calls by their names; leave out those that you don't have:
  *
  *     struct rigzumal_inputs inputs = {.password = password, .password_size = password_size,
  *                                      .salt_size = RIGZUMAL_SALT_SIZE, .secret = pepper,
@@ -326,13 +323,13 @@ int rigzumal_check_with_secret_threads(const char *record, const void *password,
 struct rigzumal_inputs {
     const void *password;
     size_t password_size;
-    const void *salt; /* null: it is drawn, in a record of a salt_size over 0 */
+    const void *salt; /* null: a record with a salt_size over 0 gets a random one */
     size_t salt_size;
-    const void *secret; /* null: there is none; of records too it is K of RFC 9106 */
+    const void *secret; /* or null; K of RFC 9106, of records too */
     size_t secret_size;
-    const void *associated; /* null: there is none; of records too it is X of RFC 9106 */
+    const void *associated; /* or null; X of RFC 9106, of records too */
     size_t associated_size;
-    uint32_t threads; /* as in the calls above; 0 is as 1 */
+    uint32_t threads; /* as in the calls above; 0 means 1 */
 };
 
 /* rigzumal_argon2_threads, and rigzumal_record_threads and rigzumal_check_threads with a secret and
@@ -343,7 +340,7 @@ int rigzumal_record_from(char *text, size_t text_size, size_t tag_size, const ch
                          const struct rigzumal_inputs *inputs);
 int rigzumal_check_from(const char *record, const struct rigzumal_inputs *inputs);
 
-/* The inputs of a step, as rigzumal_step takes them. */
+/* The inputs of a step, as those of rigzumal_step. */
 struct rigzumal_step_inputs {
     uint32_t operation;
     const char *copy;
@@ -352,14 +349,14 @@ struct rigzumal_step_inputs {
     const void *new_password;
     size_t new_password_size;
     const char *setting;
-    const void *secret; /* null: there is none */
+    const void *secret; /* or null */
     size_t secret_size;
-    uint32_t threads; /* 0 is as 1 */
+    uint32_t threads; /* 0 means 1 */
 };
 
-/* rigzumal_step with a secret and threads. With either, C does what the proved code does without:
- * the hashing is proved, the choice of the reply is not. Scrypt has no secret: SCHEME, of the copy
- * and of the setting. */
+/* rigzumal_step with a secret and threads. With either, C chooses the reply, which the proved code
+ * does without: then only the hashing is proved. Scrypt has no secret: SCHEME, of the copy and of
+ * the setting. */
 int rigzumal_step_from(char *text, size_t text_size, uint32_t *reply,
                        const struct rigzumal_step_inputs *inputs);
 
