@@ -7,15 +7,16 @@
     )
     if accounts.login(user_id, password) is Reply.YES: ...
 
-An operation reads the account's record, hashes with nothing held, and is committed by
-an UPDATE that asks whether that record still stands. Otherwise it is done again at the
-one that does. So whatever overlaps, the replies are those of one legal history.
+An operation reads the account's record, hashes without a lock, and commits by an UPDATE
+that compares the row's record with the one that it read. If the row has another record
+by then, the operation begins again. So whatever overlaps, the replies are those of one
+legal history.
 
 It runs on SQLite (sqlite3), PostgreSQL (psycopg 3), MariaDB and MySQL (PyMySQL), and
-imports no driver. `AsyncAccounts` is the same for asyncio; `rigzumal.accounts.parts` has
-what an operation in three parts takes, `rigzumal.accounts.dialects` what an engine of
-your own has to tell. `python3 -m rigzumal accounts` is the command; its `torture` tries
-a database, and judges what it answered.
+imports no driver. `AsyncAccounts` is the same for asyncio. `rigzumal.accounts.parts` is
+for an operation in three parts, `rigzumal.accounts.dialects` for your own engine.
+`python3 -m rigzumal accounts` is the command; its `torture` tries a database, and judges
+its answers.
 """
 
 from rigzumal.accounts._accounts import Accounts, AsyncAccounts

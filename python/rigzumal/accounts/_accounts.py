@@ -15,59 +15,59 @@ from rigzumal.accounts.pools import AsyncPool, Pool
 class Accounts(Operations[Pool]):
     """Password records in a service's own table.
 
-    A row is an account; NULL in its record is an account that has none. The operations
-    run in transactions of their own, on connections in autocommit on which none is
-    open: a caller's transaction may read what stood long ago, and holds locks while one
-    hashes.
+    A row is an account; NULL in its record is an account without one. The operations
+    run in their own transactions, on connections in autocommit without an open one: a
+    caller's transaction may read an old record, and would hold locks during a hash.
 
     Any number of threads may use one object.
 
     Args:
-        pool: called for a context manager of a connection to the primary. After any
-            exception, an interrupt or a cancelled task too (BaseException), it closes
-            the connection or rolls it back before it gives it out again. What it raises
-            of its own on the way back is dropped, since the job has ended by then.
+        pool: a callable that returns a context manager of a connection to the primary.
+            After any exception (BaseException too: interrupts, cancelled tasks) it closes
+            the connection or rolls it back before it gives it out again. Its own
+            exceptions afterwards are dropped, since the work has ended by then.
         dialect: of the database, with the names of the table and its columns.
-        hasher: PasswordHasher or ScryptHasher: the costs of new records. Its tags have
-            32 bytes, and it has no secret. An operation hashes on its own thread alone,
-            whatever the hasher's threads.
-        replica: a pool for the copies; it may lag, since the primary is looked at
-            before an answer, and it may be down, since the primary is asked then.
+        hasher: PasswordHasher or ScryptHasher, for the costs of new records. Its tags
+            have 32 bytes, and it has no secret. An operation hashes on its own thread
+            alone, whatever the hasher's threads.
+        replica: a pool for the copies. It may lag, since an answer rests on a look at the
+            primary, and it may be down, since the primary is then asked for copies too.
         foreign: judges texts of other schemes, as (text, password) -> bool or None.
-        upgrade_from: costs as "$argon2i$v=19$m=65536,t=3,p=4" that an upgrade replaces
-            even if its own aren't higher.
-        tries: how often an operation is done that finds another record at its commit;
-            1 or more.
-        patience: for how many seconds a lost connection is made anew, a busy server
-            asked again, and a lost answer looked for; 0 or more. It ends no statement
-            that hangs: connections need time limits of their own (docs/SCALE.md).
-        confirm: an answer that makes no change, such as a verify's, is confirmed by
-            writing the record over itself: its COMMIT comes after what was read, to
-            the disk and to a standby. It is for servers that show a change before it is
-            safe (MariaDB without a binary log), and costs a login what a change costs.
+        upgrade_from: costs such as "$argon2i$v=19$m=65536,t=3,p=4" that an upgrade
+            replaces even if its own aren't higher.
+        tries: how often to try an operation whose commit finds another record; 1 or more.
+        patience: seconds for a new connection, a busy server, and a lost answer; 0 or
+            more. It ends no statement that hangs: connections need their own time limits
+            (docs/SCALE.md).
+        confirm: confirm an answer without a change, such as a verify's, by writing the
+            record over itself. That COMMIT comes to the disk and to a standby after all
+            that was read. It is for servers that show a change before it is safe (MariaDB
+            without a binary log), and makes a login cost as much as a change.
 
     Raises:
-        ValueError: a number or the hasher won't do.
+        TypeError: the pool or the hasher is of another kind.
+        ValueError: a number, or the hasher's tag or secret, is refused.
         InvalidRecordError: one of `upgrade_from` isn't costs.
 
-    Each operation takes `also`, a function of the driver's connection and the reply. It
-    is called in the operation's transaction before COMMIT, so that rows of one's own,
-    such as a session, are committed with the reply or not at all. If the transaction is
-    undone it is called again in the next. It isn't called for CHANGED. What it raises
-    undoes all, and comes through, but for errors that mean "again".
+    `also`, of each operation, is a function of the driver's connection and the reply. It
+    is called in the operation's transaction before COMMIT, so that your own rows, such as
+    a session, are committed with the reply or not at all. If the transaction is undone,
+    it is called again in the next. It isn't called for CHANGED. Its exceptions undo all
+    and reach the caller, but for errors that mean "again".
 
     Every operation may raise:
         TypeError: the key is of another type than its column, or a password is neither
-            bytes nor text; nothing was read.
-        ValueError: a new password has over 256 bytes, or no UTF-8; nothing was read.
-            Such a password that is tried is a wrong one, after one hash.
-        StoreFault: the table, the server or the connection isn't as it has to be.
-        InvalidRecordError: the account's record is none of ours, and no hook judges it.
-        Unavailable: no server took it; nothing was done.
-        OutcomeUnknown: of a change, or with `also`: COMMIT had no answer, and what
-            stands doesn't tell.
-        OutOfMemoryError: there was too little memory for the costs.
-        Exception: what the pool raises of its own, or the hooks.
+            bytes nor text; no row was read.
+        ValueError: a new password has over 256 bytes, or no UTF-8; no row was read.
+            As a present password it is a wrong one, after one hash.
+        StoreFault: the table, the server or the connection has a fault.
+        InvalidRecordError: the account's record is of another scheme, and no hook judges
+            it.
+        Unavailable: no server did it in time, and no change was made.
+        OutcomeUnknown: of a change, or with `also`: COMMIT had no answer, and the row
+            doesn't show whether the change was made.
+        OutOfMemoryError: too little memory was free for the costs.
+        Exception: the pool's or the hooks' own.
     """
 
     _runtime = Runtime()
@@ -75,7 +75,7 @@ class Accounts(Operations[Pool]):
     def enrol(self, key: Key, password: Secret, *, also: Hook = None) -> Reply:
         """ENROLLED; EXISTS if the account has a record; NO_ACCOUNT.
 
-        It is for rows that somebody is known to own: `new_record` is for a sign-up.
+        Use it for rows with a known owner: `new_record` is for a sign-up.
         """
         return run(self._replied(Request(Kind.ENROL, key, password), also))
 
@@ -86,8 +86,8 @@ class Accounts(Operations[Pool]):
     def login(self, key: Key, password: Secret, *, also: Hook = None) -> Reply:
         """A verify that replaces a record of lower costs, answered as a verify.
 
-        If the new record can't be put (a full disk, an unknown outcome), the answer is
-        that of a verify all the same.
+        If the new record can't be written (a full disk, an unknown outcome), the answer
+        is that of a verify all the same.
         """
         return run(self._login(key, password, also))
 
@@ -96,13 +96,13 @@ class Accounts(Operations[Pool]):
     ) -> Reply:
         """REPLACED; WRONG if the password is; ABSENT; NO_ACCOUNT; CHANGED as below.
 
-        CHANGED, of any operation: `tries` times another record stood at its commit.
+        CHANGED, of any operation: its commit found another record `tries` times.
         """
         request = Request(Kind.CHANGE, key, password, new_password)
         return run(self._replied(request, also))
 
     def reset(self, key: Key, new_password: Secret, *, also: Hook = None) -> Reply:
-        """An administrator's: REPLACED, or ENROLLED if no record stood; NO_ACCOUNT."""
+        """For administrators: REPLACED, or ENROLLED if it had no record; NO_ACCOUNT."""
         request = Request(Kind.RESET, key, b"", new_password)
         return run(self._replied(request, also))
 
@@ -116,19 +116,19 @@ class Accounts(Operations[Pool]):
         return run(self._replied(Request(Kind.REMOVE, key, password), also))
 
     def new_record(self, password: Secret) -> str:
-        """A record for an INSERT of one's own, which makes an account with its password.
+        """A record for your own INSERT, which makes an account with its password.
 
         Raises:
             TypeError: the password is neither bytes nor text.
-            ValueError: it has over 256 bytes, or no UTF-8.
+            ValueError: the password has over 256 bytes, or no UTF-8.
         """
         return self._judge.new_record(password)
 
     def examine(self) -> list[Fault]:
-        """What is wrong with the table and the server; empty if nothing.
+        """The faults of the table and the server; empty if they have none.
 
-        It puts a record into a row of its own, or if there can be none into one of the
-        table's, in a transaction that it rolls back.
+        It writes a record into a new row, or into one of the table's if a new one is
+        impossible, in a transaction that it rolls back.
 
         Raises:
             StoreFault: the connection isn't in autocommit, or has a transaction open.
@@ -151,39 +151,40 @@ class Accounts(Operations[Pool]):
         return run(self._work(ticket))
 
     def commit(self, worked: Worked) -> Answer:
-        """The third part: puts the record after, if the copy still stands.
+        """The third part: writes the new record, if the row still has the copy.
 
-        The reply is CHANGED if another stands; its record is `after`.
+        The reply is CHANGED if the row has another record, which is `after`.
         """
         return run(self._commit(worked))
 
     def commit_in(self, conn: Any, worked: Worked) -> Answer:
-        """The third part within a transaction that the caller has begun, and ends.
+        """The third part in a transaction that the caller begins and ends.
 
-        The reply stands if the caller's COMMIT was acknowledged, which on PostgreSQL
+        The reply holds once the caller's COMMIT is acknowledged, which on PostgreSQL
         with a synchronous standby is a COMMIT without a warning. After CHANGED, and
-        after any exception, the caller rolls back and tries again from its BEGIN. What
-        makes no change is read with a lock, so that it stands until the end: a session
-        that is put beside it doesn't outlive a later change that ends all sessions.
+        after any exception, roll back and try again from BEGIN. An operation without a
+        change reads its row with a lock, so that the record stays until the end: a
+        session that you write beside it doesn't outlive a later change that ends all
+        sessions.
 
         SQLite's transaction begins by BEGIN IMMEDIATE. PostgreSQL's is READ COMMITTED,
-        or SERIALIZABLE if all that touch these rows are. MariaDB's is of any level but
-        READ UNCOMMITTED.
+        or SERIALIZABLE if all transactions on these rows are. MariaDB's is of any level
+        but READ UNCOMMITTED.
 
         Raises:
             StoreFault: no transaction is open on the connection, it is of PostgreSQL's
-                REPEATABLE READ, or the table won't do.
+                REPEATABLE READ, or the table has a fault.
             Exception: whatever the driver raises.
         """
         return run(self._commit_in(conn, worked))
 
 
 class AsyncAccounts(Operations[AsyncPool]):
-    """`Accounts` with operations that are awaited, over psycopg's AsyncConnection.
+    """`Accounts` with coroutines, over psycopg's AsyncConnection.
 
-    Arguments, replies and exceptions are the same; `also` may be awaited. A hash is made
-    in a thread, so that it holds up no other task. A task that is cancelled amid a change
-    may leave it done or not done, as after `OutcomeUnknown`.
+    Arguments, replies and exceptions are the same; `also` may be a coroutine function. A
+    hash runs in a thread, so that other tasks go on. If a task is cancelled during a
+    change, the change may be done or not, as after `OutcomeUnknown`.
     """
 
     _runtime = AsyncRuntime()
@@ -210,7 +211,7 @@ class AsyncAccounts(Operations[AsyncPool]):
     async def reset(
         self, key: Key, new_password: Secret, *, also: Hook = None
     ) -> Reply:
-        """An administrator's: REPLACED, or ENROLLED if no record stood; NO_ACCOUNT."""
+        """For administrators: REPLACED, or ENROLLED if it had no record; NO_ACCOUNT."""
         return await self._replied(Request(Kind.RESET, key, b"", new_password), also)
 
     async def upgrade(self, key: Key, password: Secret, *, also: Hook = None) -> Reply:
@@ -222,11 +223,11 @@ class AsyncAccounts(Operations[AsyncPool]):
         return await self._replied(Request(Kind.REMOVE, key, password), also)
 
     async def new_record(self, password: Secret) -> str:
-        """A record for an INSERT of one's own, which makes an account with its password."""
+        """A record for your own INSERT, which makes an account with its password."""
         return await self._runtime.call(self._judge.new_record, password)
 
     async def examine(self) -> list[Fault]:
-        """What is wrong with the table and the server; empty if nothing."""
+        """The faults of the table and the server; empty if they have none."""
         return await self._examined()
 
     async def perform(self, request: Request, *, also: Hook = None) -> Answer:
@@ -242,9 +243,9 @@ class AsyncAccounts(Operations[AsyncPool]):
         return await self._work(ticket)
 
     async def commit(self, worked: Worked) -> Answer:
-        """The third part: puts the record after, if the copy still stands."""
+        """The third part: writes the new record, if the row still has the copy."""
         return await self._commit(worked)
 
     async def commit_in(self, conn: Any, worked: Worked) -> Answer:
-        """The third part within a transaction that the caller has begun, and ends."""
+        """The third part in a transaction that the caller begins and ends."""
         return await self._commit_in(conn, worked)

@@ -1,4 +1,4 @@
-"""What the operations on accounts take and answer."""
+"""The arguments and answers of operations on accounts."""
 
 from __future__ import annotations
 
@@ -10,7 +10,7 @@ from typing import TYPE_CHECKING, Final, Union
 from rigzumal._library import Secret, bytes_of
 
 Key = Union[int, str, bytes, uuid.UUID]
-"""What names an account: of its column's type."""
+"""The name of an account, of its column's type."""
 
 
 LONGEST_PASSWORD: Final = 256
@@ -18,7 +18,7 @@ LONGEST_PASSWORD: Final = 256
 
 
 class Reply(enum.Enum):
-    """What an operation answers."""
+    """The answer of an operation."""
 
     ENROLLED = "enrolled"
     EXISTS = "exists"
@@ -44,7 +44,7 @@ class Reply(enum.Enum):
 
     @property
     def makes_change(self) -> bool:
-        """Whether another record stands after it, or none does any more."""
+        """Whether the operation replaced, added or removed the record."""
         return self in _CHANGES
 
 
@@ -65,7 +65,7 @@ class Kind(enum.Enum):
 
 
 class NoRow(enum.Enum):
-    """What is found if there is no account."""
+    """The copy of an account that doesn't exist."""
 
     NO_ROW = "no row"
 
@@ -80,8 +80,8 @@ def bytes_of_password(password: Secret) -> bytes:
     """The bytes of a password that an account may have.
 
     Raises:
-        TypeError: it is neither bytes nor text.
-        ValueError: it has over 256 bytes, or is text that has no UTF-8.
+        TypeError: the password is neither bytes nor text.
+        ValueError: the password has over 256 bytes, or is text without UTF-8.
     """
     given = bytes_of(password)
     if len(given) > LONGEST_PASSWORD:
@@ -98,13 +98,12 @@ class Request:
         key: the account's name, of its column's type, or a subclass of str.
         password: bytes or text; not of a reset.
         new_password: bytes or text, of a change and of a reset.
-        can_be_right: False if no account can have the password, which is empty then:
-            it was over 256 bytes, or text that has no UTF-8. It is a wrong password.
+        can_be_right: False if no account can have the password, over 256 bytes or text
+            without UTF-8. It is then empty, and a wrong password.
 
     Raises:
         TypeError: a password is neither bytes nor text.
-        ValueError: a password that is to be stored has over 256 bytes, or is text that
-            has no UTF-8.
+        ValueError: a new password has over 256 bytes, or is text without UTF-8.
     """
 
     kind: Kind
@@ -115,14 +114,14 @@ class Request:
 
     def __post_init__(self) -> None:
         if isinstance(self.key, str):
-            # As a driver knows it, whatever the subclass makes of itself.
+            # As a driver sees it, whatever the subclass makes of itself.
             object.__setattr__(self, "key", str.__str__(self.key))
         object.__setattr__(self, "new_password", bytes_of_password(self.new_password))
         password = b""
         try:
             password = bytes_of_password(self.password)
         except ValueError:
-            # Who tries a password may be anybody, and gets an answer.
+            # Anybody may try a password, and gets an answer.
             if self.kind is Kind.ENROL:
                 raise
             object.__setattr__(self, "can_be_right", False)
@@ -139,7 +138,7 @@ class Ticket:
 
 @dataclass(frozen=True)
 class Worked:
-    """What the whole operation does at the copy: its reply, and the record after it."""
+    """The effect of the whole operation at the copy: its reply, and the record after it."""
 
     ticket: Ticket
     reply: Reply
@@ -148,7 +147,7 @@ class Worked:
 
 @dataclass(frozen=True)
 class Answer:
-    """A reply, the record at which it was judged and the one that stands after it."""
+    """A reply, the record at which it was judged, and the record after it."""
 
     reply: Reply
     before: Copy = field(repr=False)
@@ -156,19 +155,19 @@ class Answer:
 
 
 class AccountsError(Exception):
-    """What an operation on accounts may raise of its own."""
+    """The base of the operations' own exceptions."""
 
 
 class StoreFault(AccountsError):
-    """The table, the server or a connection isn't as it has to be; nothing was done."""
+    """The table, the server or a connection has a fault; no change was made."""
 
 
 class Unavailable(AccountsError):
-    """No server took the operation in time; nothing was done."""
+    """No server did the operation in time; no change was made."""
 
 
 class OutcomeUnknown(AccountsError):
-    """COMMIT was sent, no answer came, and what stands doesn't tell what was done.
+    """COMMIT was sent, no answer came, and the row doesn't show whether it was done.
 
-    The change may stand, may have stood and been replaced, or may still come to stand.
+    The change may be there, may have been replaced since, or may still come.
     """

@@ -1,10 +1,10 @@
-"""The operations in three parts, for a caller whose transaction is its own.
+"""The operations in three parts, for a caller with its own transaction.
 
     ticket = accounts.begin(Request(Kind.CHANGE, user_id, old, new))
     worked = accounts.work(ticket)             # no connection is held
     answer = accounts.commit_in(conn, worked)  # within a transaction that is open
 
-`also` of an operation is enough for rows that are to be committed with it.
+For rows that an operation commits with its reply, its `also` is enough.
 """
 
 from rigzumal.accounts._values import (

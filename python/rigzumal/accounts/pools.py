@@ -1,8 +1,8 @@
-"""The smallest pools, and SQLAlchemy's. psycopg_pool's `connection` is one as it is.
+"""The smallest pools, and SQLAlchemy's. psycopg_pool's `connection` is one too.
 
-A pool is called for a context manager of a connection in autocommit. A pool of your own
-closes a connection, or rolls it back, after any exception: after BaseException too, by
-which threads are interrupted and tasks cancelled.
+A pool is a callable that returns a context manager of a connection in autocommit. Your
+own pool closes a connection, or rolls it back, after any exception, BaseException too:
+interrupts and cancelled tasks.
 
     @contextmanager
     def pool():
@@ -38,7 +38,9 @@ def check_pool(pool: object) -> None:
     """
     if not callable(pool) or hasattr(type(pool), "cursor"):
         kind = type(pool).__name__
-        makers = "PerThread(connect), of_engine(engine) or ConnectionPool(..).connection"
+        makers = (
+            "PerThread(connect), of_engine(engine) or ConnectionPool(..).connection"
+        )
         raise TypeError(f"a pool is wanted, not a {kind}: {makers}")
 
 
@@ -66,7 +68,7 @@ class _Held:
 class PerThread:
     """One connection for each thread, closed after any exception and with its thread.
 
-    After a fork the child makes its own, and leaves its parent's as they are.
+    After a fork the child makes its own connections, and leaves its parent's alone.
 
     Args:
         connect: makes a connection in autocommit.
@@ -98,7 +100,7 @@ class PerThread:
         """This thread's connection, if this process made it."""
         held: Optional[_Held] = getattr(self._local, "held", None)
         if held is not None and not held.is_mine:
-            # To close it here, or to let go of it, would say good-bye to the parent's server.
+            # Closing it here, or dropping it, would end the parent's session at the server.
             self._parents.append(held)
             return None
         return held

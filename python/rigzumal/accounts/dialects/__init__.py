@@ -1,7 +1,7 @@
-"""What differs between databases: a file for each engine.
+"""The differences between databases: a file for each engine.
 
-A dialect of one's own is a subclass of `Dialect`; docs/SCALE.md says what it has to do. The
-tests of every engine, `python/tests/accounts/of_engines.py`, may be run over it.
+Your own dialect is a subclass of `Dialect`; docs/SCALE.md lists its parts. The tests of
+every engine, `python/tests/accounts/of_engines.py`, can run over it.
 """
 
 from rigzumal.accounts.dialects._dialect import Dialect, Mode, Verdict

@@ -1,4 +1,4 @@
-"""What an engine has to tell: its statements, its transactions, what its errors mean."""
+"""The parts of an engine: its statements, its transactions, the meaning of its errors."""
 
 from __future__ import annotations
 
@@ -18,7 +18,7 @@ _BIGINT: Final = 2**63
 
 
 class Verdict(enum.Enum):
-    """What an error of a driver means where no COMMIT was sent."""
+    """The meaning of a driver's error before a COMMIT was sent."""
 
     AGAIN = "the server undid the transaction and wants it to be tried again"
     ELSEWHERE = "the server undid it and takes none for now; another, or later, may"
@@ -34,40 +34,40 @@ def is_of_driver(raised: BaseException) -> bool:
 
 
 def other_driver(conn: Any, wanted: str) -> StoreFault:
-    """What is said of a connection of another driver."""
+    """The fault of a connection of another driver."""
     found = type(conn).__module__.partition(".")[0]
     more = ": of its engine, of_engine makes a pool" if found == "sqlalchemy" else ""
     return StoreFault(f"the driver is {found}, and {wanted} is wanted{more}")
 
 
 class Mode(NamedTuple):
-    """What a connection is in."""
+    """The mode of a connection."""
 
     is_autocommit: bool
     has_transaction: bool
 
 
 class Dialect:
-    """The statements for one table, and what is particular about an engine.
+    """The statements for one table, and the particulars of an engine.
 
     A dialect holds the names of the service's own table and columns, and no connection.
-    In each statement the record is compared byte by byte, where NULL is equal to NULL.
+    Each statement compares the record byte by byte, with NULL equal to NULL.
 
     Args:
         table: its name, with its schema in front if it isn't on the search path.
         key: the column that names an account; it is unique.
         record: the column of the records; it may be NULL.
-        key_type: what Python's type of the key column is: str, int, bytes or uuid.UUID.
+        key_type: Python's type of the key column: str, int, bytes or uuid.UUID.
 
     Attributes:
-        select: the statement that reads a record; takes a key.
-        share: the same, so that the record stands until the transaction ends.
-        update: puts a record if its copy stands; takes record, key and copy.
+        select: the statement that reads the record of a key.
+        share: the same, with a lock that keeps the record until the transaction ends.
+        update: writes a record if the row has the copy; its values are record, key, copy.
         at_once: does a whole change and commits it, or undoes it; empty if the engine
             has no such statement.
-        insert: adds an account without a record; takes a key.
+        insert: adds the account of a key, without a record.
         every: reads all keys and records.
-        returns: the UPDATE answers with the record that it put.
+        returns: whether the UPDATE answers with the record that it wrote.
     """
 
     mark: ClassVar[str] = "%s"
@@ -78,7 +78,7 @@ class Dialect:
     key_sql: ClassVar[str] = "VARCHAR(255)"
     bytes_sql: ClassVar[str] = "VARBINARY(255)"
     returns: ClassVar[bool] = False
-    # How a record is read that has to stand until the transaction's end.
+    # The clause that keeps a record until the transaction's end.
     _share: ClassVar[str] = ""
     _same: ClassVar[str] = ""
 
@@ -104,7 +104,7 @@ class Dialect:
         return ""
 
     def quoted(self, name: str) -> str:
-        """A name of a table or a column, as it stands in a statement."""
+        """A name of a table or a column, as a statement has it."""
         doubled = name.replace(self.quote, self.quote * 2)
         if self.mark == "%s":
             doubled = doubled.replace("%", "%%")
@@ -127,7 +127,7 @@ class Dialect:
             raise TypeError(f"the keys are {wanted}, and this one {type(key).__name__}")
 
     def can_stand(self, key: object) -> bool:
-        """Whether a column can hold the key; otherwise there is no such account."""
+        """Whether a column can hold the key; otherwise no such account exists."""
         if isinstance(key, str):
             return "\0" not in key and (
                 key.isascii() or not any("\ud800" <= it <= "\udfff" for it in key)

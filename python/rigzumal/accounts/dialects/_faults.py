@@ -1,4 +1,4 @@
-"""What `examine` finds: faults, with a severity and a code."""
+"""The findings of `examine`: faults, with a severity and a code."""
 
 from __future__ import annotations
 
@@ -15,11 +15,11 @@ class Severity(enum.Enum):
 
 @dataclass(frozen=True)
 class Fault:
-    """What `examine` has found.
+    """A finding of `examine`.
 
     Attributes:
-        severity: an error takes acknowledged changes, answers wrongly or refuses what
-            should be done; a warning is to be known.
+        severity: an error loses acknowledged changes, answers wrongly or refuses a good
+            operation; a warning is good to know.
         code: its name in a word or two, such as "key-not-unique".
         text: for people.
     """
@@ -45,17 +45,17 @@ def warning(code: str, text: str) -> Fault:
 
 
 def not_durable(text: str) -> Fault:
-    """A setting by which a crash takes what was acknowledged."""
+    """A setting by which a crash loses acknowledged changes."""
     return error("not-durable", text)
 
 
 @dataclass(frozen=True)
 class Findings:
-    """What an engine's catalogue and settings show.
+    """The findings in an engine's catalogue and settings.
 
     Attributes:
-        faults: what is wrong.
-        is_usable: something can be tried there, and undone.
+        faults: the faults.
+        is_usable: whether a trial is possible there, and can be undone.
         unless_confirmed: no fault if looks are confirmed by a COMMIT that writes.
     """
 
