@@ -6,10 +6,10 @@ ghost use Rattle.std.specs.Io.KnownBytes.{ReadConsumes};
 use crate::order::Remarks;
 use std::io;
 use std::io::{IsTerminal, Read, Write};
-use std::time::{Duration, Instant};
+use std::time::Instant;
 
-/// The time before the first line of progress, and between two of them.
-const PAUSE: Duration = Duration::from_secs(1);
+/// The seconds before the first line of progress, and between two of them.
+const PAUSE: u64 = 1;
 
 /// An import of more lines takes long after they are read.
 const MANY_LINES: u64 = 10_000;
@@ -46,7 +46,7 @@ impl<'a> Progress<'a> {
             return;
         };
         match last.elapsed(self.host) {
-            Ok(passed) if passed >= PAUSE => {}
+            Ok(passed) if passed.as_secs() >= PAUSE => {}
             _ => return,
         }
         self.write(done, what);
