@@ -155,7 +155,7 @@ fn tell_why<F: Write>(faults: &mut F, why: LineFault) -> io::Result<()> {
         LineFault::Locked => write!(faults, "its record is locked: --disable-locked drops it"),
         LineFault::Costly => write!(
             faults,
-            "its record needs more than --most-memory or --most-work"
+            "its record asks for more than --most-memory or --most-work"
         ),
     }
 }

@@ -59,7 +59,7 @@ fn tell_refusal<W: Write>(out: &mut W, refusal: &Refusal<'_>) -> io::Result<()> 
         }
         Refusal::Costly => writeln!(
             out,
-            "credkeep: --setting: it needs more than --most-memory or --most-work (18 costly)"
+            "credkeep: --setting: it asks for more than --most-memory or --most-work (18 costly)"
         ),
         Refusal::Existing => writeln!(
             out,

@@ -69,7 +69,7 @@ fn texts_of_commands(rt: HostRuntime) {
         (
             Fault::Empty,
             6,
-            "the password is empty: --empty-password takes it",
+            "the password is empty: --empty-password accepts it",
         ),
         (Fault::Full, 6, "the book has no room for another account"),
     ];
@@ -112,6 +112,8 @@ fn texts_of_lines(rt: HostRuntime) {
     for (number, why) in [
         (1, LineFault::Line),
         (20, LineFault::Text(PhcError::Shape)),
+        (21, LineFault::Text(PhcError::Scheme)),
+        (22, LineFault::Book(BookError::Name)),
         (300, LineFault::Book(BookError::Exists)),
         (4000, LineFault::Locked),
         (50000, LineFault::Costly),
@@ -120,7 +122,10 @@ fn texts_of_lines(rt: HostRuntime) {
     }
     let failure = Failure::Import(ImportFault::Lines(bad));
     let text = "line 1: it is neither NAME:RECORD nor NAME: (11 line)\n\
-        credkeep: line 20: a field is missing, or there is one too many (1 shape)\n\
+        credkeep: line 20: its record: a field is missing, or there is one too many (1 shape)\n\
+        credkeep: line 21: its record is not of Argon2 or scrypt (2 scheme)\n\
+        credkeep: line 22: its first field is no name: a name has 1 to 32 of a-z, 0-9, '.', '_', \
+        '-' (3 name)\n\
         credkeep: line 300: the name is there already (1 exists)\n\
         credkeep: line 4000: its record is locked: --disable-locked drops it (17 locked)\n\
         credkeep: line 50000: its record asks for more than --most-memory or --most-work (18 costly)";
@@ -140,7 +145,7 @@ fn texts_of_openings(rt: HostRuntime) {
         (
             OpenFault::NoName(7),
             5,
-            "row 7: there is no name; names are a-z, 0-9, '.', '_', '-', 1 to 32 of them (3 name)",
+            "row 7: there is no name; a name has 1 to 32 of a-z, 0-9, '.', '_', '-' (3 name)",
         ),
         (
             OpenFault::NoRecord {
