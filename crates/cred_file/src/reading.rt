@@ -13,7 +13,7 @@ ghost use Rattle.sqlite_value.specs.Value.{owned};
 ghost use Rattle.std.specs.FinMap as fin;
 
 use crate::fault::OpenFault;
-use cred_book::{Name, Register};
+use cred_book::{BookError, Name, Register};
 use cred_phc::{PhcError, Record, parse_record};
 use sqlite::types::ValueRef;
 use sqlite::{Error, ErrorCode, Row};
@@ -60,21 +60,15 @@ impl Draft {
         ensures left_out { IfErr result (IsNotAdded row.now self.old.book self.old.ids.keys) }
     {
         let entry = read_entry(row)?;
-        if self.ids.contains(&entry.id) {
-            return Err(OpenFault::Database(corrupt_error()));
-        }
-        if self.book.contains(&entry.name) {
-            return Err(OpenFault::Twice(entry.id));
-        }
-        if self.book.is_full() {
-            return Err(OpenFault::TooMany);
-        }
         match self.ids.insert(entry.id) {
-            Ok(_) => {}
+            Ok(true) => {}
+            Ok(false) => return Err(OpenFault::Database(corrupt_error())),
             Err(_) => return Err(OpenFault::Memory),
         }
         match self.book.enter(entry.name, entry.stored) {
             Ok(()) => Ok(()),
+            Err(BookError::Exists) => Err(OpenFault::Twice(entry.id)),
+            Err(BookError::Full) => Err(OpenFault::TooMany),
             Err(_) => Err(OpenFault::Memory),
         }
     }
