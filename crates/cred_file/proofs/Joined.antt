@@ -13,7 +13,7 @@ use Rattle.sqlite.specs.State.{State, HasCleanDisk}
 use Rattle.cred_phc.specs.Values.{RecordValue}
 use Rattle.cred_book.specs.Accounts.{Accounts}
 use Rattle.cred_book.specs.Names.{name_cmp}
-use Rattle.cred_file.specs.Edits.{AreApart, AreThere, joined}
+use Rattle.cred_file.specs.Edits.{AreApart, AreThere, joined, taken_in}
 use Rattle.cred_file.specs.Keeps.{Has}
 use Rattle.cred_file.specs.Together.{IsPartOf, IsUnderWay, MakesWithin}
 
@@ -320,7 +320,19 @@ no_entries : (es : Entries) → length es ≡ 0 → es ≡ []
 no_entries [] none = refl
 no_entries (e ∷ es) none = absurd cc
 
-pub joined_empty : (more : Accounts) → joined fin.empty more ≡ more
+joined_empty : (more : Accounts) → joined fin.empty more ≡ more
 joined_empty more =
     let none : length (fin.entries (fin.empty {K = List ℕ} {X = Option RecordValue} {R = name_cmp})) ≡ 0 = omega (arith, len-entries (fin.empty {K = List ℕ} {X = Option RecordValue} {R = name_cmp}), len-empty name_cmp (Option RecordValue)) in
     ap (λ es. fin.from_entries {R = name_cmp} (fin.entries more ++ es)) (no_entries _ none) ∙ ap (λ es. fin.from_entries {R = name_cmp} es) (append-nil (fin.entries more)) ∙ sym (again more)
+
+joined_none : (old : Accounts) → joined old fin.empty ≡ old
+joined_none old =
+    let none : length (fin.entries (fin.empty {K = List ℕ} {X = Option RecordValue} {R = name_cmp})) ≡ 0 = omega (arith, len-entries (fin.empty {K = List ℕ} {X = Option RecordValue} {R = name_cmp}), len-empty name_cmp (Option RecordValue)) in
+    ap (λ es. fin.from_entries {R = name_cmp} (es ++ fin.entries old)) (no_entries _ none) ∙ sym (again old)
+
+pub taken_whole : (old none more : Accounts) → old ≡ fin.empty → none ≡ fin.empty → taken_in old more none ≡ more
+taken_whole old none more is nothing =
+    ap (λ (b : Accounts). taken_in b more none) is ∙ ap (λ (n : Accounts). taken_in fin.empty more n) nothing ∙ joined_none (joined fin.empty more) ∙ joined_empty more
+
+pub there_same : (old none : Accounts) → old ≡ none → AreThere old none
+there_same old none is q has = subst (λ (b : Accounts). fin.contains_key b q ≡ true) (sym is) has

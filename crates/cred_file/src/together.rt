@@ -19,32 +19,6 @@ use sqlite::types::ValueRef;
 use sqlite::{Alter, Connection, Error, ErrorCode, Transaction};
 use std::alloc::Global;
 
-/// Adds the accounts to the book, and their rows to the table by one transaction. At any error the
-/// book has some of them, and a crash leaves a table that has none of them, or all.
-pub(crate) fn enter_together<S: Alter>(
-    alloc: Global,
-    conn: &mut Connection<S>,
-    book: &mut Register,
-    more: &Register,
-) -> Result<(), Error>
-    requires autocommit { conn.old.in_transaction ≡ false }
-    ensures book { OnOk result (book.new ≡ joined book.old more.now) }
-    ensures part { OnErr result (IsPartOf book.old more.now book.new) }
-    ensures entered { HasCleanDisk (state S.Store conn.new) → OnOk result
-        (IsTableOf (state S.Store conn.old) book.old
-        → IsTableOf (state S.Store conn.new) (joined book.old more.now)) }
-    ensures left { HasCleanDisk (state S.Store conn.new)
-        → IsTableOf (state S.Store conn.old) book.old
-        → LeavesOnly (state S.Store conn.new)
-        (λ b. (b ≡ book.old) ⊎ (b ≡ joined book.old more.now)) }
-    ensures clean { doubt (state S.Store conn.old).is_clean
-        ≤ doubt (state S.Store conn.new).is_clean }
-{
-    let mut tx = conn.transaction();
-    enter_each(alloc, &mut tx, book, more)?;
-    finish(tx)
-}
-
 /// Adds accounts to the book, and their rows to the table, and replaces the records of others, all
 /// by one transaction. At any error the book has some of the accounts that are added and no other
 /// record, and a crash leaves a table with none of it, or with all.

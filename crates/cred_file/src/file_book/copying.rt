@@ -9,7 +9,7 @@ ghost use Rattle.sqlite.specs.Held.{state};
 use super::{FileBook, is_empty};
 use crate::fault::OpenFault;
 use crate::statements::create_table;
-use crate::together::enter_together;
+use crate::together::take_together;
 use cred_book::Register;
 use sqlite::{Alter, Connection};
 use std::alloc::Global;
@@ -43,8 +43,9 @@ impl<S: Alter> FileBook<S> {
             return Err((OpenFault::Memory, conn));
         }
         let mut book = Register::new(alloc);
+        let none = Register::new(alloc);
         let _few = accounts.len();
-        match enter_together(alloc, &mut conn, &mut book, accounts) {
+        match take_together(alloc, &mut conn, &mut book, accounts, &none) {
             Ok(()) => Ok(FileBook {
                 alloc,
                 conn,
