@@ -1,26 +1,26 @@
 //! What no clause says: that the calls succeed, what is answered at records from outside, that
 //! sessions in threads see what was settled, and what running out of memory leaves.
 
-mod closing;
 mod committing;
-mod deleting;
+mod ending;
+mod floor;
 mod kept;
-mod kept_scene;
 mod lasting;
 mod log;
 mod lost;
-mod many_entries;
+mod numbers;
 mod refused;
-mod refused_names;
 mod scene;
 mod settling;
 mod soak;
 mod threads;
 mod under_lock;
+mod writer;
 
 use cred_book::{Book, Name, Request};
 use cred_desk::{AccountState, Entry};
 use cred_phc::{Password, Record, Setting, parse_record, parse_setting};
+use ending::Left;
 use std::alloc::Global;
 use std::process::Abort;
 use test_samples::A;
@@ -34,6 +34,12 @@ const NONE_STANDS: Accounts<'static> = &[("a", None), ("b", None)];
 const ONE_STANDS: Accounts<'static> = &[("a", Some(A)), ("b", None)];
 
 const BOTH_STAND: Accounts<'static> = &[("a", Some(A)), ("b", Some(A))];
+
+/// Settings whose hashes take 8 KiB, so that many are made in a moment.
+const CHEAP_SETTINGS: [&str; 2] = [
+    "$argon2id$v=19$m=8,t=1,p=1$c29tZXNhbHQ",
+    "$argon2id$v=19$m=9,t=1,p=1$c29tZXNhbHQ",
+];
 
 fn name<R: Abort>(rt: &R, text: &str) -> Name {
     Name::new(text.as_bytes()).expect(rt, "a name")
@@ -133,4 +139,29 @@ fn book_of<R: Abort>(rt: &R, alloc: Global, accounts: Accounts) -> Option<Book> 
         book.put(&name(rt, account), standing(rt, *record));
     }
     Some(book)
+}
+
+/// Makes the changes of these entries in the book.
+fn replay(book: &mut Book, entries: &[Entry]) {
+    for entry in entries {
+        match entry.now {
+            AccountState::Record(record) => book.put(&entry.name, Some(record)),
+            AccountState::NoRecord => book.put(&entry.name, None),
+            AccountState::NoAccount => book.remove(&entry.name),
+        }
+    }
+}
+
+/// Whether two books have the same names with the same records.
+fn is_same(one: &Book, other: &Book) -> bool {
+    one.len() == other.len()
+        && one
+            .iter()
+            .zip(other.iter())
+            .all(|(left, right)| left == right)
+}
+
+/// The journal of a desk leads from its opening book to the one that is left.
+fn judge_replayed<R: Abort>(rt: &R, left: &Left) {
+    assert!(rt; is_same(&left.book, &left.journal.book));
 }

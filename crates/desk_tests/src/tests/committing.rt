@@ -2,7 +2,7 @@
 ghost use Rattle.std.specs.Prelude.{◌≡◌, true};
 ghost use Rattle.cred_desk.specs.Naming.{IsNamed, StartsAt};
 
-use super::scene::{Answer, begin, close, read, worked};
+use super::floor::{Answer, begin, close, read, worked};
 use super::{Accounts, book_of, enrol, name, remove, stored, upgrade, verify};
 use cred_book::{Book, BookError, Keeper, Name, Reply, Ticket};
 use cred_desk::{Committer, DeskError, Naming, Opened, Session};
@@ -14,10 +14,8 @@ use std::sync::Wait;
 use std::thread::Threads;
 use test_samples::{A, B, B_SETTING};
 
-/// The book of the committer, and another one.
+/// The book of the committer.
 const A_ALONE: Accounts<'static> = &[("a", Some(A))];
-
-const OTHER: Accounts<'static> = &[("zed", None)];
 
 type Shows = [Result<Option<Record>, BookError>; 4];
 
@@ -60,16 +58,6 @@ fn keep_verify<R: Threads + Wait + Abort + Sync, K: Keeper>(
     keeper.commit(rt, worked(rt, alloc, &mut open)?).ok()
 }
 
-/// A ticket on a name that the committer doesn't have.
-fn foreign<R: Abort>(rt: &R, alloc: Global) -> Option<Ticket> {
-    let other = book_of(rt, alloc, OTHER)?;
-    let request = enrol(rt, "zed", B_SETTING);
-    if !request.is_for_current() {
-        return None;
-    }
-    other.begin(request).ok()
-}
-
 /// Works the ticket and commits it, and has the session learn what was told.
 fn commit<J: Naming, R: Threads + Wait + Sync>(
     rt: &R,
@@ -102,7 +90,8 @@ fn commit_and_read<J: Naming, R: Threads + Wait + Abort + Sync>(
     let mut open = None;
     begin(session, &mut open, verify(rt, "b"));
     let copied = read(&open);
-    let unknown = commit(rt, alloc, committer, session, &mut foreign(rt, alloc));
+    let mut foreign = Some(Ticket::new(enrol(rt, "zed", B_SETTING), None));
+    let unknown = commit(rt, alloc, committer, session, &mut foreign);
     begin(session, &mut open, upgrade(rt, "a", B_SETTING));
     let upgraded = commit(rt, alloc, committer, session, &mut open);
     let closed = match worked(rt, alloc, early) {
@@ -196,36 +185,4 @@ fn committer_is_read_and_ended(rt: HostRuntime) {
     assert_eq!(rt; outcome.read, replies);
     let ended = [Answer::Refused(DeskError::Reader), Answer::Failed];
     assert!(rt; late == ended || late == [Answer::Done, Answer::Copied(None)]);
-}
-
-/// Makes a committer with this number of sessions, and ends it.
-fn make_and_end<J: Naming, R: Wait>(
-    rt: &R,
-    alloc: Global,
-    opened: Opened,
-    book: &Book,
-    sessions: u8,
-) -> Option<DeskError>
-    requires name { IsNamed J.Naming opened }
-    requires opening { StartsAt J.Naming book.now sessions }
-    requires loads { J.loads ≡ true }
-{
-    match Committer::<J>::new(rt, alloc, opened, book, sessions) {
-        Ok((committer, _)) => {
-            committer.end(rt);
-            None
-        }
-        Err(error) => Some(error),
-    }
-}
-
-#[test]
-fn numbers_of_sessions(rt: HostRuntime) {
-    let book = book_of(&rt, rt.alloc(), A_ALONE).expect(&rt, "a book");
-    for sessions in 0..=u8::MAX {
-        let want = (sessions > 128).then_some(DeskError::Sessions);
-        let opened = Opened::new(sessions);
-        let found = make_and_end::<Brand, _>(&rt, rt.alloc(), opened, &book, sessions);
-        assert_eq!(rt; found, want, "{sessions}");
-    }
 }

@@ -1,10 +1,47 @@
-//! A kept desk at which people sign up and records are loaded, until its log is full.
+//! A kept desk with one session, at which people sign up, records are loaded and names are taken
+//! away beside all other kinds of change, and the desk that is opened on what it kept.
 
-use super::kept_scene::{DONE, EXISTS, LOG_FULL, NO_ACCOUNT, Step, judge, replied, serve};
-use super::scene::Answer;
-use super::{NONE_STANDS, book_of, enrol, entry, name, remove, stored, verify};
-use cred_book::Reply;
-use test_samples::{A, A_SETTING, B};
+use super::ending::Left;
+use super::floor::{Answer, Step};
+use super::scene::{
+    DONE, EXISTS, FULL, LOG_FULL, Line, NO_ACCOUNT, Scene, judge, judge_record, left_of,
+    left_of_act, replied,
+};
+use super::{
+    NONE_STANDS, ONE_STANDS, book_of, change, deletion, enrol, entry, is_same, judge_replayed,
+    name, remove, replay, stored, upgrade, verify,
+};
+use cred_book::{Book, Reply};
+use cred_desk::DeskError;
+use std::alloc::Global;
+use std::process::Abort;
+use std::sync::Wait;
+use std::thread::Threads;
+use test_samples::{A, A_SETTING, B, B_SETTING};
+
+/// The record of `drowssap` under `A_SETTING`, by the reference program of Argon2.
+const C: &str =
+    "$argon2id$v=19$m=256,t=2,p=1$c29tZXNhbHQ$gDtqOITe98Nz/qtXYCa3i4YhZKLmbzlEcxv5kGzWG0U";
+
+/// How many names a book has room for.
+const MOST_ACCOUNTS: usize = 4096;
+
+/// What is left of a desk on this book, whose log has room for so many entries. All lines are
+/// answered as they are to be.
+fn serve<R: Threads + Wait + Abort + Sync>(
+    rt: &R,
+    alloc: Global,
+    book: &Book,
+    room: usize,
+    lines: &[Line],
+) -> Left {
+    let acts = [lines];
+    let scene = Scene {
+        room,
+        ..Scene::new(1, &acts)
+    };
+    left_of(rt, alloc, book, &scene)
+}
 
 /// The log has room for an admission and an enrolment.
 #[test]
@@ -12,21 +49,21 @@ fn sign_up_is_kept(rt: HostRuntime) {
     let book = book_of(&rt, rt.alloc(), NONE_STANDS).expect(&rt, "a book");
     let (c, d) = (name(&rt, "c"), name(&rt, "d"));
     let lines = [
-        (Step::Admit(c), DONE),
-        (Step::Admit(c), EXISTS),
-        (Step::Begin(enrol(&rt, "c", A_SETTING)), DONE),
-        (Step::Settle, replied(Reply::Enrolled)),
-        (Step::Begin(verify(&rt, "c")), DONE),
-        (Step::Close, replied(Reply::Yes)),
-        (Step::Admit(d), LOG_FULL),
-        (Step::Begin(remove(&rt, "c")), DONE),
-        (Step::Settle, LOG_FULL),
-        (Step::Begin(verify(&rt, "c")), DONE),
-        (Step::Close, replied(Reply::Yes)),
+        (0, Step::Admit(c), DONE),
+        (0, Step::Admit(c), EXISTS),
+        (0, Step::Begin(enrol(&rt, "c", A_SETTING)), DONE),
+        (0, Step::Settle, replied(Reply::Enrolled)),
+        (0, Step::Begin(verify(&rt, "c")), DONE),
+        (0, Step::Close, replied(Reply::Yes)),
+        (0, Step::Admit(d), LOG_FULL),
+        (0, Step::Begin(remove(&rt, "c")), DONE),
+        (0, Step::Settle, LOG_FULL),
+        (0, Step::Begin(verify(&rt, "c")), DONE),
+        (0, Step::Close, replied(Reply::Yes)),
     ];
-    let kept = serve(&rt, rt.alloc(), &book, 2, &lines);
+    let left = serve(&rt, rt.alloc(), &book, 2, &lines);
     let journal = [entry(&rt, "c", None), entry(&rt, "c", Some(A))];
-    judge(&rt, &kept, &journal, 1, 1);
+    judge(&rt, &left, &journal, &[1], &[1]);
 }
 
 /// The log has room for an admission and two loads.
@@ -36,21 +73,184 @@ fn loads_are_kept(rt: HostRuntime) {
     let c = name(&rt, "c");
     let (first, second) = (stored(&rt, B), stored(&rt, A));
     let lines = [
-        (Step::Load(c, first), NO_ACCOUNT),
-        (Step::Admit(c), DONE),
-        (Step::Load(c, first), DONE),
-        (Step::Load(c, second), DONE),
-        (Step::Load(c, first), LOG_FULL),
-        (Step::Begin(verify(&rt, "c")), DONE),
-        (Step::Read, Ok(Answer::Copied(Some(second)))),
-        (Step::Close, replied(Reply::Yes)),
+        (0, Step::Load(c, first), NO_ACCOUNT),
+        (0, Step::Admit(c), DONE),
+        (0, Step::Load(c, first), DONE),
+        (0, Step::Load(c, second), DONE),
+        (0, Step::Load(c, first), LOG_FULL),
+        (0, Step::Begin(verify(&rt, "c")), DONE),
+        (0, Step::Read, Ok(Answer::Copied(Some(second)))),
+        (0, Step::Close, replied(Reply::Yes)),
     ];
-    let kept = serve(&rt, rt.alloc(), &book, 3, &lines);
+    let left = serve(&rt, rt.alloc(), &book, 3, &lines);
     let journal = [
         entry(&rt, "c", None),
         entry(&rt, "c", Some(B)),
         entry(&rt, "c", Some(A)),
     ];
-    judge(&rt, &kept, &journal, 0, 3);
-    assert_eq!(rt; kept.closed.book.show(&c), Ok(Some(second)));
+    judge(&rt, &left, &journal, &[0], &[3]);
+    judge_record(&rt, &left, "c", Some(A));
+}
+
+/// Every kind of change.
+#[test]
+fn deletions_are_kept(rt: HostRuntime) {
+    let book = book_of(&rt, rt.alloc(), NONE_STANDS).expect(&rt, "a book");
+    let (a, c) = (name(&rt, "a"), name(&rt, "c"));
+    let lines = [
+        (0, Step::Admit(c), DONE),
+        (0, Step::Begin(enrol(&rt, "c", A_SETTING)), DONE),
+        (0, Step::Settle, replied(Reply::Enrolled)),
+        (0, Step::Begin(change(&rt, "c", A_SETTING)), DONE),
+        (0, Step::Settle, replied(Reply::Replaced)),
+        (0, Step::Load(a, stored(&rt, A)), DONE),
+        (0, Step::Begin(upgrade(&rt, "a", B_SETTING)), DONE),
+        (0, Step::Settle, replied(Reply::Upgraded)),
+        (0, Step::Begin(remove(&rt, "a")), DONE),
+        (0, Step::Settle, replied(Reply::Removed)),
+        (0, Step::Delete(a), DONE),
+        (0, Step::Delete(a), NO_ACCOUNT),
+        (0, Step::Delete(c), DONE),
+        (0, Step::Load(c, stored(&rt, A)), NO_ACCOUNT),
+    ];
+    let left = serve(&rt, rt.alloc(), &book, 8, &lines);
+    let journal = [
+        entry(&rt, "c", None),
+        entry(&rt, "c", Some(A)),
+        entry(&rt, "c", Some(C)),
+        entry(&rt, "a", Some(A)),
+        entry(&rt, "a", Some(B)),
+        entry(&rt, "a", None),
+        deletion(&rt, "a"),
+        deletion(&rt, "c"),
+    ];
+    judge(&rt, &left, &journal, &[4], &[4]);
+    assert_eq!(rt; left.book.len(), 1);
+    judge_replayed(&rt, &left);
+}
+
+/// On the book that the log kept, a deleted name is new again.
+#[test]
+fn deleted_names_come_back(rt: HostRuntime) {
+    let book = book_of(&rt, rt.alloc(), ONE_STANDS).expect(&rt, "a book");
+    let (a, b) = (name(&rt, "a"), name(&rt, "b"));
+    let first = [(0, Step::Delete(a), DONE), (0, Step::Delete(b), DONE)];
+    let left = serve(&rt, rt.alloc(), &book, 2, &first);
+    judge(
+        &rt,
+        &left,
+        &[deletion(&rt, "a"), deletion(&rt, "b")],
+        &[0],
+        &[2],
+    );
+    let mut restored = book.copy().expect(&rt, "a book");
+    replay(&mut restored, &left.log.entries);
+    assert_eq!(rt; restored.len(), 0);
+    let second = [
+        (
+            0,
+            Step::Begin(verify(&rt, "a")),
+            Ok(Answer::Refused(DeskError::NoAccount)),
+        ),
+        (0, Step::Admit(a), DONE),
+        (0, Step::Begin(enrol(&rt, "a", B_SETTING)), DONE),
+        (0, Step::Settle, replied(Reply::Enrolled)),
+        (0, Step::Begin(verify(&rt, "a")), DONE),
+        (0, Step::Close, replied(Reply::Yes)),
+    ];
+    let left = serve(&rt, rt.alloc(), &restored, 2, &second);
+    judge(
+        &rt,
+        &left,
+        &[entry(&rt, "a", None), entry(&rt, "a", Some(B))],
+        &[1],
+        &[1],
+    );
+}
+
+/// Tickets of a name that is deleted before they are settled or closed. If it is admitted again,
+/// its record isn't the copy.
+#[test]
+fn tickets_of_a_deleted_name(rt: HostRuntime) {
+    let book = book_of(&rt, rt.alloc(), ONE_STANDS).expect(&rt, "a book");
+    let a = name(&rt, "a");
+    let lines = [
+        (0, Step::Begin(upgrade(&rt, "a", B_SETTING)), DONE),
+        (0, Step::Delete(a), DONE),
+        (0, Step::Settle, replied(Reply::NoAccount)),
+        (0, Step::Admit(a), DONE),
+        (0, Step::Load(a, stored(&rt, A)), DONE),
+        (0, Step::Begin(verify(&rt, "a")), DONE),
+        (0, Step::Delete(a), DONE),
+        (0, Step::Close, replied(Reply::NoAccount)),
+        (0, Step::Admit(a), DONE),
+        (0, Step::Load(a, stored(&rt, A)), DONE),
+        (0, Step::Begin(remove(&rt, "a")), DONE),
+        (0, Step::Delete(a), DONE),
+        (0, Step::Admit(a), DONE),
+        (0, Step::Settle, replied(Reply::Changed { now: None })),
+    ];
+    let left = serve(&rt, rt.alloc(), &book, 8, &lines);
+    assert_eq!(rt; left.counts.as_slice(), [0].as_slice());
+    assert_eq!(rt; left.additions.as_slice(), [8].as_slice());
+}
+
+/// The log has no room.
+#[test]
+fn deletion_in_a_full_log(rt: HostRuntime) {
+    let book = book_of(&rt, rt.alloc(), ONE_STANDS).expect(&rt, "a book");
+    let lines = [
+        (0, Step::Delete(name(&rt, "a")), LOG_FULL),
+        (0, Step::Delete(name(&rt, "c")), NO_ACCOUNT),
+        (0, Step::Begin(verify(&rt, "a")), DONE),
+        (0, Step::Close, replied(Reply::Yes)),
+    ];
+    let left = serve(&rt, rt.alloc(), &book, 0, &lines);
+    judge(&rt, &left, &[], &[0], &[0]);
+    assert!(rt; is_same(&left.book, &book));
+}
+
+/// A book with as many names as it has room for, all of 32 bytes, of which `LAST` is the last one.
+fn full_book<R: Abort>(rt: &R, alloc: Global) -> Option<Book> {
+    let mut book = Book::new(alloc).ok()?;
+    for place in 0..MOST_ACCOUNTS {
+        let number = 1_000 + place;
+        let text = format!(in alloc; "a-name-of-thirty-two-bytes--{number}").ok()?;
+        book.admit(name(rt, text.as_str())).ok()?;
+    }
+    Some(book)
+}
+
+const LAST: &str = "a-name-of-thirty-two-bytes--5095";
+
+/// A deletion makes room for one name. A removal that is due at a full book is done.
+#[test]
+fn full_book_of_long_names(rt: HostRuntime) {
+    let book = full_book(&rt, rt.alloc()).expect(&rt, "a book");
+    let (a, b, last) = (name(&rt, "a"), name(&rt, "b"), name(&rt, LAST));
+    let lines = [
+        (0, Step::Admit(a), FULL),
+        (0, Step::Load(last, stored(&rt, B)), DONE),
+        (0, Step::Load(last, stored(&rt, A)), DONE),
+        (1, Step::Hear(0), Ok(Answer::Told(2))),
+        (1, Step::Begin(verify(&rt, LAST)), DONE),
+        (0, Step::Begin(remove(&rt, LAST)), DONE),
+        (0, Step::Settle, replied(Reply::Removed)),
+        (1, Step::Hear(0), Ok(Answer::Told(3))),
+        (1, Step::Close, replied(Reply::Changed { now: None })),
+        (0, Step::Delete(last), DONE),
+        (0, Step::Admit(a), DONE),
+        (0, Step::Admit(b), FULL),
+        (0, Step::Admit(last), FULL),
+    ];
+    let left = left_of_act(&rt, rt.alloc(), &book, 2, &lines);
+    let journal = [
+        entry(&rt, LAST, Some(B)),
+        entry(&rt, LAST, Some(A)),
+        entry(&rt, LAST, None),
+        deletion(&rt, LAST),
+        entry(&rt, "a", None),
+    ];
+    judge(&rt, &left, &journal, &[1, 0], &[4, 0]);
+    judge_replayed(&rt, &left);
 }

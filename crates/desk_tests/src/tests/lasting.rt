@@ -1,164 +1,138 @@
-//! A desk that lives on: its journal is handed out in pieces, and one of its sessions is lost.
-ghost use Rattle.std.specs.Prelude.{◌≡◌, true};
-ghost use Rattle.cred_desk.specs.Naming.{IsNamed, StartsAt};
+//! Desks that live on or end early: their journals are handed out in pieces, and sessions are lost.
 
-use super::{NONE_STANDS, book_of, entry, name, stored};
-use cred_book::Book;
-use cred_desk::{Entry, EntryWriter, Finished, Handed, KeptDesk, Naming, Opened, Session};
+use super::ending::Ending;
+use super::floor::{Answer, Step};
+use super::scene::{DONE, Line, Scene, judge, judge_record, left_of, replied};
+use super::{
+    CHEAP_SETTINGS, NONE_STANDS, ONE_STANDS, book_of, enrol, entry, judge_replayed, name, stored,
+    upgrade, verify,
+};
+use cred_book::Reply;
 use std::alloc::{AllocError, Global};
-use std::marker::Brand;
 use std::process::Abort;
-use std::sync::Wait;
-use test_samples::A;
+use test_samples::{A, A_SETTING, B, B_SETTING};
 
-/// Keeps all entries.
-#[derive(Drop)]
-pub(super) struct Shelf {
-    pub(super) entries: Vec<Entry>,
-}
-
-impl EntryWriter for Shelf {
-    ghost use Rattle.std.specs.Prelude.{◌≡◌};
-
-    type Error = AllocError;
-
-    ghost keeps = { λ shelf list. shelf.entries.items ≡ list };
-
-    fn write(&mut self, new: &Entry) -> Result<(), AllocError> {
-        let Entry { name, now } = *new;
-        self.entries.reserve(1)?;
-        self.entries.push_reserved(Entry { name, now });
-        Ok(())
-    }
-}
-
-/// What a desk handed out while it lived.
-#[derive(Drop)]
-struct Lived {
-    pieces: [Vec<Entry>; 3],
-    /// How many entries the session was told of that took the place of the lost one.
-    told: u64,
-}
-
-/// Adds a name.
-fn admit<J: Naming, R: Wait + Abort>(
-    rt: &R,
-    desk: &KeptDesk<J, Shelf>,
-    session: &mut Session<J>,
-    text: &str,
-)
-    requires { J.loads ≡ true }
-{
-    let admitted = desk.admit(rt, session, name(rt, text));
-    assert!(rt; admitted.is_ok());
-}
-
-/// Puts a record at a name.
-fn load<J: Naming, R: Wait + Abort>(
-    rt: &R,
-    desk: &KeptDesk<J, Shelf>,
-    session: &mut Session<J>,
-    text: &str,
-)
-    requires { J.loads ≡ true }
-{
-    let loaded = desk.load(rt, session, name(rt, text), stored(rt, A));
-    assert!(rt; loaded.is_ok());
-}
-
-/// One session makes two of the first three entries, and then the spare one takes its place.
-fn live<J: Naming, R: Wait + Abort>(
-    rt: &R,
-    desk: &KeptDesk<J, Shelf>,
-    handed: &mut Handed<J>,
-    first: &mut Session<J>,
-    spare: &mut Session<J>,
-    lost: &mut Session<J>,
-) -> Lived
-    requires { J.loads ≡ true }
-{
-    admit(rt, desk, first, "c");
-    load(rt, desk, lost, "c");
-    let one = desk.checkpoint(rt, handed);
-    let none = desk.checkpoint(rt, handed);
-    admit(rt, desk, lost, "d");
-    let two = desk.checkpoint(rt, handed);
-    let told = desk.tell(rt, spare, &first.told().heard()).len();
-    admit(rt, desk, spare, "e");
-    Lived {
-        pieces: [one, none, two],
-        told,
-    }
-}
-
-/// The life of a desk of three sessions, the last of which is to be lost.
-fn live_by_three<J: Naming, R: Wait + Abort>(
-    rt: &R,
-    desk: &KeptDesk<J, Shelf>,
-    handed: &mut Handed<J>,
-    sessions: &mut [Session<J>],
-) -> Option<Lived>
-    requires { J.loads ≡ true }
-{
-    match sessions {
-        [first, spare, lost] => Some(live(rt, desk, handed, first, spare, lost)),
-        _ => None,
-    }
-}
-
-/// A desk that lives, loses so many of its last sessions, and is finished.
-fn finished<J: Naming, R: Wait + Abort>(
-    rt: &R,
-    alloc: Global,
-    opened: Opened,
-    book: &Book,
-    lost: usize,
-) -> Option<(Lived, Finished<Shelf>)>
-    requires name { IsNamed J.Naming opened }
-    requires opening { StartsAt J.Naming book.now 3 }
-    requires loads { J.loads ≡ true }
-{
-    let shelf = Shelf {
-        entries: Vec::new(alloc),
+/// Session 0 enrols a and tells session 1, which verifies and upgrades twice; session 2 never
+/// settles what it worked.
+#[test]
+fn closing(rt: HostRuntime) {
+    let book = book_of(&rt, rt.alloc(), NONE_STANDS).expect(&rt, "a book");
+    let lines = [
+        (0, Step::Begin(enrol(&rt, "a", A_SETTING)), DONE),
+        (0, Step::Settle, replied(Reply::Enrolled)),
+        (1, Step::Learn, DONE),
+        (1, Step::Begin(verify(&rt, "a")), DONE),
+        (1, Step::Settle, replied(Reply::Yes)),
+        (1, Step::Begin(upgrade(&rt, "a", B_SETTING)), DONE),
+        (1, Step::Settle, replied(Reply::Upgraded)),
+        (1, Step::Begin(upgrade(&rt, "a", B_SETTING)), DONE),
+        (1, Step::Settle, replied(Reply::Kept)),
+        (2, Step::Begin(enrol(&rt, "b", A_SETTING)), DONE),
+        (2, Step::Leave, DONE),
+    ];
+    let acts = [lines.as_slice()];
+    let scene = Scene {
+        ending: Ending::CloseLate,
+        ..Scene::new(3, &acts)
     };
-    let made = KeptDesk::<J, Shelf>::new(rt, alloc, opened, book, 3, shelf);
-    let (desk, handed, mut sessions) = made.ok()?;
-    let mut handed = handed;
-    let lived = live_by_three(rt, &desk, &mut handed, sessions.as_mut_slice());
-    sessions.truncate(3usize.saturating_sub(lost));
-    let finished = desk.finish(rt, handed, sessions);
-    Some((lived?, finished))
+    let left = left_of(&rt, rt.alloc(), &book, &scene);
+    let journal = [entry(&rt, "a", Some(A)), entry(&rt, "a", Some(B))];
+    judge(&rt, &left, &journal, &[0, 1, 1], &[0, 0, 0]);
+    judge_record(&rt, &left, "a", Some(B));
+    judge_record(&rt, &left, "b", None);
 }
 
-/// What was handed out.
-fn judge_lived<R: Abort>(rt: &R, lived: &Lived) {
-    let [one, none, two] = &lived.pieces;
-    let first = [entry(rt, "c", None), entry(rt, "c", Some(A))];
-    assert_eq!(rt; one.as_slice(), first.as_slice());
-    assert!(rt; none.is_empty());
-    assert_eq!(rt; two.as_slice(), [entry(rt, "d", None)].as_slice());
-    assert_eq!(rt; lived.told, 3);
-}
-
-/// What was left, if the lost sessions made so many of the four entries.
-fn judge_finished<R: Abort>(rt: &R, finished: &Finished<Shelf>, missing: u64) {
-    let journal = finished.remains.journal.as_slice();
-    assert_eq!(rt; journal, [entry(rt, "e", None)].as_slice());
-    assert_eq!(rt; finished.missing, missing);
-    assert_eq!(rt; finished.writer.entries.len(), 4);
-    let record = Some(stored(rt, A));
-    assert_eq!(rt; finished.remains.book.show(&name(rt, "c")), Ok(record));
-}
-
-/// The last session made two of four entries, the one before it one.
+/// The last session made two of four entries, the one before it one, and is told of those before.
 #[test]
 fn lasting_desk(rt: HostRuntime) {
     let book = book_of(&rt, rt.alloc(), NONE_STANDS).expect(&rt, "a book");
+    let (c, d, e) = (name(&rt, "c"), name(&rt, "d"), name(&rt, "e"));
+    let first = [
+        (0, Step::Admit(c), DONE),
+        (2, Step::Load(c, stored(&rt, A)), DONE),
+    ];
+    let third = [(2, Step::Admit(d), DONE)];
+    let fourth = [
+        (1, Step::Hear(0), Ok(Answer::Told(3))),
+        (1, Step::Admit(e), DONE),
+    ];
+    let acts = [first.as_slice(), &[], &third, &fourth];
+    let journal = [
+        entry(&rt, "c", None),
+        entry(&rt, "c", Some(A)),
+        entry(&rt, "d", None),
+        entry(&rt, "e", None),
+    ];
     for (lost, missing) in [(0, 0), (1, 2), (2, 3), (3, 4)] {
-        let opened = Opened::new(3);
-        let found = finished::<Brand, _>(&rt, rt.alloc(), opened, &book, lost);
-        let (lived, finished) = found.expect(&rt, "a desk");
-        judge_lived(&rt, &lived);
-        judge_finished(&rt, &finished, missing);
+        let scene = Scene {
+            ending: Ending::Finish { lost },
+            ..Scene::new(3, &acts)
+        };
+        let left = left_of(&rt, rt.alloc(), &book, &scene);
+        judge(&rt, &left, &journal, &[0, 0, 0], &[1, 1, 2]);
+        assert_eq!(rt; left.journal.pieces.as_slice(), [2, 0, 1, 1].as_slice());
+        assert_eq!(rt; left.missing, missing);
+        judge_record(&rt, &left, "c", Some(A));
     }
+}
+
+/// Adds loads of b by a session.
+fn load<R: Abort>(
+    rt: &R,
+    lines: &mut Vec<Line>,
+    session: usize,
+    times: u64,
+) -> Result<(), AllocError> {
+    let (b, record) = (name(rt, "b"), stored(rt, B));
+    for _time in 0..times {
+        lines.push((session, Step::Load(b, record), DONE))?;
+    }
+    Ok(())
+}
+
+/// More entries than any room that is taken at once: 5,000 loads, 300 upgrades and 300 admissions.
+fn thousands<R: Abort>(rt: &R, alloc: Global) -> Result<Vec<Line>, AllocError> {
+    let mut lines = Vec::new(alloc);
+    load(rt, &mut lines, 0, 3)?;
+    lines.push((1, Step::Hear(0), Ok(Answer::Told(3))))?;
+    load(rt, &mut lines, 0, 4_997)?;
+    for turn in 0..300usize {
+        let new = CHEAP_SETTINGS[turn % 2];
+        lines.push((0, Step::Begin(upgrade(rt, "a", new)), DONE))?;
+        lines.push((0, Step::Settle, replied(Reply::Upgraded)))?;
+        let text = format!(in alloc; "n{turn}")?;
+        lines.push((0, Step::Admit(name(rt, text.as_str())), DONE))?;
+    }
+    lines.push((1, Step::Hear(0), Ok(Answer::Told(5_600))))?;
+    Ok(lines)
+}
+
+/// A spare session makes the last 200 entries. Nothing is left when the desk is finished, with no
+/// session.
+#[test]
+fn thousands_of_entries(rt: HostRuntime) {
+    let book = book_of(&rt, rt.alloc(), ONE_STANDS).expect(&rt, "a book");
+    let first = thousands(&rt, rt.alloc()).expect(&rt, "memory");
+    let (mut single, mut last) = (Vec::new(rt.alloc()), Vec::new(rt.alloc()));
+    load(&rt, &mut single, 0, 1).expect(&rt, "memory");
+    load(&rt, &mut last, 1, 200).expect(&rt, "memory");
+    let verified = [
+        (1, Step::Begin(verify(&rt, "a")), DONE),
+        (1, Step::Close, replied(Reply::Yes)),
+    ];
+    let acts = [first.as_slice(), &[], &single, &last, &verified];
+    let scene = Scene {
+        ending: Ending::Finish { lost: 2 },
+        ..Scene::new(2, &acts)
+    };
+    let left = left_of(&rt, rt.alloc(), &book, &scene);
+    assert_eq!(rt;
+        left.journal.pieces.as_slice(),
+        [5_600, 0, 1, 200, 0].as_slice()
+    );
+    assert_eq!(rt; left.counts.as_slice(), [300, 0].as_slice());
+    assert_eq!(rt; left.additions.as_slice(), [5_301, 200].as_slice());
+    assert_eq!(rt; left.missing, 5_801);
+    assert!(rt; left.log.entries == left.journal.entries);
+    judge_replayed(&rt, &left);
 }

@@ -2,7 +2,7 @@
 ghost use Rattle.std.specs.Prelude.{◌≡◌, false};
 ghost use Rattle.cred_desk.specs.Naming.{IsNamed, StartsAt};
 
-use super::scene::{begin, worked};
+use super::floor::work_of;
 use super::{NONE_STANDS, book_of, enrol, entry, name, stored};
 use cred_book::{Book, Reply};
 use cred_desk::{Desk, Naming, Opened, Remains, Session};
@@ -21,9 +21,7 @@ fn enrol_first<J: Naming, R: Threads + Wait + Abort + Sync>(
     sessions: &mut [Session<J>],
 ) -> Option<Reply> {
     let session = sessions.first_mut()?;
-    let mut open = None;
-    begin(session, &mut open, enrol(rt, "a", A_SETTING));
-    let work = worked(rt, alloc, &mut open)?;
+    let work = work_of(rt, alloc, session, enrol(rt, "a", A_SETTING))?;
     let (reply, _told) = desk.settle(rt, session, work).ok()?;
     Some(reply)
 }

@@ -3,9 +3,10 @@
 ghost use Rattle.std.specs.Prelude.{◌≡◌, false, true};
 ghost use Rattle.cred_desk.specs.Naming.{IsNamed, StartsAt};
 
-use super::scene::{Answer, begin, close_desk, judge_closed, read};
-use super::{ONE_STANDS, book_of, entry, name, stored, upgrade, verify};
-use cred_book::{Book, Keeper, Reply, Request, Ticket, Worked};
+use super::floor::{Answer, Step, begin, read};
+use super::scene::{DONE, Scene, judge, show};
+use super::{NONE_STANDS, ONE_STANDS, book_of, deletion, entry, name, stored, upgrade, verify};
+use cred_book::{Book, Keeper, Name, Reply, Request, Ticket, Worked};
 use cred_desk::{Closed, Committer, Desk, DeskError, Naming, Opened, Session};
 use cred_phc::Record;
 use cred_pool::NoGate;
@@ -60,41 +61,77 @@ fn is_same<J: Naming, R: Abort>(
     asked == (work.request(), work.copy())
 }
 
-fn settle<J: Naming, R: Wait>(
-    rt: &R,
-    desk: &Desk<J>,
-    session: &mut Session<J>,
-    work: Worked,
-) -> Result<Reply, (Worked, DeskError)> {
-    let (reply, _told) = desk.settle(rt, session, work)?;
-    Ok(reply)
+/// What settles the upgrades.
+trait Settler<J: Naming> {
+    fn settle<R: Wait>(
+        &mut self,
+        rt: &R,
+        session: &mut Session<J>,
+        work: Worked,
+    ) -> Result<Reply, (Worked, DeskError)>;
+
+    /// Whether it shows this record at the name, if it shows any.
+    fn shows(&self, name: &Name, record: Option<Record>) -> bool;
 }
 
-/// Settles the work, a second time if there was no memory, and none of the sessions saw it until
-/// then.
-fn settle_again<J: Naming, R: Wait + Abort>(
+impl<J: Naming> Settler<J> for Desk<J> {
+    fn settle<R: Wait>(
+        &mut self,
+        rt: &R,
+        session: &mut Session<J>,
+        work: Worked,
+    ) -> Result<Reply, (Worked, DeskError)> {
+        let (reply, _told) = Desk::settle(self, rt, session, work)?;
+        Ok(reply)
+    }
+
+    fn shows(&self, _name: &Name, _record: Option<Record>) -> bool {
+        true
+    }
+}
+
+impl<J: Naming> Settler<J> for Committer<J> {
+    fn settle<R: Wait>(
+        &mut self,
+        rt: &R,
+        _session: &mut Session<J>,
+        work: Worked,
+    ) -> Result<Reply, (Worked, DeskError)> {
+        let (reply, _told) = self.commit_told(rt, work)?;
+        Ok(reply)
+    }
+
+    fn shows(&self, name: &Name, record: Option<Record>) -> bool {
+        self.show(name) == Ok(record)
+    }
+}
+
+/// Settles the work, a second time if there was no memory, and nobody saw it until then.
+fn settle_again<J: Naming, S: Settler<J>, R: Wait + Abort>(
     rt: &R,
-    desk: &Desk<J>,
+    settler: &mut S,
     sessions: &mut [Session<J>],
     work: Worked,
 ) -> Option<Reply> {
     let asked = (work.request(), work.copy());
-    match settle(rt, desk, sessions.first_mut()?, work) {
+    match settler.settle(rt, sessions.first_mut()?, work) {
         Ok(reply) => Some(reply),
         Err((work, error)) => {
-            if error != DeskError::Memory || !is_same(rt, sessions, &work, asked) {
+            let same = is_same(rt, sessions, &work, asked);
+            let shown = settler.shows(&name(rt, "a"), work.copy());
+            if error != DeskError::Memory || !same || !shown {
                 return None;
             }
-            settle(rt, desk, sessions.first_mut()?, work).ok()
+            settler.settle(rt, sessions.first_mut()?, work).ok()
         }
     }
 }
 
 /// How many upgrades were settled before one that wasn't, of so many.
-fn settle_all<J: Naming, R: Threads + Wait + Abort + Sync>(
+fn settle_all<J: Naming, S: Settler<J>, R: Threads + Wait + Abort + Sync>(
     rt: &R,
     alloc: Global,
-    desk: &Desk<J>,
+    settler: &mut S,
     sessions: &mut [Session<J>],
 ) -> u64 {
     for place in 0..UPGRADES {
@@ -103,7 +140,7 @@ fn settle_all<J: Naming, R: Threads + Wait + Abort + Sync>(
             None => None,
         };
         let reply = match work {
-            Some(work) => settle_again(rt, desk, sessions, work),
+            Some(work) => settle_again(rt, settler, sessions, work),
             None => None,
         };
         if reply != Some(Reply::Upgraded) {
@@ -113,20 +150,40 @@ fn settle_all<J: Naming, R: Threads + Wait + Abort + Sync>(
     UPGRADES
 }
 
-/// A desk that is made, settled at and closed, or isn't made.
+/// What a desk with two sessions leaves, and how many upgrades were settled. The desk isn't made if
+/// there is no memory.
 fn settled<J: Naming, R: Threads + Wait + Abort + Sync>(
     rt: &R,
     alloc: Global,
     opened: Opened,
     book: &Book,
-) -> Result<(Result<Closed, DeskError>, u64), DeskError>
+) -> Result<(Option<Closed>, u64), DeskError>
     requires name { IsNamed J.Naming opened }
     requires opening { StartsAt J.Naming book.now 2 }
     requires loads { J.loads ≡ false }
 {
-    let (desk, mut sessions) = Desk::<J>::new(rt, alloc, opened, book, 2)?;
-    let done = settle_all(rt, alloc, &desk, &mut sessions);
-    Ok((close_desk(rt, desk, sessions), done))
+    let (mut desk, mut sessions) = Desk::<J>::new(rt, alloc, opened, book, 2)?;
+    let done = settle_all(rt, alloc, &mut desk, &mut sessions);
+    match desk.close(rt, sessions) {
+        Ok(closed) => Ok((Some(closed), done)),
+        Err((desk, _, _)) => {
+            desk.end(rt);
+            Ok((None, done))
+        }
+    }
+}
+
+fn judge_closed<R: Abort>(rt: &R, closed: &Closed) {
+    let (to, fro) = (entry(rt, "a", Some(B)), entry(rt, "a", Some(A)));
+    let journal = [to, fro, to, fro, to, fro];
+    assert_eq!(rt; closed.journal.as_slice(), journal.as_slice());
+    assert_eq!(rt; closed.counts.as_slice(), [UPGRADES, 0].as_slice());
+    assert_eq!(rt; closed.book.show(&name(rt, "a")), Ok(Some(stored(rt, A))));
+}
+
+/// The error is one that may come as memory is refused.
+fn judge_error<R: Abort>(rt: &R, error: DeskError) {
+    assert!(rt; error == DeskError::Memory || error == DeskError::Reader);
 }
 
 #[test]
@@ -135,80 +192,16 @@ fn refused_desk(rt: HostRuntime) {
         return;
     };
     match settled::<Brand, _>(&rt, rt.alloc(), Opened::new(2), &book) {
-        Err(error) => {
-            assert!(rt; error == DeskError::Memory || error == DeskError::Reader);
-        }
+        Err(error) => judge_error(&rt, error),
         Ok((closed, done)) => {
             assert_eq!(rt; done, UPGRADES);
-            let closed = closed.expect(&rt, "all sessions");
-            let (to, fro) = (entry(&rt, "a", Some(B)), entry(&rt, "a", Some(A)));
-            let journal = [to, fro, to, fro, to, fro];
-            let records = [(name(&rt, "a"), Some(stored(&rt, A)))];
-            judge_closed(&rt, &closed, &journal, &[UPGRADES, 0], &records);
+            judge_closed(&rt, &closed.expect(&rt, "all sessions"));
         }
     }
     assert_eq!(rt; book.show(&name(&rt, "a")), Ok(Some(stored(&rt, A))));
 }
 
-fn commit<J: Naming, R: Wait>(
-    rt: &R,
-    committer: &mut Committer<J>,
-    work: Worked,
-) -> Result<Reply, (Worked, DeskError)> {
-    let (reply, _told) = committer.commit_told(rt, work)?;
-    Ok(reply)
-}
-
-/// Whether the committer shows this record at a.
-fn shows<J: Naming, R: Abort>(rt: &R, committer: &Committer<J>, record: Option<Record>) -> bool {
-    committer.show(&name(rt, "a")) == Ok(record)
-}
-
-/// Commits the work, a second time if there was no memory, and neither the keeper nor a session
-/// showed it until then.
-fn commit_again<J: Naming, R: Wait + Abort>(
-    rt: &R,
-    committer: &mut Committer<J>,
-    sessions: &mut [Session<J>],
-    work: Worked,
-) -> Option<Reply> {
-    let asked = (work.request(), work.copy());
-    match commit(rt, committer, work) {
-        Ok(reply) => Some(reply),
-        Err((work, error)) => {
-            let same = is_same(rt, sessions, &work, asked);
-            if error != DeskError::Memory || !same || !shows(rt, committer, work.copy()) {
-                return None;
-            }
-            commit(rt, committer, work).ok()
-        }
-    }
-}
-
-/// How many upgrades were committed before one that wasn't, of so many.
-fn commit_all<J: Naming, R: Threads + Wait + Abort + Sync>(
-    rt: &R,
-    alloc: Global,
-    committer: &mut Committer<J>,
-    sessions: &mut [Session<J>],
-) -> u64 {
-    for place in 0..UPGRADES {
-        let work = match sessions.first_mut() {
-            Some(session) => upgrade_work(rt, alloc, session, place),
-            None => None,
-        };
-        let reply = match work {
-            Some(work) => commit_again(rt, committer, sessions, work),
-            None => None,
-        };
-        if reply != Some(Reply::Upgraded) {
-            return place;
-        }
-    }
-    UPGRADES
-}
-
-/// A committer that is made, commits and is ended, or isn't made.
+/// How many upgrades a committer settles, if it is made.
 fn committed<J: Naming, R: Threads + Wait + Abort + Sync>(
     rt: &R,
     alloc: Global,
@@ -220,7 +213,7 @@ fn committed<J: Naming, R: Threads + Wait + Abort + Sync>(
     requires loads { J.loads ≡ true }
 {
     let (mut committer, mut sessions) = Committer::<J>::new(rt, alloc, opened, book, 2)?;
-    let done = commit_all(rt, alloc, &mut committer, &mut sessions);
+    let done = settle_all(rt, alloc, &mut committer, &mut sessions);
     committer.end(rt);
     Ok(done)
 }
@@ -231,10 +224,46 @@ fn refused_committer(rt: HostRuntime) {
         return;
     };
     match committed::<Brand, _>(&rt, rt.alloc(), Opened::new(2), &book) {
-        Err(error) => {
-            assert!(rt; error == DeskError::Memory || error == DeskError::Reader);
-        }
+        Err(error) => judge_error(&rt, error),
         Ok(done) => assert_eq!(rt; done, UPGRADES),
     }
     assert_eq!(rt; book.show(&name(&rt, "a")), Ok(Some(stored(&rt, A))));
+}
+
+/// Two names come and go at a kept desk, each call a second time if it was refused. So a refused
+/// one did nothing.
+#[test]
+fn refused_names(rt: HostRuntime) {
+    let Some(book) = book_of(&rt, rt.alloc(), NONE_STANDS) else {
+        return;
+    };
+    let (c, d) = (name(&rt, "c"), name(&rt, "d"));
+    let lines = [
+        (0, Step::Admit(c), DONE),
+        (0, Step::Admit(d), DONE),
+        (0, Step::Load(c, stored(&rt, A)), DONE),
+        (0, Step::Delete(d), DONE),
+        (0, Step::Delete(c), DONE),
+    ];
+    let journal = [
+        entry(&rt, "c", None),
+        entry(&rt, "d", None),
+        entry(&rt, "c", Some(A)),
+        deletion(&rt, "d"),
+        deletion(&rt, "c"),
+    ];
+    let acts = [lines.as_slice()];
+    let scene = Scene {
+        again: true,
+        ..Scene::new(1, &acts)
+    };
+    let Some((left, slip)) = show(&rt, rt.alloc(), &book, &scene) else {
+        return;
+    };
+    if slip.is_none() {
+        judge(&rt, &left, &journal, &[0], &[5]);
+    } else {
+        // There was no memory for what one session hands on to others.
+        assert_eq!(rt; slip, Some((0, Ok(Answer::Failed))));
+    }
 }

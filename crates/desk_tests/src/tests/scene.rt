@@ -1,13 +1,14 @@
-//! Scenes at a desk: what its sessions do one after another, and in threads, and how each call is
-//! to answer.
-ghost use Rattle.std.specs.Prelude.{◌≡◌, false};
+//! Scenes at a kept desk: what its sessions do one after another and in threads, and how each call
+//! is to answer.
+ghost use Rattle.std.specs.Prelude.{◌≡◌, true};
 ghost use Rattle.cred_desk.specs.Naming.{IsNamed, StartsAt};
 
-use super::{Accounts, book_of};
-use cred_book::{Book, Name, Reply, Request, Ticket, Worked};
-use cred_desk::{Closed, Desk, DeskError, Entry, Naming, Opened, Session, Told};
-use cred_phc::Record;
-use cred_pool::NoGate;
+use super::ending::{Ending, Journal, Left, end};
+use super::floor::{Answer, Floor, Step};
+use super::standing;
+use super::writer::{Log, Refused};
+use cred_book::{Book, BookError, Reply, Ticket};
+use cred_desk::{Entry, Handed, KeepError, KeptDesk, Naming, Opened, Session, Told};
 use crossbeam_channel::{Receiver, Sender, unbounded};
 use std::alloc::Global;
 use std::marker::Brand;
@@ -15,209 +16,147 @@ use std::process::Abort;
 use std::sync::Wait;
 use std::thread::{Threads, join};
 
-/// What a session does.
-#[derive(Clone, Copy)]
-pub(super) enum Act {
-    /// Begins a request, and holds the ticket.
-    Begin(Request),
-    /// Reads the record that the ticket copied.
-    Read,
-    /// Works the ticket and settles it, and hands on what it is told.
-    Settle,
-    /// Works the ticket and closes it, as a verify.
-    Close,
-    /// Works the ticket and never settles it.
-    Leave,
-    /// Learns the first of what was handed on.
-    Learn,
-}
-
-/// What it is answered.
-#[derive(Clone, Copy, Debug, PartialEq, Eq)]
-pub(super) enum Answer {
-    Done,
-    Copied(Option<Record>),
-    Replied(Reply),
-    /// What was handed in came back.
-    Refused(DeskError),
-    /// There was no ticket, or no memory for what is not the desk's.
-    Failed,
-}
+/// What a step is answered.
+pub(super) type Outcome = Result<Answer, KeepError<Refused>>;
 
 /// The place of a session, what it does, and the answer that it is to have.
-pub(super) type Line = (usize, Act, Answer);
+pub(super) type Line = (usize, Step, Outcome);
 
 /// The place of a line that was answered otherwise, and how.
-pub(super) type Slip = (usize, Answer);
+pub(super) type Slip = (usize, Outcome);
 
-/// How the sessions are handed in.
-#[derive(Clone, Copy)]
-pub(super) enum Closing {
-    /// In their order.
-    AtOnce,
-    /// The last one is missing at first, which is refused, and then it stands in front.
-    Late,
-}
+pub(super) const DONE: Outcome = Ok(Answer::Done);
 
-/// A desk: the accounts of its book, how many sessions it has, and how they are handed in at its
-/// end.
-#[derive(Clone, Copy)]
-pub(super) struct Setup {
-    pub(super) accounts: Accounts<'static>,
-    pub(super) sessions: u8,
-    pub(super) closing: Closing,
+pub(super) const EXISTS: Outcome = Err(KeepError::Book(BookError::Exists));
+
+pub(super) const FULL: Outcome = Err(KeepError::Book(BookError::Full));
+
+pub(super) const NO_ACCOUNT: Outcome = Err(KeepError::Book(BookError::NoAccount));
+
+pub(super) const LOG_FULL: Outcome = Err(KeepError::Writer(Refused));
+
+pub(super) fn replied(reply: Reply) -> Outcome {
+    Ok(Answer::Replied(reply))
 }
 
 /// What is done at a desk.
 #[derive(Clone, Copy)]
-struct Scene<'a> {
-    closing: Closing,
+pub(super) struct Scene<'a> {
+    pub(super) sessions: u8,
+    /// How many entries its log has room for.
+    pub(super) room: usize,
+    /// Whether a step that is refused is taken once more.
+    pub(super) again: bool,
     /// What the front half of the sessions does, in a thread of its own. Places count from the
     /// front of the half.
-    front: &'a [Line],
+    pub(super) front: &'a [Line],
     /// What the back half does meanwhile.
-    back: &'a [Line],
-    /// What they do afterwards.
-    after: &'a [Line],
+    pub(super) back: &'a [Line],
+    /// What they do afterwards. After each act but the last the journal is handed out.
+    pub(super) acts: &'a [&'a [Line]],
+    pub(super) ending: Ending,
+}
+
+impl<'a> Scene<'a> {
+    /// The acts of so many sessions in one thread, after which the desk is closed.
+    pub(super) fn new(sessions: u8, acts: &'a [&'a [Line]]) -> Scene<'a> {
+        Scene {
+            sessions,
+            room: usize::MAX,
+            again: false,
+            front: &[],
+            back: &[],
+            acts,
+            ending: Ending::Close,
+        }
+    }
 }
 
 type News<J> = (Sender<Told<J>>, Receiver<Told<J>>);
 
-/// Begins the request, and puts the ticket into its place.
-pub(super) fn begin<J: Naming>(
-    session: &mut Session<J>,
-    open: &mut Option<Ticket>,
-    request: Request,
-) -> Answer {
-    if !request.is_for_current() {
-        return Answer::Failed;
-    }
-    match session.begin(request) {
-        Ok(ticket) => {
-            *open = Some(ticket);
-            Answer::Done
-        }
-        Err((back, error)) => refused(back, request, error),
-    }
-}
-
-/// A request that is refused comes back.
-fn refused(back: Request, request: Request, error: DeskError) -> Answer {
-    if back == request {
-        Answer::Refused(error)
-    } else {
-        Answer::Failed
-    }
-}
-
-/// The work of the ticket; none if there is no memory or no ticket.
-pub(super) fn worked<R: Threads + Sync>(
-    rt: &R,
-    alloc: Global,
-    open: &mut Option<Ticket>,
-) -> Option<Worked> {
-    open.take()?.work(rt, alloc, 1, &NoGate).ok()
-}
-
-/// Closes the work of a verify.
-pub(super) fn close<J: Naming>(session: &mut Session<J>, work: Worked) -> Answer {
-    match work.into_verify() {
-        Ok(work) => match session.close_verify(work) {
-            Ok(reply) => Answer::Replied(reply),
-            Err((_, error)) => Answer::Refused(error),
-        },
-        Err(_) => Answer::Failed,
-    }
-}
-
-fn settle<J: Naming, R: Wait>(
-    rt: &R,
-    desk: &Desk<J>,
-    news: &News<J>,
-    session: &mut Session<J>,
-    work: Worked,
-) -> Answer {
-    match desk.settle(rt, session, work) {
-        Ok((reply, told)) => {
-            // Refused if the other half has ended, and nobody is left to learn it.
-            let _handed = news.0.send(rt, told);
-            Answer::Replied(reply)
-        }
-        Err((_, error)) => Answer::Refused(error),
-    }
-}
-
-fn learn<J: Naming, R: Wait>(rt: &R, news: &News<J>, session: &mut Session<J>) -> Answer {
+fn learn<J: Naming, R: Wait>(rt: &R, news: &News<J>, session: &mut Session<J>) -> Outcome {
     match news.1.recv(rt) {
         Ok(told) => {
             session.learn(&told);
-            Answer::Done
+            DONE
         }
-        Err(_) => Answer::Failed,
+        Err(_) => Ok(Answer::Failed),
     }
 }
 
-/// The record that the ticket copied.
-pub(super) fn read(open: &Option<Ticket>) -> Answer {
-    match open {
-        Some(ticket) => Answer::Copied(ticket.copy()),
+/// A step, whose session hands on what it is told.
+fn take<J: Naming, R: Threads + Wait + Sync>(
+    floor: &Floor<J, R>,
+    news: &News<J>,
+    session: &mut Session<J>,
+    open: &mut Option<Ticket>,
+    step: Step,
+) -> Outcome {
+    if let Step::Learn = step {
+        return learn(floor.rt, news, session);
+    }
+    let (answer, told) = floor.take(session, open, step)?;
+    if let Some(told) = told {
+        // Refused if the other half has ended, and nobody is left to learn it.
+        let _handed = news.0.send(floor.rt, told);
+    }
+    Ok(answer)
+}
+
+/// The desk tells one session what another one knows.
+fn hear<J: Naming, R: Threads + Wait + Sync>(
+    floor: &Floor<J, R>,
+    sessions: &mut [Session<J>],
+    place: usize,
+    from: usize,
+) -> Answer {
+    let known = match sessions.get(from) {
+        Some(other) => other.told(),
+        None => return Answer::Failed,
+    };
+    match sessions.get_mut(place) {
+        Some(session) => floor.tell(session, &known),
         None => Answer::Failed,
     }
 }
 
-/// What is done with the work of a ticket.
-fn finish<J: Naming, R: Wait>(
-    rt: &R,
-    desk: &Desk<J>,
-    news: &News<J>,
-    session: &mut Session<J>,
-    work: Worked,
-    act: Act,
-) -> Answer {
-    match act {
-        Act::Settle => settle(rt, desk, news, session, work),
-        Act::Close => close(session, work),
-        _ => Answer::Done,
-    }
-}
-
+/// Plays a line, and says how it was answered.
 fn play_one<J: Naming, R: Threads + Wait + Sync>(
-    rt: &R,
-    alloc: Global,
-    desk: &Desk<J>,
+    floor: &Floor<J, R>,
     news: &News<J>,
-    session: &mut Session<J>,
+    sessions: &mut [Session<J>],
     open: &mut Option<Ticket>,
-    act: Act,
-) -> Answer {
-    match act {
-        Act::Begin(request) => begin(session, open, request),
-        Act::Read => read(open),
-        Act::Learn => learn(rt, news, session),
-        Act::Settle | Act::Close | Act::Leave => match worked(rt, alloc, open) {
-            Some(work) => finish(rt, desk, news, session, work, act),
-            None => Answer::Failed,
-        },
+    line: &Line,
+) -> Outcome {
+    let (place, step, _) = *line;
+    if let Step::Hear(from) = step {
+        return Ok(hear(floor, sessions, place, from));
+    }
+    match sessions.get_mut(place) {
+        Some(session) => take(floor, news, session, open, step),
+        None => Ok(Answer::Failed),
     }
 }
 
 /// Plays the lines, up to one that is answered otherwise.
 fn play<J: Naming, R: Threads + Wait + Sync>(
-    rt: &R,
-    alloc: Global,
-    desk: &Desk<J>,
+    floor: &Floor<J, R>,
     news: &News<J>,
     sessions: &mut [Session<J>],
     lines: &[Line],
+    again: bool,
 ) -> Option<Slip> {
     let mut tickets: [Option<Ticket>; 3] = [None, None, None];
-    for (line, (place, act, want)) in lines.iter().enumerate() {
-        let answer = match (sessions.get_mut(*place), tickets.get_mut(*place)) {
-            (Some(session), Some(open)) => { play_one(rt, alloc, desk, news, session, open, *act) }
-            _ => Answer::Failed,
+    for (at, line) in lines.iter().enumerate() {
+        let Some(open) = tickets.get_mut(line.0) else {
+            return Some((at, Ok(Answer::Failed)));
         };
-        if answer != *want {
-            return Some((line, answer));
+        let mut outcome = play_one(floor, news, sessions, open, line);
+        if again && outcome != line.2 {
+            outcome = play_one(floor, news, sessions, open, line);
+        }
+        if outcome != line.2 {
+            return Some((at, outcome));
         }
     }
     None
@@ -225,90 +164,75 @@ fn play<J: Naming, R: Threads + Wait + Sync>(
 
 /// What one half hands on the other learns, which waits no longer once the first has ended.
 fn play_in_two<J: Naming + Send + Sync, R: Threads + Wait + Sync>(
-    rt: &R,
-    alloc: Global,
-    desk: &Desk<J>,
+    floor: &Floor<J, R>,
     sessions: &mut [Session<J>],
     scene: &Scene,
 ) -> Option<Slip> {
+    let (rt, alloc, desk) = (floor.rt, floor.alloc, floor.desk);
     let (Ok(from_front), Ok(from_back)) = (unbounded(alloc), unbounded(alloc)) else {
-        return Some((0, Answer::Failed));
+        return Some((0, Ok(Answer::Failed)));
     };
     let (front_news, back_news) = ((from_front.0, from_back.1), (from_back.0, from_front.1));
     let half = sessions.len() / 2;
     let (front, back) = sessions.split_at_mut(half);
-    let (front_lines, back_lines) = (scene.front, scene.back);
+    let (front_lines, back_lines, again) = (scene.front, scene.back, scene.again);
+    let front_floor = Floor { rt, alloc, desk };
+    let back_floor = Floor { rt, alloc, desk };
     let (one, other) = join(
         rt,
         move || {
             let news = front_news;
-            play(rt, alloc, desk, &news, front, front_lines)
+            play(&front_floor, &news, front, front_lines, again)
         },
         move || {
             let news = back_news;
-            play(rt, alloc, desk, &news, back, back_lines)
+            play(&back_floor, &news, back, back_lines, again)
         },
     );
     one.or(other)
 }
 
-fn play_all<J: Naming + Send + Sync, R: Threads + Wait + Sync>(
-    rt: &R,
-    alloc: Global,
-    desk: &Desk<J>,
+/// Plays the acts, and hands out the journal between them.
+fn play_acts<J: Naming, R: Threads + Wait + Sync>(
+    floor: &Floor<J, R>,
+    handed: &mut Handed<J>,
+    journal: &mut Journal,
     sessions: &mut [Session<J>],
     scene: &Scene,
 ) -> Option<Slip> {
-    let slip = play_in_two(rt, alloc, desk, sessions, scene);
-    if slip.is_some() {
-        return slip;
-    }
-    match unbounded(alloc) {
-        Ok(news) => play(rt, alloc, desk, &news, sessions, scene.after),
-        Err(_) => Some((0, Answer::Failed)),
-    }
-}
-
-/// Closes the desk, or ends it if that is refused.
-pub(super) fn close_desk<J: Naming, R: Wait>(
-    rt: &R,
-    desk: Desk<J>,
-    sessions: Vec<Session<J>>,
-) -> Result<Closed, DeskError> {
-    match desk.close(rt, sessions) {
-        Ok(closed) => Ok(closed),
-        Err((desk, _, error)) => {
-            desk.end(rt);
-            Err(error)
-        }
-    }
-}
-
-/// Closes the desk when the last session is missing, which is refused, and then with that one in
-/// front of the others.
-fn close_late<J: Naming, R: Wait>(
-    rt: &R,
-    desk: Desk<J>,
-    sessions: Vec<Session<J>>,
-) -> Result<Closed, DeskError> {
-    let mut sessions = sessions;
-    let Some(last) = sessions.pop() else {
-        return close_desk(rt, desk, sessions);
+    let Ok(news) = unbounded(floor.alloc) else {
+        return Some((0, Ok(Answer::Failed)));
     };
-    match desk.close(rt, sessions) {
-        Err((desk, back, DeskError::Session)) => {
-            let mut sessions = back;
-            let _placed = sessions.insert(0, last);
-            close_desk(rt, desk, sessions)
+    for (act, lines) in scene.acts.iter().enumerate() {
+        if act > 0
+            && journal
+                .add(floor.desk.checkpoint(floor.rt, handed))
+                .is_none()
+        {
+            return Some((0, Ok(Answer::Failed)));
         }
-        Err((desk, _, error)) => {
-            desk.end(rt);
-            Err(error)
+        let slip = play(floor, &news, sessions, lines, scene.again);
+        if slip.is_some() {
+            return slip;
         }
-        Ok(_) => Err(DeskError::Sessions),
+    }
+    None
+}
+
+fn play_all<J: Naming + Send + Sync, R: Threads + Wait + Sync>(
+    floor: Floor<J, R>,
+    handed: &mut Handed<J>,
+    journal: &mut Journal,
+    sessions: &mut [Session<J>],
+    scene: &Scene,
+) -> Option<Slip> {
+    match play_in_two(&floor, sessions, scene) {
+        None => play_acts(&floor, handed, journal, sessions, scene),
+        slip => slip,
     }
 }
 
+/// The scene at a desk on this book; none if there is no memory, or the desk fails.
 fn played<J: Naming + Send + Sync, R: Threads + Wait + Sync>(
     rt: &R,
     alloc: Global,
@@ -316,54 +240,80 @@ fn played<J: Naming + Send + Sync, R: Threads + Wait + Sync>(
     book: &Book,
     sessions: u8,
     scene: &Scene,
-) -> Result<(Closed, Option<Slip>), DeskError>
+) -> Option<(Left, Option<Slip>)>
     requires name { IsNamed J.Naming opened }
     requires opening { StartsAt J.Naming book.now sessions }
-    requires loads { J.loads ≡ false }
+    requires loads { J.loads ≡ true }
 {
-    let (desk, mut seats) = Desk::<J>::new(rt, alloc, opened, book, sessions)?;
-    let slip = play_all(rt, alloc, &desk, &mut seats, scene);
-    let closed = match scene.closing {
-        Closing::AtOnce => close_desk(rt, desk, seats),
-        Closing::Late => close_late(rt, desk, seats),
+    let mut journal = Journal::new(alloc, book)?;
+    let log = Log::new(alloc, scene.room, 0);
+    let made = KeptDesk::<J, Log>::new(rt, alloc, opened, book, sessions, log);
+    let (desk, handed, mut seats) = made.ok()?;
+    let mut handed = handed;
+    let desk_floor = Floor {
+        rt,
+        alloc,
+        desk: &desk,
     };
-    Ok((closed?, slip))
+    let slip = play_all(desk_floor, &mut handed, &mut journal, &mut seats, scene);
+    let left = end(rt, desk, handed, seats, journal, scene.ending)?;
+    Some((left, slip))
 }
 
-/// Plays what the front half of the sessions does and the back half, in a thread each, and what
-/// they do afterwards, and closes the desk.
-pub(super) fn show<'a, R: Threads + Wait + Abort + Sync>(
+/// What is left of the scene, and the line that was answered otherwise.
+pub(super) fn show<R: Threads + Wait + Sync>(
     rt: &R,
     alloc: Global,
-    setup: Setup,
-    front: &'a [Line],
-    back: &'a [Line],
-    after: &'a [Line],
-) -> (Closed, Option<Slip>) {
-    let book = book_of(rt, alloc, setup.accounts).expect(rt, "a book");
-    let sessions = setup.sessions;
-    let opened = Opened::new(sessions);
-    let closing = setup.closing;
-    let scene = Scene {
-        closing,
-        front,
-        back,
-        after,
-    };
-    played::<Brand, R>(rt, alloc, opened, &book, sessions, &scene).expect(rt, "a desk")
+    book: &Book,
+    scene: &Scene,
+) -> Option<(Left, Option<Slip>)> {
+    let sessions = scene.sessions;
+    played::<Brand, R>(rt, alloc, Opened::new(sessions), book, sessions, scene)
 }
 
-/// A closed desk has left this journal and these counts, and at these names these records.
-pub(super) fn judge_closed<R: Abort>(
+/// What is left of the scene, all lines of which are answered as they are to be.
+pub(super) fn left_of<R: Threads + Wait + Abort + Sync>(
     rt: &R,
-    closed: &Closed,
+    alloc: Global,
+    book: &Book,
+    scene: &Scene,
+) -> Left {
+    let (left, slip) = show(rt, alloc, book, scene).expect(rt, "a desk");
+    assert_eq!(rt; slip, None);
+    left
+}
+
+/// What is left when so many sessions do this in one thread, and the desk is closed.
+pub(super) fn left_of_act<R: Threads + Wait + Abort + Sync>(
+    rt: &R,
+    alloc: Global,
+    book: &Book,
+    sessions: u8,
+    lines: &[Line],
+) -> Left {
+    let acts = [lines];
+    let scene = Scene::new(sessions, &acts);
+    left_of(rt, alloc, book, &scene)
+}
+
+/// The desk left this journal, which its log keeps, and counted so many changes and additions.
+pub(super) fn judge<R: Abort>(
+    rt: &R,
+    left: &Left,
     journal: &[Entry],
     counts: &[u64],
-    records: &[(Name, Option<Record>)],
+    additions: &[u64],
 ) {
-    assert_eq!(rt; closed.journal.as_slice(), journal);
-    assert_eq!(rt; closed.counts.as_slice(), counts);
-    for (name, record) in records {
-        assert_eq!(rt; closed.book.show(name), Ok(*record));
-    }
+    assert_eq!(rt; left.journal.entries.as_slice(), journal);
+    assert_eq!(rt; left.log.entries.as_slice(), journal);
+    assert_eq!(rt;
+        (left.counts.as_slice(), left.additions.as_slice()),
+        (counts, additions)
+    );
+}
+
+/// The book that is left has this record at the name, or none.
+pub(super) fn judge_record<R: Abort>(rt: &R, left: &Left, account: &str, record: Option<&str>) {
+    let name = super::name(rt, account);
+    assert_eq!(rt; left.book.show(&name), Ok(standing(rt, record)));
 }

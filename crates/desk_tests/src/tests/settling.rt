@@ -1,7 +1,8 @@
 //! Two sessions of one desk whose account a has `A`, in one thread: what one settles, the other
 //! meets.
-use super::scene::{Act, Answer, Closing, Line, Setup, Slip, judge_closed, show};
-use super::{ONE_STANDS, entry, stored, upgrade, verify};
+use super::floor::{Answer, Step};
+use super::scene::{DONE, Line, Scene, Slip, judge, replied, show};
+use super::{ONE_STANDS, book_of, entry, stored, upgrade, verify};
 use cred_book::Reply;
 use cred_desk::DeskError;
 use std::alloc::Global;
@@ -13,12 +14,6 @@ use test_samples::{B, B_SETTING};
 /// The setting of a third record of the same password.
 const SMALL_SETTING: &str = "$argon2id$v=19$m=8,t=1,p=1$c29tZXNhbHQ";
 
-const SETUP: Setup = Setup {
-    accounts: ONE_STANDS,
-    sessions: 2,
-    closing: Closing::AtOnce,
-};
-
 /// Plays the lines; the journal is then one upgrade of a to `B`, and the sessions made so many
 /// changes.
 fn upgraded_once<R: Threads + Wait + Abort + Sync>(
@@ -27,8 +22,11 @@ fn upgraded_once<R: Threads + Wait + Abort + Sync>(
     counts: &[u64],
     lines: &[Line],
 ) -> Option<Slip> {
-    let (closed, slip) = show(rt, alloc, SETUP, &[], &[], lines);
-    judge_closed(rt, &closed, &[entry(rt, "a", Some(B))], counts, &[]);
+    let book = book_of(rt, alloc, ONE_STANDS).expect(rt, "a book");
+    let acts = [lines];
+    let scene = Scene::new(2, &acts);
+    let (left, slip) = show(rt, alloc, &book, &scene).expect(rt, "a desk");
+    judge(rt, &left, &[entry(rt, "a", Some(B))], counts, &[0, 0]);
     slip
 }
 
@@ -36,16 +34,13 @@ fn upgraded_once<R: Threads + Wait + Abort + Sync>(
 /// name that isn't there.
 #[test]
 fn own_settle_is_read(rt: HostRuntime) {
+    let missing = Ok(Answer::Refused(DeskError::NoAccount));
     let lines = [
-        (
-            0,
-            Act::Begin(verify(&rt, "zed")),
-            Answer::Refused(DeskError::NoAccount),
-        ),
-        (0, Act::Begin(upgrade(&rt, "a", B_SETTING)), Answer::Done),
-        (0, Act::Settle, Answer::Replied(Reply::Upgraded)),
-        (0, Act::Begin(verify(&rt, "a")), Answer::Done),
-        (0, Act::Read, Answer::Copied(Some(stored(&rt, B)))),
+        (0, Step::Begin(verify(&rt, "zed")), missing),
+        (0, Step::Begin(upgrade(&rt, "a", B_SETTING)), DONE),
+        (0, Step::Settle, replied(Reply::Upgraded)),
+        (0, Step::Begin(verify(&rt, "a")), DONE),
+        (0, Step::Read, Ok(Answer::Copied(Some(stored(&rt, B))))),
     ];
     assert_eq!(rt; upgraded_once(&rt, rt.alloc(), &[1, 0], &lines), None);
 }
@@ -55,14 +50,10 @@ fn own_settle_is_read(rt: HostRuntime) {
 fn second_of_two_upgrades_is_changed(rt: HostRuntime) {
     let now = Some(stored(&rt, B));
     let lines = [
-        (0, Act::Begin(upgrade(&rt, "a", B_SETTING)), Answer::Done),
-        (
-            1,
-            Act::Begin(upgrade(&rt, "a", SMALL_SETTING)),
-            Answer::Done,
-        ),
-        (0, Act::Settle, Answer::Replied(Reply::Upgraded)),
-        (1, Act::Settle, Answer::Replied(Reply::Changed { now })),
+        (0, Step::Begin(upgrade(&rt, "a", B_SETTING)), DONE),
+        (1, Step::Begin(upgrade(&rt, "a", SMALL_SETTING)), DONE),
+        (0, Step::Settle, replied(Reply::Upgraded)),
+        (1, Step::Settle, replied(Reply::Changed { now })),
     ];
     assert_eq!(rt; upgraded_once(&rt, rt.alloc(), &[1, 0], &lines), None);
 }
@@ -72,11 +63,11 @@ fn second_of_two_upgrades_is_changed(rt: HostRuntime) {
 fn told_verify_is_changed(rt: HostRuntime) {
     let now = Some(stored(&rt, B));
     let lines = [
-        (0, Act::Begin(verify(&rt, "a")), Answer::Done),
-        (1, Act::Begin(upgrade(&rt, "a", B_SETTING)), Answer::Done),
-        (1, Act::Settle, Answer::Replied(Reply::Upgraded)),
-        (0, Act::Learn, Answer::Done),
-        (0, Act::Close, Answer::Replied(Reply::Changed { now })),
+        (0, Step::Begin(verify(&rt, "a")), DONE),
+        (1, Step::Begin(upgrade(&rt, "a", B_SETTING)), DONE),
+        (1, Step::Settle, replied(Reply::Upgraded)),
+        (0, Step::Learn, DONE),
+        (0, Step::Close, replied(Reply::Changed { now })),
     ];
     assert_eq!(rt; upgraded_once(&rt, rt.alloc(), &[0, 1], &lines), None);
 }
@@ -86,12 +77,12 @@ fn told_verify_is_changed(rt: HostRuntime) {
 fn untold_verify(rt: HostRuntime) {
     let now = Some(stored(&rt, B));
     let lines = [
-        (0, Act::Begin(verify(&rt, "a")), Answer::Done),
-        (1, Act::Begin(upgrade(&rt, "a", B_SETTING)), Answer::Done),
-        (1, Act::Settle, Answer::Replied(Reply::Upgraded)),
-        (0, Act::Close, Answer::Replied(Reply::Yes)),
+        (0, Step::Begin(verify(&rt, "a")), DONE),
+        (1, Step::Begin(upgrade(&rt, "a", B_SETTING)), DONE),
+        (1, Step::Settle, replied(Reply::Upgraded)),
+        (0, Step::Close, replied(Reply::Yes)),
     ];
-    let newer = Some((3, Answer::Replied(Reply::Changed { now })));
+    let newer = Some((3, replied(Reply::Changed { now })));
     let slip = upgraded_once(&rt, rt.alloc(), &[0, 1], &lines);
     assert!(rt; slip == None || slip == newer);
 }

@@ -1,11 +1,13 @@
 //! What is done while the desk's lock is held, and between a reader's coming and going: no clause
 //! says how much that is.
-ghost use Rattle.std.specs.Prelude.{◌≡◌, [], true};
+ghost use Rattle.std.specs.Prelude.{◌≡◌};
 ghost use Rattle.cred_desk.specs.Naming.{IsNamed, StartsAt};
 
-use super::scene::{Answer, begin, close, read, worked};
+use super::floor::{Answer, Step, begin, close, read, work_of, worked};
+use super::scene::{DONE, Outcome, left_of_act, replied};
+use super::writer::{Log, Refused};
 use super::{ONE_STANDS, book_of, enrol, name, standing, stored, upgrade, verify};
-use cred_book::{Book, Reply, Request, Worked};
+use cred_book::{Book, Reply, Worked};
 use cred_desk::{Entry, EntryWriter, KeptDesk, Naming, Opened, Session};
 use crossbeam_channel::{Receiver, Sender, unbounded};
 use std::alloc::Global;
@@ -36,49 +38,20 @@ struct Turnstile<'a, R> {
     go_on: Receiver<()>,
 }
 
-/// Nobody is left who would tell it to go on.
-#[derive(Clone, Copy, Debug, PartialEq, Eq)]
-struct Left;
-
 impl<'a, R: Wait> EntryWriter for Turnstile<'a, R> {
-    type Error = Left;
+    type Error = Refused;
 
     ghost keeps = { λ _ _. Unit {0} };
 
-    fn write(&mut self, _new: &Entry) -> Result<(), Left> {
-        self.asked.send(self.rt, ()).map_err(|_| Left)?;
-        self.go_on.recv(self.rt).map_err(|_| Left)
+    /// Refuses if nobody is left who would tell it to go on.
+    fn write(&mut self, _new: &Entry) -> Result<(), Refused> {
+        self.asked.send(self.rt, ()).map_err(|_| Refused)?;
+        self.go_on.recv(self.rt).map_err(|_| Refused)
     }
-}
-
-/// Keeps nothing.
-#[derive(Clone, Copy)]
-struct Careless;
-
-impl EntryWriter for Careless {
-    type Error = Left;
-
-    ghost keeps = { λ _ _. Unit {0} };
-
-    fn write(&mut self, _new: &Entry) -> Result<(), Left> {
-        Ok(())
-    }
-}
-
-/// The work of a request that the session begins.
-fn work_of<J: Naming, R: Threads + Sync>(
-    rt: &R,
-    alloc: Global,
-    session: &mut Session<J>,
-    request: Request,
-) -> Option<Worked> {
-    let mut open = None;
-    begin(session, &mut open, request);
-    worked(rt, alloc, &mut open)
 }
 
 /// A session's upgrade of a.
-fn settle_upgrade<J: Naming, W: EntryWriter<Error = Left>, R: Threads + Wait + Abort + Sync>(
+fn settle_upgrade<J: Naming, W: EntryWriter<Error = Refused>, R: Threads + Wait + Abort + Sync>(
     rt: &R,
     alloc: Global,
     desk: &KeptDesk<J, W>,
@@ -90,7 +63,7 @@ fn settle_upgrade<J: Naming, W: EntryWriter<Error = Left>, R: Threads + Wait + A
     }
 }
 
-fn settle<J: Naming, W: EntryWriter<Error = Left>, R: Wait>(
+fn settle<J: Naming, W: EntryWriter<Error = Refused>, R: Wait>(
     rt: &R,
     desk: &KeptDesk<J, W>,
     session: &mut Session<J>,
@@ -186,69 +159,30 @@ fn readers_wait_for_no_lock(rt: HostRuntime) {
     assert_eq!(rt; read, [copied, Answer::Replied(Reply::Yes)]);
 }
 
-/// What a verify and an upgrade are answered that were begun before a record was loaded under which
-/// a hash takes days; what is copied then; and what an enrolment is answered.
-fn load_dear<J: Naming, R: Threads + Wait + Abort + Sync>(
-    rt: &R,
-    alloc: Global,
-    desk: &KeptDesk<J, Careless>,
-    session: &mut Session<J>,
-) -> Option<[Answer; 4]>
-    requires { J.loads ≡ true }
-{
-    let verified = work_of(rt, alloc, session, verify(rt, "a"))?;
-    let upgraded = work_of(rt, alloc, session, upgrade(rt, "a", B_SETTING))?;
-    desk.load(rt, session, name(rt, "a"), stored(rt, DEAR))
-        .ok()?;
-    let closed = close(session, verified);
-    let settled = settle(rt, desk, session, upgraded);
-    let mut open = None;
-    begin(session, &mut open, enrol(rt, "a", DEAR_SETTING));
-    let copied = read(&open);
-    let enrolled = worked(rt, alloc, &mut open)?;
-    let exists = settle(rt, desk, session, enrolled);
-    Some([closed, settled, copied, exists])
-}
-
-fn loaded_dear<J: Naming, R: Threads + Wait + Abort + Sync>(
-    rt: &R,
-    alloc: Global,
-    opened: Opened,
-    book: &Book,
-) -> Option<[Answer; 4]>
-    requires name { IsNamed J.Naming opened }
-    requires opening { StartsAt J.Naming book.now 1 }
-    requires loads { J.loads ≡ true }
-{
-    let made = KeptDesk::<J, Careless>::new(rt, alloc, opened, book, 1, Careless);
-    let (desk, handed, mut sessions) = made.ok()?;
-    let answers = match sessions.first_mut() {
-        Some(session) => load_dear(rt, alloc, &desk, session),
-        None => None,
-    };
-    let _remains = desk.give_up(rt, handed, &sessions);
-    answers
-}
-
 /// `Changed`, with the record under which a hash takes days.
-fn changed_to_dear<R: Abort>(rt: &R) -> Answer {
+fn changed_to_dear<R: Abort>(rt: &R) -> Outcome {
     let now = standing(rt, Some(DEAR));
-    Answer::Replied(Reply::Changed { now })
+    replied(Reply::Changed { now })
 }
 
-/// A call of the desk that hashed under the present record, the copy or the request's setting would
-/// not end.
+/// A verify and an upgrade are begun before a record is loaded under which a hash takes days. A call
+/// of the desk that hashed under the present record, the copy or the request's setting would not
+/// end.
 #[test]
 fn nothing_is_hashed_at_a_desk(rt: HostRuntime) {
     let book = book_of(&rt, rt.alloc(), ONE_STANDS).expect(&rt, "a book");
-    let found = loaded_dear::<Brand, _>(&rt, rt.alloc(), Opened::new(1), &book);
-    let want = [
-        changed_to_dear(&rt),
-        changed_to_dear(&rt),
-        Answer::Copied(standing(&rt, Some(DEAR))),
-        Answer::Replied(Reply::Exists),
+    let lines = [
+        (0, Step::Begin(verify(&rt, "a")), DONE),
+        (1, Step::Begin(upgrade(&rt, "a", B_SETTING)), DONE),
+        (0, Step::Load(name(&rt, "a"), stored(&rt, DEAR)), DONE),
+        (0, Step::Close, changed_to_dear(&rt)),
+        (1, Step::Settle, changed_to_dear(&rt)),
+        (0, Step::Begin(enrol(&rt, "a", DEAR_SETTING)), DONE),
+        (0, Step::Read, Ok(Answer::Copied(standing(&rt, Some(DEAR))))),
+        (0, Step::Settle, replied(Reply::Exists)),
     ];
-    assert_eq!(rt; found, Some(want));
+    let left = left_of_act(&rt, rt.alloc(), &book, 2, &lines);
+    assert_eq!(rt; left.log.entries.len(), 1);
 }
 
 /// What the quickest begin, close and settle took of the thread's processor time, in nanoseconds.
@@ -269,7 +203,7 @@ fn time_since<R: CpuClock>(rt: &R, start: Duration) -> Option<u128> {
 fn time_once<J: Naming, R: Threads + Wait + CpuClock + Abort + Sync>(
     rt: &R,
     alloc: Global,
-    desk: &KeptDesk<J, Careless>,
+    desk: &KeptDesk<J, Log>,
     session: &mut Session<J>,
     setting: &str,
 ) -> Option<Quickest> {
@@ -296,7 +230,7 @@ fn time_once<J: Naming, R: Threads + Wait + CpuClock + Abort + Sync>(
 fn time_all<J: Naming, R: Threads + Wait + CpuClock + Abort + Sync>(
     rt: &R,
     alloc: Global,
-    desk: &KeptDesk<J, Careless>,
+    desk: &KeptDesk<J, Log>,
     session: &mut Session<J>,
 ) -> Option<Quickest> {
     let mut quickest = time_once(rt, alloc, desk, session, B_SETTING)?;
@@ -323,7 +257,8 @@ fn timed<J: Naming, R: Threads + Wait + CpuClock + Abort + Sync>(
     requires name { IsNamed J.Naming opened }
     requires opening { StartsAt J.Naming book.now 1 }
 {
-    let made = KeptDesk::<J, Careless>::new(rt, alloc, opened, book, 1, Careless);
+    let log = Log::new(alloc, usize::MAX, 0);
+    let made = KeptDesk::<J, Log>::new(rt, alloc, opened, book, 1, log);
     let (desk, handed, mut sessions) = made.ok()?;
     let quickest = match sessions.first_mut() {
         Some(session) => time_all(rt, alloc, &desk, session),

@@ -1,5 +1,7 @@
 //! What operations are drawn from.
 
+use super::super::CHEAP_SETTINGS;
+use super::super::floor::Step;
 use cred_book::{Hashing, Name, Request};
 use cred_phc::{Password, Record, Setting, parse_setting};
 use cred_pool::NoGate;
@@ -8,12 +10,6 @@ use std::thread::Threads;
 
 /// How many names there are: so few that sessions meet at them.
 const NAMES: usize = 64;
-
-/// The settings of new records, which cost 8 KiB.
-const SETTINGS: [&str; 2] = [
-    "$argon2id$v=19$m=8,t=1,p=1$c29tZXNhbHQ",
-    "$argon2id$v=19$m=9,t=1,p=1$c29tZXNhbHQ",
-];
 
 /// Names, two passwords with a record of each, and two settings.
 #[derive(Drop)]
@@ -24,14 +20,6 @@ pub(super) struct Pool {
     settings: [Setting; 2],
 }
 
-/// What whoever keeps the book adds.
-#[derive(Clone, Copy)]
-pub(super) enum Addition {
-    Admit(Name),
-    Load(Name, Record),
-    Delete(Name),
-}
-
 impl Pool {
     /// None if there is no memory.
     pub(super) fn new<R: Threads + Sync>(rt: &R, alloc: Global) -> Option<Pool> {
@@ -40,7 +28,7 @@ impl Pool {
             let name = format!(in alloc; "name{place}").ok()?;
             names.push(Name::new(name.as_bytes()).ok()?).ok()?;
         }
-        let [first, second] = SETTINGS;
+        let [first, second] = CHEAP_SETTINGS;
         let first = parse_setting(first.as_bytes()).ok()?;
         let second = parse_setting(second.as_bytes()).ok()?;
         let pw = Password::new(b"password")?;
@@ -92,13 +80,13 @@ impl Pool {
         })
     }
 
-    /// An addition of any kind.
-    pub(super) fn addition(&self, draws: &mut Draws) -> Option<Addition> {
+    /// A name that is admitted or deleted, or a record that is loaded.
+    pub(super) fn addition(&self, draws: &mut Draws) -> Option<Step> {
         let name = self.name(draws)?;
         Some(match draws.next() % 3 {
-            0 => Addition::Admit(name),
-            1 => Addition::Load(name, self.records[draws.next() % 2]),
-            _ => Addition::Delete(name),
+            0 => Step::Admit(name),
+            1 => Step::Load(name, self.records[draws.next() % 2]),
+            _ => Step::Delete(name),
         })
     }
 }

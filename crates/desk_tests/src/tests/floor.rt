@@ -1,0 +1,179 @@
+//! One step at a kept desk, and what is answered to it.
+
+use super::writer::{Log, Refused};
+use cred_book::{Name, Reply, Request, Ticket, Worked};
+use cred_desk::{DeskError, KeepError, KeptDesk, Naming, Session, Told};
+use cred_phc::Record;
+use cred_pool::NoGate;
+use std::alloc::Global;
+use std::marker::Model;
+use std::sync::Wait;
+use std::thread::Threads;
+
+/// What a session does.
+#[derive(Clone, Copy)]
+pub(super) enum Step {
+    Admit(Name),
+    Load(Name, Record),
+    Delete(Name),
+    /// Begins a request, and holds the ticket.
+    Begin(Request),
+    /// Reads the record that the ticket copied.
+    Read,
+    /// Works the ticket and settles it.
+    Settle,
+    /// Works the ticket and closes it, as a verify.
+    Close,
+    /// Works the ticket and never settles it.
+    Leave,
+    /// Learns the first of what other sessions handed on.
+    Learn,
+    /// Is told by the desk what the session at this place knows.
+    Hear(usize),
+}
+
+/// What is answered to it.
+#[derive(Clone, Copy, Debug, PartialEq, Eq)]
+pub(super) enum Answer {
+    Done,
+    Copied(Option<Record>),
+    Replied(Reply),
+    /// How many entries the session was told of.
+    Told(u64),
+    /// A request or a work came back.
+    Refused(DeskError),
+    /// There was no ticket, or no memory for what is not the desk's.
+    Failed,
+}
+
+/// An answer, and what the session was told with it.
+pub(super) type Taken<J> = Result<(Answer, Option<Told<J>>), KeepError<Refused>>;
+
+/// Begins the request, and puts the ticket into its place.
+pub(super) fn begin<J: Naming>(
+    session: &mut Session<J>,
+    open: &mut Option<Ticket>,
+    request: Request,
+) -> Answer {
+    if !request.is_for_current() {
+        return Answer::Failed;
+    }
+    match session.begin(request) {
+        Ok(ticket) => {
+            *open = Some(ticket);
+            Answer::Done
+        }
+        Err((back, error)) if back == request => Answer::Refused(error),
+        Err(_) => Answer::Failed,
+    }
+}
+
+/// The record that the ticket copied.
+pub(super) fn read(open: &Option<Ticket>) -> Answer {
+    match open {
+        Some(ticket) => Answer::Copied(ticket.copy()),
+        None => Answer::Failed,
+    }
+}
+
+/// The work of the ticket; none if there is no memory or no ticket.
+pub(super) fn worked<R: Threads + Sync>(
+    rt: &R,
+    alloc: Global,
+    open: &mut Option<Ticket>,
+) -> Option<Worked> {
+    open.take()?.work(rt, alloc, 1, &NoGate).ok()
+}
+
+/// The work of a request that the session begins.
+pub(super) fn work_of<J: Naming, R: Threads + Sync>(
+    rt: &R,
+    alloc: Global,
+    session: &mut Session<J>,
+    request: Request,
+) -> Option<Worked> {
+    let mut open = None;
+    begin(session, &mut open, request);
+    worked(rt, alloc, &mut open)
+}
+
+/// Closes the work of a verify.
+pub(super) fn close<J: Naming>(session: &mut Session<J>, work: Worked) -> Answer {
+    match work.into_verify() {
+        Ok(work) => match session.close_verify(work) {
+            Ok(reply) => Answer::Replied(reply),
+            Err((_, error)) => Answer::Refused(error),
+        },
+        Err(_) => Answer::Failed,
+    }
+}
+
+/// What sessions of a kept desk share.
+#[derive(Drop)]
+pub(super) struct Floor<'a, J: Naming, R: Wait> {
+    pub(super) rt: &'a R,
+    pub(super) alloc: Global,
+    pub(super) desk: &'a KeptDesk<J, Log>,
+}
+
+/// Names are admitted and deleted while others log in.
+impl<'a, J: Naming, R: Wait> Model for Floor<'a, J, R> {
+    ghost use Rattle.std.specs.Prelude.{◌≡◌, true};
+
+    ghost Value = { Unit {0} };
+
+    ghost view = { λ _. tt };
+
+    ghost invariant = { λ _. J.loads ≡ true };
+}
+
+impl<'a, J: Naming, R: Threads + Wait + Sync> Floor<'a, J, R> {
+    /// A step of one session alone.
+    pub(super) fn take(
+        &self,
+        session: &mut Session<J>,
+        open: &mut Option<Ticket>,
+        step: Step,
+    ) -> Taken<J> {
+        match step {
+            Step::Admit(name) => added(self.desk.admit(self.rt, session, name)),
+            Step::Load(name, record) => added(self.desk.load(self.rt, session, name, record)),
+            Step::Delete(name) => added(self.desk.delete(self.rt, session, name)),
+            Step::Begin(request) => Ok((begin(session, open, request), None)),
+            Step::Read => Ok((read(open), None)),
+            Step::Settle | Step::Close | Step::Leave => match worked(self.rt, self.alloc, open) {
+                Some(work) => self.finish(session, work, step),
+                None => Ok((Answer::Failed, None)),
+            },
+            Step::Learn | Step::Hear(_) => Ok((Answer::Failed, None)),
+        }
+    }
+
+    /// What is done with the work of a ticket.
+    fn finish(&self, session: &mut Session<J>, work: Worked, step: Step) -> Taken<J> {
+        match step {
+            Step::Settle => match self.desk.settle(self.rt, session, work) {
+                Ok((reply, told)) => Ok((Answer::Replied(reply), Some(told))),
+                Err(unsettled) => {
+                    let (_work, error) = unsettled.into_parts();
+                    Err(error)
+                }
+            },
+            Step::Close => Ok((close(session, work), None)),
+            _ => Ok((Answer::Done, None)),
+        }
+    }
+
+    /// Has the desk tell a session what another one, or it itself, knows.
+    pub(super) fn tell(&self, session: &mut Session<J>, known: &Told<J>) -> Answer {
+        let told = self.desk.tell(self.rt, session, &known.heard());
+        Answer::Told(told.len())
+    }
+}
+
+fn added<J: Naming>(told: Result<Told<J>, KeepError<Refused>>) -> Taken<J> {
+    match told {
+        Ok(told) => Ok((Answer::Done, Some(told))),
+        Err(error) => Err(error),
+    }
+}
