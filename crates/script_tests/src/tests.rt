@@ -27,18 +27,19 @@ use std::io::Read;
 use std::process::Abort;
 use std::sync::Wait;
 use std::thread::Threads;
-use test_samples::{A, A_SETTING, B, B_SETTING, OLD, OLD_WRITTEN, SCRYPT};
+use test_samples::{A, A_SETTING, B, B_SETTING, INDEPENDENT, OLD, OLD_WRITTEN, SCRYPT};
 
 /// The password `password`.
 const PA: &str = "cGFzc3dvcmQ";
 
 /// The names that stand for these in scripts and answers.
-static PLACES: [(&str, &str); 8] = [
+static PLACES: [(&str, &str); 9] = [
     ("{PA}", PA),
     ("{SA}", A_SETTING),
     ("{SB}", B_SETTING),
     ("{A}", A),
     ("{B}", B),
+    ("{I}", INDEPENDENT),
     ("{OLD}", OLD),
     ("{OLD_WRITTEN}", OLD_WRITTEN),
     ("{SCRYPT}", SCRYPT),
@@ -60,9 +61,6 @@ fn name<R: Abort>(rt: &R, text: &str) -> Name {
 fn stored<R: Abort>(rt: &R, text: &str) -> Record {
     parse_record(text.as_bytes()).expect(rt, "a record")
 }
-
-/// A line of a script, and its answer.
-type Line<'a> = (&'a str, &'a str);
 
 /// What a keeper shows at a name, as text.
 type Shown<'a> = Result<Option<&'a str>, BookError>;

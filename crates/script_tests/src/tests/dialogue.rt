@@ -1,8 +1,7 @@
 //! Scripts with their answers, and what holds them against runs on each keeper.
 use super::committers::run_on_committer;
-use super::keepers::Shelf;
-use super::{Line, empty_book, filled_in, run_on};
-use cred_book::Keeper;
+use super::{empty_book, filled_in, run_on};
+use cred_book::{Keeper, Register};
 use cred_cli::{End, ScriptFault};
 use std::alloc::Global;
 use std::process::Abort;
@@ -11,23 +10,10 @@ use std::thread::Threads;
 
 /// A script, and what is to be answered to it.
 #[derive(Drop)]
-pub(super) struct Dialogue {
-    name: &'static str,
+pub(super) struct Dialogue<'a> {
+    name: &'a str,
     pub(super) script: String,
     pub(super) answers: String,
-}
-
-/// A worked script by its name: each line with its answer, after `account a`.
-pub(super) struct Case {
-    pub(super) name: &'static str,
-    pub(super) lines: &'static [Line<'static>],
-}
-
-/// The end of a script that is answered whole: each line has one answer.
-fn whole_end(answers: &str) -> Result<End, ScriptFault> {
-    Ok(End {
-        lines: answers.lines().count() as u64,
-    })
 }
 
 /// How a script ended, and what was answered.
@@ -45,9 +31,9 @@ fn add_line<R: Abort>(rt: &R, text: &mut String, pieces: &[&str]) {
     text.push('\n').expect(rt, "memory");
 }
 
-impl Dialogue {
+impl<'a> Dialogue<'a> {
     /// One that has no line.
-    fn new(alloc: Global, name: &'static str) -> Dialogue {
+    fn new(alloc: Global, name: &'a str) -> Dialogue<'a> {
         Dialogue {
             name,
             script: String::new(alloc),
@@ -56,7 +42,7 @@ impl Dialogue {
     }
 
     /// One that opens with `account a`.
-    pub(super) fn with_account<R: Abort>(rt: &R, alloc: Global, name: &'static str) -> Dialogue {
+    pub(super) fn with_account<R: Abort>(rt: &R, alloc: Global, name: &'a str) -> Dialogue<'a> {
         let mut dialogue = Dialogue::new(alloc, name);
         dialogue.line(rt, &["account a"], "ok");
         dialogue
@@ -68,43 +54,44 @@ impl Dialogue {
         add_line(rt, &mut self.answers, &[answer]);
     }
 
-    pub(super) fn lines<R: Abort>(&mut self, rt: &R, lines: &[Line]) {
-        for (line, answer) in lines {
-            self.line(rt, &[line], answer);
+    /// Adds a line with its answer behind ` => `. Passwords, settings and records are named there.
+    fn answered<R: Abort>(&mut self, rt: &R, alloc: Global, line: &str) {
+        let line = filled_in(rt, alloc, line);
+        let (asked, answer) = line.split_once(" => ").expect(rt, "an answer");
+        self.line(rt, &[asked], answer);
+    }
+
+    /// Adds each line of the text, with its answer.
+    pub(super) fn lines<R: Abort>(&mut self, rt: &R, alloc: Global, text: &str) {
+        for line in text.lines() {
+            self.answered(rt, alloc, line);
         }
     }
 
-    /// One of these lines alone.
-    pub(super) fn of<R: Abort>(
-        rt: &R,
-        alloc: Global,
-        name: &'static str,
-        lines: &[Line],
-    ) -> Dialogue {
+    /// One of the lines of the text alone.
+    pub(super) fn of<R: Abort>(rt: &R, alloc: Global, name: &'a str, text: &str) -> Dialogue<'a> {
         let mut dialogue = Dialogue::new(alloc, name);
-        dialogue.lines(rt, lines);
-        dialogue.filled_in(rt, alloc)
+        dialogue.lines(rt, alloc, text);
+        dialogue
     }
 
-    /// One of these lines, after `account a`.
+    /// One of the lines of the text, after `account a`.
     pub(super) fn behind_account<R: Abort>(
         rt: &R,
         alloc: Global,
-        name: &'static str,
-        lines: &[Line],
-    ) -> Dialogue {
+        name: &'a str,
+        text: &str,
+    ) -> Dialogue<'a> {
         let mut dialogue = Dialogue::with_account(rt, alloc, name);
-        dialogue.lines(rt, lines);
-        dialogue.filled_in(rt, alloc)
+        dialogue.lines(rt, alloc, text);
+        dialogue
     }
 
-    /// The same with each password, setting and record in place of its name.
-    fn filled_in<R: Abort>(self, rt: &R, alloc: Global) -> Dialogue {
-        Dialogue {
-            name: self.name,
-            script: filled_in(rt, alloc, &self.script),
-            answers: filled_in(rt, alloc, &self.answers),
-        }
+    /// The end of a run in which each line has its answer.
+    pub(super) fn end(&self) -> Result<End, ScriptFault> {
+        Ok(End {
+            lines: self.answers.lines().count() as u64,
+        })
     }
 
     /// Holds it against what a run came to.
@@ -115,7 +102,7 @@ impl Dialogue {
         end: Result<End, ScriptFault>,
         written: &[u8],
     ) {
-        let want = (whole_end(&self.answers), self.answers.as_bytes());
+        let want = (self.end(), self.answers.as_bytes());
         hold_ran(rt, self.name, workers, (end, written), want);
     }
 
@@ -143,21 +130,28 @@ impl Dialogue {
         self.hold_run(rt, workers, end, &written);
     }
 
-    /// Holds it against runs on an empty book, an empty shelf and a committer, with one worker and
-    /// with four.
+    /// Holds it against runs on an empty book, an empty register and a committer, with one worker
+    /// and with four.
     pub(super) fn judge<R: Threads + Wait + Sync + Abort>(&self, rt: &R, alloc: Global) {
         for workers in [1, 4] {
             self.judge_on(rt, alloc, workers, empty_book(rt, alloc));
-            let never = usize::MAX;
-            self.judge_on(rt, alloc, workers, Shelf::new(alloc, never, never));
+            self.judge_on(rt, alloc, workers, Register::new(alloc));
             self.judge_published(rt, alloc, workers);
         }
     }
 }
 
-/// Holds each case against its runs.
-pub(super) fn judge_cases<R: Threads + Wait + Sync + Abort>(rt: &R, alloc: Global, cases: &[Case]) {
-    for case in cases {
-        Dialogue::behind_account(rt, alloc, case.name, case.lines).judge(rt, alloc);
+/// Holds each worked script of the text against its runs. A script has a line `# NAME`, and then
+/// the lines that come after `account a`, each with its answer.
+pub(super) fn judge_all<R: Threads + Wait + Sync + Abort>(rt: &R, alloc: Global, text: &str) {
+    let mut dialogue = Dialogue::with_account(rt, alloc, "account a");
+    for line in text.lines() {
+        if let Some(name) = line.strip_prefix("# ") {
+            dialogue.judge(rt, alloc);
+            dialogue = Dialogue::with_account(rt, alloc, name);
+        } else if !line.is_empty() {
+            dialogue.answered(rt, alloc, line);
+        }
     }
+    dialogue.judge(rt, alloc);
 }

@@ -1,9 +1,8 @@
 //! What running out of memory leaves. These tests hold whichever request is refused:
 //! tools/refuse_memory.py refuses each in turn.
 use super::committers::run_on_committer;
-use super::keepers::Shelf;
 use super::{Shown, hold, hold_bytes, hold_shown};
-use cred_book::{Book, BookError, Keeper};
+use cred_book::{Book, BookError, Keeper, Register};
 use cred_cli::{CostBounds, End, ScriptFault, Tools, Watched, command, run_script, serve};
 use std::alloc::Global;
 use std::process::Abort;
@@ -165,9 +164,9 @@ fn refused_script_of_two_workers(rt: HostRuntime) {
 }
 
 #[test]
-fn refused_script_on_a_shelf(rt: HostRuntime) {
-    let mut shelf = Shelf::new(rt.alloc(), 1, 9);
-    judge_refused(&rt, rt.alloc(), 2, &mut shelf);
+fn refused_script_on_a_register(rt: HostRuntime) {
+    let mut register = Register::new(rt.alloc());
+    judge_refused(&rt, rt.alloc(), 2, &mut register);
 }
 
 #[test]

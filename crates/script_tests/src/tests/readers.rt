@@ -167,61 +167,52 @@ fn calls_of(most: usize) -> u64 {
     1 + SIX_LINES.len().div_ceil(most) as u64
 }
 
+/// The two doors at which a script's lines are answered.
+#[derive(Clone, Copy)]
+enum Door {
+    Script,
+    Service,
+}
+
+/// Reads the six lines, so many bytes a call: each is answered before the next call.
+fn judge_prompt<R: Threads + Wait + Sync + Abort>(rt: &R, alloc: Global, door: Door, most: usize) {
+    let answered = Cell::new(0);
+    let mut book = empty_book(rt, alloc);
+    let mut reader = Watched::new(Asking {
+        rest: SIX_LINES,
+        most,
+        asked: 0,
+        answered: &answered,
+    });
+    let mut writer = Watched::new(Counting {
+        answered: &answered,
+    });
+    let workers = 1;
+    let end = match door {
+        Door::Script => run_script(rt, alloc, workers, &mut book, &mut reader, &mut writer),
+        Door::Service => {
+            let tools = Tools { rt, alloc, workers };
+            serve(&tools, CostBounds::none(), &mut book, &mut reader, &mut writer)
+        }
+    };
+    hold_end(rt, most, end, Ok(End { lines: 6 }));
+    hold(
+        rt,
+        most,
+        answered.get() == 6 && reader.calls() == calls_of(most),
+    );
+}
+
 #[test]
 fn answered_before_the_next_call(rt: HostRuntime) {
     for most in 1..=SIX_LINES.len() {
-        let answered = Cell::new(0);
-        let mut book = empty_book(&rt, rt.alloc());
-        let mut reader = Watched::new(Asking {
-            rest: SIX_LINES,
-            most,
-            asked: 0,
-            answered: &answered,
-        });
-        let mut writer = Watched::new(Counting {
-            answered: &answered,
-        });
-        let end = run_script(&rt, rt.alloc(), 1, &mut book, &mut reader, &mut writer);
-        hold_end(&rt, most, end, Ok(End { lines: 6 }));
-        hold(
-            &rt,
-            most,
-            answered.get() == 6 && reader.calls() == calls_of(most),
-        );
+        judge_prompt(&rt, rt.alloc(), Door::Script, most);
     }
 }
 
 #[test]
 fn served_before_the_next_call(rt: HostRuntime) {
     for most in 1..=SIX_LINES.len() {
-        let answered = Cell::new(0);
-        let mut book = empty_book(&rt, rt.alloc());
-        let mut reader = Watched::new(Asking {
-            rest: SIX_LINES,
-            most,
-            asked: 0,
-            answered: &answered,
-        });
-        let mut writer = Watched::new(Counting {
-            answered: &answered,
-        });
-        let tools = Tools {
-            rt: &rt,
-            alloc: rt.alloc(),
-            workers: 1,
-        };
-        let end = serve(
-            &tools,
-            CostBounds::none(),
-            &mut book,
-            &mut reader,
-            &mut writer,
-        );
-        hold_end(&rt, most, end, Ok(End { lines: 6 }));
-        hold(
-            &rt,
-            most,
-            answered.get() == 6 && reader.calls() == calls_of(most),
-        );
+        judge_prompt(&rt, rt.alloc(), Door::Service, most);
     }
 }

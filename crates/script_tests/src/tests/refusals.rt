@@ -1,99 +1,70 @@
 //! Lines of operations that are refused, and which of two causes is answered.
-use super::dialogue::{Case, Dialogue, judge_cases};
+use super::dialogue::{Dialogue, judge_all};
 use std::alloc::Global;
 use std::process::Abort;
 
-/// Each after `account a`.
-static REFUSALS: [Case; 5] = [
-    Case {
-        name: "operations_and_counts_come_before_fields",
-        lines: &[
-            ("begin 0 look a -", "bad 11 line"),
-            ("begin 0 Verify a -", "bad 11 line"),
-            ("begin 0 enrol a -", "bad 11 line"),
-            ("begin 0 verify a - {SA}", "bad 11 line"),
-            ("begin 0 change a - {SA}", "bad 11 line"),
-            ("begin 0 enrol a - - {SA}", "bad 11 line"),
-            ("begin 0 change a - - {SA} x", "bad 11 line"),
-            ("Begin 1 verify a -", "bad 11 line"),
-            ("begin 1 verify a", "bad 11 line"),
-            ("begin 1  verify a -", "bad 11 line"),
-            ("commit", "bad 11 line"),
-            ("commit 1 ", "bad 11 line"),
-            ("commit 1", "bad 15 idle"),
-        ],
-    },
-    Case {
-        name: "fields_are_judged_in_turn",
-        lines: &[
-            ("begin 0 enrol A ! $", "bad 12 key"),
-            ("begin 1 enrol A ! $", "bad 3 name"),
-            ("begin 1 enrol a ! $", "bad 13 password"),
-            ("begin 1 enrol a - $", "bad 2 scheme"),
-            ("begin 1 enrol a - {A}", "bad 1 shape"),
-            ("begin 1 change a ! - $", "bad 13 password"),
-            ("begin 1 change a - ! $", "bad 13 password"),
-            ("begin 1 change a - - ", "bad 1 shape"),
-            ("begin 1 upgrade a - $argon2x", "bad 2 scheme"),
-            ("begin 1 remove A !", "bad 3 name"),
-            ("commit 1", "bad 15 idle"),
-        ],
-    },
-    Case {
-        name: "busy_comes_behind_the_fields_and_before_the_book",
-        lines: &[
-            ("begin 1 verify zed -", "bad 5 noaccount"),
-            ("commit 1", "bad 15 idle"),
-            ("begin 1 verify a -", "begun"),
-            ("begin 1 verify A -", "bad 3 name"),
-            ("begin 1 verify a !", "bad 13 password"),
-            ("begin 1 enrol a - $", "bad 2 scheme"),
-            ("begin 1 verify zed -", "bad 14 busy"),
-            ("begin 2 verify a -", "begun"),
-            ("commit 1", "absent"),
-            ("commit 2", "absent"),
-        ],
-    },
-    Case {
-        name: "records_are_loaded_and_shown",
-        lines: &[
-            ("load a {A}", "ok"),
-            ("show a", "{A}"),
-            ("load a {OLD}", "ok"),
-            ("show a", "{OLD_WRITTEN}"),
-            ("load a {SCRYPT}", "ok"),
-            ("load a {SA}", "bad 1 shape"),
-            ("load a $argon2x", "bad 2 scheme"),
-            ("load a {A}!", "bad 7 tag"),
-            ("show a", "{SCRYPT}"),
-        ],
-    },
-    Case {
-        name: "no_setting_is_of_version_0x10",
-        lines: &[
-            (
-                "begin 1 enrol a {PA} $argon2i$m=256,t=2,p=1$c29tZXNhbHQ",
-                "bad 3 version",
-            ),
-            (
-                "begin 1 enrol a {PA} $argon2i$v=16$m=256,t=2,p=1$c29tZXNhbHQ",
-                "bad 3 version",
-            ),
-            (
-                "begin 1 change a {PA} - $argon2i$v=16$m=256,t=2,p=1$c29tZXNhbHQ",
-                "bad 3 version",
-            ),
-            (
-                "begin 1 upgrade a {PA} $argon2i$m=256,t=2,p=1$c29tZXNhbHQ",
-                "bad 3 version",
-            ),
-        ],
-    },
-];
+const REFUSALS: &str = "\
+# operations and counts come before fields
+begin 0 look a - => bad 11 line
+begin 0 Verify a - => bad 11 line
+begin 0 enrol a - => bad 11 line
+begin 0 verify a - {SA} => bad 11 line
+begin 0 change a - {SA} => bad 11 line
+begin 0 enrol a - - {SA} => bad 11 line
+begin 0 change a - - {SA} x => bad 11 line
+Begin 1 verify a - => bad 11 line
+begin 1 verify a => bad 11 line
+begin 1  verify a - => bad 11 line
+commit => bad 11 line
+commit 1  => bad 11 line
+commit 1 => bad 15 idle
+
+# fields are judged in turn
+begin 0 enrol A ! $ => bad 12 key
+begin 1 enrol A ! $ => bad 3 name
+begin 1 enrol a ! $ => bad 13 password
+begin 1 enrol a - $ => bad 2 scheme
+begin 1 enrol a - {A} => bad 1 shape
+begin 1 change a ! - $ => bad 13 password
+begin 1 change a - ! $ => bad 13 password
+begin 1 change a - -  => bad 1 shape
+begin 1 upgrade a - $argon2x => bad 2 scheme
+begin 1 remove A ! => bad 3 name
+commit 1 => bad 15 idle
+
+# busy comes behind the fields and before the book
+begin 1 verify zed - => bad 5 noaccount
+commit 1 => bad 15 idle
+begin 1 verify a - => begun
+begin 1 verify A - => bad 3 name
+begin 1 verify a ! => bad 13 password
+begin 1 enrol a - $ => bad 2 scheme
+begin 1 verify zed - => bad 14 busy
+begin 2 verify a - => begun
+commit 1 => absent
+commit 2 => absent
+
+# records are loaded and shown
+load a {A} => ok
+show a => {A}
+load a {OLD} => ok
+show a => {OLD_WRITTEN}
+load a {SCRYPT} => ok
+load a {SA} => bad 1 shape
+load a $argon2x => bad 2 scheme
+load a {A}! => bad 7 tag
+show a => {SCRYPT}
+
+# no setting is of version 0x10
+begin 1 enrol a {PA} $argon2i$m=256,t=2,p=1$c29tZXNhbHQ => bad 3 version
+begin 1 enrol a {PA} $argon2i$v=16$m=256,t=2,p=1$c29tZXNhbHQ => bad 3 version
+begin 1 change a {PA} - $argon2i$v=16$m=256,t=2,p=1$c29tZXNhbHQ => bad 3 version
+begin 1 upgrade a {PA} $argon2i$m=256,t=2,p=1$c29tZXNhbHQ => bad 3 version
+";
 
 #[test]
 fn refusals(rt: HostRuntime) {
-    judge_cases(&rt, rt.alloc(), &REFUSALS);
+    judge_all(&rt, rt.alloc(), REFUSALS);
 }
 
 static NO_KEYS: [&str; 13] = [

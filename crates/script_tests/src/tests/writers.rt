@@ -1,6 +1,6 @@
 //! Writers that take little at once, that fail, or that take nothing.
 use super::dialogue::Dialogue;
-use super::{Line, Shown, empty_book, hold, hold_bytes, hold_end, hold_shown};
+use super::{Shown, empty_book, hold, hold_bytes, hold_end, hold_shown};
 use cred_book::{Book, BookError};
 use cred_cli::{End, ScriptFault, Watched, run_script};
 use std::alloc::Global;
@@ -48,14 +48,14 @@ impl Write for Stingy {
 }
 
 /// Each line of the script with its answer.
-static LINES: [Line<'static>; 6] = [
-    ("account a", "ok"),
-    ("begin 1 enrol a {PA} {SA}", "begun"),
-    ("commit 1", "enrolled"),
-    ("show a", "{A}"),
-    ("account b", "ok"),
-    ("account A", "bad 3 name"),
-];
+const LINES: &str = "\
+account a => ok
+begin 1 enrol a {PA} {SA} => begun
+commit 1 => enrolled
+show a => {A}
+account b => ok
+account A => bad 3 name
+";
 
 /// What the script came to with a writer that takes so many bytes.
 #[derive(Drop)]
@@ -90,7 +90,7 @@ fn run_stingy<R: Threads + Wait + Sync + Abort>(
 
 #[test]
 fn one_byte_a_call(rt: HostRuntime) {
-    let dialogue = Dialogue::of(&rt, rt.alloc(), "one_byte_a_call", &LINES);
+    let dialogue = Dialogue::of(&rt, rt.alloc(), "one_byte_a_call", LINES);
     let (script, answers) = (dialogue.script.as_str(), dialogue.answers.as_str());
     let ran = run_stingy(&rt, rt.alloc(), script, answers.len(), None);
     hold_end(&rt, 0, ran.end, Ok(End { lines: 6 }));
@@ -140,7 +140,7 @@ fn judge_stop<R: Threads + Wait + Sync + Abort>(
 
 #[test]
 fn stopped_at_each_byte(rt: HostRuntime) {
-    let dialogue = Dialogue::of(&rt, rt.alloc(), "stopped_at_each_byte", &LINES);
+    let dialogue = Dialogue::of(&rt, rt.alloc(), "stopped_at_each_byte", LINES);
     for left in 0..dialogue.answers.len() {
         for then in [
             None,
