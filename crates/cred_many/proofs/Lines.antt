@@ -80,8 +80,9 @@ line_came input at before = if_known input _ (λ all known.
     let (rest, here) = before all known in
     let there = come_at all at.number (unfinished_from [] here.front) (whole_from [] here.front) (lines_of rest) (ap lines_of here.cut ∙ lines_of-line_end here.front rest)
     (here.number_is ∙ sym (length-whole_from [] here.front)) in
-    let sooner : line_ends here.front < line_ends all = rw here.cut (ends_sooner here.front rest) in
-    (unfinished_from [] here.front, there, here.start_is, omega (arith, sooner, here.number_is)))
+    let sooner : line_ends here.front < line_ends (here.front ++ 10 ∷ rest) = ends_sooner here.front rest in
+    let same : line_ends all ≡ line_ends (here.front ++ 10 ∷ rest) = ap line_ends here.cut in
+    (unfinished_from [] here.front, there, here.start_is, omega (arith, sooner, same, here.number_is)))
 
 module _ (input : Option (List ℕ)) (at : Place) (ended : NothingIsLeft input at) where
   whole_front : (all : List ℕ) (known : input ≡ Some all) → (ended all known).front ≡ all
