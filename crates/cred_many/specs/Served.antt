@@ -16,6 +16,7 @@ use Rattle.cred_book.specs.declared.request.Request.TheVariants as request
 use Rattle.cred_cli.specs.History.{Answer, Done, Replied, Refused, show_answer}
 use Rattle.cred_cli.specs.Script.{lines_of}
 use Rattle.cred_cli.specs.Texts.{text_of}
+use Rattle.cred_cli.specs.Watched.{failed_of, inner_of}
 use Rattle.cred_admin.specs.Edits.{edit_status, edit_word}
 use Rattle.cred_admin.specs.declared.edit_reply.EditReply.{EditReply}
 use Rattle.cred_admin.specs.declared.status.Status.TheVariants as status
@@ -26,6 +27,7 @@ use Rattle.cred_many.specs.declared.ask.Ask.TheVariants.{Bad, Edit as Change, Li
 use Rattle.cred_many.specs.declared.edit.Edit.{Edit}
 use Rattle.cred_many.specs.declared.fault.ServiceFault.{ServiceFault}
 use Rattle.cred_many.specs.declared.fault.ServiceFault.TheVariants as fault
+use Rattle.cred_many.specs.declared.served.Served.{Served}
 use Rattle.cred_many.specs.Asks.{Entry}
 use Rattle.cred_many.specs.Edits.{edited, lacks_room, names_text, page}
 use Rattle.cred_many.specs.Service.{Service, asked}
@@ -233,6 +235,20 @@ pub record Stands (capacity : ℕ) (s : Service) (m : Moment) : Type 0 where
   pub book : m.book ≡ book_after capacity s.opening list
   pub text : IsWritten capacity s.opening s.before m.written list m.fault
   pub cause : HasCause s.input m.writer_failed m.keeper_failed m.pending m.came m.fault
+
+-- what is left of a service, with these lines pending, where these tell the book and the failure of
+-- a keeper and the bytes of a writer
+abbrev pub left_of : {K W : Type 0} → (K → Accounts) → (K → Bool) → (W → Option (List ℕ))
+    → Served K W → List ℕ → Moment
+left_of book failed contents served pending = record {
+  book = book served.keeper;
+  written = contents (inner_of served.writer);
+  writer_failed = failed_of served.writer;
+  keeper_failed = failed served.keeper;
+  fault = served.fault;
+  pending = pending;
+  came = served.lines;
+}
 
 -- so it does at the end, with no line pending unless a fault is told
 pub record StandsAtEnd (capacity : ℕ) (s : Service) (at : List ℕ → Moment) : Type 0 where

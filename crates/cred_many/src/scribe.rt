@@ -8,8 +8,8 @@ ghost use Rattle.cred_book.specs.Works.{is_for_current, name_of};
 ghost use Rattle.cred_phc.specs.Values.{RecordValue};
 ghost use Rattle.cred_many.specs.Asks.{IsJobOf, IsResetOf, NeedsNoHash};
 ghost use Rattle.cred_many.specs.Scribe.{History, numbers};
-ghost use Rattle.cred_many.specs.Served.{HasCause, Stands, StandsAtEnd, record_at};
-ghost use Rattle.cred_many.specs.Served.{told_reply};
+ghost use Rattle.cred_many.specs.Served.{HasCause, Stands, StandsAtEnd, left_of};
+ghost use Rattle.cred_many.specs.Served.{record_at, told_reply};
 ghost use Rattle.cred_many.specs.Steps.{is_changed};
 
 mod groups;
@@ -101,15 +101,8 @@ impl<J: Naming, K: Host, W: Write> Scribe<J, K, W> {
 
     /// What is left of it once no line comes any more. A line that is pending is lost.
     pub fn end(mut self, ending: Ending<J>) -> Served<K, W>
-        ensures served { ∥ StandsAtEnd K.capacity J.service (λ pending. record {
-          book = K.book result.keeper;
-          written = W.contents (inner_of result.writer);
-          writer_failed = failed_of result.writer;
-          keeper_failed = K.failed result.keeper;
-          fault = result.fault;
-          pending = pending;
-          came = result.lines;
-        }) ∥₁ }
+        ensures served { ∥ StandsAtEnd K.capacity J.service
+            (left_of K.book K.failed W.contents result) ∥₁ }
         ensures all { result.fault ≡ None → result.reading ≡ None
             → IfSome J.service.input (λ all. result.lines ≡ length (lines_of all)) }
     {
@@ -127,15 +120,8 @@ impl<J: Naming, K: Host, W: Write> Scribe<J, K, W> {
 
     /// What is left of it. A line that is pending is lost.
     fn left(mut self, reading: Option<ServiceFault>) -> Served<K, W>
-        ensures served { ∥ StandsAtEnd K.capacity J.service (λ pending. record {
-          book = K.book result.keeper;
-          written = W.contents (inner_of result.writer);
-          writer_failed = failed_of result.writer;
-          keeper_failed = K.failed result.keeper;
-          fault = result.fault;
-          pending = pending;
-          came = result.lines;
-        }) ∥₁ }
+        ensures served { ∥ StandsAtEnd K.capacity J.service
+            (left_of K.book K.failed W.contents result) ∥₁ }
         ensures lines { result.lines ≡ self.came }
         ensures fault { result.fault ≡ None → self.output.fault ≡ None }
         ensures reading { result.reading ≡ reading }
@@ -149,15 +135,8 @@ impl<J: Naming, K: Host, W: Write> Scribe<J, K, W> {
 
     fn parts(self, reading: Option<ServiceFault>) -> Served<K, W>
         requires { self.output.fault ≡ None → numbers self.pending ≡ [] }
-        ensures served { ∥ StandsAtEnd K.capacity J.service (λ pending. record {
-          book = K.book result.keeper;
-          written = W.contents (inner_of result.writer);
-          writer_failed = failed_of result.writer;
-          keeper_failed = K.failed result.keeper;
-          fault = result.fault;
-          pending = pending;
-          came = result.lines;
-        }) ∥₁ }
+        ensures served { ∥ StandsAtEnd K.capacity J.service
+            (left_of K.book K.failed W.contents result) ∥₁ }
         ensures lines { result.lines ≡ self.came }
         ensures fault { result.fault ≡ self.output.fault }
         ensures reading { result.reading ≡ reading }

@@ -3,8 +3,7 @@
 ghost use Rattle.std.specs.Prelude.{◌≡◌, false, IfSome, is_some, length, None};
 ghost use Rattle.cred_book.specs.Accounts.{register_capacity};
 ghost use Rattle.cred_cli.specs.Script.{lines_of};
-ghost use Rattle.cred_cli.specs.Watched.{failed_of, inner_of};
-ghost use Rattle.cred_many.specs.Served.{StandsAtEnd};
+ghost use Rattle.cred_many.specs.Served.{StandsAtEnd, left_of};
 ghost use Rattle.cred_many.specs.Service.{service};
 
 use crate::files::{Access, DamagedLog, look_at, open_file};
@@ -118,15 +117,8 @@ where
     W: Write + Drop,
     G: Rng + Send + Drop + 'static,
     ensures served { ∥ StandsAtEnd register_capacity (service book.book (R.remaining reader)
-        (W.contents writer) means.now (G.stream salts)) (λ pending. record {
-          book = result.keeper.book;
-          written = W.contents (inner_of result.writer);
-          writer_failed = failed_of result.writer;
-          keeper_failed = is_some result.keeper.lost;
-          fault = result.fault;
-          pending = pending;
-          came = result.lines;
-        }) ∥₁ }
+        (W.contents writer) means.now (G.stream salts))
+        (left_of (λ b. b.book) (λ b. is_some b.lost) W.contents result) ∥₁ }
     ensures all { result.fault ≡ None → result.reading ≡ None
         → IfSome (R.remaining reader) (λ all. result.lines ≡ length (lines_of all)) }
 {
@@ -151,15 +143,8 @@ where
     G: Rng + Send + Drop + 'static,
     requires { J.service ≡ service book.book (R.remaining reader) (W.contents writer)
         means.now (G.stream salts) }
-    ensures served { ∥ StandsAtEnd register_capacity J.service (λ pending. record {
-      book = result.keeper.book;
-      written = W.contents (inner_of result.writer);
-      writer_failed = failed_of result.writer;
-      keeper_failed = is_some result.keeper.lost;
-      fault = result.fault;
-      pending = pending;
-      came = result.lines;
-    }) ∥₁ }
+    ensures served { ∥ StandsAtEnd register_capacity J.service
+        (left_of (λ b. b.book) (λ b. is_some b.lost) W.contents result) ∥₁ }
     ensures all { result.fault ≡ None → result.reading ≡ None
         → IfSome (R.remaining reader) (λ all. result.lines ≡ length (lines_of all)) }
 {
