@@ -163,10 +163,21 @@ class BoundTest(BookTest):
         self.assertEqual(self.book.accounts(), after)
         self.assertSound(self.book)
 
+    def test_work(self) -> None:
+        """With --most-work a line is bad whose record takes more passes over its memory."""
+        records = [f"$argon2id$v=19$m=8,t={t},p=1${SALT}${TAG}" for t in (8, 9, 4294967295)]
+        lines = "".join(f"n{at}:{it}\n" for at, it in enumerate(records))
+        bound = ("import", "--skip-bad", "--most-work")
+        done = self.book(*bound, "64", given=lines)
+        self.assertEqual((done.status, self.book.accounts()), (0, {"n0": records[0]}), done)
+        done = self.book(*bound, "4G", "--skip-existing", given=lines)
+        self.assertEqual((done.status, self.book.names()), (0, ["n0", "n1"]), done)
+
     def test_size_of_a_bound(self) -> None:
         form = "a size is a number of KiB, or one with K, M or G behind it"
-        done = self.book("import", "--most-memory", "1T", given="fay:\n")
-        self.assertEqual(done, fails(1, f"--most-memory: {form}"))
+        for option in ("--most-memory", "--most-work"):
+            done = self.book("import", option, "1T", given="fay:\n")
+            self.assertEqual(done, fails(1, f"{option}: {form}"))
 
 
 class DryRunTest(BookTest):

@@ -130,6 +130,22 @@ BOUNDED = [
 ]
 BOUNDS = [("--most-memory", "64"), ("--most-memory", "64K"), ("--most-memory", "1M"), ()]
 
+# The same of work: 64 KiB are gone over three times, and four times; and scrypt's 96 KiB twice.
+THRICE, MORE = (f"$argon2id$v=19$m=64,t={t},p=1${SALT}" for t in (3, 4))
+MIXED, REPEATED = (f"$scrypt$ln=8,r=3,p={p}${SALT}" for p in (1, 2))
+BOUNDED_WORK = [
+    (f"load bob {THRICE}${TAG}", "ok", "ok"),
+    (f"load bob {MORE}${TAG}", COSTLY, "ok"),
+    (f"load bob {MIXED}${TAG}", "ok", "ok"),
+    (f"load bob {REPEATED}${TAG}", COSTLY, "ok"),
+    (f"enrol bob one {MORE}", COSTLY, "exists"),
+    (f"change ann two one {REPEATED}", COSTLY, "wrong"),
+    (f"reset bob one {MORE}", COSTLY, "replaced"),
+    (f"upgrade ann one {THRICE}", "upgraded", "upgraded"),
+    ("verify ann one", "yes", "yes"),
+]
+WORK_BOUNDS = [("--most-work", "192"), ("--most-work", "1M", "--most-memory", "1M")]
+
 
 class OperationsTest(BookTest):
     def test_operations(self) -> None:
@@ -154,16 +170,17 @@ class OperationsTest(BookTest):
         self.assertEqual(self.book.names(), [])
 
     def test_bounds(self) -> None:
-        """What a line brings is refused if it asks for more than --most-memory; what the book has
-        already, and what the service draws, is not."""
-        for words in BOUNDS:
-            at = 1 if "64" in "".join(words) else 2
+        """What a line brings is refused if it asks for more than --most-memory or --most-work; what
+        the book has already, and what the service draws, is not."""
+        tables = [*zip(BOUNDS, [BOUNDED] * 4), *zip(WORK_BOUNDS, [BOUNDED_WORK] * 2)]
+        for words, table in tables:
+            at = 1 if words[1:] in (("64",), ("64K",), ("192",)) else 2
             doors: list[Door] = [Script("serve", "--workers", "4", *words), Tagged(*words)]
             for door in doors:
                 with self.subTest(words=words, door=type(door).__name__):
                     book = self.begun({"ann": "", "bob": ""})
                     perform(self, book, Tagged(), [(f"enrol ann one {ABOVE}", "enrolled")])
-                    rows = [(row[0], row[at]) for row in BOUNDED]
+                    rows = [(row[0], row[at]) for row in table]
                     door.perform(self, book, [it for it in rows if it[0].split()[0] in door.verbs])
                     self.assertSound(book)
 
@@ -198,9 +215,12 @@ class OperationsTest(BookTest):
         )
         done = book(*own, "--most-memory", "64", given="t show bob\n")
         self.assertEqual(done, (0, "t none\n", ""))
-        text = "credkeep: --setting: it asks for more than --most-memory (18 costly)\n"
+        text = (
+            "credkeep: --setting: it asks for more than --most-memory or --most-work (18 costly)\n"
+        )
         for words in (
             (*own, "--most-memory", "63"),
+            (*own, "--most-work", "63"),
             ("serve", "--tagged", "--most-memory", "65535"),
         ):
             self.assertEqual(book(*words, given="t account cat\n"), (1, "", text))
