@@ -173,7 +173,7 @@ class RestoreTest(CopyTest):
         self.assertEqual(book("backup", str(copy.path)), counted(400, 0))
         for how in ("ended", "killed", "gone", "gone with its log", "empty", "damaged"):
             changes = [f"load {it} {record(chance)}" for it in chance.sample(sorted(old), 200)]
-            done = book("serve", given="\n".join(changes))
+            done = book("serve", given="".join(f"{it}\n" for it in changes))
             self.assertEqual(done, Ended(0, "ok\n" * 200))
             if how != "ended":
                 names = chance.sample(sorted(old), 5)
