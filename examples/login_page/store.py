@@ -36,7 +36,8 @@ class Store:
             import psycopg
 
             self._lost = psycopg.OperationalError
-            self._pool = PerThread(lambda: psycopg.connect(database, autocommit=True))
+            limits: dict[str, Any] = {"connect_timeout": 5, "tcp_user_timeout": 10_000}
+            self._pool = PerThread(lambda: psycopg.connect(database, autocommit=True, **limits))
             self._dialect: Dialect = Postgres("account", "name", "record")
         else:
             self._pool = PerThread(lambda: _sqlite(database))
