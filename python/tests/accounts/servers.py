@@ -112,7 +112,7 @@ class Server:
             stdout=subprocess.PIPE,
             stderr=subprocess.STDOUT,
             cwd=ROOM,
-            timeout=180,
+            timeout=600,
             **as_user(self.user),
             **more,
         )
@@ -126,7 +126,7 @@ class Server:
     def ready(self):
         raise NotImplementedError
 
-    def start(self, *more, wait=60.0):
+    def start(self, *more, wait=120.0):
         """Starts it, and waits until it answers."""
         with open(self.log, "ab") as log:
             self.process = subprocess.Popen(
@@ -249,7 +249,7 @@ class PostgresServer(OfPostgres):
     def words(self):
         return [self.bin / "postgres", "-D", self.folder]
 
-    def start(self, *more, wait=60.0):
+    def start(self, *more, wait=120.0):
         self.database = "postgres"  # which a copy has too, and a new server at first
         super().start(*more, wait=wait)
         if not (self.folder / "standby.signal").exists():
@@ -321,7 +321,7 @@ class OfMySql(Server):
             return False
         return True
 
-    def start(self, *more, wait=60.0):
+    def start(self, *more, wait=120.0):
         super().start(*more, wait=wait)
         self.as_root(
             "CREATE DATABASE IF NOT EXISTS store CHARACTER SET utf8mb4",

@@ -38,9 +38,9 @@ def server(kind):
     if kind not in SERVERS:
         try:
             SERVERS[kind] = kind("shared-" + kind.__name__).start()
-        except servers.Missing as reason:
+        except Exception as reason:
             SERVERS[kind] = reason
-    if isinstance(SERVERS[kind], servers.Missing):
+    if isinstance(SERVERS[kind], Exception):
         raise SERVERS[kind]
     return SERVERS[kind]
 
