@@ -20,6 +20,7 @@ from argon2 import Type, exceptions, low_level
 
 from cases import (
     KINDS,
+    Case,
     all_cases,
     argon2_by_passlib,
     numbers_of,
@@ -114,12 +115,43 @@ def in_a_script(program, cases, mismatches):
     return [answers[i:i + 7] for i in range(0, len(lines), 7)]
 
 
+def scheme(text):
+    return text.split("$")[1] if text.count("$") > 1 else ""
+
+
+def ranges(cases):
+    """The schemes of strings, and from where to where their numbers and sizes go."""
+    found = {}
+    for case in cases:
+        *_, costs, salt, tag = case.text.split("$")
+        numbers = [pair.split("=") for pair in costs.split(",")]
+        sizes = zip(("salt", "tag"), map(len, map(padded, (salt, tag))))
+        for name, number in (*numbers, *sizes, ("password", len(case.password))):
+            found.setdefault(name, set()).add(int(number))
+    spans = []
+    for name, numbers in found.items():
+        ends = sorted({min(numbers), max(numbers)})
+        spans.append(f"{name} {' to '.join(map(str, ends))}")
+    return f"{', '.join(sorted({scheme(it.text) for it in cases}))}: {', '.join(spans)}"
+
+
+def print_groups(rows):
+    """One row for all cases of a maker that are answered alike."""
+    groups = {}
+    for case, answers in rows:
+        key = (case.maker, scheme(case.text) == "scrypt", case.fault or "inside", *answers)
+        groups.setdefault(key, []).append(case)
+    for (maker, _, expected, *answers), cases in groups.items():
+        what = ranges(cases) if expected == "inside" else "; ".join(it.what for it in cases)
+        print(f"| {maker} | {len(cases)} | {what} | {expected} | {' | '.join(answers)} |", flush=True)
+
+
 def taken(program, mismatches):
     """The first table: each string on the command line and in the script."""
-    cases = all_cases()
+    cases, rows = all_cases(), []
     print("## Strings that credbook reads\n")
-    print("| Maker | String; bytes of salt, tag, password | Expected | Right one | Another | In a script: load, both |")
-    print("|---|---|---|---|---|---|")
+    print("| Maker | Strings | Which; bytes of salt, tag, password | Expected | Right one | Another | In a script: load, both |")
+    print("|---|---|---|---|---|---|---|")
     for case, answers in zip(cases, in_a_script(program, cases, mismatches)):
         right = credbook(program, ["check", case.text, *password_words(case.password)])
         wrong = credbook(program, ["check", case.text, *password_words(other(case.password))])
@@ -131,8 +163,8 @@ def taken(program, mismatches):
             if answered != expected:
                 mismatches.append(f"{case.maker}, {what}: {case.text}: expected {expected!r}, answered {answered!r}")
         tries = [answer if begun == "begun" else begun for begun, answer in zip(answers[3:5], answers[5:7])]
-        script = ", ".join(answers[1:2] + tries)
-        print(f"| {case.maker} | {case.what} | {case.fault or 'inside'} | {right} | {wrong} | {script} |", flush=True)
+        rows.append((case, (str(right), str(wrong), ", ".join(answers[1:2] + tries))))
+    print_groups(rows)
 
 
 def argon2_cffi_says(text, password):
@@ -173,8 +205,9 @@ def judged(says, text, password):
 def written(program, mismatches):
     """The second table: what credbook writes, judged by others."""
     print("\n## Strings that credbook writes\n")
-    print("| Setting; bytes of salt, password | Reference | Right, another one | passlib on both | passlib's string |")
-    print("|---|---|---|---|---|")
+    print("| Reference | Strings | Which; bytes of salt, tag, password | Right, another one | passlib on both | passlib's string |")
+    print("|---|---|---|---|---|---|")
+    groups = {}
     for made, password, name, says in to_write():
         setting = made.rpartition("$")[0]
         answer = credbook(program, ["hash", setting, *password_words(password), "--workers", WORKERS])
@@ -185,9 +218,10 @@ def written(program, mismatches):
         if (answer, reference, theirs) != (Answer(0, made + "\n", ""), "yes, no", "yes, no"):
             judges = f"{name} {reference}; passlib {theirs}"
             mismatches.append(f"hash {setting}: expected {made}, answered {answer!r}; {judges}")
-        what = f"{numbers_of(setting)}, {len(padded(setting.rpartition('$')[2]))}, {len(password)}"
-        same = "the same" if text == made else "another"
-        print(f"| {what} | {name} | {reference} | {theirs} | {same} |", flush=True)
+        said = (reference, theirs, "the same" if text == made else "another")
+        groups.setdefault((name, *said), []).append(Case(name, setting, made, password))
+    for (name, *said), cases in groups.items():
+        print(f"| {name} | {len(cases)} | {ranges(cases)} | {' | '.join(said)} |", flush=True)
 
 
 def settings_refused(program, mismatches):
