@@ -6,7 +6,6 @@
 #include <cpuid.h>
 #include <stdatomic.h>
 #include <stdbool.h>
-#include <stdint.h>
 
 #define BIT(n) (1u << (n))
 
@@ -58,18 +57,10 @@ static bool has(struct features found, struct features wanted) {
            (found.added & wanted.added) == wanted.added;
 }
 
-/* Reads into eax and edx which registers the system keeps of a thread that it interrupts; a test
- * has a system that keeps fewer. */
-#ifndef READ_KEPT_REGISTERS
-#define READ_KEPT_REGISTERS "xgetbv"
-#endif
-
-/* Whether the wide ones are among them. */
+/* Whether the wide ones are among the registers that the system keeps. */
 static bool keeps_wide_registers(void) {
     enum { SSE_STATE = 2, AVX_STATE = 4, BOTH = SSE_STATE | AVX_STATE };
-    uint32_t low, high;
-    __asm__ volatile(READ_KEPT_REGISTERS : "=a"(low), "=d"(high) : "c"(0));
-    return (low & BOTH) == BOTH;
+    return (kept_registers() & BOTH) == BOTH;
 }
 
 static enum build asked(void) {

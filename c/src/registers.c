@@ -2,19 +2,14 @@
  * in zmm16 to zmm31 where it finds AVX-512. */
 #include "registers.h"
 
+#include "processor.h"
+
 #include <cpuid.h>
 #include <stdatomic.h>
-#include <stdint.h>
 
 /* With AVX512VL instructions on the upper registers may be narrow: wide ones slow some processors
  * down for a while. */
 enum vectors { SSE = 1, AVX, AVX512F, AVX512VL };
-
-/* Reads into eax and edx which registers the system keeps of a thread that it interrupts; a test
- * has a system that keeps fewer. */
-#ifndef READ_KEPT_REGISTERS
-#define READ_KEPT_REGISTERS "xgetbv"
-#endif
 
 /* AVX512VL, of leaf 7, ebx; a test has a processor without it. */
 #ifndef HAS_NARROW_FORMS
@@ -24,10 +19,10 @@ enum vectors { SSE = 1, AVX, AVX512F, AVX512VL };
 static enum vectors asked(void) {
     enum { OSXSAVE = 1 << 27, HAS_512 = 1 << 16 }; /* of leaf 1, ecx, and of leaf 7, ebx */
     enum { WIDE = 0x6, WIDEST = 0xe6 };            /* the states of SSE and AVX, and of AVX-512 */
-    uint32_t a, b, c, d, kept, high;
+    uint32_t a, b, c, d;
     if (!__get_cpuid(1, &a, &b, &c, &d) || !(c & OSXSAVE))
         return SSE;
-    __asm__ volatile(READ_KEPT_REGISTERS : "=a"(kept), "=d"(high) : "c"(0));
+    uint32_t kept = kept_registers();
     if ((kept & WIDE) != WIDE)
         return SSE;
     if ((kept & WIDEST) != WIDEST || !__get_cpuid_count(7, 0, &a, &b, &c, &d) || !(b & HAS_512))
