@@ -11,216 +11,21 @@ written.
 import base64
 import ctypes
 import itertools
-import mmap
 import random
 import re
 import sys
 
-KINDS = ("argon2d", "argon2i", "argon2id")
+from libargon2_calls import ARENA, KINDS, Callbacks, Inputs
+from libargon2_calls import by_context, by_hash, context_at, encoded_by_kind, library, zeros
+
 TURNS = 200
 MISMATCH = -35
 HASHED = (0, -31, MISMATCH)  # the answers that the original gives after it has hashed
-ARENA = 32768
-
-
-class Context(ctypes.Structure):
-    """argon2_context of argon2.h."""
-
-    _fields_ = [
-        ("out", ctypes.c_void_p),
-        ("outlen", ctypes.c_uint32),
-        ("pwd", ctypes.c_void_p),
-        ("pwdlen", ctypes.c_uint32),
-        ("salt", ctypes.c_void_p),
-        ("saltlen", ctypes.c_uint32),
-        ("secret", ctypes.c_void_p),
-        ("secretlen", ctypes.c_uint32),
-        ("ad", ctypes.c_void_p),
-        ("adlen", ctypes.c_uint32),
-        ("t_cost", ctypes.c_uint32),
-        ("m_cost", ctypes.c_uint32),
-        ("lanes", ctypes.c_uint32),
-        ("threads", ctypes.c_uint32),
-        ("version", ctypes.c_uint32),
-        ("allocate_cbk", ctypes.c_void_p),
-        ("free_cbk", ctypes.c_void_p),
-        ("flags", ctypes.c_uint32),
-    ]
-
-
-def library(path):
-    it = ctypes.CDLL(path)
-    number, size, text = ctypes.c_uint32, ctypes.c_size_t, ctypes.c_char_p
-    pointer = ctypes.c_void_p
-    it.argon2_error_message.restype = text
-    it.argon2_type2string.restype = text
-    it.argon2_encodedlen.restype = size
-    it.argon2_hash.argtypes = [number] * 3 + [pointer, size] * 4 + [ctypes.c_int, number]
-    it.argon2_verify.argtypes = [pointer, pointer, size, ctypes.c_int]
-    it.argon2_verify_ctx.argtypes = [pointer, text, ctypes.c_int]
-    for kind in KINDS:
-        raw = getattr(it, kind + "_hash_raw")
-        raw.argtypes = [number] * 3 + [pointer, size] * 3
-        encoded = getattr(it, kind + "_hash_encoded")
-        encoded.argtypes = [number] * 3 + [pointer, size] * 2 + [size, pointer, size]
-        getattr(it, kind + "_verify").argtypes = [pointer, pointer, size]
-        getattr(it, kind + "_verify_ctx").argtypes = [pointer, text]
-    return it
-
-
-ALLOCATE = ctypes.CFUNCTYPE(
-    ctypes.c_int, ctypes.POINTER(ctypes.POINTER(ctypes.c_uint8)), ctypes.c_size_t
-)
-FREE = ctypes.CFUNCTYPE(None, ctypes.POINTER(ctypes.c_uint8), ctypes.c_size_t)
-
-
-class Callbacks:
-    """A context's functions for memory, which note what they are called with. They give what isn't
-    zero, or nothing; what they get back is to be zero."""
-
-    def __init__(self, gives, askew=0):
-        self.gives, self.askew, self.calls, self.held = gives, askew, [], {}
-        self.allocate, self.free = ALLOCATE(self._allocate), FREE(self._free)
-
-    def _allocate(self, memory, size):
-        self.calls.append(("allocate", size))
-        if self.gives:
-            room = (ctypes.c_uint8 * (size + 16))(*b"\xa5" * 4096)
-            place = ctypes.addressof(room) + -ctypes.addressof(room) % 16 + self.askew
-            self.held[place] = room
-            memory[0] = ctypes.cast(place, ctypes.POINTER(ctypes.c_uint8))
-        return 77  # which is passed over
-
-    def _free(self, memory, size):
-        place = ctypes.addressof(memory.contents)
-        is_clear = not any(ctypes.string_at(place, size))
-        self.calls.append(("free", size, is_clear, self.held.pop(place, None) is not None))
-
-
-class Inputs:
-    """The numbers and bytes of a call: mostly good, each now and then bad."""
-
-    def __init__(self, draw):
-        def mostly(good, *bad):
-            return draw.choice(bad) if draw.random() < 0.06 else good
-
-        self.lanes = mostly(draw.choice((1, 1, 2, 3, 4, 7)), 0, 0x1000000, 0x20000001)
-        least = 8 * (self.lanes if self.lanes < 100 else 1)
-        self.memory = mostly(draw.randrange(max(least, 8), 300), 0, 7, least - 1)
-        self.passes = mostly(draw.choice((1, 1, 2, 3)), 0)
-        self.tag_size = mostly(
-            draw.choice((draw.randrange(4, 65), draw.randrange(4, 101))), 0, 3, 65, 200, 1024
-        )
-        salt_size = draw.choice((draw.randrange(8, 50), draw.randrange(8, 201)))
-        self.salt = draw.randbytes(mostly(salt_size, 0, 7, 48, 49))
-        self.password = draw.randbytes(draw.choice((0, 1, 8, 33, 200, 256, 257, 1000, 5000)))
-        self.secret = draw.randbytes(draw.choice((0, 0, 5, 64)))
-        self.associated = draw.randbytes(draw.choice((0, 0, 12, 100)))
-        self.kind = mostly(draw.randrange(3), 3, -1)
-        self.version = draw.choice((0x10, 0x13))
-        self.null = draw.choice("psxaohhh") if draw.random() < 0.08 else ""
-        self.threads = mostly(draw.choice((self.lanes or 1, 1, 9)), 0, 0x1000000)
-        self.callbacks = draw.choice(("", "", "", "", "", "gives", "gives", "none", "odd", "dod"))
-        self.flags = draw.choice((0, 0, 1, 2, 3))
-        self.overlap = draw.randrange(4000)
-
-
-def zeros(size):
-    """Where so many zero bytes lie, of which the system has no page until they are read."""
-    call = ctypes.CDLL(None).mmap
-    call.restype, number = ctypes.c_void_p, ctypes.c_int
-    call.argtypes = [ctypes.c_void_p, ctypes.c_size_t, number, number, number, ctypes.c_long]
-    flags = mmap.MAP_PRIVATE | mmap.MAP_ANONYMOUS | 0x4000  # MAP_NORESERVE
-    return call(None, size, mmap.PROT_READ, flags, -1, 0)
 
 
 def is_untouched(written):
     """Whether a buffer is as it was made: all of one byte."""
     return len(set(written)) == 1
-
-
-def bytes_or_null(data, is_null):
-    return None if is_null else data
-
-
-def places(it):
-    """Where the inputs lie in an arena, one behind another, and where what is written does: over any
-    of them, or behind them."""
-    sizes = {"p": len(it.password), "s": len(it.salt), "x": len(it.secret), "a": len(it.associated)}
-    at, found = 64, {}
-    for name, size in sizes.items():
-        found[name] = at
-        at += size + 8
-    found["o"] = 64 + it.overlap * 2 % at if it.overlap % 2 else at
-    return found
-
-
-def context_at(it, arena, callbacks):
-    """A context over an arena into which the inputs are written."""
-    found = places(it)
-    start = ctypes.addressof(arena)
-    data = {"p": it.password, "s": it.salt, "x": it.secret, "a": it.associated}
-    for name, content in data.items():
-        ctypes.memmove(start + found[name], content, len(content))
-
-    def address(name):
-        return None if name in it.null else start + found[name]
-
-    fields = [address("o"), it.tag_size]
-    for name, content in data.items():
-        fields += [address(name), len(content)]
-    fields += [it.passes, it.memory, it.lanes, it.threads, it.version]
-    pair = [
-        ctypes.cast(call, ctypes.c_void_p).value for call in (callbacks.allocate, callbacks.free)
-    ]
-    if it.callbacks == "":
-        pair = [None, None]
-    elif it.callbacks in ("odd", "dod"):
-        pair[it.callbacks == "odd"] = None
-    return Context(*fields, *pair, it.flags if it.null == "" else 0)
-
-
-def by_context(lib, it, name, *given):
-    """A call of a context, with all that it wrote, into the inputs too, and what its callbacks saw."""
-    arena = ctypes.create_string_buffer(b"\x5a" * ARENA, ARENA)
-    callbacks = Callbacks(it.callbacks == "gives")
-    context = context_at(it, arena, callbacks)
-    answer = getattr(lib, name)(ctypes.byref(context), *given)
-    at = places(it)["o"]
-    tag = arena.raw[at : at + it.tag_size]
-    return answer, tag, arena.raw, context.pwdlen, context.secretlen, callbacks.calls
-
-
-def by_hash(lib, it, encoded_size, has_raw):
-    raw = ctypes.create_string_buffer(b"\x5a" * 1100, 1100)
-    encoded = ctypes.create_string_buffer(b"\x5a" * 3000, 3000)
-    answer = lib.argon2_hash(
-        it.passes,
-        it.memory,
-        it.lanes,
-        bytes_or_null(it.password, it.null == "p"),
-        len(it.password),
-        bytes_or_null(it.salt, it.null == "s"),
-        len(it.salt),
-        ctypes.addressof(raw) if has_raw else None,
-        it.tag_size,
-        ctypes.addressof(encoded) if encoded_size is not None else None,
-        encoded_size or 0,
-        it.kind,
-        it.version,
-    )
-    return answer, encoded.raw, raw.raw
-
-
-def encoded_by_kind(lib, it, kind):
-    raw = ctypes.create_string_buffer(1100)
-    encoded = ctypes.create_string_buffer(3000)
-    common = (it.passes, it.memory, it.lanes, it.password, len(it.password))
-    salt = (it.salt, len(it.salt))
-    first = getattr(lib, kind + "_hash_raw")(*common, *salt, raw, it.tag_size)
-    size = (it.tag_size, ctypes.addressof(encoded), 3000)
-    second = getattr(lib, kind + "_hash_encoded")(*common, *salt, *size)
-    return second, encoded.raw, first, raw.raw
 
 
 def with_high_bytes(draw, text):
@@ -403,9 +208,6 @@ def compare_memory_beyond_ours(ours):
 def compare_refused_contexts(ours):
     """A context that only the proved code refuses: by its number, with nothing written or cleared,
     whatever the flags."""
-    it = Inputs(random.Random(1))
-    it.tag_size, it.passes, it.kind, it.null, it.flags, it.overlap = 32, 1, 2, "", 3, 0
-    it.salt, it.password, it.secret = b"somesalt", b"password", b"secret"
     for lanes, memory, version, wanted in (
         (256, 4096, 0x13, LANES_TOO_MANY),
         (1000, 8000, 0x13, LANES_TOO_MANY),
@@ -414,8 +216,9 @@ def compare_refused_contexts(ours):
         (1, 8, 0x12, NO_VERSION),
         (1, 8, 0, NO_VERSION),
     ):
-        for it.callbacks in ("", "gives"):
-            it.lanes, it.memory, it.version, it.threads = lanes, memory, version, 1
+        for callbacks in ("", "gives"):
+            it = Inputs.plain(lanes=lanes, memory=memory, version=version, flags=3)
+            it.secret, it.callbacks = b"secret", callbacks
             answer, _, arena, *sizes, calls = by_context(ours, it, "argon2_ctx", 2)
             before = ctypes.create_string_buffer(b"\x5a" * ARENA, ARENA)
             context_at(it, before, Callbacks(False))
@@ -443,26 +246,20 @@ FAULTS = (
 
 def compare_pairs_of_faults(comparison):
     """Of two faults the original's first one is answered."""
-    for pair in itertools.combinations(FAULTS, 2):
-        it = Inputs(random.Random(4))
-        it.salt, it.password, it.secret, it.associated = b"somesalt", b"password", b"x", b"y"
-        it.null, it.flags, it.callbacks, it.overlap, it.version = "", 0, "", 0, 0x13
-        it.lanes, it.memory, it.passes, it.threads, it.tag_size, it.kind = 2, 16, 1, 1, 32, 2
-        for name, value in (item for fault in pair for item in fault.items()):
-            setattr(it, name, it.null + value if name == "null" else value)
+    for one, other in itertools.combinations(FAULTS, 2):
+        null = one.get("null", "") + other.get("null", "")
+        it = Inputs.plain(**{**one, **other, "null": null})
         calls = [("argon2_ctx", (it.kind,)), *((f"{kind}_ctx", ()) for kind in KINDS)]
         for name, given in calls:
-            what = f"{name} of {pair}"
+            what = f"{name} of {one}, {other}"
             comparison.same(what, lambda lib: by_context(lib, it, name, *given))
-        comparison.same(f"argon2_hash of {pair}", lambda lib: by_hash(lib, it, 3000, True))
+        comparison.same(f"argon2_hash of {one}, {other}", lambda lib: by_hash(lib, it, 3000, True))
 
 
 def compare_memory_askew(ours):
     """Memory that no number can lie in is given back, and is as none."""
     arena = ctypes.create_string_buffer(ARENA)
-    it = Inputs(random.Random(3))
-    it.salt, it.null, it.callbacks, it.lanes, it.memory = b"somesalt", "", "gives", 1, 8
-    it.passes, it.threads, it.tag_size = 1, 1, 32
+    it = Inputs.plain(callbacks="gives")
     for askew in (1, 2, 4):
         callbacks = Callbacks(True, askew)
         answer = ours.argon2_ctx(ctypes.byref(context_at(it, arena, callbacks)), 2)
@@ -473,12 +270,9 @@ def compare_memory_askew(ours):
 
 def compare_large_numbers(comparison):
     """Passes past 16 bits, tags past a page and past 16 bits, and texts of over 32 bits."""
-    it = Inputs(random.Random(2))
-    it.salt, it.password, it.secret, it.associated = b"somesalt", b"password", b"", b""
-    it.null, it.flags, it.callbacks, it.overlap, it.version = "", 0, "", 0, 0x13
-    it.lanes, it.memory, it.threads, it.tag_size = 1, 8, 1, 32
-    for it.passes in (257, 65536, 65537 + 256):
-        comparison.same(f"{it.passes} passes", lambda lib: by_context(lib, it, "argon2_ctx", 2))
+    for passes in (257, 65536, 65537 + 256):
+        it = Inputs.plain(passes=passes, lanes=1, memory=8)
+        comparison.same(f"{passes} passes", lambda lib: by_context(lib, it, "argon2_ctx", 2))
     for size in (1023, 4095, 4096, 4097, 65535, 65536, 70000):
 
         def hashed(lib):

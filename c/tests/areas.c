@@ -2,23 +2,13 @@
  * built over tests/slow_atomics.h, so that a thread rests before each step on the kept areas: what
  * isn't one step is met by another thread. */
 #define _GNU_SOURCE
-#include "check.h"
+#include "blocks.h"
 #include "heap.h"
 
 #include <pthread.h>
 #include <stdatomic.h>
-#include <stdbool.h>
-#include <stdint.h>
 #include <sys/mman.h>
 #include <unistd.h>
-
-struct tried {
-    bool ok;
-    void *start;
-};
-
-struct tried rattle_alloc(size_t size, size_t align);
-void rattle_dealloc(void *start);
 
 enum { THREADS = 8, TURNS = 150, SIZE = 64 * 1024, AREA = 16 * 1024 * 1024, KEPT = 4 * AREA };
 
@@ -75,13 +65,12 @@ static void *give_back(void *unused) {
 static void *work(void *number) {
     int byte = *(const int *)number;
     for (int turn = 0; turn < TURNS; turn++) {
-        struct tried tried = rattle_alloc(SIZE, 8);
-        CHECK(tried.ok);
-        CHECK(is_all(tried.start, 0, SIZE));
-        memset(tried.start, byte, SIZE);
+        unsigned char *block = take_block(SIZE);
+        CHECK(is_all(block, 0, SIZE));
+        memset(block, byte, SIZE);
         sched_yield();
-        CHECK(is_all(tried.start, byte, SIZE));
-        rattle_dealloc(tried.start);
+        CHECK(is_all(block, byte, SIZE));
+        rattle_dealloc(block);
     }
     return NULL;
 }
@@ -90,7 +79,7 @@ static void *work(void *number) {
 static void lower_bound(void) {
     for (int step = 0; steps_to_lowering < 0; step++) {
         keep_at_most(KEPT);
-        void *block = rattle_alloc(SIZE, 8).start;
+        void *block = take_block(SIZE);
         steps_to_lowering = step;
         rattle_dealloc(block);
         CHECK(steps_to_lowering < 0 ? mapped == 0 : step > 4); /* to the last step */

@@ -85,7 +85,7 @@ static struct vectors vectors;
 static struct stored registers;
 
 static void *make_call(void *unused) {
-    answer = job->call(vault);
+    answer = answer_of(job, vault);
     store_registers(vectors, &registers);
     atomic_store(&is_done, 1);
     while (!atomic_load(&may_end))
@@ -128,12 +128,12 @@ int main(void) {
     CHECK(vault != MAP_FAILED);
     CHECK(mprotect(vault, sizeof *vault, PROT_READ | PROT_WRITE | PROT_EXEC) == 0); /* apart */
     fill_vault(vault);
-    add_windows(vault->password, sizeof vault->password);
-    add_windows(vault->secret, sizeof vault->secret);
-    add_windows(vault->tag, sizeof vault->tag);
-    add_windows(vault->tag_with_secret, sizeof vault->tag_with_secret);
-    add_windows(vault->key, sizeof vault->key);
-    add_windows(vault->long_tag, sizeof vault->long_tag);
+    add_windows(ARRAY(vault->password));
+    add_windows(ARRAY(vault->secret));
+    add_windows(ARRAY(vault->tag));
+    add_windows(ARRAY(vault->tag_with_secret));
+    add_windows(ARRAY(vault->key));
+    add_windows(ARRAY(vault->long_tag));
     add_letters(vault->record);
     add_letters(vault->record_with_secret);
     add_letters(vault->scrypt_record);
@@ -146,7 +146,7 @@ int main(void) {
         found += here;
     }
     CHECK_NUMBER(found, 0);
-    struct job leaving = {"as it has to be", leaves_a_copy, RIGZUMAL_OK};
+    struct job leaving = {"as it has to be", leaves_a_copy, RIGZUMAL_OK, NO_TROUBLE, 0};
     CHECK(found_after(&leaving) > 0);
     return 0;
 }

@@ -20,7 +20,7 @@ static unsigned char *frame;
 
 static void *make_call(void *job) {
     frame = __builtin_frame_address(0);
-    CHECK_NUMBER(((const struct job *)job)->call(&vault), ((const struct job *)job)->answer);
+    CHECK_NUMBER(answer_of(job, &vault), ((const struct job *)job)->answer);
     return NULL;
 }
 

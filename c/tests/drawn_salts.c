@@ -42,61 +42,49 @@ static void begin_draw(int most) {
     draws = 0;
 }
 
-static int record_of(char *text, const char *costs, const void *salt, size_t size) {
-    return rigzumal_record(text, RIGZUMAL_TEXT_SIZE, 16, costs, salt, size, "password", 8);
-}
-
-static int record_in_threads(char *text, const char *costs, const void *salt, size_t size) {
-    return rigzumal_record_threads(text, RIGZUMAL_TEXT_SIZE, 16, costs, salt, size, "password", 8,
-                                   2);
-}
-
-static int record_with_secret(char *text, const char *costs, const void *salt, size_t size) {
-    return rigzumal_record_with_secret(text, RIGZUMAL_TEXT_SIZE, 16, costs, salt, size, "password",
-                                       8, "secret", 6);
-}
-
-static int record_with_secret_in_threads(char *text, const char *costs, const void *salt,
-                                         size_t size) {
-    return rigzumal_record_with_secret_threads(text, RIGZUMAL_TEXT_SIZE, 16, costs, salt, size,
-                                               "password", 8, "secret", 6, 2);
-}
-
-typedef int record_call(char *text, const char *costs, const void *salt, size_t size);
-
-static record_call *const calls[] = {record_of, record_in_threads, record_with_secret,
-                                     record_with_secret_in_threads};
+/* The inputs but for their salts: with and without a secret, on one thread and on two. */
+static const struct rigzumal_inputs ways[] = {
+    {.password = "password", .password_size = 8, .threads = 1},
+    {.password = "password", .password_size = 8, .threads = 2},
+    {.password = "password", .password_size = 8, .secret = "x", .secret_size = 1, .threads = 1},
+    {.password = "password", .password_size = 8, .secret = "x", .secret_size = 1, .threads = 2},
+};
 
 /* Salts of each size, given in pieces of so many bytes. */
-static void try_sizes(record_call *call, const char *costs, size_t least, int most) {
+static void try_sizes(struct rigzumal_inputs inputs, const char *costs, size_t least, int most) {
     for (size_t size = least; size <= MOST_SALT; size++) {
         char text[RIGZUMAL_TEXT_SIZE], wanted[RIGZUMAL_TEXT_SIZE];
         begin_draw(most);
-        CHECK_NUMBER(call(text, costs, NULL, size), RIGZUMAL_OK);
+        inputs.salt_size = size;
+        inputs.salt = NULL;
+        CHECK_NUMBER(rigzumal_record_from(ARRAY(text), 16, costs, &inputs), RIGZUMAL_OK);
         CHECK(given_size == size);
-        CHECK_NUMBER(call(wanted, costs, given, size), RIGZUMAL_OK);
+        inputs.salt = given;
+        CHECK_NUMBER(rigzumal_record_from(ARRAY(wanted), 16, costs, &inputs), RIGZUMAL_OK);
         CHECK(given_size == size && strcmp(text, wanted) == 0);
     }
 }
 
-static void try_refusals(record_call *call) {
+static void try_refusals(struct rigzumal_inputs inputs) {
     char text[RIGZUMAL_TEXT_SIZE];
     memset(text, 0x5a, sizeof text);
+    inputs.salt_size = 16;
     for (int most = -1; most < 1; most++) {
         begin_draw(most);
-        CHECK_NUMBER(call(text, "$argon2id$v=19$m=16,t=1,p=2", NULL, 16), RIGZUMAL_NO_RANDOM);
+        CHECK_NUMBER(rigzumal_record_from(ARRAY(text), 16, "$argon2id$v=19$m=16,t=1,p=2", &inputs),
+                     RIGZUMAL_NO_RANDOM);
         CHECK(is_all(text, 0x5a, sizeof text));
     }
 }
 
 int main(void) {
-    for (size_t i = 0; i < sizeof calls / sizeof calls[0]; i++) {
-        static const int pieces[] = {1, 5, 16, 48};
-        for (size_t j = 0; j < sizeof pieces / sizeof pieces[0]; j++)
-            try_sizes(calls[i], "$argon2id$v=19$m=16,t=1,p=2", RIGZUMAL_SALT_SIZE_MIN, pieces[j]);
-        try_refusals(calls[i]);
+    static const int pieces[] = {1, 5, 16, 48};
+    for (size_t way = 0; way < sizeof ways / sizeof ways[0]; way++) {
+        for (size_t i = 0; i < sizeof pieces / sizeof pieces[0]; i++)
+            try_sizes(ways[way], "$argon2id$v=19$m=16,t=1,p=2", RIGZUMAL_SALT_SIZE_MIN, pieces[i]);
+        try_refusals(ways[way]);
     }
-    try_sizes(record_of, "$scrypt$ln=1,r=1,p=1", 1, 5);
-    try_sizes(record_in_threads, "$scrypt$ln=1,r=1,p=1", 1, 5);
+    try_sizes(ways[0], "$scrypt$ln=1,r=1,p=1", 1, 5);
+    try_sizes(ways[1], "$scrypt$ln=1,r=1,p=1", 1, 5);
     return 0;
 }

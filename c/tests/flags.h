@@ -1,5 +1,4 @@
-/* How the system treats a mapping: "dd" is in no core dump, "wf" is zero in a child, "sh" is
- * shared. */
+/* How the system treats a mapping. */
 #ifndef FLAGS_H
 #define FLAGS_H
 
@@ -8,21 +7,27 @@
 #include <stdbool.h>
 #include <stdint.h>
 
-/* The flags that /proc/self/smaps gives the mapping of an address. */
-static inline void read_flags(const void *address, char *flags, size_t size) {
+/* Whether /proc/self/smaps gives the mapping of an address this flag: "dd" is in no core dump, "wf"
+ * is zero in a child, "sh" is shared. */
+static inline bool has_flag(const void *address, const char *flag) {
     FILE *maps = fopen("/proc/self/smaps", "r");
     CHECK(maps != NULL);
     char line[512];
-    bool is_here = false;
+    bool is_here = false, has = false;
     uintptr_t start, end;
-    *flags = '\0';
     while (fgets(line, sizeof line, maps) != NULL) {
         if (sscanf(line, "%lx-%lx ", &start, &end) == 2)
             is_here = start <= (uintptr_t)address && (uintptr_t)address < end;
         else if (is_here && strncmp(line, "VmFlags:", 8) == 0)
-            snprintf(flags, size, "%s", line + 8);
+            has = strstr(line + 8, flag) != NULL;
     }
     fclose(maps);
+    return has;
+}
+
+/* In no core dump, and zero in a child. */
+static inline bool is_hidden(const void *address) {
+    return has_flag(address, " dd") && has_flag(address, " wf");
 }
 
 #endif

@@ -1,20 +1,11 @@
 /* A child that forks in the middle of a call of another thread reads the call's large blocks as
  * zero; it calls with areas of its own, and what it does reaches nobody else. */
 #define _GNU_SOURCE
-#include "check.h"
+#include "blocks.h"
 #include "rigzumal.h"
 
-#include <stdbool.h>
 #include <sys/wait.h>
 #include <unistd.h>
-
-struct tried {
-    bool ok;
-    void *start;
-};
-
-struct tried rattle_alloc(size_t size, size_t align);
-void rattle_dealloc(void *start);
 
 enum { MIB = 1024 * 1024 };
 
@@ -42,18 +33,17 @@ static void wait_for(pid_t child) {
 
 /* Blocks of an area and of their own stand for a call that is under way. */
 static void try_blocks(size_t size) {
-    struct tried tried = rattle_alloc(size, 8);
-    CHECK(tried.ok);
-    memset(tried.start, 0x66, size);
+    unsigned char *block = take_block(size);
+    memset(block, 0x66, size);
     pid_t child = fork();
     if (child == 0) {
-        CHECK(is_all(tried.start, 0, size));
-        memset(tried.start, 0x99, size);
+        CHECK(is_all(block, 0, size));
+        memset(block, 0x99, size);
         _exit(0);
     }
     wait_for(child);
-    CHECK(is_all(tried.start, 0x66, size));
-    rattle_dealloc(tried.start);
+    CHECK(is_all(block, 0x66, size));
+    rattle_dealloc(block);
 }
 
 int main(void) {

@@ -7,6 +7,7 @@
 #include "flags.h"
 #include "lanes.h"
 #include "marks.h"
+#include "segments.h"
 
 #include <pthread.h>
 #include <stdatomic.h>
@@ -18,19 +19,12 @@ enum { LANES = 4, SEGMENT = 64, TURNS = 10 };
 static pthread_t caller;
 static _Atomic(int) marked, is_forked;
 
-/* What is left on a helper's stack is in no core dump, as long as it is there. */
-static void check_stack(void) {
-    char flags[512], here;
-    read_flags(&here, flags, sizeof flags);
-    CHECK(strstr(flags, " dd") != NULL);
-    CHECK(strstr(flags, " wf") != NULL);
-}
-
-static uint8_t segment(struct argon2_block *own) {
+static uint8_t segment(const struct given_segment *it) {
     if (!pthread_equal(pthread_self(), caller)) {
-        check_stack();
+        char here; /* in no core dump, as long as it is there */
+        CHECK(is_hidden(&here));
         leave_marks();
-        own->words[5] = MARK;
+        it->own->words[5] = MARK;
         marked++;
     }
     while (!is_forked)
@@ -38,20 +32,7 @@ static uint8_t segment(struct argon2_block *own) {
     return 0;
 }
 
-#define STAND_IN(build)                                                                            \
-    uint8_t build##_cred_argon2_segment(                                                           \
-        const struct tag_numbers *numbers, const struct segment_index *index,                      \
-        const struct argon2_block *oldest, size_t oldest_count, const struct argon2_block *middle, \
-        size_t middle_count, const struct argon2_block *newest, size_t newest_count,               \
-        struct argon2_block *own, size_t own_count) {                                              \
-        (void)numbers, (void)index, (void)oldest, (void)oldest_count, (void)middle;                \
-        (void)middle_count, (void)newest, (void)newest_count, (void)own_count;                     \
-        return segment(own);                                                                       \
-    }
-
-STAND_IN(v1)
-STAND_IN(v2)
-STAND_IN(v3)
+STAND_INS(segment)
 
 uint8_t v1_cred_argon2_segment_len(const struct tag_numbers *numbers, uint32_t *segment_size) {
     (void)numbers;

@@ -31,6 +31,7 @@ VALGRIND = "valgrind -q --error-exitcode=9 --leak-check=full --errors-for-leak-k
 # The functions that the linker puts before those of the C library, or of this one.
 WRAPPED = {
     "heap": "posix_memalign free realloc mmap mremap munmap madvise",
+    "mappings": "posix_memalign free realloc mmap mremap munmap madvise",
     "refused": "posix_memalign malloc realloc mmap",
     "areas": "mmap munmap madvise",
     "drawn_salts": "getrandom",
@@ -42,7 +43,6 @@ WRAPPED = {
 
 # Has tags of every size worked in threads where a call asks for them.
 IN_THREADS = "-DLEAST_SHARED_MEMORY=1"
-
 
 # A folder for what the tests build, and what a command wrote, in the library's folder.
 ROOM = helpers.common_folder()

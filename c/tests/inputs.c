@@ -1,297 +1,194 @@
-/* The calls that take their inputs by name, beside those that take them one by one; what they add,
- * which is associated data of records, and steps with secrets and threads; and costs that are read.
- */
+/* Records with a secret and associated data, and the calls that take their inputs by name, beside
+ * those that take them one by one. */
 #include "check.h"
+#include "records.h"
 #include "rigzumal.h"
 
 #include <stdbool.h>
 
 enum { TEXT = RIGZUMAL_TEXT_SIZE };
 
-/* By the argon2 program: printf password | argon2 somesalt -id -t 2 -k 256 -p 1 -l 32 -e */
-static const char record[] =
-    "$argon2id$v=19$m=256,t=2,p=1$c29tZXNhbHQ$nf65EOgLrQMR/uIPnA4rEsF5h7TKyQwu9U1bMCHGi/4";
-static const char old_record[] =
-    "$argon2i$m=256,t=2,p=1$c29tZXNhbHQ$/U3YPXYsSb3q9XxHvc0MLxur+GP960kN9j7emXX8zwY";
-static const char scrypt_record[] =
-    "$scrypt$ln=8,r=8,p=1$YmVucyBzYWx0$+KFelNIG2qBCL4ql+mf/Ah1wLJw+NsQMbjEE0WoA3TI";
-
-/* ---- costs */
-
-static void test_parts_of_costs(void) {
-    static const struct {
-        const char *text;
-        struct rigzumal_parts parts;
-    } texts[] = {
-        {RIGZUMAL_ARGON2_COSTS, {RIGZUMAL_ARGON2ID, 19, 65536, 3, 4, 0, 0}},
-        {RIGZUMAL_SCRYPT_COSTS, {RIGZUMAL_SCRYPT, 0, 17, 8, 1, 0, 0}},
-        {"$argon2d$v=19$m=2048,t=7,p=5", {RIGZUMAL_ARGON2D, 19, 2048, 7, 5, 0, 0}},
-        {"$argon2i$v=19$m=8,t=1,p=1$c29tZXNhbHQ", {RIGZUMAL_ARGON2I, 19, 8, 1, 1, 8, 0}},
-        {"$scrypt$ln=4,r=3,p=2$c2E", {RIGZUMAL_SCRYPT, 0, 4, 3, 2, 2, 0}},
-        {record, {RIGZUMAL_ARGON2ID, 19, 256, 2, 1, 8, 32}},
-        {old_record, {RIGZUMAL_ARGON2I, 16, 256, 2, 1, 8, 32}},
-        {scrypt_record, {RIGZUMAL_SCRYPT, 0, 8, 8, 1, 9, 32}},
-    };
-    for (size_t i = 0; i < sizeof texts / sizeof texts[0]; i++) {
-        struct rigzumal_parts parts;
-        CHECK_NUMBER(rigzumal_parts(&parts, texts[i].text), RIGZUMAL_OK);
-        CHECK(memcmp(&parts, &texts[i].parts, sizeof parts) == 0);
+/* A record of which any letter of the tag is another one is of another password, or no record if it
+ * is the last and has bits that stand for nothing. */
+static void check_each_letter(char *text, size_t tag_size) {
+    for (char *letter = strrchr(text, '$') + 1; *letter != '\0'; letter++) {
+        char kept = *letter;
+        *letter = kept == 'A' ? 'B' : 'A';
+        int answer = rigzumal_check_with_secret(text, LITERAL("password"), LITERAL("a secret"));
+        bool is_last = letter[1] == '\0' && tag_size % 3 != 0;
+        CHECK(answer == RIGZUMAL_MISMATCH || (is_last && answer == RIGZUMAL_TAG));
+        *letter = kept;
     }
 }
 
-static void test_faults_of_costs(void) {
+/* A record whose tag has a secret: RFC 9106's K, so its tag is that of rigzumal_argon2 with it. */
+static void check_secret(const unsigned char *salt, size_t salt_size, size_t tag_size) {
+    char text[TEXT], wanted[TEXT];
+    unsigned char tag[RIGZUMAL_TAG_SIZE_MAX];
+    struct rigzumal_argon2 numbers = {RIGZUMAL_ARGON2ID, RIGZUMAL_VERSION_13, 16, 1, 2};
+    CHECK_NUMBER(rigzumal_record_with_secret(ARRAY(text), tag_size, "$argon2id$v=19$m=16,t=1,p=2",
+                                             salt, salt_size, LITERAL("password"),
+                                             LITERAL("a secret")),
+                 RIGZUMAL_OK);
+    CHECK_NUMBER(rigzumal_argon2(tag, tag_size, &numbers, LITERAL("password"), salt, salt_size,
+                                 LITERAL("a secret"), NO_BYTES),
+                 RIGZUMAL_OK);
+    CHECK_NUMBER(rigzumal_argon2_write(ARRAY(wanted), &numbers, salt, salt_size, tag, tag_size),
+                 RIGZUMAL_OK);
+    CHECK(strcmp(text, wanted) == 0);
+    CHECK_NUMBER(rigzumal_check_with_secret(text, LITERAL("password"), LITERAL("a secret")),
+                 RIGZUMAL_OK);
+    CHECK_NUMBER(rigzumal_check_with_secret(text, LITERAL("password"), LITERAL("A secret")),
+                 RIGZUMAL_MISMATCH);
+    CHECK_NUMBER(rigzumal_check_with_secret(text, LITERAL("Password"), LITERAL("a secret")),
+                 RIGZUMAL_MISMATCH);
+    CHECK_NUMBER(rigzumal_check(text, LITERAL("password")), RIGZUMAL_MISMATCH);
+    if (salt_size < 12)
+        check_each_letter(text, tag_size);
+}
+
+static void test_secrets(void) {
+    unsigned char salt[RIGZUMAL_SALT_SIZE_MAX];
+    for (size_t i = 0; i < sizeof salt; i++)
+        salt[i] = (unsigned char)(i * 91 + 17);
+    for (size_t salt_size = 8; salt_size <= sizeof salt; salt_size++)
+        for (size_t tag_size = 4; tag_size <= RIGZUMAL_TAG_SIZE_MAX; tag_size += 5)
+            check_secret(salt, salt_size, tag_size);
+    /* without a secret it is the record of old, of both versions */
+    CHECK_NUMBER(rigzumal_check_with_secret(record, LITERAL("password"), NO_BYTES), RIGZUMAL_OK);
+    CHECK_NUMBER(rigzumal_check_with_secret(old_record, LITERAL("password"), NO_BYTES),
+                 RIGZUMAL_OK);
+    CHECK_NUMBER(rigzumal_check_with_secret(scrypt_record, LITERAL("password"), LITERAL("x")),
+                 RIGZUMAL_SCHEME);
+}
+
+/* One bad input of a new record, with and without a secret and threads: nothing is written. */
+static void test_faults_of_records(void) {
+    static const char good[] = "$argon2id$v=19$m=16,t=1,p=2";
     static const struct {
-        const char *text;
+        const char *costs, *salt;
+        size_t salt_size, tag_size, text_size;
         int fault;
-    } texts[] = {
-        {"", RIGZUMAL_SHAPE},
-        {"$argon2id", RIGZUMAL_SHAPE},
-        {"$argon2id$v=19", RIGZUMAL_SHAPE},
-        {"$scrypt", RIGZUMAL_SHAPE},
-        {"$argon2id$v=19$m=8,t=1,p=1$c29tZXNhbHQ$nf65EA$", RIGZUMAL_SHAPE},
-        {"$argon2i$m=8,t=1,p=1", RIGZUMAL_VERSION},
-        {"$argon2id$v=19$m=8,t=1,p=1$c29t", RIGZUMAL_SALT},
-        {"$argon2id$v=19$m=8,t=1,p=1$c29tZXNhbHQ$nf65E", RIGZUMAL_TAG},
-        {"$argon2id$v=19$m=8,t=1,p=1$", RIGZUMAL_SALT},
-        {"$argon2id$v=19$m=7,t=1,p=1", RIGZUMAL_RANGE},
-        {"$argon2id$v=16$m=8,t=1,p=1", RIGZUMAL_VERSION},
-        {"$argon2x$v=19$m=8,t=1,p=1", RIGZUMAL_SCHEME},
-        {"$argon2id$v=19$m=8,t=1", RIGZUMAL_PARAMS},
-        {"$scrypt$ln=16,r=1,p=1", RIGZUMAL_RANGE},
+    } bad[] = {
+        {"$argon2id$v=16$m=16,t=1,p=2", "somesalt", 8, 32, TEXT, RIGZUMAL_VERSION},
+        {"$argon2id$v=19$m=15,t=1,p=2", "somesalt", 8, 32, TEXT, RIGZUMAL_RANGE},
+        {good, "short", 5, 32, TEXT, RIGZUMAL_SALT},
+        {good, NULL, 0, 32, TEXT, RIGZUMAL_SHAPE},
+        {good, "somesalt", 8, 3, TEXT, RIGZUMAL_TAG},
+        {good, "somesalt", 8, 65, TEXT, RIGZUMAL_TAG},
+        {good, "somesalt", 8, ((size_t)1 << 32) + 32, TEXT, RIGZUMAL_TAG},
+        {good, "somesalt", 8, 32, 60, RIGZUMAL_NO_ROOM},
+        {good, "somesalt", 8, 32, 0, RIGZUMAL_NO_ROOM},
     };
-    for (size_t i = 0; i < sizeof texts / sizeof texts[0]; i++) {
-        struct rigzumal_parts parts;
-        memset(&parts, 0x5a, sizeof parts);
-        CHECK_NUMBER(rigzumal_parts(&parts, texts[i].text), texts[i].fault);
-        CHECK(is_all(&parts, 0x5a, sizeof parts));
+    char text[TEXT];
+    memset(text, 0x5a, sizeof text);
+    for (size_t at = 0; at < 4 * sizeof bad / sizeof bad[0]; at++) {
+        size_t i = at / 4;
+        struct rigzumal_inputs inputs = {.password = "password",
+                                         .password_size = 8,
+                                         .salt = bad[i].salt,
+                                         .salt_size = bad[i].salt_size,
+                                         .secret = at % 2 == 0 ? NULL : "secret",
+                                         .secret_size = at % 2 == 0 ? 0 : 6,
+                                         .threads = 1 + at % 4 / 2};
+        CHECK_NUMBER(
+            rigzumal_record_from(text, bad[i].text_size, bad[i].tag_size, bad[i].costs, &inputs),
+            bad[i].fault);
+        CHECK(is_all(text, 0x5a, sizeof text));
     }
-    char longest[600];
-    memset(longest, 'A', sizeof longest);
-    memcpy(longest, "$scrypt$ln=4,r=8,p=1$", 21);
-    for (size_t size = 480; size < sizeof longest; size++) {
-        struct rigzumal_parts parts;
-        longest[size] = '\0';
-        int fault = rigzumal_parts(&parts, longest);
-        CHECK(fault == RIGZUMAL_SALT || fault == RIGZUMAL_TOO_LONG || fault == RIGZUMAL_SHAPE);
-        longest[size] = 'A';
-    }
+    CHECK_NUMBER(rigzumal_record_with_secret(ARRAY(text), 32, "$scrypt$ln=4,r=1,p=1",
+                                             LITERAL("somesalt"), LITERAL("x"), LITERAL("secret")),
+                 RIGZUMAL_SCHEME);
+    CHECK(is_all(text, 0x5a, sizeof text));
 }
 
-static void test_needs_rehash(void) {
-    static const char costs[] = "$argon2id$v=19$m=256,t=2,p=1", scrypt[] = "$scrypt$ln=8,r=8,p=1";
-    static const struct {
-        const char *record, *costs;
-        size_t salt_size, tag_size;
-        int answer;
-    } tried[] = {
-        {record, costs, 8, 32, RIGZUMAL_OK},
-        {record, "$argon2id$v=19$m=256,t=2,p=1$c29tZXNhbHQ", 0, 32, RIGZUMAL_OK},
-        {record, "$argon2id$v=19$m=256,t=2,p=1$c29tZXNhbHRz", 0, 32, RIGZUMAL_OTHER_COSTS},
-        {record, costs, 9, 32, RIGZUMAL_OTHER_COSTS},
-        {record, costs, 7, 32, RIGZUMAL_OTHER_COSTS},
-        {record, costs, 8, 31, RIGZUMAL_OTHER_COSTS},
-        {record, costs, 8, 33, RIGZUMAL_OTHER_COSTS},
-        {record, costs, 8, ((size_t)1 << 32) + 32, RIGZUMAL_OTHER_COSTS},
-        {record, "$argon2id$v=19$m=257,t=2,p=1", 8, 32, RIGZUMAL_OTHER_COSTS},
-        {record, "$argon2id$v=19$m=255,t=2,p=1", 8, 32, RIGZUMAL_OTHER_COSTS},
-        {record, "$argon2id$v=19$m=256,t=1,p=1", 8, 32, RIGZUMAL_OTHER_COSTS},
-        {record, "$argon2id$v=19$m=256,t=2,p=2", 8, 32, RIGZUMAL_OTHER_COSTS},
-        {record, "$argon2i$v=19$m=256,t=2,p=1", 8, 32, RIGZUMAL_OTHER_COSTS},
-        {record, scrypt, 8, 32, RIGZUMAL_OTHER_COSTS},
-        {old_record, "$argon2i$v=19$m=256,t=2,p=1", 8, 32, RIGZUMAL_OTHER_COSTS},
-        {scrypt_record, scrypt, 9, 32, RIGZUMAL_OK},
-        {scrypt_record, "$scrypt$ln=8,r=8,p=2", 9, 32, RIGZUMAL_OTHER_COSTS},
-        {"x", "y", 8, 32, RIGZUMAL_SHAPE},
-        {"$argon2id$v=19$m=7,t=1,p=1$c29tZXNhbHQ$nf65EA", costs, 8, 32, RIGZUMAL_RANGE},
-        {record, "$argon2id$v=18$m=256,t=2,p=1", 8, 32, RIGZUMAL_VERSION},
-        {record, record, 0, 32, RIGZUMAL_SHAPE},
-        {record, "$argon2id$v=19$m=256,t=2,p=1$c29tZXNhbHQ", 8, 32, RIGZUMAL_SHAPE},
-    };
-    for (size_t i = 0; i < sizeof tried / sizeof tried[0]; i++)
-        CHECK_NUMBER(rigzumal_needs_rehash(tried[i].record, tried[i].costs, tried[i].salt_size,
-                                           tried[i].tag_size),
-                     tried[i].answer);
+/* An input of 2^32 bytes, which are never read. */
+static void test_long_inputs(void) {
+    static const char costs[] = "$argon2id$v=19$m=64,t=1,p=2";
+    struct rigzumal_argon2 numbers = {RIGZUMAL_ARGON2ID, RIGZUMAL_VERSION_13, 64, 1, 2};
+    unsigned char tag[32] = {0};
+    char text[TEXT] = {0};
+    for (int which = 0; which < 4; which++) {
+        struct rigzumal_inputs inputs = {"", 8, "", 8, "", 8, "", 8, 2};
+        size_t *sizes[] = {&inputs.password_size, &inputs.salt_size, &inputs.secret_size,
+                           &inputs.associated_size};
+        *sizes[which] = (size_t)1 << 32;
+        CHECK_NUMBER(rigzumal_argon2_from(ARRAY(tag), &numbers, &inputs), RIGZUMAL_INPUT_SIZE);
+    }
+    for (uint32_t way = 0; way < 4; way++) { /* with and without a secret and threads */
+        struct rigzumal_inputs inputs = {.password = "",
+                                         .password_size = (size_t)1 << 32,
+                                         .salt_size = 8,
+                                         .secret = way % 2 == 0 ? NULL : "",
+                                         .threads = 1 + way / 2};
+        CHECK_NUMBER(rigzumal_record_from(ARRAY(text), 32, costs, &inputs), RIGZUMAL_INPUT_SIZE);
+        CHECK_NUMBER(rigzumal_check_from(record, &inputs), RIGZUMAL_INPUT_SIZE);
+    }
+    CHECK(is_all(tag, 0, sizeof tag) && is_all(text, 0, sizeof text));
 }
-
-/* ---- inputs by name */
-
-#define OF(text) (text), sizeof(text) - 1
 
 static void test_tags_from_inputs(void) {
     unsigned char made[32], wanted[32];
     struct rigzumal_argon2 numbers = {RIGZUMAL_ARGON2ID, RIGZUMAL_VERSION_13, 64, 1, 2};
-    struct rigzumal_inputs inputs = {OF("password"), OF("somesalt"), OF("pepper"), OF("data"), 2};
-    CHECK_NUMBER(rigzumal_argon2_from(made, sizeof made, &numbers, &inputs), RIGZUMAL_OK);
-    CHECK_NUMBER(rigzumal_argon2(wanted, sizeof wanted, &numbers, OF("password"), OF("somesalt"),
-                                 OF("pepper"), OF("data")),
+    struct rigzumal_inputs inputs = {LITERAL("password"), LITERAL("somesalt"), LITERAL("pepper"),
+                                     LITERAL("data"), 2};
+    CHECK_NUMBER(rigzumal_argon2_from(ARRAY(made), &numbers, &inputs), RIGZUMAL_OK);
+    CHECK_NUMBER(rigzumal_argon2(ARRAY(wanted), &numbers, LITERAL("password"), LITERAL("somesalt"),
+                                 LITERAL("pepper"), LITERAL("data")),
                  RIGZUMAL_OK);
     CHECK(memcmp(made, wanted, sizeof made) == 0);
 }
 
-static void test_records_from_inputs(void) {
+/* A record is made of the inputs, and no check passes once one of them is another. */
+static void check_record_from(struct rigzumal_inputs inputs, const char *wanted) {
     static const char costs[] = "$argon2id$v=19$m=256,t=2,p=1";
-    struct rigzumal_inputs inputs = {
-        .password = "password", .password_size = 8, .salt = "somesalt", .salt_size = 8};
-    char made[TEXT], wanted[TEXT];
-    CHECK_NUMBER(rigzumal_record_from(made, TEXT, 32, costs, &inputs), RIGZUMAL_OK);
-    CHECK(strcmp(made, record) == 0);
-    CHECK_NUMBER(rigzumal_check_from(record, &inputs), RIGZUMAL_OK);
-    CHECK_NUMBER(rigzumal_check_from(scrypt_record, &inputs), RIGZUMAL_MISMATCH);
+    char made[TEXT];
+    CHECK_NUMBER(rigzumal_record_from(ARRAY(made), 32, costs, &inputs), RIGZUMAL_OK);
+    CHECK(strcmp(made, wanted) == 0);
+    CHECK_NUMBER(rigzumal_check_from(made, &inputs), RIGZUMAL_OK);
+    size_t *sizes[] = {&inputs.password_size, &inputs.secret_size, &inputs.associated_size};
+    for (size_t which = 0; which < 3; which++) {
+        if (*sizes[which] == 0)
+            continue;
+        *sizes[which] -= 1;
+        CHECK_NUMBER(rigzumal_check_from(made, &inputs), RIGZUMAL_MISMATCH);
+        *sizes[which] += 1;
+    }
     inputs.salt = NULL; /* drawn */
-    CHECK_NUMBER(rigzumal_record_from(made, TEXT, 32, costs, &inputs), RIGZUMAL_OK);
+    CHECK_NUMBER(rigzumal_record_from(ARRAY(made), 32, costs, &inputs), RIGZUMAL_OK);
+    CHECK(strcmp(made, wanted) != 0);
     CHECK_NUMBER(rigzumal_check_from(made, &inputs), RIGZUMAL_OK);
-    inputs.salt = "somesalt";
-    inputs.secret = "pepper";
-    inputs.secret_size = 6;
-    CHECK_NUMBER(rigzumal_record_from(made, TEXT, 32, costs, &inputs), RIGZUMAL_OK);
-    CHECK_NUMBER(rigzumal_record_with_secret(wanted, TEXT, 32, costs, OF("somesalt"),
-                                             OF("password"), OF("pepper")),
-                 RIGZUMAL_OK);
-    CHECK(strcmp(made, wanted) == 0);
-    CHECK_NUMBER(rigzumal_check_from(made, &inputs), RIGZUMAL_OK);
-    CHECK_NUMBER(rigzumal_check_from(record, &inputs), RIGZUMAL_MISMATCH);
-    CHECK_NUMBER(rigzumal_check_from(scrypt_record, &inputs), RIGZUMAL_SCHEME);
-    inputs.associated = "data";
-    inputs.associated_size = 4;
-    unsigned char tag[32];
+}
+
+static void test_records_from_inputs(void) {
     struct rigzumal_argon2 numbers = {RIGZUMAL_ARGON2ID, RIGZUMAL_VERSION_13, 256, 2, 1};
-    CHECK_NUMBER(rigzumal_argon2_from(tag, sizeof tag, &numbers, &inputs), RIGZUMAL_OK);
-    CHECK_NUMBER(rigzumal_argon2_write(wanted, TEXT, &numbers, OF("somesalt"), tag, sizeof tag),
-                 RIGZUMAL_OK);
-    CHECK_NUMBER(rigzumal_record_from(made, TEXT, 32, costs, &inputs), RIGZUMAL_OK);
-    CHECK(strcmp(made, wanted) == 0);
-    CHECK_NUMBER(rigzumal_check_from(made, &inputs), RIGZUMAL_OK);
-    inputs.secret = NULL;
-    inputs.secret_size = 0;
-    CHECK_NUMBER(rigzumal_check_from(made, &inputs), RIGZUMAL_MISMATCH);
-    CHECK_NUMBER(rigzumal_record_from(made, TEXT, 32, costs, &inputs), RIGZUMAL_OK);
-    CHECK_NUMBER(rigzumal_check_from(made, &inputs), RIGZUMAL_OK);
-    inputs.associated_size = 3;
-    CHECK_NUMBER(rigzumal_check_from(made, &inputs), RIGZUMAL_MISMATCH);
-}
-
-/* ---- steps */
-
-/* Both steps at the same inputs: what each answers, replies and writes. */
-static void try_step(const struct rigzumal_step_inputs *inputs, size_t room) {
-    char made[TEXT], wanted[TEXT];
-    uint32_t reply = 99, wanted_reply = 99;
-    memset(made, 0x5a, TEXT);
-    memset(wanted, 0x5a, TEXT);
-    int answer = rigzumal_step_from(made, room, &reply, inputs);
-    CHECK_NUMBER(answer,
-                 rigzumal_step(wanted, room, &wanted_reply, inputs->operation, inputs->copy,
-                               inputs->password, inputs->password_size, inputs->new_password,
-                               inputs->new_password_size, inputs->setting));
-    CHECK(reply == wanted_reply && memcmp(made, wanted, TEXT) == 0);
-}
-
-static const char long_password[257];
-
-/* An empty secret changes no tag: so with it, and with threads, each step is the proved one. */
-static void test_steps_beside_the_proved_one(void) {
-    static const char *const copies[] = {NULL, record, old_record, scrypt_record, "", "x"};
-    static const char *const settings[] = {NULL,
-                                           "",
-                                           "x",
-                                           "$argon2id$v=19$m=256,t=2,p=1$c29tZXNhbHQ",
-                                           "$argon2id$v=19$m=256,t=2,p=1$c29tZXNhbHRz",
-                                           "$argon2id$v=19$m=64,t=1,p=2$c29tZXNhbHQ",
-                                           "$argon2i$v=19$m=256,t=2,p=1$c29tZXNhbHQ",
-                                           "$argon2id$v=19$m=7,t=1,p=1$c29tZXNhbHQ",
-                                           "$scrypt$ln=4,r=8,p=1$c2FsdA",
-                                           record};
-    static const struct {
-        const char *start;
-        size_t size;
-    } passwords[] = {{"password", 8}, {"another", 7}, {NULL, 0}, {long_password, 257}};
-    for (size_t at = 0; at < 6 * 6 * 10 * 4 * 3; at++) {
-        size_t copy = at / 3 % 6, setting = at / 18 % 10, password = at / 180 % 4;
-        struct rigzumal_step_inputs inputs = {.operation = (uint32_t)(at / 720),
-                                              .copy = copies[copy],
-                                              .password = passwords[password].start,
-                                              .password_size = passwords[password].size,
-                                              .new_password = passwords[(at + 1) % 4].start,
-                                              .new_password_size = passwords[(at + 1) % 4].size,
-                                              .setting = settings[setting]};
-        bool is_scrypt = copies[copy] == scrypt_record ||
-                         (settings[setting] != NULL && strncmp(settings[setting], "$s", 2) == 0);
-        if (at % 3 == 1 && !is_scrypt)
-            inputs.secret = "";
-        if (at % 3 == 2)
-            inputs.threads = 4;
-        try_step(&inputs, TEXT);
-        try_step(&inputs, 20);
+    check_record_from(
+        (struct rigzumal_inputs){LITERAL("password"), LITERAL("somesalt"), NO_BYTES, NO_BYTES, 1},
+        record);
+    for (int which = 1; which < 4; which++) { /* a secret, associated data, both */
+        struct rigzumal_inputs inputs = {LITERAL("password"), LITERAL("somesalt"), NO_BYTES,
+                                         NO_BYTES, 2};
+        if (which & 1)
+            inputs.secret = "pepper", inputs.secret_size = 6;
+        if (which & 2)
+            inputs.associated = "data", inputs.associated_size = 4;
+        unsigned char tag[32];
+        char wanted[TEXT];
+        CHECK_NUMBER(rigzumal_argon2_from(ARRAY(tag), &numbers, &inputs), RIGZUMAL_OK);
+        CHECK_NUMBER(
+            rigzumal_argon2_write(ARRAY(wanted), &numbers, LITERAL("somesalt"), ARRAY(tag)),
+            RIGZUMAL_OK);
+        check_record_from(inputs, wanted);
+        CHECK_NUMBER(rigzumal_check_from(record, &inputs), RIGZUMAL_MISMATCH);
+        CHECK_NUMBER(rigzumal_check_from(scrypt_record, &inputs), RIGZUMAL_SCHEME);
     }
-}
-
-/* A store whose records have a secret, from the first record to none. */
-static void test_a_store_with_a_secret(void) {
-    static const char costs[] = "$argon2id$v=19$m=64,t=1,p=2$c29tZXNhbHQ",
-                      higher[] = "$argon2id$v=19$m=64,t=2,p=2$c29tZXNhbHQ";
-    struct rigzumal_step_inputs inputs = {.operation = RIGZUMAL_ENROL,
-                                          .password = "password",
-                                          .password_size = 8,
-                                          .new_password = "another",
-                                          .new_password_size = 7,
-                                          .setting = costs,
-                                          .secret = "pepper",
-                                          .secret_size = 6,
-                                          .threads = 2};
-    char text[TEXT], copy[TEXT];
-    uint32_t reply;
-    CHECK_NUMBER(rigzumal_step_from(text, TEXT, &reply, &inputs), RIGZUMAL_OK);
-    CHECK(reply == RIGZUMAL_REPLY_ENROLLED);
-    CHECK_NUMBER(rigzumal_check_with_secret(text, OF("password"), OF("pepper")), RIGZUMAL_OK);
-    static const struct {
-        uint32_t operation, reply;
-        const char *setting, *password_after;
-    } steps[] = {{RIGZUMAL_ENROL, RIGZUMAL_REPLY_EXISTS, costs, "password"},
-                 {RIGZUMAL_VERIFY, RIGZUMAL_REPLY_YES, costs, "password"},
-                 {RIGZUMAL_UPGRADE, RIGZUMAL_REPLY_KEPT, costs, "password"},
-                 {RIGZUMAL_UPGRADE, RIGZUMAL_REPLY_UPGRADED, higher, "password"},
-                 {RIGZUMAL_CHANGE, RIGZUMAL_REPLY_REPLACED, costs, "another"},
-                 {RIGZUMAL_VERIFY, RIGZUMAL_REPLY_NO, costs, "another"},
-                 {RIGZUMAL_CHANGE, RIGZUMAL_REPLY_WRONG, costs, "another"},
-                 {RIGZUMAL_REMOVE, RIGZUMAL_REPLY_WRONG, costs, "another"}};
-    strcpy(copy, text);
-    for (size_t i = 0; i < sizeof steps / sizeof steps[0]; i++) {
-        inputs.operation = steps[i].operation;
-        inputs.setting = steps[i].setting;
-        inputs.copy = copy;
-        CHECK_NUMBER(rigzumal_step_from(text, TEXT, &reply, &inputs), RIGZUMAL_OK);
-        CHECK(reply == steps[i].reply);
-        bool is_written = reply == RIGZUMAL_REPLY_UPGRADED || reply == RIGZUMAL_REPLY_REPLACED;
-        CHECK((text[0] != '\0') == is_written);
-        if (is_written)
-            strcpy(copy, text);
-        CHECK_NUMBER(rigzumal_check_with_secret(copy, steps[i].password_after,
-                                                strlen(steps[i].password_after), OF("pepper")),
-                     RIGZUMAL_OK);
-    }
-    inputs.operation = RIGZUMAL_REMOVE;
-    inputs.password = "another";
-    inputs.password_size = 7;
-    CHECK_NUMBER(rigzumal_step_from(NULL, 0, &reply, &inputs), RIGZUMAL_OK);
-    CHECK(reply == RIGZUMAL_REPLY_REMOVED);
-    inputs.secret = "Pepper";
-    CHECK_NUMBER(rigzumal_step_from(NULL, 0, &reply, &inputs), RIGZUMAL_OK);
-    CHECK(reply == RIGZUMAL_REPLY_WRONG);
-    inputs.copy = scrypt_record; /* it has no secret */
-    CHECK_NUMBER(rigzumal_step_from(NULL, 0, &reply, &inputs), RIGZUMAL_SCHEME);
-    inputs.copy = NULL;
-    inputs.operation = RIGZUMAL_ENROL;
-    inputs.setting = "$scrypt$ln=4,r=8,p=1$c2FsdA";
-    CHECK_NUMBER(rigzumal_step_from(text, TEXT, &reply, &inputs), RIGZUMAL_SCHEME);
 }
 
 int main(void) {
-    test_parts_of_costs();
-    test_faults_of_costs();
-    test_needs_rehash();
+    test_secrets();
+    test_faults_of_records();
+    test_long_inputs();
     test_tags_from_inputs();
     test_records_from_inputs();
-    test_steps_beside_the_proved_one();
-    test_a_store_with_a_secret();
     return 0;
 }

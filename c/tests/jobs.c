@@ -12,164 +12,169 @@ void (*look_at)(void *answer, size_t size);
 #define DEARER                                                                                     \
     OF_KIND("$argon2i$v=19$m=72,t=1,p=2$c2l4dGVlbiBvZiBzYWx0Lg",                                   \
             "$argon2id$v=19$m=72,t=1,p=2$c2l4dGVlbiBvZiBzYWx0Lg")
-static const char scrypt_costs[] = "$scrypt$ln=4,r=2,p=2";
 
-enum { PASSWORD = sizeof((struct vault *)0)->password, SECRET = sizeof((struct vault *)0)->secret };
+/* The inputs of a call, with its trouble. */
 
-static int argon2_into(void *to, struct vault *vault, uint32_t memory, size_t secret_size) {
-    struct rigzumal_argon2 numbers = {job_kind, job_version, memory, 1, 2};
-    return rigzumal_argon2(to, TAG, &numbers, vault->password, PASSWORD, salt, sizeof salt,
-                           vault->secret, secret_size, NULL, 0);
+static int has_trouble(const struct vault *it, enum trouble trouble) {
+    return it->job->trouble == trouble;
 }
 
-static int small_tag(struct vault *vault) {
-    return argon2_into(vault->made, vault, 64, 0);
+#define PASSWORD it->password, sizeof it->password - has_trouble(it, OTHER_PASSWORD)
+#define SECRET it->secret, sizeof it->secret - has_trouble(it, OTHER_SECRET)
+#define TEXT it->text, (has_trouble(it, LITTLE_ROOM) ? 60 : sizeof it->text)
+#define RECORD(record) (has_trouble(it, BAD_RECORD) ? it->bad_record : (record))
+
+/* The calls of rigzumal.h. */
+
+static struct rigzumal_argon2 argon2_numbers(uint32_t memory, uint32_t lanes) {
+    return (struct rigzumal_argon2){job_kind, job_version, memory, 1, lanes};
 }
 
-static int tag_of_areas(struct vault *vault) {
-    return argon2_into(vault->made, vault, 24576, SECRET);
+static int tag(struct vault *it) {
+    struct rigzumal_argon2 numbers = argon2_numbers(it->job->number, 2);
+    return rigzumal_argon2(it->made, TAG, &numbers, PASSWORD, ARRAY(salt), NO_BYTES, NO_BYTES);
 }
 
-static int tag_of_own_areas(struct vault *vault) {
-    return argon2_into(vault->made, vault, 69632, SECRET);
+static int tag_with_secret(struct vault *it) {
+    struct rigzumal_argon2 numbers = argon2_numbers(it->job->number, 2);
+    return rigzumal_argon2(it->made, TAG, &numbers, PASSWORD, ARRAY(salt), SECRET, NO_BYTES);
 }
 
-static int key_into(void *to, struct vault *vault, uint32_t ln) {
-    struct rigzumal_scrypt numbers = {ln, 2, 2};
-    return rigzumal_scrypt(to, KEY, &numbers, vault->password, PASSWORD, salt, sizeof salt);
+static int tag_in_threads(struct vault *it) {
+    struct rigzumal_argon2 numbers = argon2_numbers(it->job->number, 4);
+    return rigzumal_argon2_threads(it->made, TAG, &numbers, PASSWORD, ARRAY(salt), SECRET, NO_BYTES,
+                                   4);
 }
 
-static int small_key(struct vault *vault) {
-    return key_into(vault->made, vault, 4);
+static int key(struct vault *it) {
+    struct rigzumal_scrypt numbers = {it->job->number, 2, 2};
+    return rigzumal_scrypt(it->made, KEY, &numbers, PASSWORD, ARRAY(salt));
 }
 
-static int key_of_areas(struct vault *vault) {
-    return key_into(vault->made, vault, 12);
+static int record(struct vault *it) {
+    return rigzumal_record(TEXT, TAG, COSTS, ARRAY(salt), PASSWORD);
 }
 
-static int new_record(struct vault *vault) {
-    return rigzumal_record(vault->text, sizeof vault->text, TAG, COSTS, salt, sizeof salt,
-                           vault->password, PASSWORD);
+static int scrypt_record(struct vault *it) {
+    return rigzumal_record(TEXT, KEY, "$scrypt$ln=4,r=2,p=2", ARRAY(salt), PASSWORD);
 }
 
-static int new_record_without_room(struct vault *vault) {
-    return rigzumal_record(vault->text, 40, TAG, COSTS, salt, sizeof salt, vault->password,
-                           PASSWORD);
+static int record_in_threads(struct vault *it) {
+    return rigzumal_record_threads(TEXT, TAG, COSTS, ARRAY(salt), PASSWORD, 2);
 }
 
-static int new_scrypt_record(struct vault *vault) {
-    return rigzumal_record(vault->text, sizeof vault->text, KEY, scrypt_costs, salt, sizeof salt,
-                           vault->password, PASSWORD);
+static int record_with_secret(struct vault *it) {
+    return rigzumal_record_with_secret(TEXT, TAG, COSTS, ARRAY(salt), PASSWORD, SECRET);
 }
 
-static int new_record_with_secret(struct vault *vault) {
-    return rigzumal_record_with_secret(vault->text, sizeof vault->text, TAG, COSTS, salt,
-                                       sizeof salt, vault->password, PASSWORD, vault->secret,
-                                       SECRET);
+static int record_with_secret_in_threads(struct vault *it) {
+    return rigzumal_record_with_secret_threads(TEXT, TAG, COSTS, ARRAY(salt), PASSWORD, SECRET, 2);
 }
 
-static int written_record(struct vault *vault) {
-    struct rigzumal_argon2 numbers = {job_kind, job_version, 64, 1, 2};
-    return rigzumal_argon2_write(vault->text, sizeof vault->text, &numbers, salt, sizeof salt,
-                                 vault->tag, TAG);
+static int written_record(struct vault *it) {
+    struct rigzumal_argon2 numbers = argon2_numbers(64, 2);
+    return rigzumal_argon2_write(TEXT, &numbers, ARRAY(salt), ARRAY(it->tag));
 }
 
-static int right_check(struct vault *vault) {
-    return rigzumal_check(vault->record, vault->password, PASSWORD);
+static int check(struct vault *it) {
+    return rigzumal_check(RECORD(it->record), PASSWORD);
 }
 
-static int wrong_check(struct vault *vault) {
-    return rigzumal_check(vault->record, vault->password, PASSWORD - 1);
+static int scrypt_check(struct vault *it) {
+    return rigzumal_check(it->scrypt_record, PASSWORD);
 }
 
-static int right_scrypt_check(struct vault *vault) {
-    return rigzumal_check(vault->scrypt_record, vault->password, PASSWORD);
+static int check_in_threads(struct vault *it) {
+    return rigzumal_check_threads(it->record, PASSWORD, 2);
 }
 
-static int tag_in_threads(struct vault *vault) {
-    struct rigzumal_argon2 numbers = {job_kind, job_version, 4096, 1, 4};
-    return rigzumal_argon2_threads(vault->made, TAG, &numbers, vault->password, PASSWORD, salt,
-                                   sizeof salt, vault->secret, SECRET, NULL, 0, 4);
+static int check_with_secret(struct vault *it) {
+    return rigzumal_check_with_secret(RECORD(it->record_with_secret), PASSWORD, SECRET);
 }
 
-static int new_record_in_threads(struct vault *vault) {
-    return rigzumal_record_threads(vault->text, sizeof vault->text, TAG, COSTS, salt, sizeof salt,
-                                   vault->password, PASSWORD, 2);
+static int check_with_secret_in_threads(struct vault *it) {
+    return rigzumal_check_with_secret_threads(it->record_with_secret, PASSWORD, SECRET, 2);
 }
 
-static int new_record_in_threads_without_room(struct vault *vault) {
-    return rigzumal_record_threads(vault->text, 40, TAG, COSTS, salt, sizeof salt, vault->password,
-                                   PASSWORD, 2);
+static int record_fault(struct vault *it) {
+    return rigzumal_record_fault(RECORD(it->record));
 }
 
-static int new_record_with_secret_in_threads(struct vault *vault) {
-    return rigzumal_record_with_secret_threads(vault->text, sizeof vault->text, TAG, COSTS, salt,
-                                               sizeof salt, vault->password, PASSWORD,
-                                               vault->secret, SECRET, 2);
+static int setting_fault(struct vault *it) {
+    return rigzumal_setting_fault(has_trouble(it, BAD_RECORD) ? it->record : it->setting);
 }
 
-static int right_check_in_threads(struct vault *vault) {
-    return rigzumal_check_threads(vault->record, vault->password, PASSWORD, 2);
-}
-
-static int wrong_check_in_threads(struct vault *vault) {
-    return rigzumal_check_threads(vault->record, vault->password, PASSWORD - 1, 2);
-}
-
-static int check_with_secret_in_threads(struct vault *vault) {
-    return rigzumal_check_with_secret_threads(vault->record_with_secret, vault->password, PASSWORD,
-                                              vault->secret, SECRET, 2);
-}
-
-static int right_check_with_secret(struct vault *vault) {
-    return rigzumal_check_with_secret(vault->record_with_secret, vault->password, PASSWORD,
-                                      vault->secret, SECRET);
-}
-
-static int wrong_check_with_secret(struct vault *vault) {
-    return rigzumal_check_with_secret(vault->record_with_secret, vault->password, PASSWORD,
-                                      vault->secret, SECRET - 1);
-}
-
-static int bad_check(struct vault *vault) {
-    return rigzumal_check(vault->bad_record, vault->password, PASSWORD);
-}
-
-static int bad_check_with_secret(struct vault *vault) {
-    return rigzumal_check_with_secret(vault->bad_record, vault->password, PASSWORD, vault->secret,
-                                      SECRET);
-}
-
-static int record_fault(struct vault *vault) {
-    return rigzumal_record_fault(vault->record);
-}
-
-static int bad_record_fault(struct vault *vault) {
-    return rigzumal_record_fault(vault->bad_record);
-}
-
-static int setting_fault_of_record(struct vault *vault) {
-    return rigzumal_setting_fault(vault->record);
-}
-
-static int setting_fault(struct vault *vault) {
-    return rigzumal_setting_fault(vault->setting);
-}
-
-static int parts(struct vault *vault) {
+static int parts(struct vault *it) {
     struct rigzumal_parts parts;
-    return rigzumal_parts(&parts, vault->record);
+    return rigzumal_parts(&parts, it->record);
 }
 
-static argon2_context context_of(struct vault *vault) {
-    return (argon2_context){.out = vault->made,
+static int needs_rehash(struct vault *it) {
+    return rigzumal_needs_rehash(it->record, COSTS, sizeof salt, TAG);
+}
+
+static struct rigzumal_inputs inputs_of(const struct vault *it) {
+    return (struct rigzumal_inputs){PASSWORD, ARRAY(salt), SECRET, NO_BYTES, 2};
+}
+
+static int record_from(struct vault *it) {
+    struct rigzumal_inputs inputs = inputs_of(it);
+    return rigzumal_record_from(TEXT, TAG, COSTS, &inputs);
+}
+
+static int check_from(struct vault *it) {
+    struct rigzumal_inputs inputs = inputs_of(it);
+    return rigzumal_check_from(it->record_with_secret, &inputs);
+}
+
+/* The replies to each operation, if the password is right and if it is wrong. */
+static const struct {
+    uint32_t right, wrong;
+} replies[] = {
+    [RIGZUMAL_ENROL] = {RIGZUMAL_REPLY_ENROLLED, 0},
+    [RIGZUMAL_VERIFY] = {RIGZUMAL_REPLY_YES, RIGZUMAL_REPLY_NO},
+    [RIGZUMAL_CHANGE] = {RIGZUMAL_REPLY_REPLACED, RIGZUMAL_REPLY_WRONG},
+    [RIGZUMAL_UPGRADE] = {RIGZUMAL_REPLY_UPGRADED, RIGZUMAL_REPLY_WRONG},
+    [RIGZUMAL_REMOVE] = {RIGZUMAL_REPLY_REMOVED, RIGZUMAL_REPLY_WRONG},
+};
+
+/* OK or MISMATCH by the reply, and otherwise the fault, or -1. */
+static int verdict_of(int fault, uint32_t operation, uint32_t reply) {
+    if (look_at != NULL) {
+        look_at(&fault, sizeof fault);
+        look_at(&reply, sizeof reply);
+    }
+    if (fault != RIGZUMAL_OK || reply == replies[operation].right)
+        return fault;
+    return reply == replies[operation].wrong ? RIGZUMAL_MISMATCH : -1;
+}
+
+static int step(struct vault *it) {
+    uint32_t reply = 0, operation = it->job->number;
+    const char *copy = operation == RIGZUMAL_ENROL ? NULL : RECORD(it->record);
+    int fault = rigzumal_step(TEXT, &reply, operation, copy, PASSWORD, SECRET, DEARER);
+    return verdict_of(fault, operation, reply);
+}
+
+static int step_from(struct vault *it) {
+    struct rigzumal_step_inputs inputs = {
+        it->job->number, it->record_with_secret, PASSWORD, SECRET, DEARER, SECRET, 2};
+    uint32_t reply = 0;
+    int fault = rigzumal_step_from(TEXT, &reply, &inputs);
+    return verdict_of(fault, inputs.operation, reply);
+}
+
+/* The calls of argon2.h. */
+
+static argon2_context context_of(struct vault *it) {
+    return (argon2_context){.out = it->made,
                             .outlen = TAG,
-                            .pwd = vault->password,
-                            .pwdlen = PASSWORD,
+                            .pwd = it->password,
+                            .pwdlen = sizeof it->password - has_trouble(it, OTHER_PASSWORD),
                             .salt = (uint8_t *)(uintptr_t)salt,
                             .saltlen = sizeof salt,
-                            .secret = vault->secret,
-                            .secretlen = SECRET,
+                            .secret = it->secret,
+                            .secretlen = sizeof it->secret,
                             .t_cost = 1,
                             .m_cost = 64,
                             .lanes = 2,
@@ -177,271 +182,197 @@ static argon2_context context_of(struct vault *vault) {
                             .version = RIGZUMAL_VERSION_13};
 }
 
-static int libargon2_ctx(struct vault *vault) {
-    argon2_context context = context_of(vault);
-    return argon2_ctx(&context, ARGON2_TYPE_ID);
+static int libargon2_ctx(struct vault *it) {
+    argon2_context context = context_of(it);
+    return argon2_ctx(&context, Argon2_id);
 }
 
-static int libargon2_verify_ctx(struct vault *vault) {
-    argon2_context context = context_of(vault);
-    return argon2id_verify_ctx(&context, (const char *)vault->tag_with_secret);
+static int libargon2_verify_ctx(struct vault *it) {
+    argon2_context context = context_of(it);
+    return argon2id_verify_ctx(&context, (const char *)it->tag_with_secret);
 }
 
-static int libargon2_wrong_verify_ctx(struct vault *vault) {
-    argon2_context context = context_of(vault);
-    return argon2id_verify_ctx(&context, (const char *)vault->tag);
-}
-
-/* OK with one reply, MISMATCH with the other, and otherwise the fault, or -1. */
-static int answer_of(int fault, uint32_t reply, uint32_t right, uint32_t wrong) {
-    if (look_at != NULL) {
-        look_at(&fault, sizeof fault);
-        look_at(&reply, sizeof reply);
+/* What the caller wants cleared is cleared when the tag is made, and as it was after a refusal: a
+ * second try is of the same password. */
+static int clearing(struct vault *it, argon2_context context) {
+    context.pwd = memcpy(it->given_password, it->password, sizeof it->password);
+    context.secret = memcpy(it->given_secret, it->secret, sizeof it->secret);
+    context.flags = FLAG_CLEAR_PASSWORD | FLAG_CLEAR_SECRET;
+    int answer = argon2_ctx(&context, Argon2_id);
+    if (answer == ARGON2_OK) {
+        CHECK(context.pwdlen == 0 && is_all(it->given_password, 0, sizeof it->password));
+        CHECK(context.secretlen == 0 && is_all(it->given_secret, 0, sizeof it->secret));
+        return answer;
     }
-    if (fault != RIGZUMAL_OK || reply == right)
-        return fault;
-    return reply == wrong ? RIGZUMAL_MISMATCH : -1;
+    CHECK(context.pwdlen == sizeof it->password && context.secretlen == sizeof it->secret);
+    CHECK(memcmp(it->given_password, it->password, sizeof it->password) == 0);
+    CHECK(memcmp(it->given_secret, it->secret, sizeof it->secret) == 0);
+    memset(it->given_password, 0, sizeof it->password);
+    memset(it->given_secret, 0, sizeof it->secret);
+    return answer;
 }
 
-static int step(struct vault *vault, uint32_t operation, const char *copy, uint32_t right,
-                uint32_t wrong) {
-    uint32_t reply = 0;
-    int fault = rigzumal_step(vault->text, sizeof vault->text, &reply, operation, copy,
-                              vault->password, PASSWORD, vault->secret, SECRET, DEARER);
-    return answer_of(fault, reply, right, wrong);
+static int libargon2_clearing_ctx(struct vault *it) {
+    return clearing(it, context_of(it));
 }
 
-static int step_of_an_enrol(struct vault *vault) {
-    return step(vault, RIGZUMAL_ENROL, NULL, RIGZUMAL_REPLY_ENROLLED, 0);
-}
-
-static int step_of_a_verify(struct vault *vault) {
-    return step(vault, RIGZUMAL_VERIFY, vault->record, RIGZUMAL_REPLY_YES, RIGZUMAL_REPLY_NO);
-}
-
-static int step_of_a_change(struct vault *vault) {
-    return step(vault, RIGZUMAL_CHANGE, vault->record, RIGZUMAL_REPLY_REPLACED,
-                RIGZUMAL_REPLY_WRONG);
-}
-
-static int step_of_an_upgrade(struct vault *vault) {
-    return step(vault, RIGZUMAL_UPGRADE, vault->record, RIGZUMAL_REPLY_UPGRADED,
-                RIGZUMAL_REPLY_WRONG);
-}
-
-static int step_of_a_removal(struct vault *vault) {
-    return step(vault, RIGZUMAL_REMOVE, vault->record, RIGZUMAL_REPLY_REMOVED,
-                RIGZUMAL_REPLY_WRONG);
-}
-
-static int step_at_a_bad_record(struct vault *vault) {
-    return step(vault, RIGZUMAL_VERIFY, vault->bad_record, RIGZUMAL_REPLY_YES, RIGZUMAL_REPLY_NO);
-}
-
-static struct rigzumal_inputs inputs_of(const struct vault *vault) {
-    return (struct rigzumal_inputs){.password = vault->password,
-                                    .password_size = PASSWORD,
-                                    .salt = salt,
-                                    .salt_size = sizeof salt,
-                                    .secret = vault->secret,
-                                    .secret_size = SECRET,
-                                    .threads = 2};
-}
-
-static int record_from(struct vault *vault) {
-    struct rigzumal_inputs inputs = inputs_of(vault);
-    return rigzumal_record_from(vault->text, sizeof vault->text, TAG, COSTS, &inputs);
-}
-
-static int check_from(struct vault *vault) {
-    struct rigzumal_inputs inputs = inputs_of(vault);
-    return rigzumal_check_from(vault->record_with_secret, &inputs);
-}
-
-static int wrong_check_from(struct vault *vault) {
-    struct rigzumal_inputs inputs = inputs_of(vault);
-    inputs.associated = salt;
-    inputs.associated_size = 4;
-    return rigzumal_check_from(vault->record_with_secret, &inputs);
-}
-
-static int step_from(struct vault *vault, uint32_t operation, uint32_t right, uint32_t wrong) {
-    struct rigzumal_step_inputs inputs = {.operation = operation,
-                                          .copy = vault->record_with_secret,
-                                          .password = vault->password,
-                                          .password_size = PASSWORD,
-                                          .new_password = vault->secret,
-                                          .new_password_size = SECRET,
-                                          .setting = DEARER,
-                                          .secret = vault->secret,
-                                          .secret_size = SECRET,
-                                          .threads = 2};
-    uint32_t reply = 0;
-    int fault = rigzumal_step_from(vault->text, sizeof vault->text, &reply, &inputs);
-    return answer_of(fault, reply, right, wrong);
-}
-
-static int verify_from(struct vault *vault) {
-    return step_from(vault, RIGZUMAL_VERIFY, RIGZUMAL_REPLY_YES, RIGZUMAL_REPLY_NO);
-}
-
-static int change_from(struct vault *vault) {
-    return step_from(vault, RIGZUMAL_CHANGE, RIGZUMAL_REPLY_REPLACED, RIGZUMAL_REPLY_WRONG);
-}
-
-static int needs_rehash(struct vault *vault) {
-    return rigzumal_needs_rehash(vault->record, COSTS, sizeof salt, TAG);
-}
-
-static int libargon2_raw(struct vault *vault) {
-    return argon2id_hash_raw(1, 64, 2, vault->password, PASSWORD, salt, sizeof salt, vault->made,
-                             TAG);
-}
-
-static int libargon2_encoded(struct vault *vault) {
-    return OF_KIND(argon2i_hash_encoded, argon2id_hash_encoded)(
-        1, 64, 2, vault->password, PASSWORD, salt, sizeof salt, TAG, vault->text, ENCODED);
-}
-
-static int libargon2_encoded_without_room(struct vault *vault) {
-    return OF_KIND(argon2i_hash_encoded, argon2id_hash_encoded)(
-        1, 64, 2, vault->password, PASSWORD, salt, sizeof salt, TAG, vault->text, 60);
-}
-
-static int libargon2_verify(struct vault *vault) {
-    return OF_KIND(argon2i_verify, argon2id_verify)(vault->record, vault->password, PASSWORD);
-}
-
-static int libargon2_wrong_verify(struct vault *vault) {
-    return OF_KIND(argon2i_verify, argon2id_verify)(vault->record, vault->password, PASSWORD - 1);
-}
-
-static int libargon2_bad_verify(struct vault *vault) {
-    return OF_KIND(argon2i_verify, argon2id_verify)(vault->bad_record, vault->password, PASSWORD);
-}
-
-/* What no record of rigzumal.h holds. */
-static int libargon2_long_raw(struct vault *vault) {
-    return argon2id_hash_raw(1, 64, 2, vault->password, PASSWORD, salt, sizeof salt, vault->made,
-                             LONG_TAG);
-}
-
-static int libargon2_long_encoded(struct vault *vault) {
-    return OF_KIND(argon2i_hash_encoded, argon2id_hash_encoded)(
-        1, 64, 2, vault->password, PASSWORD, salt, sizeof salt, LONG_TAG, vault->text, ENCODED);
-}
-
-static int libargon2_long_verify(struct vault *vault) {
-    return OF_KIND(argon2i_verify, argon2id_verify)(vault->long_string, vault->password, PASSWORD);
-}
-
-static int libargon2_wrong_long_verify(struct vault *vault) {
-    return OF_KIND(argon2i_verify, argon2id_verify)(vault->long_string, vault->password,
-                                                    PASSWORD - 1);
-}
-
-static struct vault *of_memory;
+static int held; /* blocks of the context's own memory */
 
 static int allocate(uint8_t **memory, size_t size) {
-    *memory = size == sizeof of_memory->memory ? of_memory->memory : NULL;
-    return 0;
+    *memory = malloc(size);
+    held += *memory != NULL;
+    return *memory == NULL;
 }
 
-/* What isn't cleared by then counts as a trace. */
 static void give(uint8_t *memory, size_t size) {
-    (void)memory, (void)size;
+    CHECK(is_all(memory, 0, size));
+    held--;
+    free(memory);
 }
 
-static int libargon2_ctx_with_memory(struct vault *vault) {
-    argon2_context context = context_of(vault);
+static int libargon2_ctx_with_memory(struct vault *it) {
+    argon2_context context = context_of(it);
     context.allocate_cbk = allocate;
     context.free_cbk = give;
-    of_memory = vault;
-    int answer = argon2_ctx(&context, ARGON2_TYPE_ID);
-    return answer == ARGON2_OK && !is_all(vault->memory, 0, sizeof vault->memory) ? -1 : answer;
+    int answer = clearing(it, context);
+    CHECK(held == 0);
+    return answer;
 }
 
+static int libargon2_raw(struct vault *it) {
+    return argon2id_hash_raw(1, 64, 2, PASSWORD, ARRAY(salt), it->made, it->job->number);
+}
+
+static int libargon2_encoded(struct vault *it) {
+    return OF_KIND(argon2i_hash_encoded, argon2id_hash_encoded)(1, 64, 2, PASSWORD, ARRAY(salt),
+                                                                it->job->number, TEXT);
+}
+
+static int libargon2_verify(struct vault *it) {
+    const char *string = it->job->number == LONG_TAG ? it->long_string : it->record;
+    return OF_KIND(argon2i_verify, argon2id_verify)(RECORD(string), PASSWORD);
+}
+
+#define DONE RIGZUMAL_OK, NO_TROUBLE, 0
+#define DONE_WITH(number) RIGZUMAL_OK, NO_TROUBLE, number
+#define OF_ANOTHER RIGZUMAL_MISMATCH, OTHER_PASSWORD, 0
+#define WITH_ANOTHER RIGZUMAL_MISMATCH, OTHER_SECRET, 0
+#define OF_A_BAD_RECORD RIGZUMAL_SHAPE, BAD_RECORD, 0
+#define WITHOUT_ROOM RIGZUMAL_NO_ROOM, LITTLE_ROOM, 0
+#define STRING_OF_ANOTHER ARGON2_VERIFY_MISMATCH, OTHER_PASSWORD
+
 const struct job jobs[] = {
-    {"rigzumal_argon2, small", small_tag, RIGZUMAL_OK},
-    {"rigzumal_argon2 in areas", tag_of_areas, RIGZUMAL_OK},
-    {"rigzumal_argon2 in areas of its own", tag_of_own_areas, RIGZUMAL_OK},
-    {"rigzumal_scrypt, small", small_key, RIGZUMAL_OK},
-    {"rigzumal_scrypt in areas", key_of_areas, RIGZUMAL_OK},
-    {"rigzumal_record", new_record, RIGZUMAL_OK},
-    {"rigzumal_record without room", new_record_without_room, RIGZUMAL_NO_ROOM},
-    {"rigzumal_record of scrypt", new_scrypt_record, RIGZUMAL_OK},
-    {"rigzumal_record_with_secret", new_record_with_secret, RIGZUMAL_OK},
-    {"rigzumal_argon2_threads", tag_in_threads, RIGZUMAL_OK},
-    {"rigzumal_record_threads", new_record_in_threads, RIGZUMAL_OK},
-    {"rigzumal_record_threads without room", new_record_in_threads_without_room, RIGZUMAL_NO_ROOM},
-    {"rigzumal_record_with_secret_threads", new_record_with_secret_in_threads, RIGZUMAL_OK},
-    {"rigzumal_check_threads", right_check_in_threads, RIGZUMAL_OK},
-    {"rigzumal_check_threads of another password", wrong_check_in_threads, RIGZUMAL_MISMATCH},
-    {"rigzumal_check_with_secret_threads", check_with_secret_in_threads, RIGZUMAL_OK},
-    {"rigzumal_argon2_write", written_record, RIGZUMAL_OK},
-    {"rigzumal_check", right_check, RIGZUMAL_OK},
-    {"rigzumal_check of another password", wrong_check, RIGZUMAL_MISMATCH},
-    {"rigzumal_check of scrypt", right_scrypt_check, RIGZUMAL_OK},
-    {"rigzumal_check_with_secret", right_check_with_secret, RIGZUMAL_OK},
-    {"rigzumal_check_with_secret of another", wrong_check_with_secret, RIGZUMAL_MISMATCH},
-    {"rigzumal_check of a bad record", bad_check, RIGZUMAL_SHAPE},
-    {"rigzumal_check_with_secret of a bad record", bad_check_with_secret, RIGZUMAL_SHAPE},
-    {"rigzumal_record_fault", record_fault, RIGZUMAL_OK},
-    {"rigzumal_record_fault of a bad record", bad_record_fault, RIGZUMAL_SHAPE},
-    {"rigzumal_setting_fault of a record", setting_fault_of_record, RIGZUMAL_SHAPE},
-    {"rigzumal_setting_fault", setting_fault, RIGZUMAL_OK},
-    {"rigzumal_parts", parts, RIGZUMAL_OK},
-    {"rigzumal_step of an enrol", step_of_an_enrol, RIGZUMAL_OK},
-    {"rigzumal_step of a verify", step_of_a_verify, RIGZUMAL_OK},
-    {"rigzumal_step of a change", step_of_a_change, RIGZUMAL_OK},
-    {"rigzumal_step of an upgrade", step_of_an_upgrade, RIGZUMAL_OK},
-    {"rigzumal_step of a removal", step_of_a_removal, RIGZUMAL_OK},
-    {"rigzumal_step at a bad record", step_at_a_bad_record, RIGZUMAL_COPY},
-    {"rigzumal_record_from", record_from, RIGZUMAL_OK},
-    {"rigzumal_check_from", check_from, RIGZUMAL_OK},
-    {"rigzumal_check_from of another", wrong_check_from, RIGZUMAL_MISMATCH},
-    {"rigzumal_step_from of a verify", verify_from, RIGZUMAL_OK},
-    {"rigzumal_step_from of a change", change_from, RIGZUMAL_OK},
-    {"rigzumal_needs_rehash", needs_rehash, RIGZUMAL_OK},
-    {"argon2_ctx", libargon2_ctx, ARGON2_OK},
-    {"argon2id_verify_ctx", libargon2_verify_ctx, ARGON2_OK},
-    {"argon2id_verify_ctx of another tag", libargon2_wrong_verify_ctx, ARGON2_VERIFY_MISMATCH},
-    {"argon2id_hash_raw", libargon2_raw, ARGON2_OK},
-    {"argon2id_hash_encoded", libargon2_encoded, ARGON2_OK},
-    {"argon2id_hash_encoded without room", libargon2_encoded_without_room, -31},
-    {"argon2id_verify", libargon2_verify, ARGON2_OK},
-    {"argon2id_verify of another password", libargon2_wrong_verify, ARGON2_VERIFY_MISMATCH},
-    {"argon2id_hash_raw of a long tag", libargon2_long_raw, ARGON2_OK},
-    {"argon2id_hash_encoded of a long tag", libargon2_long_encoded, ARGON2_OK},
-    {"argon2id_verify of a long tag", libargon2_long_verify, ARGON2_OK},
-    {"argon2id_verify of a long tag and another password", libargon2_wrong_long_verify,
-     ARGON2_VERIFY_MISMATCH},
-    {"argon2_ctx with its own memory", libargon2_ctx_with_memory, ARGON2_OK},
-    {"argon2id_verify of a bad string", libargon2_bad_verify, ARGON2_DECODING_FAIL},
+    {"rigzumal_argon2, small", tag, DONE_WITH(64)},
+    {"rigzumal_argon2 in areas", tag_with_secret, DONE_WITH(24576)},
+    {"rigzumal_argon2 in areas of its own", tag_with_secret, DONE_WITH(69632)},
+    {"rigzumal_argon2_threads", tag_in_threads, DONE_WITH(4096)},
+    {"rigzumal_argon2_threads in areas of its own", tag_in_threads, DONE_WITH(69632)},
+    {"rigzumal_scrypt, small", key, DONE_WITH(4)},
+    {"rigzumal_scrypt in areas", key, DONE_WITH(12)},
+    {"rigzumal_record", record, DONE},
+    {"rigzumal_record without room", record, WITHOUT_ROOM},
+    {"rigzumal_record of scrypt", scrypt_record, DONE},
+    {"rigzumal_record_threads", record_in_threads, DONE},
+    {"rigzumal_record_threads without room", record_in_threads, WITHOUT_ROOM},
+    {"rigzumal_record_with_secret", record_with_secret, DONE},
+    {"rigzumal_record_with_secret_threads", record_with_secret_in_threads, DONE},
+    {"rigzumal_record_from", record_from, DONE},
+    {"rigzumal_argon2_write", written_record, DONE},
+    {"rigzumal_check", check, DONE},
+    {"rigzumal_check of another password", check, OF_ANOTHER},
+    {"rigzumal_check of a bad record", check, OF_A_BAD_RECORD},
+    {"rigzumal_check of scrypt", scrypt_check, DONE},
+    {"rigzumal_check_threads", check_in_threads, DONE},
+    {"rigzumal_check_threads of another password", check_in_threads, OF_ANOTHER},
+    {"rigzumal_check_with_secret", check_with_secret, DONE},
+    {"rigzumal_check_with_secret, another", check_with_secret, WITH_ANOTHER},
+    {"rigzumal_check_with_secret of a bad record", check_with_secret, OF_A_BAD_RECORD},
+    {"rigzumal_check_with_secret_threads", check_with_secret_in_threads, DONE},
+    {"rigzumal_check_from", check_from, DONE},
+    {"rigzumal_check_from, another secret", check_from, WITH_ANOTHER},
+    {"rigzumal_record_fault", record_fault, DONE},
+    {"rigzumal_record_fault of a bad record", record_fault, OF_A_BAD_RECORD},
+    {"rigzumal_setting_fault", setting_fault, DONE},
+    {"rigzumal_setting_fault of a record", setting_fault, OF_A_BAD_RECORD},
+    {"rigzumal_parts", parts, DONE},
+    {"rigzumal_needs_rehash", needs_rehash, DONE},
+    {"rigzumal_step of an enrol", step, DONE_WITH(RIGZUMAL_ENROL)},
+    {"rigzumal_step of a verify", step, DONE_WITH(RIGZUMAL_VERIFY)},
+    {"rigzumal_step of a change", step, DONE_WITH(RIGZUMAL_CHANGE)},
+    {"rigzumal_step of an upgrade", step, DONE_WITH(RIGZUMAL_UPGRADE)},
+    {"rigzumal_step of a removal", step, DONE_WITH(RIGZUMAL_REMOVE)},
+    {"rigzumal_step at a bad record", step, RIGZUMAL_COPY, BAD_RECORD, RIGZUMAL_VERIFY},
+    {"rigzumal_step_from of a verify", step_from, DONE_WITH(RIGZUMAL_VERIFY)},
+    {"rigzumal_step_from of a change", step_from, DONE_WITH(RIGZUMAL_CHANGE)},
+    {"argon2_ctx", libargon2_ctx, DONE},
+    {"argon2_ctx that clears", libargon2_clearing_ctx, DONE},
+    {"argon2_ctx with its own memory", libargon2_ctx_with_memory, DONE},
+    {"argon2id_verify_ctx", libargon2_verify_ctx, DONE},
+    {"argon2id_verify_ctx of another", libargon2_verify_ctx, STRING_OF_ANOTHER, 0},
+    {"argon2id_hash_raw", libargon2_raw, DONE_WITH(TAG)},
+    {"argon2id_hash_raw of a long tag", libargon2_raw, DONE_WITH(LONG_TAG)},
+    {"argon2id_hash_encoded", libargon2_encoded, DONE_WITH(TAG)},
+    {"argon2id_hash_encoded without room", libargon2_encoded, ARGON2_ENCODING_FAIL, LITTLE_ROOM,
+     TAG},
+    {"argon2id_hash_encoded of a long tag", libargon2_encoded, DONE_WITH(LONG_TAG)},
+    {"argon2id_verify", libargon2_verify, DONE_WITH(TAG)},
+    {"argon2id_verify of another", libargon2_verify, STRING_OF_ANOTHER, TAG},
+    {"argon2id_verify of a bad string", libargon2_verify, ARGON2_DECODING_FAIL, BAD_RECORD, TAG},
+    {"argon2id_verify of a long tag", libargon2_verify, DONE_WITH(LONG_TAG)},
+    {"argon2id_verify of another's long tag", libargon2_verify, STRING_OF_ANOTHER, LONG_TAG},
 };
 
 const int job_count = sizeof jobs / sizeof jobs[0];
 
+int answer_of(const struct job *job, struct vault *vault) {
+    vault->job = job;
+    int answer = job->call(vault);
+    vault->job = NULL;
+    return answer;
+}
+
+bool is_refused(const struct job *job, const struct vault *given, const struct vault *wanted) {
+    bool is_of_argon2_h = strncmp(job->name, "argon2", 6) == 0;
+    static struct vault left;
+    left = *given;
+    int answer = answer_of(job, &left);
+    bool is_right = answer == job->answer;
+    CHECK(memcmp(&left, is_right ? wanted : given, sizeof left) == 0);
+    if (!is_right)
+        CHECK_NUMBER(answer, is_of_argon2_h ? ARGON2_MEMORY_ALLOCATION_ERROR : RIGZUMAL_MEMORY);
+    return !is_right;
+}
+
+/* Makes what a call that differs in no more than a number writes. */
+static void make(struct vault *vault, int (*call)(struct vault *vault), uint32_t number) {
+    struct job job = {"", call, DONE_WITH(number)};
+    CHECK_NUMBER(answer_of(&job, vault), RIGZUMAL_OK);
+}
+
 void fill_vault(struct vault *vault) {
-    for (size_t i = 0; i < PASSWORD; i++)
+    memset(vault, 0, sizeof *vault);
+    for (size_t i = 0; i < sizeof vault->password; i++)
         vault->password[i] = (unsigned char)(i * 197 + 71);
-    for (size_t i = 0; i < SECRET; i++)
+    for (size_t i = 0; i < sizeof vault->secret; i++)
         vault->secret[i] = (unsigned char)(i * 163 + 37);
-    CHECK_NUMBER(argon2_into(vault->tag, vault, 64, 0), RIGZUMAL_OK);
-    CHECK_NUMBER(argon2_into(vault->tag_with_secret, vault, 64, SECRET), RIGZUMAL_OK);
-    CHECK_NUMBER(key_into(vault->key, vault, 4), RIGZUMAL_OK);
-    CHECK_NUMBER(libargon2_long_raw(vault), ARGON2_OK);
+    make(vault, tag, 64);
+    memcpy(vault->tag, vault->made, TAG);
+    make(vault, tag_with_secret, 64);
+    memcpy(vault->tag_with_secret, vault->made, TAG);
+    make(vault, key, 4);
+    memcpy(vault->key, vault->made, KEY);
+    make(vault, libargon2_raw, LONG_TAG);
     memcpy(vault->long_tag, vault->made, LONG_TAG);
-    CHECK_NUMBER(libargon2_long_encoded(vault), ARGON2_OK);
-    memcpy(vault->long_string, vault->text, ENCODED);
-    CHECK_NUMBER(new_record_with_secret(vault), RIGZUMAL_OK);
-    memcpy(vault->record_with_secret, vault->text, sizeof vault->text);
-    CHECK_NUMBER(new_scrypt_record(vault), RIGZUMAL_OK);
-    memcpy(vault->scrypt_record, vault->text, sizeof vault->text);
-    CHECK_NUMBER(new_record(vault), RIGZUMAL_OK);
-    memcpy(vault->record, vault->text, sizeof vault->text);
-    memcpy(vault->bad_record, vault->text, sizeof vault->text);
-    strcat(vault->bad_record, "$");
-    strcpy(vault->setting, COSTS);
-    strcat(vault->setting, strrchr(vault->record, '$'));
+    make(vault, libargon2_encoded, LONG_TAG);
+    strcpy(vault->long_string, vault->text);
+    make(vault, record_with_secret, 0);
+    strcpy(vault->record_with_secret, vault->text);
+    make(vault, scrypt_record, 0);
+    strcpy(vault->scrypt_record, vault->text);
+    make(vault, record, 0);
+    strcpy(vault->record, vault->text);
+    strcat(strcpy(vault->bad_record, vault->record), "$");
+    strcat(strcpy(vault->setting, COSTS), strrchr(vault->record, '$'));
+    memset(vault->text, 0, sizeof vault->text);
+    memset(vault->made, 0, sizeof vault->made);
 }

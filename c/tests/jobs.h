@@ -4,13 +4,18 @@
 
 #include "rigzumal.h"
 
+#include <stdbool.h>
 #include <stddef.h>
 
 enum { TAG = 40, KEY = 48, ENCODED = 200, LONG_TAG = 80 };
 
+/* What is wrong with a call's inputs. */
+enum trouble { NO_TROUBLE, OTHER_PASSWORD, OTHER_SECRET, BAD_RECORD, LITTLE_ROOM };
+
 /* All secrets, and all that is written: nothing of it may stand elsewhere after a call. */
 struct vault {
     unsigned char password[48], secret[40];
+    unsigned char given_password[48], given_secret[40]; /* those that a call clears */
     unsigned char tag[TAG], tag_with_secret[TAG], key[KEY], long_tag[LONG_TAG];
     char long_string[ENCODED]; /* of argon2.h, with the long tag */
     char record[RIGZUMAL_TEXT_SIZE], bad_record[RIGZUMAL_TEXT_SIZE];
@@ -18,13 +23,15 @@ struct vault {
     char setting[RIGZUMAL_TEXT_SIZE]; /* with the tag where a salt ought to be */
     char text[RIGZUMAL_TEXT_SIZE];
     unsigned char made[LONG_TAG];
-    _Alignas(64) unsigned char memory[64 * 1024]; /* for a context */
+    const struct job *job; /* that is under way */
 };
 
 struct job {
     const char *name;
     int (*call)(struct vault *vault);
     int answer;
+    enum trouble trouble;
+    uint32_t number; /* a cost, an operation or a size, where a call has one that differs */
 };
 
 extern const struct job jobs[];
@@ -38,5 +45,12 @@ extern void (*look_at)(void *answer, size_t size);
 
 /* Fills the vault: the secrets by a rule, and the rest by the calls. */
 void fill_vault(struct vault *vault);
+
+/* What a job's call answers. */
+int answer_of(const struct job *job, struct vault *vault);
+
+/* Whether there is too little memory for a job's call, which writes nothing then, and otherwise
+ * what is wanted. */
+bool is_refused(const struct job *job, const struct vault *given, const struct vault *wanted);
 
 #endif

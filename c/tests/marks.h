@@ -12,7 +12,7 @@
 enum { MARKS = 1024 };
 
 /* Leaves marks on 8 KiB of the stack below. */
-static __attribute__((noinline)) void leave_marks(void) {
+static __attribute__((noinline, unused)) void leave_marks(void) {
     uint64_t marks[MARKS];
     for (int i = 0; i < MARKS; i++)
         marks[i] = MARK;
@@ -20,7 +20,7 @@ static __attribute__((noinline)) void leave_marks(void) {
 }
 
 /* How many stand in the writable memory of the process, but for the first thread's stack. */
-static int marks_left(void) {
+static inline int marks_left(void) {
     FILE *maps = fopen("/proc/self/maps", "r");
     CHECK(maps != NULL);
     char line[512], rights[5];

@@ -59,7 +59,7 @@ static struct job job_of(const char *name) {
             return jobs[i];
     CHECK(strcmp(name, "leaking_check") == 0);
     memcpy(vault.made, vault.password, sizeof vault.password);
-    return (struct job){name, leaking_check, RIGZUMAL_OK};
+    return (struct job){name, leaking_check, RIGZUMAL_OK, NO_TROUBLE, 0};
 }
 
 /* Which byte of the text's tag is wrong. */
@@ -75,11 +75,11 @@ static void do_damage(char *text, enum damage damage) {
 
 /* How many jumps and addresses depend on secrets in a call that answers so. */
 static unsigned leaks_of(const struct job *job, int wanted) {
-    hide(vault.password, sizeof vault.password);
-    hide(vault.secret, sizeof vault.secret);
-    hide(vault.tag, sizeof vault.tag);
+    hide(ARRAY(vault.password));
+    hide(ARRAY(vault.secret));
+    hide(ARRAY(vault.tag));
     unsigned before = VALGRIND_COUNT_ERRORS;
-    int answer = job->call(&vault);
+    int answer = answer_of(job, &vault);
     show(&answer, sizeof answer);
     unsigned leaks = VALGRIND_COUNT_ERRORS - before;
     show(&vault, sizeof vault);

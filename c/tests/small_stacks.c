@@ -28,7 +28,7 @@ static void unmap_stack(unsigned char *stack, size_t size) {
 }
 
 static void call(void) {
-    answer = job->call(&vault);
+    answer = answer_of(job, &vault);
 }
 
 static void call_on_stack(void) {

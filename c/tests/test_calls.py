@@ -1,28 +1,15 @@
 """Tests of each call, of the choice of a build, and of what the libraries show."""
 
 import re
-import shutil
 import unittest
 
-from harness import (
-    IN_THREADS,
-    ARCHIVE,
-    LIBARGON2,
-    ORIGINAL,
-    OUT,
-    ROOM,
-    SANITIZED,
-    SOURCES,
-    TOP,
-    VALGRIND,
-    WARNINGS,
-    built,
-    need,
-    run,
-    sources_for,
-)
+import harness
+from harness import IN_THREADS, ARCHIVE, LIBARGON2, ORIGINAL, OUT, ROOM, SANITIZED, SOURCES
+from harness import TOP, VALGRIND, WARNINGS, built, need, run, sources_for
 
 
+# The calls that hash, with threads and without.
+HASHING = (("calls", []), ("steps", [IN_THREADS]), ("calls_in_threads", [IN_THREADS]))
 BUILDS = {"v1", "v2", "v3"}
 
 
@@ -64,21 +51,19 @@ class Calls(unittest.TestCase):
 
     def test_calls(self):
         """Each call, under the sanitizers."""
-        run(built("calls", SANITIZED, SOURCES))
-
-    def test_inputs(self):
-        """The calls that take their inputs by name, and what reads costs, under the sanitizers."""
-        run(built("inputs", SANITIZED, SOURCES))
+        for name in ("calls", "texts", "inputs", "steps"):
+            run(built(name, [*SANITIZED, IN_THREADS], SOURCES))
 
     def test_calls_of_each_build(self):
-        """Each call as on processors of each level, under the sanitizers."""
+        """Each call that hashes as on processors of each level, under the sanitizers."""
         for build in sorted(BUILDS):
-            run(built("calls", SANITIZED, with_one_build(build)))
-            run(built("calls_in_threads", ["-O2", IN_THREADS], LIBARGON2 + with_one_build(build)))
+            for name, flags in HASHING:
+                run(built(name, [*SANITIZED, *flags], LIBARGON2 + with_one_build(build)))
 
     def test_calls_under_valgrind(self):
         need("valgrind")
-        run(*VALGRIND, built("calls", ["-O2"], SOURCES))
+        for name, flags in HASHING:
+            run(*VALGRIND, built(name, ["-O2", *flags], LIBARGON2 + SOURCES))
 
     def test_drawn_salts(self):
         """Salts of each size are what getrandom gives."""
@@ -93,32 +78,24 @@ class Calls(unittest.TestCase):
         wanted.update({f"Haswell,-{feature}": "v2" for feature in LEVEL_3})
         for name, build in wanted.items():
             chosen = run("qemu-x86_64", "-cpu", name, program).split()[-1]
-            if chosen != build:
-                self.fail(f"{name}: {chosen}, and not {build}")
+            self.assertEqual(chosen, build, name)
         for kept in (1, 3, 5):  # the bits of x87, SSE and AVX: not both of the last two
             system = [f'-DREAD_KEPT_REGISTERS="mov ${kept}, %0; mov $0, %1"', "-O2", "-static"]
-            chosen = run(
-                "qemu-x86_64", "-cpu", "Haswell", built("processor", system, ["src/processor.c"])
-            ).split()[-1]
-            if chosen != "v2":
-                self.fail(f"a system that keeps the registers {kept}: {chosen}, and not v2")
+            program = built("processor", system, ["src/processor.c"])
+            chosen = run("qemu-x86_64", "-cpu", "Haswell", program).split()[-1]
+            self.assertEqual(chosen, "v2", f"a system that keeps the registers {kept}")
 
     def test_calls_on_processors(self):
         """Each call on a processor of each level, which knows no instructions of the next one."""
         need("qemu-x86_64")
-        programs = (
-            built("calls", ["-O2", "-static"], SOURCES),
-            built("calls_in_threads", ["-O2", "-static", IN_THREADS], LIBARGON2 + SOURCES),
-        )
-        for name in ("qemu64", "Nehalem", "Haswell"):
-            for program in programs:
-                run("qemu-x86_64", "-cpu", name, program)
+        for name, flags in HASHING:
+            program = built(name, ["-O2", "-static", *flags], LIBARGON2 + SOURCES)
+            for processor in ("qemu64", "Nehalem", "Haswell"):
+                run("qemu-x86_64", "-cpu", processor, program)
 
     def test_older_compilers(self):
         """The oldest compilers that Debian has, under all warnings."""
-        missing = [name for name in ("gcc-11", "clang-13") if shutil.which(name) is None]
-        if missing:
-            self.skipTest(f"{' and '.join(missing)} not there")
+        need("gcc-11", "clang-13")
         for name in ("gcc-11", "clang-13"):
             program = ROOM / f"calls-of-{name}"
             run(name, "-O2", *WARNINGS, "tests/calls.c", *SOURCES, *LIBARGON2, "-o", program)
@@ -127,50 +104,30 @@ class Calls(unittest.TestCase):
     def test_header_in_cpp(self):
         """The header is one of C++ too."""
         need("c++")
-        source = ROOM / "header.cc"
-        source.write_text(
-            '#include "rigzumal.h"\nint main() { return rigzumal_strerror(0) == nullptr; }\n'
-        )
-        run(
-            "c++",
-            "-Wall",
-            "-Wextra",
-            "-Wpedantic",
-            "-Werror",
-            "-Iinclude",
-            source,
-            *ARCHIVE,
-            "-o",
-            ROOM / "header",
-        )
-        run(ROOM / "header")
+        source, program = ROOM / "header.cc", ROOM / "header"
+        main = "int main() { return rigzumal_strerror(0) == nullptr; }"
+        source.write_text(f'#include "rigzumal.h"\n{main}\n')
+        run("c++", *harness.ALL_WARNINGS.split(), "-Iinclude", source, *ARCHIVE, "-o", program)
+        run(program)
 
     def test_symbols(self):
         """The libraries show their calls and no others: those of the header, and the original's."""
 
         def shown(library):
-            return set(
-                run("nm", "-D", "--defined-only", "--without-symbol-versions", library).split()[
-                    2::3
-                ]
-            )
+            words = ("nm", "-D", "--defined-only", "--without-symbol-versions", library)
+            return set(run(*words).split()[2::3])
 
         header = (TOP / "include/rigzumal.h").read_text()
-        declared = set(
-            re.findall(r"^(?:int|size_t|const char \*)\s*(rigzumal_\w+)\(", header, re.MULTILINE)
-        )
+        form = r"^(?:int|size_t|const char \*)\s*(rigzumal_\w+)\("
+        declared = set(re.findall(form, header, re.MULTILINE))
         added = {it for it in declared if it.startswith("rigzumal_libargon2_")}
-        ours = shown(OUT / "librigzumal.so.1") - {"RIGZUMAL_1"}
-        if ours != declared - added:
-            self.fail(str(ours ^ declared))
+        self.assertEqual(shown(OUT / "librigzumal.so.1") - {"RIGZUMAL_1"}, declared - added)
         for name in ("librigzumal.so.1", "libargon2.so.1"):
-            if f"[{name}]" not in run("readelf", "-d", OUT / name):
-                self.fail(f"{name} has another soname")
+            self.assertIn(f"[{name}]", run("readelf", "-d", OUT / name))
         ours = shown(OUT / "libargon2.so.1")
-        if len(added) != 2 or not added < ours or len(ours) != 22 + len(added):
-            self.fail(str(ours))
-        if ORIGINAL.exists() and ours - added != shown(ORIGINAL):
-            self.fail(str(ours ^ shown(ORIGINAL)))
+        self.assertEqual((len(added), len(ours - added), added - ours), (2, 22, set()))
+        if ORIGINAL.exists():
+            self.assertEqual(ours - added, shown(ORIGINAL))
 
 
 if __name__ == "__main__":

@@ -4,24 +4,8 @@ import shutil
 import sys
 import unittest
 
-from harness import (
-    HERE,
-    IN_THREADS,
-    LIBARGON2,
-    ORIGINAL,
-    OURS,
-    OUT,
-    ROOM,
-    SANITIZED,
-    SOURCES,
-    WARNINGS,
-    compiler,
-    need,
-    need_module,
-    need_original,
-    passlibs,
-    run,
-)
+from harness import HERE, IN_THREADS, LIBARGON2, ORIGINAL, OURS, OUT, ROOM, SANITIZED, SOURCES
+from harness import WARNINGS, compiler, need, need_module, need_original, passlibs, run
 
 
 class Libargon2(unittest.TestCase):
@@ -34,19 +18,8 @@ class Libargon2(unittest.TestCase):
         """The same with our C under the sanitizers and all lanes in threads, over other calls."""
         need_original()
         library = ROOM / "sanitized.so"
-        sources = [*LIBARGON2, *SOURCES]
-        run(
-            compiler(),
-            *WARNINGS,
-            *SANITIZED,
-            IN_THREADS,
-            "-fPIC",
-            "-shared",
-            "-Wl,-Bsymbolic",
-            *sources,
-            "-o",
-            library,
-        )
+        flags = [*WARNINGS, *SANITIZED, IN_THREADS, "-fPIC", "-shared", "-Wl,-Bsymbolic"]
+        run(compiler(), *flags, *LIBARGON2, *SOURCES, "-o", library)
         asan = run(compiler(), "-print-file-name=libasan.so").strip()
         env = {"LD_PRELOAD": asan, "ASAN_OPTIONS": "detect_leaks=0"}
         run(sys.executable, HERE / "against_libargon2.py", library, ORIGINAL, "2", env=env)
@@ -55,11 +28,7 @@ class Libargon2(unittest.TestCase):
         """passlib's own tests for Argon2 run as with the original."""
         need_original()
         need_module("argon2", "passlib.tests.test_handlers_argon2")
-        ours, theirs = passlibs("test_handlers_argon2", OURS), passlibs(
-            "test_handlers_argon2", None
-        )
-        if ours != theirs:
-            self.fail(f"ours {ours}, theirs {theirs}")
+        self.assertEqual(*(passlibs("test_handlers_argon2", env) for env in (OURS, None)))
 
     def test_php(self):
         """password_hash under each library, password_verify under the other."""
@@ -67,16 +36,14 @@ class Libargon2(unittest.TestCase):
         need("php")
         if "libargon2" not in run("ldd", shutil.which("php")):
             self.skipTest("php has no libargon2")
+        costs = "['memory_cost' => 1024, 'time_cost' => 2, 'threads' => 1]"
+        verify = "foreach (['a secret', 'A secret'] as $p) var_dump(password_verify($p, $argv[1]));"
         for maker, reader in ((OURS, {}), ({}, OURS), (OURS, OURS)):
             for kind in ("PASSWORD_ARGON2I", "PASSWORD_ARGON2ID"):
-                costs = "['memory_cost' => 1024, 'time_cost' => 2, 'threads' => 1]"
-                record = run(
-                    "php", "-r", f"echo password_hash('a secret', {kind}, {costs});", env=maker
-                )
-                script = "foreach (['a secret', 'A secret'] as $p) var_dump(password_verify($p, $argv[1]));"
-                answers = run("php", "-r", script, "--", record, env=reader).split()
-                if answers != ["bool(true)", "bool(false)"]:
-                    self.fail(f"{record}: {answers}")
+                make = f"echo password_hash('a secret', {kind}, {costs});"
+                record = run("php", "-r", make, env=maker)
+                answers = run("php", "-r", verify, "--", record, env=reader).split()
+                self.assertEqual(answers, ["bool(true)", "bool(false)"], record)
 
     def test_cryptsetup(self):
         """A LUKS2 header made under each library is opened under the other."""
@@ -86,21 +53,13 @@ class Libargon2(unittest.TestCase):
             run("cryptsetup", "benchmark", "--pbkdf", "argon2id")
         except AssertionError as refused:
             self.skipTest(f"cryptsetup does not run here: {refused}")
-        costs = "--type luks2 --pbkdf argon2id --pbkdf-memory 4096 --pbkdf-parallel 2 --pbkdf-force-iterations 4"
+        costs = "--type luks2 --pbkdf argon2id --pbkdf-memory 4096 --pbkdf-parallel 2"
+        made = f"cryptsetup -q luksFormat {costs} --pbkdf-force-iterations 4".split()
         for number, (maker, reader) in enumerate(((OURS, {}), ({}, OURS))):
             image = ROOM / f"image{number}"
             with open(image, "wb") as file:
                 file.truncate(32 << 20)
-            run(
-                "cryptsetup",
-                "-q",
-                "luksFormat",
-                *costs.split(),
-                image,
-                "-",
-                given="a secret",
-                env=maker,
-            )
+            run(*made, image, "-", given="a secret", env=maker)
             test = ("cryptsetup", "open", "--test-passphrase", "--key-file", "-", image)
             run(*test, given="a secret", env=reader)
             run(*test, given="A secret", env=reader, status=2)

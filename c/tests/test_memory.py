@@ -2,26 +2,18 @@
 
 import unittest
 
-from harness import (
-    IN_THREADS,
-    LIBARGON2,
-    OUT,
-    SANITIZED,
-    SOURCES,
-    VALGRIND,
-    built,
-    need,
-    run,
-)
+from harness import IN_THREADS, LIBARGON2, OUT, SANITIZED, SOURCES, VALGRIND, built, need, run
 
 
 MIB = 1024 * 1024
+REFUSED = [IN_THREADS, "tests/jobs.c"]
 
 
 class Memory(unittest.TestCase):
     def test_heap(self):
-        """The memory by itself, under the sanitizers."""
-        run(built("heap", SANITIZED, ["src/heap.c"]))
+        """The memory by itself, its blocks and its areas, under the sanitizers."""
+        for name in ("heap", "mappings"):
+            run(built(name, SANITIZED, ["tests/watched_memory.c", "src/heap.c"]))
 
     def test_kept_areas(self):
         """Kept areas go to one thread at a time."""
@@ -39,8 +31,7 @@ class Memory(unittest.TestCase):
             ("", "16 32 64 60 64"),
         ):
             found = run(program, env={} if bound is None else {"RIGZUMAL_KEEP": bound}).strip()
-            if found != kept:
-                self.fail(f"RIGZUMAL_KEEP={bound}: {found}, and not {kept}")
+            self.assertEqual(found, kept, f"RIGZUMAL_KEEP={bound}")
 
     def test_forked_children(self):
         run(built("forked", ["-O2"], SOURCES))
@@ -50,16 +41,16 @@ class Memory(unittest.TestCase):
 
     def test_refused_memory(self):
         """Each request for memory refused in turn, under the sanitizers."""
-        run(built("refused", [*SANITIZED, IN_THREADS], LIBARGON2 + SOURCES))
+        run(built("refused", [*SANITIZED, *REFUSED], LIBARGON2 + SOURCES))
 
     def test_refused_memory_under_valgrind(self):
         need("valgrind")
-        run(*VALGRIND, built("refused", ["-O2", IN_THREADS], LIBARGON2 + SOURCES))
+        run(*VALGRIND, built("refused", ["-O2", *REFUSED], LIBARGON2 + SOURCES))
 
     def test_limited_memory(self):
         """Calls of a process that may map little, of the libraries as they are installed."""
         libraries = ["out/librigzumal.so", "out/libargon2.so.1", f"-Wl,-rpath,{OUT}"]
-        run(built("limited", ["-O2"], libraries))
+        run(built("limited", ["-O2", "tests/jobs.c"], libraries))
 
 
 if __name__ == "__main__":

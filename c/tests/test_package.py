@@ -1,6 +1,5 @@
 """Tests of what is installed and packed of the library."""
 
-import pathlib
 import re
 import shutil
 import stat
@@ -86,12 +85,10 @@ class Package(unittest.TestCase):
         need("pkg-config")
         prefix = ROOM / "installed"
         run("sh", "-c", f"umask 077; make install PREFIX={prefix}")
-        if files_below(prefix) != INSTALLED:
-            self.fail(f"not the same: {files_below(prefix) ^ INSTALLED}")
+        self.assertEqual(files_below(prefix), INSTALLED)
         for it in prefix.rglob("*"):  # everybody may read it, whoever installed it
             wanted = 0o755 if it.is_dir() else 0o644
-            if stat.S_IMODE(it.stat().st_mode) != wanted:
-                self.fail(f"{it} has the mode {it.stat().st_mode:o}")
+            self.assertEqual(stat.S_IMODE(it.stat().st_mode), wanted, it)
         env = {
             "PKG_CONFIG_PATH": str(prefix / "lib/pkgconfig"),
             "LD_LIBRARY_PATH": str(prefix / "lib"),
@@ -149,32 +146,25 @@ class Package(unittest.TestCase):
             for name in others if with_others else ():
                 (room / name).write_text("of another")
             run("make", "uninstall", *words)
-            left = files_below(room)
-            if left != (others if with_others else set()):
-                self.fail(f"left after uninstall: {left}")
-            for folder in () if with_others else ("rigzumal", "cmake/rigzumal"):
-                if (room / "opt/rigzumal/lib" / folder).exists():
-                    self.fail(f"the folder {folder} is left")
+            self.assertEqual(files_below(room), others if with_others else set())
+            for folder in ("rigzumal", "cmake/rigzumal"):
+                left = (room / "opt/rigzumal/lib" / folder).exists()
+                self.assertEqual(left, with_others, folder)
 
     def test_installed_elsewhere(self):
         """DESTDIR is where files are put, and stands in none of them."""
         room = ROOM / "destination"
         run("make", "install", f"DESTDIR={room}", "PREFIX=/opt/rigzumal")
         config = (room / "opt/rigzumal/lib/pkgconfig/rigzumal.pc").read_text()
-        if not config.startswith("prefix=/opt/rigzumal\n") or "@" in config:
-            self.fail(config)
-        held = {str(pathlib.Path("opt/rigzumal") / name) for name in INSTALLED}
-        if files_below(room) != held:
-            self.fail(f"not the same: {files_below(room) ^ held}")
+        self.assertTrue(config.startswith("prefix=/opt/rigzumal\n") and "@" not in config, config)
+        self.assertEqual(files_below(room), {f"opt/rigzumal/{name}" for name in INSTALLED})
 
     def test_hardened(self):
         """What the loader writes is read-only before the first call, and no stack can be run."""
         for name in ("librigzumal.so.1", "libargon2.so.1"):
             said = run("readelf", "-W", "-d", "-l", OUT / name)
-            if not re.search(r"BIND_NOW|FLAGS_1.*NOW", said) or "GNU_RELRO" not in said:
-                self.fail(f"{name} is bound lazily, or can be written")
-            if not re.search(r"GNU_STACK .* RW +0x", said):
-                self.fail(f"{name} has a stack that can be run")
+            for form in ("BIND_NOW|FLAGS_1.*NOW", "GNU_RELRO", "GNU_STACK .* RW +0x"):
+                self.assertRegex(said, form, name)
 
     def test_debs(self):
         """Debian's packages: what lintian says of them, and a program over what they hold."""
@@ -183,18 +173,15 @@ class Package(unittest.TestCase):
             deb.unlink()
         run("make", "deb")
         debs = {it.name.split("_")[0]: it for it in OUT.glob("*.deb")}
-        if set(debs) != set(PACKED):
-            self.fail(str(debs))
-        said = run("lintian", "--fail-on", "error", *debs.values())
+        self.assertEqual(set(debs), set(PACKED))
+        run("lintian", "--fail-on", "error", *debs.values())
         needs = {
             "librigzumal-dev": f"librigzumal1 (= {VERSION})",
             "librigzumal1": "libc6 (>= ",
         }
         room = ROOM / "debs"
         for name, deb in debs.items():
-            depends = run("dpkg-deb", "-f", deb, "Depends")
-            if needs[name] not in depends:
-                self.fail(f"{deb.name} depends on {depends}")
+            self.assertIn(needs[name], run("dpkg-deb", "-f", deb, "Depends"))
             check_deb(deb, name)
             run("dpkg-deb", "-x", deb, room)
         libraries = room / LIBRARIES

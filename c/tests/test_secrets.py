@@ -4,15 +4,7 @@ import pathlib
 import re
 import unittest
 
-from harness import (
-    IN_THREADS,
-    LIBARGON2,
-    SOURCES,
-    built,
-    need,
-    run,
-    sources_for,
-)
+from harness import IN_THREADS, LIBARGON2, SOURCES, built, need, run, sources_for
 
 
 # Which functions may branch on secrets or read at addresses that depend on them, in each call of
@@ -66,6 +58,10 @@ LOOKS = {
 
 REGISTERS = ["src/secrets.c", "src/registers.c"]
 
+# What this processor runs, and each older build by itself.
+EACH_BUILD = (SOURCES, *map(sources_for, ("v1", "v2")))
+JOBS = ["-O2", "tests/jobs.c", *LIBARGON2]
+
 
 def errors_of(log):
     """The kind, the address and the function of each error of valgrind's memcheck."""
@@ -98,12 +94,23 @@ def check_leaks(program):
 
 
 class Secrets(unittest.TestCase):
+    def of_each_build(self, name, **options):
+        """Runs a test over the jobs, with the C library bound lazily."""
+        for linked in EACH_BUILD:
+            for flags in ([], [IN_THREADS]):
+                run(built(name, [*JOBS, "-Wl,-z,lazy", *flags], linked), **options)
+
     def test_cleared_memory(self):
-        """No secret stands anywhere after a call, of each build, with the C library bound lazily."""
-        lazy = ["-O2", "-Wl,-z,lazy", "tests/jobs.c", *LIBARGON2]
-        for linked in (SOURCES, *map(sources_for, ("v1", "v2"))):
-            for flags in (lazy, [*lazy, IN_THREADS]):
-                run(built("cleared", flags, linked))
+        """No secret stands anywhere after a call."""
+        self.of_each_build("cleared")
+
+    def test_depth_of_calls(self):
+        """What is cleared of the stack is a quarter more than any call uses."""
+        self.of_each_build("depth", env={"LD_BIND_NOT": "1"})
+
+    def test_small_stacks(self):
+        """Each call on as small a stack as the header says, and in a thread with 32 KiB."""
+        self.of_each_build("small_stacks", env={"LD_BIND_NOT": "1"})
 
     def test_registers(self):
         """No vector or mask register holds anything after a call, and none that isn't kept is used."""
@@ -121,27 +128,13 @@ class Secrets(unittest.TestCase):
             if said not in run("qemu-x86_64", "-cpu", name, program):
                 self.fail(name)
 
-    def test_depth_of_calls(self):
-        """What is cleared of the stack is a quarter more than any call uses."""
-        lazy = ["-O2", "-Wl,-z,lazy", "tests/jobs.c", *LIBARGON2]
-        for linked in (SOURCES, *map(sources_for, ("v1", "v2"))):
-            for flags in ([], [IN_THREADS]):
-                run(built("depth", [*lazy, *flags], linked), env={"LD_BIND_NOT": "1"})
-
-    def test_small_stacks(self):
-        """Each call on as small a stack as the header says, and in a thread with 32 KiB, of each build."""
-        lazy = ["-O2", "-Wl,-z,lazy", "tests/jobs.c", *LIBARGON2]
-        for linked in (SOURCES, *map(sources_for, ("v1", "v2"))):
-            for flags in ([], [IN_THREADS]):
-                run(built("small_stacks", [*lazy, *flags], linked), env={"LD_BIND_NOT": "1"})
-
     def test_secrets(self):
         """No branch and no address depends on a secret, but where that is by design."""
         need("valgrind")
         if not pathlib.Path("/usr/include/valgrind/memcheck.h").exists():
             self.skipTest("valgrind/memcheck.h is not there")
-        for linked in (SOURCES, *map(sources_for, ("v1", "v2"))):
-            check_leaks(built("secrets", ["-O2", IN_THREADS, "tests/jobs.c", *LIBARGON2], linked))
+        for linked in EACH_BUILD:
+            check_leaks(built("secrets", [*JOBS, IN_THREADS], linked))
 
 
 if __name__ == "__main__":

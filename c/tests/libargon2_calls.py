@@ -1,0 +1,201 @@
+"""The calls of argon2.h with random inputs, good and bad, and all that they write."""
+
+import ctypes
+import mmap
+import random
+
+KINDS = ("argon2d", "argon2i", "argon2id")
+ARENA = 32768
+NUMBER, POINTER, SIZE = ctypes.c_uint32, ctypes.c_void_p, ctypes.c_size_t
+
+
+class Context(ctypes.Structure):
+    """argon2_context of argon2.h."""
+
+    _fields_ = [
+        *(
+            (name, kind)
+            for it in ("out", "pwd", "salt", "secret", "ad")
+            for name, kind in ((it, POINTER), (f"{it}len", NUMBER))
+        ),
+        *((name, NUMBER) for name in ("t_cost", "m_cost", "lanes", "threads", "version")),
+        *((name, POINTER) for name in ("allocate_cbk", "free_cbk")),
+        ("flags", NUMBER),
+    ]
+
+
+def library(path):
+    it = ctypes.CDLL(path)
+    text, data = ctypes.c_char_p, [POINTER, SIZE]
+    it.argon2_error_message.restype = text
+    it.argon2_type2string.restype = text
+    it.argon2_encodedlen.restype = SIZE
+    it.argon2_hash.argtypes = [NUMBER] * 3 + data * 4 + [ctypes.c_int, NUMBER]
+    it.argon2_verify.argtypes = [POINTER, *data, ctypes.c_int]
+    it.argon2_verify_ctx.argtypes = [POINTER, text, ctypes.c_int]
+    for kind in KINDS:
+        getattr(it, kind + "_hash_raw").argtypes = [NUMBER] * 3 + data * 3
+        getattr(it, kind + "_hash_encoded").argtypes = [NUMBER] * 3 + data * 2 + [SIZE, *data]
+        getattr(it, kind + "_verify").argtypes = [POINTER, *data]
+        getattr(it, kind + "_verify_ctx").argtypes = [POINTER, text]
+    return it
+
+
+ALLOCATE = ctypes.CFUNCTYPE(
+    ctypes.c_int, ctypes.POINTER(ctypes.POINTER(ctypes.c_uint8)), ctypes.c_size_t
+)
+FREE = ctypes.CFUNCTYPE(None, ctypes.POINTER(ctypes.c_uint8), ctypes.c_size_t)
+
+
+class Callbacks:
+    """A context's functions for memory, which note what they are called with. They give what isn't
+    zero, or nothing; what they get back is to be zero."""
+
+    def __init__(self, gives, askew=0):
+        self.gives, self.askew, self.calls, self.held = gives, askew, [], {}
+        self.allocate, self.free = ALLOCATE(self._allocate), FREE(self._free)
+
+    def _allocate(self, memory, size):
+        self.calls.append(("allocate", size))
+        if self.gives:
+            room = (ctypes.c_uint8 * (size + 16))(*b"\xa5" * 4096)
+            place = ctypes.addressof(room) + -ctypes.addressof(room) % 16 + self.askew
+            self.held[place] = room
+            memory[0] = ctypes.cast(place, ctypes.POINTER(ctypes.c_uint8))
+        return 77  # which is passed over
+
+    def _free(self, memory, size):
+        place = ctypes.addressof(memory.contents)
+        is_clear = not any(ctypes.string_at(place, size))
+        self.calls.append(("free", size, is_clear, self.held.pop(place, None) is not None))
+
+
+class Inputs:
+    """The numbers and bytes of a call: mostly good, each now and then bad."""
+
+    def __init__(self, draw):
+        def mostly(good, *bad):
+            return draw.choice(bad) if draw.random() < 0.06 else good
+
+        self.lanes = mostly(draw.choice((1, 1, 2, 3, 4, 7)), 0, 0x1000000, 0x20000001)
+        least = 8 * (self.lanes if self.lanes < 100 else 1)
+        self.memory = mostly(draw.randrange(max(least, 8), 300), 0, 7, least - 1)
+        self.passes = mostly(draw.choice((1, 1, 2, 3)), 0)
+        self.tag_size = mostly(
+            draw.choice((draw.randrange(4, 65), draw.randrange(4, 101))), 0, 3, 65, 200, 1024
+        )
+        salt_size = draw.choice((draw.randrange(8, 50), draw.randrange(8, 201)))
+        self.salt = draw.randbytes(mostly(salt_size, 0, 7, 48, 49))
+        self.password = draw.randbytes(draw.choice((0, 1, 8, 33, 200, 256, 257, 1000, 5000)))
+        self.secret = draw.randbytes(draw.choice((0, 0, 5, 64)))
+        self.associated = draw.randbytes(draw.choice((0, 0, 12, 100)))
+        self.kind = mostly(draw.randrange(3), 3, -1)
+        self.version = draw.choice((0x10, 0x13))
+        self.null = draw.choice("psxaohhh") if draw.random() < 0.08 else ""
+        self.threads = mostly(draw.choice((self.lanes or 1, 1, 9)), 0, 0x1000000)
+        self.callbacks = draw.choice(("", "", "", "", "", "gives", "gives", "none", "odd", "dod"))
+        self.flags = draw.choice((0, 0, 1, 2, 3))
+        self.overlap = draw.randrange(4000)
+
+    @classmethod
+    def plain(cls, **changes):
+        """Good ones of two lanes, but for these."""
+        it = cls(random.Random(1))
+        it.salt, it.password, it.secret, it.associated = b"somesalt", b"password", b"x", b"y"
+        it.null, it.flags, it.callbacks, it.overlap, it.version = "", 0, "", 0, 0x13
+        it.lanes, it.memory, it.passes, it.threads, it.tag_size, it.kind = 2, 16, 1, 1, 32, 2
+        vars(it).update(changes)
+        return it
+
+
+def zeros(size):
+    """Where so many zero bytes lie, of which the system has no page until they are read."""
+    call = ctypes.CDLL(None).mmap
+    call.restype, number = ctypes.c_void_p, ctypes.c_int
+    call.argtypes = [ctypes.c_void_p, ctypes.c_size_t, number, number, number, ctypes.c_long]
+    flags = mmap.MAP_PRIVATE | mmap.MAP_ANONYMOUS | 0x4000  # MAP_NORESERVE
+    return call(None, size, mmap.PROT_READ, flags, -1, 0)
+
+
+def bytes_or_null(data, is_null):
+    return None if is_null else data
+
+
+def places(it):
+    """Where the inputs lie in an arena, one behind another, and where what is written does: over any
+    of them, or behind them."""
+    sizes = {"p": len(it.password), "s": len(it.salt), "x": len(it.secret), "a": len(it.associated)}
+    at, found = 64, {}
+    for name, size in sizes.items():
+        found[name] = at
+        at += size + 8
+    found["o"] = 64 + it.overlap * 2 % at if it.overlap % 2 else at
+    return found
+
+
+def context_at(it, arena, callbacks):
+    """A context over an arena into which the inputs are written."""
+    found = places(it)
+    start = ctypes.addressof(arena)
+    data = {"p": it.password, "s": it.salt, "x": it.secret, "a": it.associated}
+    for name, content in data.items():
+        ctypes.memmove(start + found[name], content, len(content))
+
+    def address(name):
+        return None if name in it.null else start + found[name]
+
+    fields = [address("o"), it.tag_size]
+    for name, content in data.items():
+        fields += [address(name), len(content)]
+    fields += [it.passes, it.memory, it.lanes, it.threads, it.version]
+    pair = [
+        ctypes.cast(call, ctypes.c_void_p).value for call in (callbacks.allocate, callbacks.free)
+    ]
+    if it.callbacks == "":
+        pair = [None, None]
+    elif it.callbacks in ("odd", "dod"):
+        pair[it.callbacks == "odd"] = None
+    return Context(*fields, *pair, it.flags if it.null == "" else 0)
+
+
+def by_context(lib, it, name, *given):
+    """A call of a context, with all that it wrote, into the inputs too, and what its callbacks saw."""
+    arena = ctypes.create_string_buffer(b"\x5a" * ARENA, ARENA)
+    callbacks = Callbacks(it.callbacks == "gives")
+    context = context_at(it, arena, callbacks)
+    answer = getattr(lib, name)(ctypes.byref(context), *given)
+    at = places(it)["o"]
+    tag = arena.raw[at : at + it.tag_size]
+    return answer, tag, arena.raw, context.pwdlen, context.secretlen, callbacks.calls
+
+
+def by_hash(lib, it, encoded_size, has_raw):
+    raw = ctypes.create_string_buffer(b"\x5a" * 1100, 1100)
+    encoded = ctypes.create_string_buffer(b"\x5a" * 3000, 3000)
+    answer = lib.argon2_hash(
+        it.passes,
+        it.memory,
+        it.lanes,
+        bytes_or_null(it.password, it.null == "p"),
+        len(it.password),
+        bytes_or_null(it.salt, it.null == "s"),
+        len(it.salt),
+        ctypes.addressof(raw) if has_raw else None,
+        it.tag_size,
+        ctypes.addressof(encoded) if encoded_size is not None else None,
+        encoded_size or 0,
+        it.kind,
+        it.version,
+    )
+    return answer, encoded.raw, raw.raw
+
+
+def encoded_by_kind(lib, it, kind):
+    raw = ctypes.create_string_buffer(1100)
+    encoded = ctypes.create_string_buffer(3000)
+    common = (it.passes, it.memory, it.lanes, it.password, len(it.password))
+    salt = (it.salt, len(it.salt))
+    first = getattr(lib, kind + "_hash_raw")(*common, *salt, raw, it.tag_size)
+    size = (it.tag_size, ctypes.addressof(encoded), 3000)
+    second = getattr(lib, kind + "_hash_encoded")(*common, *salt, *size)
+    return second, encoded.raw, first, raw.raw
