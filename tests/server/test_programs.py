@@ -66,15 +66,30 @@ def need_file(path: str, package: str) -> None:
         raise unittest.SkipTest(f"{package} isn't installed")
 
 
-def need_nginx() -> None:
-    need("nginx", "curl")
+def run_nginx(room: pathlib.Path, site: str, port: int) -> Server:
+    """The book's server, and nginx with one of the page's sites."""
+    need("nginx", "curl", "htpasswd")
     module = "/usr/lib/nginx/modules/ngx_http_auth_pam_module.so"
     need_file(module, "libnginx-mod-http-auth-pam")
+    server = started(room)
+    install("/etc/pam.d/nginx", f"/etc/nginx/sites-enabled/{site}")
+    install_pages()
+    shell("nginx")
+    until(lambda: is_open(port), "nginx")
+    return server
 
 
-def need_apache() -> None:
+def run_apache(room: pathlib.Path, configuration: str, modules: str) -> Server:
+    """The same of Apache."""
     need("apache2", "curl")
     need_file("/usr/lib/apache2/modules/mod_authnz_pam.so", "libapache2-mod-authnz-pam")
+    server = started(room)
+    install("/etc/pam.d/apache2", f"/etc/apache2/conf-enabled/{configuration}")
+    shell(f"a2enmod {modules}")
+    install_pages()
+    shell("apache2ctl start")
+    until(lambda: is_open(80), "apache2")
+    return server
 
 
 def imap(user: str, password: str) -> bool:
@@ -361,23 +376,12 @@ class Programs(Case):
 
     @in_namespaces
     def test_nginx(self, room: pathlib.Path) -> None:
-        need_nginx()
-        server = started(room)
-        install("/etc/pam.d/nginx", "/etc/nginx/sites-enabled/book")
-        install_pages()
-        shell("nginx")
-        until(lambda: is_open(8080), "nginx")
-        web_logins(8080, server)
+        web_logins(8080, run_nginx(room, "book", 8080))
 
     @in_namespaces
     def test_nginx_cache(self, room: pathlib.Path) -> None:
         """Forty pictures cost one hash; a wrong password isn't kept; what is kept is nginx's alone."""
-        need_nginx()
-        server = started(room)
-        install("/etc/pam.d/nginx", "/etc/nginx/sites-enabled/cached")
-        install_pages()
-        shell("nginx")
-        until(lambda: is_open(8081), "nginx")
+        server = run_nginx(room, "cached", 8081)
         before = server.stats()
         self.assertEqual(fetched("ada:secret", 8081), {200: 40})
         self.assertEqual(fetched("ada:guess", 8081), {401: 40})
@@ -393,17 +397,11 @@ class Programs(Case):
     @in_namespaces
     def test_nginx_htpasswd(self, room: pathlib.Path) -> None:
         """A user of an htpasswd file gets in by it until the name is taken out, and by the book from then on."""
-        need_nginx()
-        need("htpasswd")
-        server = started(room)
-        install("/etc/pam.d/nginx", "/etc/nginx/sites-enabled/both")
-        install_pages()
+        server = run_nginx(room, "both", 8082)
         old = pathlib.Path("/etc/nginx/htpasswd")
         old.touch()
         for name, scheme in {"cid": "-B", "dan": "-m", "eli": "-s"}.items():
             shell(f"htpasswd -b {scheme} {old} {name} old")
-        shell("nginx")
-        until(lambda: is_open(8082), "nginx")
         for user, status in (
             *((f"{name}:old", 200) for name in ("cid", "dan", "eli")),
             *((f"{name}:new", 401) for name in ("cid", "dan", "eli")),
@@ -426,25 +424,12 @@ class Programs(Case):
 
     @in_namespaces
     def test_apache(self, room: pathlib.Path) -> None:
-        need_apache()
-        server = started(room)
-        install("/etc/pam.d/apache2", "/etc/apache2/conf-enabled/book.conf")
-        shell("a2enmod authnz_pam")
-        install_pages()
-        shell("apache2ctl start")
-        until(lambda: is_open(80), "apache2")
-        web_logins(80, server)
+        web_logins(80, run_apache(room, "book.conf", "authnz_pam"))
 
     @in_namespaces
     def test_apache_cache(self, room: pathlib.Path) -> None:
         """Forty pictures cost one hash or so; who is disabled is out at once."""
-        need_apache()
-        server = started(room)
-        install("/etc/pam.d/apache2", "/etc/apache2/conf-enabled/cached.conf")
-        shell("a2enmod authnz_pam authn_socache socache_shmcb")
-        install_pages()
-        shell("apache2ctl start")
-        until(lambda: is_open(80), "apache2")
+        server = run_apache(room, "cached.conf", "authnz_pam authn_socache socache_shmcb")
         before = server.stats()
         self.assertEqual(fetched("ada:secret", 80), {200: 40})
         self.assertEqual(fetched("ada:guess", 80, 3), {401: 3})
