@@ -32,6 +32,7 @@ from served import (
     same,
     until,
 )
+from tests.helpers import need_module
 
 NOT_NEEDED = {"fchown"}  # of a new log, to the book's owner, whose it is
 MIRROR = "http://deb.debian.org/debian"
@@ -147,19 +148,22 @@ class Units(Case):
     def test_system_calls(self) -> None:
         """What the server and the book call of the system is within what the unit allows, or isn't needed: it is refused here too."""
         need("strace", "systemd-analyze", "systemd-socket-activate")
+        need_module("passlib")
         room = self.room()
+        (room / "old").write_text("bob:{SHA}5en6G6MezRroT3XKqkdPOmY/BfQ=\n")
         words = f"strace -f -qq -e inject={','.join(NOT_NEEDED)}:error=EPERM -o {room}/trace"
         words += f" systemd-socket-activate --fdname=login:admin -l {room}/login.handed"
         words += f" -l {room}/admin.handed -E PYTHONDONTWRITEBYTECODE=1"
         given: Any = {"program": chosen_book(), "before": tuple(words.split()), "waits": False}
-        service = self.serving(folder=room, **given)
+        service = self.serving("--foreign", f"{room}/old", folder=room, **given)
         until(lambda: is_listening(room / "admin.handed"), "the sockets")
         with Client(room / "admin.handed") as admin, Client(room / "login.handed") as login:
             admin.talk("account ada -> ok\nenrol ada {secret} -> enrolled")
-            login.talk("verify ada {secret} -> yes\nknown ada -> yes")
+            login.talk("verify ada {secret} -> yes\nknown ada -> yes\nverify bob {secret} -> yes")
             login.talk("change ada {secret} {fresh} -> replaced")
         shell(f"pkill -TERM -P {service.process.pid}")
         service.process.wait(timeout=60)
+        self.assertEqual((room / "old").read_text(), "", service.log())
         lines = (room / "trace").read_text().splitlines()
         begun = next(at for at, line in enumerate(lines) if "execve(" in line and PYTHON in line)
         ours = "\n".join(lines[begun:])
