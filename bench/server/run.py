@@ -36,7 +36,12 @@ def of_serve(program: str, room: pathlib.Path, setting: str, seconds: float) -> 
     subprocess.run([program, path, "init"], check=True)
     pipe = subprocess.PIPE
     given = f"{WORD}\n".encode()
-    subprocess.run([program, path, "add", "--setting", setting, "ada"], input=given, check=True, stdout=subprocess.DEVNULL)
+    subprocess.run(
+        [program, path, "add", "--setting", setting, "ada"],
+        input=given,
+        check=True,
+        stdout=subprocess.DEVNULL,
+    )
     with subprocess.Popen([program, path, "serve"], stdin=pipe, stdout=pipe) as run:
         assert run.stdin and run.stdout
         begun, count = time.perf_counter(), 0
@@ -77,22 +82,33 @@ def inside(room: pathlib.Path, given: argparse.Namespace) -> None:
     prepared(room)
     shell(f"cc -O2 -pthread -o {room}/logins {TOP}/bench/server/logins.c -lpam")
     pathlib.Path("/etc/pam.d/book").write_text(on_page("/etc/pam.d/book"))
-    pathlib.Path("/etc/pam.d/unix").write_text("auth required pam_unix.so\naccount required pam_unix.so\n")
+    pathlib.Path("/etc/pam.d/unix").write_text(
+        "auth required pam_unix.so\naccount required pam_unix.so\n"
+    )
     shell("sed -i '/^ada:/d' /etc/shadow && echo 'ada::19000:0:99999:7:::' >> /etc/shadow")
     shell(f"echo 'ada:{WORD}' | chpasswd -c YESCRYPT")
-    print("| Costs | Clients | serve | At the socket | By PAM | pam_unix, yescrypt |\n|---|--:|--:|--:|--:|--:|")
+    print(
+        "| Costs | Clients | serve | At the socket | By PAM | pam_unix, yescrypt |\n|---|--:|--:|--:|--:|--:|"
+    )
     for mebibytes in (64, 4):
         setting = "$fast$c=1" if given.fast else f"$argon2id$v=19$m={mebibytes * 1024},t=1,p=1"
         server = Server(room, "--setting", setting)
         server.ask("account ada", "ok")
         server.ask(f"enrol ada {field_of(WORD.encode())}", "enrolled")
-        alone = None if given.fast else of_serve(str(TOP / "crates/credkeep/out/credkeep"), room, setting, given.seconds)
+        alone = (
+            None
+            if given.fast
+            else of_serve(str(TOP / "crates/credkeep/out/credkeep"), room, setting, given.seconds)
+        )
         for clients in given.clients:
             socket = asyncio.run(at_socket(clients, given.seconds))
             pam = by_pam(room, "book", WORD, clients, given.seconds)
             unix = by_pam(room, "unix", WORD, clients, given.seconds)
             serve = f"{alone:.1f}" if alone else ""
-            print(f"| {'none' if given.fast else f'{mebibytes} MiB'} | {clients} | {serve} | {socket:.1f} | {pam:.1f} | {unix:.1f} |", flush=True)
+            print(
+                f"| {'none' if given.fast else f'{mebibytes} MiB'} | {clients} | {serve} | {socket:.1f} | {pam:.1f} | {unix:.1f} |",
+                flush=True,
+            )
         server.stop()
         server.file.unlink()
         if given.fast:
@@ -113,7 +129,10 @@ def main() -> None:
     with tempfile.TemporaryDirectory(prefix="rigzumal-bench-") as room:
         pathlib.Path(room).chmod(0o755)
         book = "fast" if given.fast else "real"
-        subprocess.run([*unshare, "env", f"BOOK={book}", PYTHON, __file__, "--inside", room, *sys.argv[1:]], check=True)
+        subprocess.run(
+            [*unshare, "env", f"BOOK={book}", PYTHON, __file__, "--inside", room, *sys.argv[1:]],
+            check=True,
+        )
 
 
 if __name__ == "__main__":
