@@ -4,9 +4,10 @@ from __future__ import annotations
 
 import json
 import os
+from typing import Any
 from unittest import mock
 
-from served import SECRET, WRONG, Case, Service, need, need_root
+from served import CHEAP, SECRET, WRONG, Case, Service, chosen_book, need, need_root
 from daemon import foreign
 from tests.helpers import need_module, run
 
@@ -26,8 +27,8 @@ class Foreign(Case):
     def add(self, name: str, option: str, password: str = "secret") -> None:
         run("htpasswd", "-b", option, self.file, name, password)
 
-    def over(self, *options: str) -> Service:
-        return self.serving("--foreign", str(self.file), *options)
+    def over(self, *options: str, **fields: Any) -> Service:
+        return self.serving("--foreign", str(self.file), *options, **fields)
 
     def users(self) -> list[str]:
         return [it.split(":")[0] for it in self.file.read_text().splitlines() if ":" in it]
@@ -36,7 +37,7 @@ class Foreign(Case):
         """Each of htpasswd's schemes: wrong, then right; from then on the book has the name and the file hasn't."""
         for name, option in OPTIONS.items():
             self.add(name, option)
-        service = self.over()
+        service = self.over("--setting", CHEAP, program=chosen_book())
         for name in OPTIONS:
             service.talk(
                 f"""
@@ -64,6 +65,21 @@ class Foreign(Case):
         service.talk(
             "login change ada {secret} {fresh} -> replaced\nlogin verify ada {fresh} -> yes"
         )
+        self.assertEqual(self.users(), [])
+
+    def test_moved_halfway(self) -> None:
+        """A name that the book has without a record, as after a kill amid the move, is judged by the file."""
+        self.add("ada", "-s")
+        folder = self.room()
+        first = self.serving(folder=folder)
+        first.client("admin").talk("account ada -> ok\nknown ada -> absent")
+        first.stop()
+        service = self.over(folder=folder)
+        service.talk("login known ada -> yes\nlogin verify ada {wrong} -> no")
+        service.talk("login verify ada {secret} -> yes")
+        shown = service.client("admin").ask("disable ada show")
+        self.assertTrue(shown.startswith("ada:$fast$"), shown)
+        service.talk("login verify ada {secret} -> absent\nlogin known ada -> absent")
         self.assertEqual(self.users(), [])
 
     def test_what_stays(self) -> None:
@@ -147,6 +163,7 @@ class Foreign(Case):
         service.talk(
             "login change ada {secret} {fresh} -> replaced\nlogin verify ada {secret} -> no"
         )
+        service.talk("admin disable ada -> unavailable")  # by the file ada would still get in
         self.assertEqual(self.users(), ["ada"])
         self.assertEqual(service.log().count(f"{self.file}: Is a directory"), 1)
         self.assertNotIn("ada", service.log())

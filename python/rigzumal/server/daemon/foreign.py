@@ -68,8 +68,8 @@ class Foreign:
         if (made.st_uid, made.st_gid) != (uid, gid):
             os.fchown(file, uid, gid)
 
-    def remove(self, name: bytes) -> None:
-        """Takes all lines of a name out of the file, in one step."""
+    def remove(self, name: bytes) -> bool:
+        """Takes all lines of a name out of the file, in one step; false if it can't."""
         try:
             status, new = os.stat(self.path), f"{self.path}.new"
             kept = [line for it, line in self.lines() if it != name]
@@ -80,5 +80,7 @@ class Foreign:
                 file.flush()
                 os.fsync(file.fileno())
             os.replace(new, self.path)
+            return True
         except OSError as fault:
             self.seldom.log("write", "%s: %s", self.path, fault.strerror)
+            return False

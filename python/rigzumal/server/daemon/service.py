@@ -28,9 +28,10 @@ from .turns import Turns
 TAG = re.compile(rb"[a-z0-9]{1,20}")
 # What `known` says where `show` has no record.
 KNOWN = {b"none": b"absent", b"bad 5 noaccount": b"noaccount"}
-LACKS = frozenset((b"noaccount", b"bad 5 noaccount"))  # the book has no such name
-# What is answered only if it has, and after which an old file needn't.
+LACKS = frozenset((*KNOWN, *KNOWN.values()))  # the book has no record of the name
+# What is answered only if it has one, and after which an old file needn't.
 HAS = frozenset(b"yes replaced upgraded kept removed disabled deleted".split())
+ENDS = frozenset(b"remove disable delete".split())  # after which nobody gets in
 PROBE = (b"verify", b"-", b"-")  # a hash, whether the name is there or not
 HASHED = frozenset(b"yes no absent noaccount".split())
 # What makes a name, and the answer if an old file has it.
@@ -56,6 +57,10 @@ class Line:
     @property
     def name(self) -> str:
         return self.words[1].decode(errors="replace")
+
+    def told(self, said: bytes) -> bytes:
+        """An answer without the record that `disable NAME show` takes away, and says."""
+        return b"disabled" if self.words[0] == b"disable" and b":" in said else said
 
 
 class Service:
@@ -175,7 +180,7 @@ class Service:
         self.book.ask([asked, *line.words[1:]], partial(self.came, line))
 
     def came(self, line: Line, said: bytes) -> None:
-        if self.foreign and (said in LACKS or said in HAS):
+        if self.foreign and (said in LACKS or line.told(said) in HAS):
             asyncio.ensure_future(self.judge(self.foreign, line, said))
         else:
             self.answered(line, said)
@@ -194,8 +199,8 @@ class Service:
                 said = await self.book.answer(*line.words)
         elif record and said in LACKS and operation == b"known":
             said = b"$"
-        if record and said in HAS:
-            foreign.remove(name)
+        if record and line.told(said) in HAS and not foreign.remove(name):
+            said = UNAVAILABLE if operation in ENDS else said
         self.answered(line, said)
 
     def answered(self, line: Line, said: bytes) -> None:
@@ -206,8 +211,7 @@ class Service:
         line.turns.give_back(line.share)
         if line.words[0] == b"known":
             said = b"yes" if said[:1] == b"$" else KNOWN.get(said, said)
-        # What `disable NAME show` says is the record that it took away.
-        told = b"disabled" if line.words[0] == b"disable" and b":" in said else said
+        told = line.told(said)
         self.tally.note(line.operation, line.name, line.client.uid, told.decode())
         if line.operation.changes and self.audit:
             self.note(line, told, partial(self.answer_written, line, said))
