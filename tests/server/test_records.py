@@ -78,10 +78,9 @@ class Records(Case):
         client.talk("verify Ada@example.org {secret} -> noaccount")
 
     def test_types(self) -> None:
-        """mypy --strict takes its modules, by the oldest Python and by this one."""
+        """mypy --strict takes its modules by the oldest Python that they may be run by."""
         need("mypy")
-        for version in ("3.9", "3.11"):
-            words = f"mypy --strict --python-version={version} --cache-dir={self.room()} daemon"
-            at = TOP / "python/rigzumal/server"
-            done = subprocess.run(words.split(), cwd=at, capture_output=True, text=True)
-            self.assertEqual(done.returncode, 0, done.stdout)
+        words = f"mypy --strict --python-version=3.9 --cache-dir={self.room()} daemon".split()
+        at = TOP / "python/rigzumal/server"
+        done = subprocess.run(words, cwd=at, capture_output=True, text=True)
+        self.assertEqual(done.returncode, 0, done.stdout)
