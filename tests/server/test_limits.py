@@ -56,11 +56,16 @@ class Limits(Case):
         """A client has at most 32 lines running, and the book one more that is hashed for than it has workers."""
         for at_once, ought in (("100", 32), ("4", 5)):
             service = self.serving("--at-once", at_once, faults="mute=verify")
-            service.client().send(f"a verify ada {SECRET}\n" * 200)
+            client = service.client()
+            client.send(f"a verify ada {SECRET}\n" * 200)
             until(lambda: len(service.asked()) >= ought, "lines at the book")
             time.sleep(0.3)
             self.assertEqual(len(service.asked()), ought)
             service.client().talk("known ada -> noaccount")  # which waits for no hash
+            client.socket.setblocking(False)
+            with self.assertRaises(BlockingIOError):  # what it doesn't take isn't read
+                for _ in range(4000):
+                    client.socket.send(b"a verify ada -\n" * 100)
             service.process.kill()
 
     def test_changes_together(self) -> None:
