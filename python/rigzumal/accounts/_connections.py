@@ -79,7 +79,7 @@ class Connections:
                 cause, said = error, _reason(error)
             if waits.are_over:
                 name = self.table.name(cause)
-                raise Unavailable(f"no server took it: {name}{said}") from cause
+                raise Unavailable(f"no server did it in time: {name}{said}") from cause
             await self.runtime.pause(waits.next(is_dead))
 
     def _may_pass(self, error: Exception) -> bool:

@@ -43,7 +43,7 @@ async def _trial(table: Table, session: Session, record: str) -> list[Fault]:
             worked = Worked(ticket, Reply.REPLACED, record)
             done = await table.compare(session, worked)
             if done.reply is not Reply.REPLACED:
-                text = "no record can be put: a row takes no update"
+                text = "no record can be written: an UPDATE doesn't change a row"
                 found.append(error("no-update", text))
     except StoreFault as fault:
         found.append(error("no-update", str(fault)))

@@ -121,7 +121,7 @@ def run(coroutine: Coroutine[Any, Any, T]) -> T:
         answer: T = end.value
         return answer
     coroutine.close()
-    raise TypeError("a blocking operation has awaited something: take AsyncAccounts")
+    raise TypeError("a blocking operation has awaited something: use AsyncAccounts")
 
 
 class Runtime:
@@ -154,7 +154,7 @@ class Runtime:
         if isinstance(said, Coroutine):
             said.close()
         if isinstance(said, Awaitable):
-            raise TypeError("`also` has answered a coroutine: take AsyncAccounts")
+            raise TypeError("`also` has answered a coroutine: use AsyncAccounts")
 
 
 class AsyncRuntime(Runtime):

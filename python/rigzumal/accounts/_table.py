@@ -154,7 +154,9 @@ class Table:
                 else await self.one(session, dialect.select, key)
             )
             if now != worked.after:
-                raise StoreFault("the record that stands isn't the one that was put")
+                raise StoreFault(
+                    "the row has another record than the one that was written"
+                )
             return Answer(worked.reply, copy, now)
         if count != 0:
             raise StoreFault(f"the UPDATE says {count} rows, and one is wanted")
@@ -164,7 +166,9 @@ class Table:
             # NULL may have come back since the UPDATE; a record that was replaced
             # doesn't.
             if answer.after is not None:
-                raise StoreFault("the copy stands, and its row takes no update")
+                raise StoreFault(
+                    "the row has the copy, and an UPDATE doesn't change it"
+                )
             return Answer(Reply.CHANGED, None, None)
         return answer
 

@@ -277,9 +277,9 @@ class Connections:
                 act()
             said = "".join(traceback.format_exception(raised.exception))
             self.assertNotIn("$argon2id", said)
-            self.assertIn("isn't the one that was put", said)
+            self.assertIn("than the one that was written", said)
             self.assertEqual(self.stands(), record)
-        self.assertIn("isn't the one that was put", self.said(accounts))
+        self.assertIn("than the one that was written", self.said(accounts))
 
 
 class Confirmed:

@@ -90,13 +90,13 @@ class OnSqlite(Said, engines.OnSqlite, support.Base):
         self.execute("DROP TABLE users")
         self.execute(ignored[0])
         self.conn.execute(f"{ignored[1]}; END")
-        self.assert_faults(["a row takes no update"])
+        self.assert_faults(["an UPDATE doesn't change a row"])
         self.execute("DROP TRIGGER tr")
         self.conn.execute(
             "CREATE TRIGGER tr AFTER UPDATE ON users BEGIN UPDATE users SET"
             " record = 'x' WHERE name = NEW.name AND record <> 'x'; END"
         )
-        self.assert_faults(["the trigger tr", "isn't the one that was put"])
+        self.assert_faults(["the trigger tr", "than the one that was written"])
 
     def with_pragma(self, pragma, path=None, **more):
         if path is not None:
@@ -105,8 +105,8 @@ class OnSqlite(Said, engines.OnSqlite, support.Base):
 
     def test_settings(self):
         for pragma, *words in (
-            ("synchronous = 0", "a power cut takes acknowledged changes"),
-            ("synchronous = 1", "a power cut takes acknowledged changes"),
+            ("synchronous = 0", "a power cut loses acknowledged changes"),
+            ("synchronous = 1", "a power cut loses acknowledged changes"),
             ("synchronous = 3",),
             ("busy_timeout = 0", "busy timeout"),
             ("busy_timeout = 999", "busy timeout"),

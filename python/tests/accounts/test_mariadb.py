@@ -229,7 +229,7 @@ class OnMariaDB(engines.OnMariaDB, Base):
 
     def test_what_examine_says_without_a_binary_log(self):
         """It is a fault where looks aren't confirmed."""
-        said = "log_bin is OFF: a crash may take a change by which a login was answered"
+        said = "log_bin is OFF: a crash may lose a change by which a login was answered"
         for seen, words in (
             ({"log_bin": "OFF"}, (said,)),
             ({}, (said,)),

@@ -260,7 +260,7 @@ class OnPostgres(engines.OnPostgres, Base):
         accounts = self.accounts()
         with self.assertRaises(StoreFault):
             accounts.change("ann", "one", "two")
-        self.assertIn("a row takes no update", self.said(accounts))
+        self.assertIn("an UPDATE doesn't change a row", self.said(accounts))
 
     def test_a_backend_that_is_ended_as_it_waits(self):
         """The server says why it ends: the connection is lost, and nothing was done."""

@@ -224,7 +224,7 @@ class Refusals(Base):
             with self.assertRaises(Unavailable) as raised:
                 accounts.verify("ann", "x")
             found = str(raised.exception)
-            self.assertTrue(found.startswith("no server took it: ConnectionError: "))
+            self.assertTrue(found.startswith("no server did it in time: ConnectionError: "))
             self.assertIn(said, found)
             self.assertNotIn("hunter2", found)
             self.assertLess(len(found), 500)
@@ -239,7 +239,7 @@ class Refusals(Base):
             with mock.patch.object(self.dialect, "verdict", return_value=verdict):
                 with self.assertRaises(Unavailable) as raised:
                     accounts.change("ann", "one", "two")
-            self.assertIn("took it: OperationalError", str(raised.exception))
+            self.assertIn("in time: OperationalError", str(raised.exception))
             self.assertNotIn("$argon2id", str(raised.exception))
 
     def test_names_of_subclasses_of_str(self):

@@ -40,7 +40,7 @@ class OnSqlite(Base):
     def test_a_row_that_takes_no_update(self):
         self.put(LOW.hash("one"))
         self.execute("CREATE TRIGGER tr BEFORE UPDATE ON users BEGIN SELECT RAISE(IGNORE); END")
-        with self.assertRaisesRegex(StoreFault, "takes no update"):
+        with self.assertRaisesRegex(StoreFault, "an UPDATE doesn't change"):
             self.accounts().change("ann", "one", "two")
 
     def test_what_is_an_error_and_what_a_warning(self):
@@ -73,7 +73,7 @@ class OnSqlite(Base):
             ("BLOB", str, ""),
             ("BLOB", int, ""),
             ("", str, ""),
-            ("TEXT COLLATE NOCASE", str, "name takes names that differ in case"),
+            ("TEXT COLLATE NOCASE", str, "name confuses names that differ in case"),
             ("TEXT COLLATE NOCASE", bytes, ""),
         ):
             self.table(key=column)

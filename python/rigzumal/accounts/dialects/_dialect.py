@@ -21,8 +21,8 @@ class Verdict(enum.Enum):
     """The meaning of a driver's error before a COMMIT was sent."""
 
     AGAIN = "the server undid the transaction and wants it to be tried again"
-    ELSEWHERE = "the server undid it and takes none for now; another, or later, may"
-    LOST = "the connection is of no use any more; another may be"
+    ELSEWHERE = "the server undid it and accepts none for now; try another, or later"
+    LOST = "this connection is broken; another may work"
     REFUSED = "the server refuses it, and would again"
 
 
@@ -239,7 +239,7 @@ class Dialect:
     ) -> list[Fault]:
         """Columns that aren't there."""
         return [
-            error("no-column", f"there is no column {self.table_name}.{name}")
+            error("no-column", f"no column {self.table_name}.{name}")
             for name in (self.key_name, self.record_name)
             if spelled(name) not in found
         ]
@@ -285,7 +285,7 @@ class Dialect:
             except Exception:
                 continue  # a column in ASCII has no accents
             if is_same:
-                text = f"{self.key_name} takes names that differ {how} for one account"
+                text = f"{self.key_name} confuses names that differ {how}"
                 faults.append(found("names-folded", text))
         return faults
 

@@ -75,7 +75,7 @@ class MariaDB(Dialect):
             return
         found = await session.execute("SHOW SESSION VARIABLES LIKE 't%isolation'")
         if any(level.upper().startswith("READ-UNC") for _, level in found.rows):
-            raise StoreFault("READ UNCOMMITTED: records are read that never stood")
+            raise StoreFault("READ UNCOMMITTED: uncommitted records are read")
         self._prepared.add(session.conn)
 
     def _at_once(self, t: str, k: str, r: str) -> str:
@@ -109,7 +109,9 @@ class MariaDB(Dialect):
             raise StatementTimeout(_NOTHING_DONE, "max_statement_time is over")
         if stands == [(after,)]:
             return 1
-        raise ConnectionError("max_statement_time was over, and another record stands")
+        raise ConnectionError(
+            "max_statement_time was over, and the row has another record"
+        )
 
     def refuses_at_once(self, raised: BaseException) -> bool:
         if _number(raised) == 1064:
@@ -128,7 +130,7 @@ class MariaDB(Dialect):
         result = await session.execute(self.update, copy, key, other)
         if result.affected != 1:
             # Never committed: what stands by now is no record of anybody's.
-            raise StoreFault("the record that stands isn't the one that was put")
+            raise StoreFault("the row has another record than the one that was written")
         return result
 
     def verdict(self, raised: BaseException) -> Verdict:
@@ -210,7 +212,7 @@ def shown_early(seen: dict[str, str]) -> tuple[Fault, ...]:
     """Without a binary log InnoDB shows a commit before its own log is on the disk."""
     if seen.get("log_bin") == "ON" or seen.get("wsrep_on") == "ON":
         return ()
-    text = "log_bin is OFF: a crash may take a change by which a login was answered"
+    text = "log_bin is OFF: a crash may lose a change by which a login was answered"
     return (warning("shown-early", text),)
 
 
@@ -222,15 +224,15 @@ def of_server(seen: dict[str, str]) -> list[Fault]:
         faults.append(warning("not-strict", text))
     level = seen.get("tx_isolation") or seen.get("transaction_isolation", "")
     if level == "READ-UNCOMMITTED":
-        text = "READ UNCOMMITTED: records are read that never stood"
+        text = "READ UNCOMMITTED: uncommitted records are read"
         faults.append(error("read-uncommitted", text))
     for name in ("innodb_flush_log_at_trx_commit", "innodb_doublewrite"):
         if seen.get(name, "1") not in ("1", "ON"):
-            text = f"{name} is {seen[name]}: a crash takes acknowledged changes"
+            text = f"{name} is {seen[name]}: a crash loses acknowledged changes"
             faults.append(not_durable(text))
     # With a binary log, what isn't in it after a power cut is rolled back.
     if seen.get("log_bin") == "ON" and seen.get("sync_binlog") != "1":
-        text = f"sync_binlog is {seen.get('sync_binlog')}: a power cut takes"
+        text = f"sync_binlog is {seen.get('sync_binlog')}: a power cut loses"
         faults.append(not_durable(f"{text} acknowledged changes"))
     if seen.get("wsrep_on") == "ON" and not int(seen["wsrep_sync_wait"]) & 1:
         text = "wsrep_sync_wait has no 1: a node may read what was replaced"

@@ -173,7 +173,7 @@ class Postgres(Dialect):
         for name, good in _DURABLE:
             ((value,),) = (await session.execute(f"SHOW {name}")).rows
             if value not in good:
-                text = f"{name} is {value}: a crash takes acknowledged changes"
+                text = f"{name} is {value}: a crash loses acknowledged changes"
                 faults.append(not_durable(text))
         faults += await self.folded_names(session)
         return Findings(faults, is_usable=is_table)

@@ -128,7 +128,7 @@ _PRAGMAS: Final[tuple[tuple[str, Container[object], Fault], ...]] = (
         "synchronous",
         (2, 3),
         not_durable(
-            "synchronous is below FULL: a power cut takes acknowledged changes"
+            "synchronous is below FULL: a power cut loses acknowledged changes"
         ),
     ),
     (
@@ -146,7 +146,7 @@ _PRAGMAS: Final[tuple[tuple[str, Container[object], Fault], ...]] = (
         (0,),
         error(
             "read-uncommitted",
-            "read_uncommitted is on: records are read that never stood",
+            "read_uncommitted is on: uncommitted records are read",
         ),
     ),
 )
