@@ -492,19 +492,23 @@ class RowsOfOnesOwn:
             self.assertIs(act(), reply)
             self.assertEqual(self.rows(), [reply.value])
 
-    def test_a_busy_server_is_asked_again(self):
-        """What the server undid is done again from its BEGIN."""
-        self.put(LOW.hash("one"))
-        accounts, again = self.accounts(), [self.again]
+    def test_what_may_pass_is_done_again(self):
+        """From its BEGIN: what the server undid, and what broke with its connection."""
+        accounts = self.accounts()
+        for error in (self.again, self.lost_look):
+            self.put(LOW.hash("one"))
+            self.execute("DELETE FROM sessions")
+            self.calls.clear()
+            errors = [error]
 
-        def deadlocks(conn, reply):
-            self.also(conn, reply)
-            if again:
-                raise again.pop()
+            def fails(conn, reply):
+                self.also(conn, reply)
+                if errors:
+                    raise errors.pop()
 
-        self.assertIs(accounts.change("ann", "one", "two", also=deadlocks), Reply.REPLACED)
-        self.assertEqual(self.rows(), ["replaced"])
-        self.assertEqual(len(self.calls), 2)
+            self.assertIs(accounts.change("ann", "one", "two", also=fails), Reply.REPLACED)
+            self.assertEqual(self.rows(), ["replaced"])
+            self.assertEqual(len(self.calls), 2)
 
     def test_a_commit_without_an_answer(self):
         """Of a change one row stands, as the record does; otherwise nobody knows."""
