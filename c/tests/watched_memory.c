@@ -27,7 +27,7 @@ void __wrap_free(void *start);
 void *__real_realloc(void *start, size_t size);
 void *__wrap_realloc(void *start, size_t size);
 
-enum { MOST_PIECES = 256 };
+enum { MOST_PIECES = 256, PAGE = 4096 };
 static struct piece {
     void *start;
     size_t size;
@@ -62,7 +62,12 @@ void *__wrap_mmap(void *at, size_t size, int protection, int flags, int file, of
     if (mapped + size > most_mapped)
         return MAP_FAILED;
     mapped += size;
-    return __real_mmap(at, size, protection, flags, file, offset);
+    /* where no huge page begins: systems differ in that */
+    unsigned char *start = __real_mmap(at, size + PAGE, protection, flags, file, offset);
+    CHECK(start != MAP_FAILED);
+    bool is_aligned = (uintptr_t)start % HUGE_PAGE == 0;
+    CHECK(__real_munmap(is_aligned ? start : start + size, PAGE) == 0);
+    return is_aligned ? start + PAGE : start;
 }
 
 void *__wrap_mremap(void *old, size_t size, size_t new_size, int flags, void *to) {
