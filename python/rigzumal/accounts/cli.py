@@ -236,7 +236,8 @@ class _Command:
         accounts = run.run()
         found = torture.verdict(accounts)
         if found:
-            print(f"illegal: {found.reason}\n{found}\nlogs: {run.folder}")
+            print(f"illegal: {found}
+logs: {run.folder}")
             return Status.NO
         print(f"legal: {logs.summary(accounts.values())}, {run.killed} killed")
         if not any(

@@ -8,6 +8,7 @@ engine that speaks PostgreSQL's or MySQL's protocol can try it there. `history` 
 whether the answers are one legal history, of logs as `logs` describes them.
 """
 
-from rigzumal.accounts.torture._torture import Torture, verdict
+from rigzumal.accounts.torture._torture import Torture
+from rigzumal.accounts.torture.history import verdict
 
 __all__ = ["Torture", "verdict"]

@@ -190,14 +190,3 @@ class Torture:
         finally:
             sys.stderr.flush()
             os._exit(status)
-
-
-def verdict(accounts: Mapping[Any, history.Account]) -> Optional[history.Illegal]:
-    """What the checker says: nothing if the history is legal."""
-    for key, account in accounts.items():
-        try:
-            history.check(account)
-        except history.Illegal as found:
-            found.reason = f"account {key!r}: {found.reason}"
-            return found
-    return None

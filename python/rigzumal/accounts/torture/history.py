@@ -28,9 +28,9 @@ gone had been replaced.
 from __future__ import annotations
 
 import collections
-from collections.abc import Iterable, Sequence
+from collections.abc import Iterable, Mapping, Sequence
 from dataclasses import dataclass, field
-from typing import NamedTuple
+from typing import Any, NamedTuple, Optional
 
 from rigzumal.accounts.torture._order import Attempt, Operation, Record, conflict
 from rigzumal.accounts.torture._order import possible
@@ -60,6 +60,16 @@ class Illegal(Exception):
         self.reason, self.part = reason, tuple(part)
         lines = [reason, *(f"  {operation}" for operation in self.part)]
         super().__init__("\n".join(lines))
+
+
+def verdict(accounts: Mapping[Any, Account]) -> Optional[Illegal]:
+    """What is illegal, with the name of the first account of which something is."""
+    for key, account in accounts.items():
+        try:
+            check(account)
+        except Illegal as found:
+            return Illegal(f"account {key!r}: {found.reason}", found.part)
+    return None
 
 
 def check(account: Account) -> None:

@@ -24,7 +24,7 @@ from collections.abc import Iterable, Sequence
 from typing import Any
 
 from rigzumal.accounts.torture._order import Attempt, Operation
-from rigzumal.accounts.torture.history import Account, Illegal, check
+from rigzumal.accounts.torture.history import Account, verdict
 
 
 def read(paths: Iterable[str]) -> dict[Any, Account]:
@@ -118,11 +118,6 @@ def summary(accounts: Iterable[Account]) -> str:
 def main(paths: Sequence[str]) -> int:
     """Prints the verdict on the logs; the status is 1 if they are illegal."""
     accounts = read(paths)
-    for key, account in accounts.items():
-        try:
-            check(account)
-        except Illegal as found:
-            print(f"illegal: account {key!r}: {found}")
-            return 1
-    print(f"legal: {summary(accounts.values())}")
-    return 0
+    found = verdict(accounts)
+    print(f"illegal: {found}" if found else f"legal: {summary(accounts.values())}")
+    return 1 if found else 0
