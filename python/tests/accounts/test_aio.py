@@ -61,6 +61,34 @@ class Awaited(Base):
         self.assertEqual(asyncio.run(act()), [Reply.YES] * 2)
         self.assertNotIn(threading.main_thread(), threads)
 
+    def test_rows_of_ones_own(self):
+        """`also` may be awaited: its row is committed with the reply, or not at all."""
+        self.conn.execute("CREATE TABLE sessions (reply TEXT)")
+        accounts, told = self.awaiting(), []
+
+        def plain(conn, reply):
+            told.append(reply)
+            conn.execute("INSERT INTO sessions VALUES (?)", (reply.value,))
+
+        async def awaited(conn, reply):
+            await asyncio.sleep(0)
+            plain(conn, reply)
+
+        async def fails(conn, reply):
+            await awaited(conn, reply)
+            raise KeyError("mine")
+
+        for also in (plain, awaited):
+            reply = asyncio.run(accounts.change("ann", "one", "one", also=also))
+            self.assertIs(reply, Reply.REPLACED)
+            self.assertIs(asyncio.run(accounts.login("ann", "one", also=also)), Reply.YES)
+        with self.assertRaises(KeyError):
+            asyncio.run(accounts.change("ann", "one", "two", also=fails))
+        self.assertTrue(self.is_right("one"))
+        rows = [row for (row,) in self.conn.execute("SELECT reply FROM sessions")]
+        self.assertEqual(rows, ["replaced", "yes"] * 2)
+        self.assertEqual(told, [Reply.REPLACED, Reply.YES] * 2 + [Reply.REPLACED])
+
     def test_a_transaction_is_needed(self):
         async def act():
             accounts = self.awaiting()
