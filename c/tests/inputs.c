@@ -64,7 +64,7 @@ static void test_secrets(void) {
 
 /* One bad input of a new record, with and without a secret and threads: nothing is written. */
 static void test_faults_of_records(void) {
-    static const char good[] = "$argon2id$v=19$m=16,t=1,p=2";
+    static const char good[] = "$argon2id$v=19$m=16,t=1,p=2", long_salt[600];
     static const struct {
         const char *costs, *salt;
         size_t salt_size, tag_size, text_size;
@@ -74,6 +74,7 @@ static void test_faults_of_records(void) {
         {"$argon2id$v=19$m=15,t=1,p=2", "somesalt", 8, 32, TEXT, RIGZUMAL_RANGE},
         {good, "short", 5, 32, TEXT, RIGZUMAL_SALT},
         {good, NULL, 0, 32, TEXT, RIGZUMAL_SHAPE},
+        {good, long_salt, 600, 32, TEXT, RIGZUMAL_TOO_LONG},
         {good, "somesalt", 8, 3, TEXT, RIGZUMAL_TAG},
         {good, "somesalt", 8, 65, TEXT, RIGZUMAL_TAG},
         {good, "somesalt", 8, ((size_t)1 << 32) + 32, TEXT, RIGZUMAL_TAG},
