@@ -145,6 +145,11 @@ size_t rigzumal_libargon2_keep(size_t most);
 const char *rigzumal_strerror(int fault);
 const char *rigzumal_word(int fault);
 
+/* Answers the fault of a record, a setting or costs: OK, or SHAPE to TOO_LONG. Writes its meaning
+ * into text, which has room for text_size bytes, and cuts it off there. A number that is out of its
+ * range is shown with the range: "m=7 is under 8 p (8 KiB)". */
+int rigzumal_explain(char *text, size_t text_size, const char *record);
+
 /* Writes a new record of the password into text, which has room for text_size bytes. The tag gets
  * tag_size bytes. The costs are the front of the record, such as RIGZUMAL_ARGON2_COSTS.
  * If salt is null, the system's getrandom generates salt_size bytes; otherwise give a fresh salt.

@@ -106,7 +106,7 @@ class _Hasher(Frozen):
             fault = _library.check(hash, password, secret, self._threads())
             if fault != _library.MISMATCH:
                 break
-        _library.raise_fault(fault)
+        _library.raise_fault(fault, hash)
         return place
 
     def verify_and_rehash(self, hash: Secret, password: Secret) -> Optional[str]:

@@ -17,6 +17,7 @@ Secret: TypeAlias = "Union[bytes, str]"
 
 TEXT_SIZE: Final = 513
 OK: Final = 0
+RANGE: Final = 5
 MEMORY: Final = 8
 MISMATCH: Final = 10
 INPUT_SIZE: Final = 18
@@ -48,12 +49,8 @@ class OutOfMemoryError(RigzumalError, MemoryError):
     """Too little memory was free for the costs."""
 
 
-class InvalidRecordError(RigzumalError, ValueError):
-    """The text is no record, or no setting: the first fault from the left."""
-
-
-class InvalidNumbersError(RigzumalError, ValueError):
-    """A cost, a kind, a version or a size is outside its range."""
+class _Explained(RigzumalError, ValueError):
+    """A refusal that may name the number that is out of its range."""
 
     def __init__(self, number: int, said: str = "") -> None:
         super().__init__(number)
@@ -64,12 +61,20 @@ class InvalidNumbersError(RigzumalError, ValueError):
         return type(self), (self.number, str(self))
 
 
+class InvalidRecordError(_Explained):
+    """The text is no record, or no setting: the first fault from the left."""
+
+
+class InvalidNumbersError(_Explained):
+    """A cost, a kind, a version or a size is outside its range."""
+
+
 class NoRandomError(RigzumalError):
     """The system gave no random bytes for a salt."""
 
 
-def raise_fault(number: int) -> None:
-    """Raises the exception of a fault's number; 0 is no fault."""
+def raise_fault(number: int, text: Secret = b"") -> None:
+    """Raises the exception of a fault's number, of this record; 0 is no fault."""
     if number == OK:
         return
     if number == MISMATCH:
@@ -79,8 +84,15 @@ def raise_fault(number: int) -> None:
     if number == NO_RANDOM:
         raise NoRandomError(number)
     if number < MISMATCH:
-        raise InvalidRecordError(number)
+        raise InvalidRecordError(number, _range_of(text) if number == RANGE else "")
     raise InvalidNumbersError(number)
+
+
+def _range_of(text: Secret) -> str:
+    """The number of a record that is out of its range, and the range."""
+    words = ctypes.create_string_buffer(TEXT_SIZE)
+    is_range = _library.rigzumal_explain(words, TEXT_SIZE, text_bytes(text)) == RANGE
+    return words.value.decode() if is_range else ""
 
 
 def bytes_of(secret: Secret) -> bytes:
@@ -192,6 +204,7 @@ def _load() -> Any:
     library.rigzumal_keep.argtypes, library.rigzumal_keep.restype = [size], size
     library.rigzumal_strerror.restype = pointer
     library.rigzumal_word.restype = pointer
+    library.rigzumal_explain.argtypes = [pointer, size, pointer]
     made = data + [size, pointer] + data * 2
     check, threads = [pointer] + data, ctypes.c_uint32
     library.rigzumal_record_threads.argtypes = [*made, threads]
@@ -283,7 +296,7 @@ def check(
 def parts(text: Secret) -> Parts:
     """rigzumal_parts of a record; costs, which have no tag, are refused."""
     found = Parts()
-    raise_fault(_library.rigzumal_parts(ctypes.byref(found), text_bytes(text)))
+    raise_fault(_library.rigzumal_parts(ctypes.byref(found), text_bytes(text)), text)
     if found.tag_size == 0:
         raise InvalidRecordError(1)
     return found

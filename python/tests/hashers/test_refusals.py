@@ -77,6 +77,16 @@ class Refusals(unittest.TestCase):
             self.refused(rigzumal.InvalidRecordError, word, SMALL.check_needs_rehash, text)
             self.refused(rigzumal.InvalidRecordError, word, rigzumal.parts, text)
 
+    def test_a_number_out_of_its_range_is_named(self):
+        """With the range, also by a copy of the exception; nothing else of the text is shown."""
+        text = "$argon2id$v=19$m=7,t=1,p=1$c29tZXNhbHQ$AAAAAA"
+        for call in (rigzumal.parts, lambda it: SMALL.verify(it, "password")):
+            with self.assertRaises(rigzumal.InvalidRecordError) as raised:
+                call(text)
+            for fault in (raised.exception, pickle.loads(pickle.dumps(raised.exception))):
+                self.assertEqual((fault.number, fault.word), (5, "range"))
+                self.assertEqual(str(fault), "m=7 is under 8 p (8 KiB)")
+
     def test_numbers_of_a_hasher(self):
         """Each is refused as the hasher is made, by its name, its range and its fault."""
         argon2 = {"time_cost": 1, "memory_cost": 16, "parallelism": 2}
