@@ -54,10 +54,10 @@ def free_port(count=1):
             continue
 
 
-def need(driver, *programs):
+def need(driver, name, *programs):
     """The path of the first program; Missing without the driver, or one of the programs."""
     if driver is None:
-        raise Missing("python3-psycopg or python3-pymysql is not there")
+        raise Missing(f"{name} is not there")
     found = [shutil.which(it, path="/usr/sbin:/usr/bin") for it in programs]
     if None in found:
         raise Missing(f"{programs[found.index(None)]} is not there")
@@ -207,7 +207,7 @@ class PostgresServer(OfPostgres):
     """One node of PostgreSQL; its user `store` owns the database `store`."""
 
     def __init__(self, name, of=None):
-        need(psycopg)
+        need(psycopg, "python3-psycopg")
         found = sorted(pathlib.Path("/usr/lib/postgresql").glob("*/bin/initdb"))
         if not found:
             raise Missing("postgresql is not there")
@@ -276,7 +276,7 @@ class PgBouncer(OfPostgres):
     """A pooler before a PostgreSQL, which gives sessions out for a transaction each."""
 
     def __init__(self, name, of):
-        self.program = need(psycopg, "pgbouncer")
+        self.program = need(psycopg, "python3-psycopg", "pgbouncer")
         super().__init__(name)
         self.of, self.port = of, free_port()
         self.file = ROOM / f"{name}.ini"
@@ -341,7 +341,7 @@ class MariaServer(OfMySql):
     has_binary_log = True
 
     def __init__(self, name, cluster=None):
-        self.program = need(pymysql, "mariadbd", "mariadb-install-db")
+        self.program = need(pymysql, "python3-pymysql", "mariadbd", "mariadb-install-db")
         super().__init__(name)
         ROOM.chmod(0o777)
         self.port = free_port(8)
@@ -426,7 +426,7 @@ class MySqlServer(OfMySql):
         self.root = os.environ.get("RIGZUMAL_MYSQL", "").rstrip("/")
         if not self.root or os.getuid() != 0:
             raise Missing("RIGZUMAL_MYSQL names no root of MySQL, or one isn't root")
-        need(pymysql)
+        need(pymysql, "python3-pymysql")
         super().__init__(name)
         self.port = free_port()
         self.data = f"/tmp/{name}-{os.getpid()}"
@@ -456,7 +456,7 @@ def galera(count=3):
     """The started nodes of a cluster."""
     if not os.path.exists("/usr/lib/galera/libgalera_smm.so"):
         raise Missing("galera-4 is not there")
-    need(pymysql, "rsync")
+    need(pymysql, "python3-pymysql", "rsync")
     nodes = [MariaServer(f"galera{number}") for number in range(count)]
     for node in nodes:
         node.cluster = nodes
