@@ -187,8 +187,9 @@ class Refusals(unittest.TestCase):
                 ScryptHasher(**{name: "3"})
         with self.assertRaises(ValueError):
             PasswordHasher(type=7)
-        with self.assertRaises(TypeError):
-            rigzumal.argon2("x", b"somesalt", time_cost="1", memory_cost=8, parallelism=1)
+        for wrong in ("1", 1.0, True):
+            with self.assertRaises(TypeError):
+                rigzumal.argon2("x", b"somesalt", time_cost=wrong, memory_cost=8, parallelism=1)
         with self.assertRaises(ValueError) as raised:
             SMALL.hash("pass\ud800word")
         self.assertNotIn("pass", str(raised.exception))
