@@ -7,7 +7,9 @@ import time
 from unittest import mock
 
 from served import Case
+from daemon.options import Options
 from daemon.rounds import Rounds
+from daemon.service import Service
 from daemon.turns import Turns
 
 
@@ -96,6 +98,21 @@ class Places(Case):
         self.take(turns, 2, "two", "c")
         self.assertEqual((sorted(turns.rest()), turns.rest()), (["b", "c", "d"], []))
         self.assertEqual(self.given_back(turns), "a")
+
+
+class Shares(Case):
+    def test_what_a_hash_takes(self) -> None:
+        """The quickest of late counts: one quick hash is forgotten after some hundred slower ones."""
+
+        async def measured() -> tuple[float, float]:
+            service = Service(Options())
+            service.measure(0.001)
+            first = service.hash_seconds
+            for _ in range(300):
+                service.measure(0.01)
+            return first, service.hash_seconds
+
+        self.assertEqual(asyncio.run(measured()), (0.001, 0.01))
 
 
 class RoundsOfChanges(Case):
