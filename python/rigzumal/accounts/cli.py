@@ -236,8 +236,7 @@ class _Command:
         accounts = run.run()
         found = torture.verdict(accounts)
         if found:
-            print(f"illegal: {found}
-logs: {run.folder}")
+            print(f"illegal: {found}\nlogs: {run.folder}")
             return Status.NO
         print(f"legal: {logs.summary(accounts.values())}, {run.killed} killed")
         if not any(
