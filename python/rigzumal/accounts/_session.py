@@ -146,7 +146,7 @@ class Runtime:
         time.sleep(seconds)
 
     async def call(self, work: Callable[..., T], *given: Any) -> T:
-        """Does what takes a processor a while."""
+        """Does work that needs a processor for a while."""
         return work(*given)
 
     async def told(self, said: Any) -> None:
