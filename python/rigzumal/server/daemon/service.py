@@ -331,7 +331,7 @@ class Service:
         await asyncio.wait([self.book.ended], timeout=until - time.monotonic())
         is_late = not self.book.ended.done()
         if is_late:
-            log.error("the book hashed for %d s more, and is killed", LAST_SECONDS)
+            log.error("the book is killed: it hashed for %d s more", LAST_SECONDS)
             self.book.kill()
         status = await self.book.ended
         status = 0 if is_late else status
