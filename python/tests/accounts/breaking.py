@@ -260,7 +260,7 @@ def resent_at_none(accounts):
         # Long enough for another to remove what was put.
         time.sleep(0.05)
         while True:
-            now = (await accounts.begin(worked.ticket.request)).copy
+            now = (await accounts._begin(worked.ticket.request)).copy
             if now is not None and now != worked.after:
                 return await settled(worked, also)
             if now == worked.after:
