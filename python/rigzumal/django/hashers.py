@@ -44,7 +44,7 @@ _ARGON2 = re.compile(
 _SCRYPT = re.compile(
     r"([1-9]\d{0,9})\$([^$]+)\$([1-9]\d{0,9})\$([1-9]\d{0,9})"
     r"\$([A-Za-z0-9+/]+={0,2})",
-    re.ASCII | re.DOTALL,
+    re.ASCII,
 )
 
 
