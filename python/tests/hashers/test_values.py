@@ -1,6 +1,7 @@
 """Tests of hashers as values: their defaults, what makes them equal, and their secrets."""
 
 import copy
+import itertools
 import os
 import pathlib
 import pickle
@@ -100,6 +101,8 @@ class Values(unittest.TestCase):
             )
         ]
         self.assertEqual(len({SMALL, *others}), 13)
+        for one, other in itertools.combinations([SMALL, *others], 2):
+            self.assertNotEqual(one, other)
 
     def test_a_change_leaves_the_others(self):
         hasher = PasswordHasher(1, 16, 2, 33, 17, Type.D, b"pepper", 3)
