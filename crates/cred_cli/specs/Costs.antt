@@ -30,8 +30,8 @@ memory_alone (Argon2 version variant m t p) = m
 memory_alone (Scrypt ln r p) = tables_kib 1 ln r
 
 -- How many KiB a hash goes over, each as often as it is gone over: the m of Argon2 in each of its t
--- passes; scrypt's tables twice, as they are filled and as they are mixed (RFC 7914, section 5, steps
--- 2 and 3).
+-- passes (RFC 9106, section 3.2); scrypt's tables twice, as they are filled and as they are mixed
+-- (RFC 7914, section 5, steps 2 and 3).
 abbrev pub work_of : Scheme → ℕ
 work_of (Argon2 version variant m t p) = m * t
 work_of (Scrypt ln r p) = 2 * tables_kib p ln r

@@ -1,5 +1,5 @@
--- The history of a service. A last line without its end is refused. A commit for whose hash there is
--- no memory may be refused; it does nothing then, so its number stays open.
+-- The history of a service. A last line without its end is refused. So may a commit be for whose
+-- hash there is no memory; it does nothing then, and its number stays open.
 use Rattle.std.specs.Prelude.{◌≡◌, ◌⊎◌, ℕ, ◌<◌, ◌≤◌, Bool, true, false, Option, Some, None}
 use Rattle.std.specs.Prelude.{List, length, slice_get, slice_set, IfErr, IfOk, IfSome, OnOk}
 use Rattle.std.specs.Prelude.{Result}
@@ -92,9 +92,9 @@ pub record EndsAs (longest capacity : ℕ) (script : ScriptStart) (r : Reading) 
   pub short : OnOk result (length script.bytes ≤ longest)
   pub prompt : IsPrompt capacity script w.name r.log
 
--- the same for lines that a service was sent, which come to some events of theirs; those that bring
--- a setting or a record that asks for more than the bounds are refused, and so is a last one without
--- its end
+-- the same for lines that a service was sent, which come to some events of theirs; those are refused
+-- that bring a setting or a record that asks for more than the bounds, and a last one without its
+-- end
 abbrev pub Serves : ℕ → CostBounds → Reading → Writing → Accounts → Accounts
     → Result End ScriptFault → Type 0
 Serves capacity most r w old new result = IfSome r.input (λ bytes. (events : List Event)

@@ -38,9 +38,8 @@ use std::thread::Threads;
 /// threads hash. No call was made on the reader or the writer before. The writer is one that holds
 /// nothing back, as it is never flushed.
 ///
-/// It waits only where a call of the reader, the writer or the keeper does. Over a keeper whose
-/// changes wait for nobody there is no body that answers for ever without being bound by this: it
-/// would have to return.
+/// It waits only where a call of the reader, the writer or the keeper does. So over a keeper whose
+/// changes wait for nobody every body of it returns, and is bound by this.
 ///
 /// Errors: `Read` or `Write` if a call on the reader or the writer failed; `Memory` if it runs out;
 /// `TooLong` after 2^64 - 2 bytes, which take centuries to come.

@@ -128,9 +128,9 @@ RunsWithin longest s (Err e) = HasCause s.reading.failed s.writing.failed e
     × IfSome s.reading.input (λ bytes. FailsAs longest register_capacity
     (script_start s.old bytes s.writing.before) s.reading.left s.writing.now s.new e) × RunsPrompt s
 
--- lines were answered for as long as they came, but for those that bring a setting or a record that
--- asks for more than is allowed, for a last one without its end, and for commits that need a hash and were refused memory for it; or
--- they met a fault
+-- lines were answered for as long as they came, or they met a fault. What is refused is a setting or
+-- a record that asks for more than is allowed, a last line without its end, and a commit that needs
+-- a hash and found no memory for it.
 pub record ServesLines (most : CostBounds) (s : Seen) (r : Result End ScriptFault) : Type 0 where
   pub served : Serves register_capacity most s.reading s.writing s.old s.new r
   pub cause : IfErr r (HasCause s.reading.failed s.writing.failed)

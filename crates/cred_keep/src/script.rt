@@ -71,14 +71,13 @@ impl<H, S: Alter> KeeperBy<AtOnce, H> for FileBook<S> {
 }
 
 /// Answers lines on a kept book for as long as they come, as `serve` does. It waits only where a
-/// call of the reader or the writer does: no body of it answers for ever without being bound by
-/// this, since it would have to return.
+/// call of the reader or the writer does: else every body of it returns, and is bound by this.
 ///
 /// Each change is in the database before it is answered. A commit for whose hash there is no memory
 /// is refused, and the service goes on; the keeper's own want of memory ends it. A line is refused
-/// if its setting or record asks for more than `most`, and so is a last one without its end. A crash
-/// leaves the book after the lines that were done, perhaps with the change that was under way as the
-/// database failed.
+/// if its setting or record asks for more than `most`, and so is a last one without its end. A
+/// crash leaves the book after the lines that were done, perhaps with the change that was under way
+/// as the database failed.
 pub fn serve_on_file<T: Threads + Sync, S: Alter, R: Read, W: Write>(
     tools: &Tools<'_, T>,
     most: CostBounds,

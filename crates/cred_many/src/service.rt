@@ -34,8 +34,8 @@ pub struct Means {
     pub costs: Costs,
     /// How many KiB all hashes together may take.
     pub memory: u64,
-    /// What the setting or the record of a line may ask for. `costs` are to be within it: a line that
-    /// makes a record with them is judged too.
+    /// What the setting or the record of a line may ask for. `costs` are to be within it: a line
+    /// that makes a record with them is judged too.
     pub most: CostBounds,
 }
 
@@ -46,10 +46,10 @@ pub struct Means {
 ///
 /// Each line is done whole, and its answer is written whole, at one moment between its coming and
 /// its answer. Salts are drawn in the order of the lines, one for each. A line whose setting or
-/// record asks for more than `means.most` is refused, and so is a last line without its end, as more
-/// than that may be lost of it. The source is called again only once each
-/// whole line that it gave was handed on. The writer is one that holds nothing back, as it is never
-/// flushed. At a fault it ends without waiting for the source.
+/// record asks for more than `means.most` is refused, and so is a last line without its end, as
+/// more than that may be lost of it. The source is called again only once each whole line that it
+/// gave was handed on. The writer is one that holds nothing back, as it is never flushed. At a fault
+/// it ends without waiting for the source.
 pub fn serve_tagged<J, T, S, G, K, W>(
     tools: &Tools<'_, T>,
     means: &Means,
