@@ -147,6 +147,14 @@ class LinesTest(BookTest):
         wanted = sorted(f"{tag} bad 5 noaccount" for tag in tags(20_000))
         self.assertTrue(sorted(written) == wanted)
 
+    def test_a_million_lines(self) -> None:
+        """Nothing ends a service but its input."""
+        with self.book.tagged() as service:
+            feeder = service.feed("t show nobody\n" * 1_000_000)
+            found = service.stdout.read().count(b"t bad 5 noaccount\n")
+            feeder.join()
+            self.assertEqual((found, service.process.wait()), (1_000_000, 0))
+
     def test_closed_output(self) -> None:
         """Where nobody reads the answers it ends, though its input is still open."""
         self.book.answers("a account ann", "a enrol ann -")
@@ -229,6 +237,63 @@ class HashesTest(BookTest):
             lines = [f"{tag} verify {name} {ONE}\n" for tag, name in zip(tags(30), names)]
             done = service.end("".join(lines))
         self.assertEqual(sorted(done.written.splitlines()), sorted(f"{it} yes" for it in tags(30)))
+
+    def peak_of(self, memory: str, lines: int) -> tuple[int, int]:
+        """How many KiB more than at first a service takes at most, and in the end, of which eight
+        threads judge so many right passwords at a record of 36 MiB."""
+        # Otherwise the C library keeps for each thread what it freed.
+        options = {"env": {**os.environ, "MALLOC_MMAP_THRESHOLD_": "131072"}}
+        with self.book.tagged("--at-once", "8", "--memory", memory, **options) as service:
+            service.ask("w verify nobody -")
+            path = pathlib.Path(f"/proc/{service.process.pid}/status")
+            sizes = lambda: dict(re.findall(r"(Vm\w+):\s+(\d+) kB", path.read_text()))
+            before = int(sizes()["VmRSS"])
+            service.send("".join(f"{tag} verify ann {ONE}\n" for tag in tags(lines)))
+            found = {service.answer() for _ in range(lines)}
+            self.assertEqual(found, {f"{tag} yes" for tag in tags(lines)})
+            after = sizes()
+            self.assertEqual(service.end(), DONE)
+        return int(after["VmHWM"]) - before, int(after["VmRSS"]) - before
+
+    def test_memory_of_all_hashes(self) -> None:
+        """All hashes together take no more than --memory. It comes back: a thread keeps no more
+        than a hash with the service's own costs takes."""
+        dear = f"$argon2id$v=19$m=36864,t=2,p=1${SALT}"
+        self.book.answers("t account ann", f"t enrol ann {ONE} {dear}")
+        for memory, least, most in (("36M", 1, 1), ("72M", 2, 2), ("2G", 3, 8)):
+            peak, left = self.peak_of(memory, 32)
+            # Sixteen MiB are for all else.
+            self.assertGreater(peak, (least - 1) * 36_864 + 16_384, memory)
+            self.assertLess(peak, most * 36_864 + 16_384, memory)
+            self.assertLess(left, 16_384, memory)
+
+    def test_memory_of_starved_lines(self) -> None:
+        """Lines that are refused memory take none from those behind them."""
+        dear = f"$argon2id$v=19$m=1024,t=1,p=1${SALT}"
+        self.book.answers("t account ann", f"t enrol ann {ONE} {dear}", "t account bob")
+        huge = f"enrol bob - $argon2id$v=19$m=1025,t=1,p=1${SALT}"
+        lines = [f"verify ann {ONE}", huge] * 200
+        with self.book.tagged("--at-once", "4", "--memory", "1M") as service:
+            done = service.end("".join(f"{tag} {it}\n" for tag, it in zip(tags(400), lines)))
+        answers = ["yes", "bad 4 memory"] * 200
+        wanted = sorted(f"{tag} {it}" for tag, it in zip(tags(400), answers))
+        self.assertEqual((sorted(done.written.splitlines()), done.status), (wanted, 0))
+
+    def test_lines_that_give_up(self) -> None:
+        """A line whose record is another each time that it is hashed is given up as busy, after
+        eight changes and not before."""
+        records = [f"$argon2id$v=19$m=65536,t=6,p=1${SALT}${letter * 43}" for letter in "AE"]
+        for changes, answer in ((7, "v no"), (8, "v bad 14 busy")):
+            book = self.begun({"ann": records[1]})
+            with book.tagged("--at-once", "1") as service:
+                service.send("v verify ann -\n")
+                for turn in range(changes):
+                    self.assertEqual(service.ask(f"c load ann {records[turn % 2]}"), "c ok")
+                    # It is hashed behind the line, which is hashed again behind it.
+                    if turn + 1 < changes:
+                        self.assertEqual(service.ask("m verify nobody -"), "m noaccount")
+                self.assertEqual((changes, service.answer()), (changes, answer))
+                self.assertEqual(service.end(), DONE)
 
     def test_memory_runs_out(self) -> None:
         """Where the system refuses memory a line is answered so, and the next one is served."""

@@ -4,6 +4,7 @@ import base64
 import resource
 
 from tests.credkeep.books import CHEAP, RECORD, SALT, BookTest, says
+from tests.credkeep.doors import Operation, in_base64
 from tests.helpers import counts, instructions, limited, need
 
 # Four lanes.
@@ -81,6 +82,38 @@ class HashesTest(BookTest):
             done = self.book(*words.split(), *costly, given=given, preexec_fn=small)
             self.assertEqual((words, done[:2]), (words, ended))
         self.assertEqual(self.book.names(), ["ann"])
+
+    def test_hashes_of_a_line(self) -> None:
+        """A tagged line takes as many hashes for a name that the book lacks, and for an account
+        without a record, as for a wrong password: one. No time tells them apart."""
+        need("valgrind")
+        costs = "$argon2id$v=19$m=1024,t=2,p=1"
+        self.book.answers("t account ann", f"t enrol ann {in_base64('one')} {costs}${SALT}")
+        record = self.book.accounts()["ann"]
+
+        def work(text: str) -> int:
+            book, line = self.begun({"ann": record, "bob": ""}), Operation.of(text).line()
+            command = book.command("serve", "--tagged", "--at-once", "1", "--setting", costs)
+            done, count = instructions(command, f"t {line}\n")
+            self.assertEqual(done.status, 0, done)
+            return count
+
+        none = work("show ann")
+        one = work("verify ann one") - none
+        for line, hashes in (
+            ("verify {} two", {"ann": 1, "bob": 1, "cat": 1}),
+            ("login {} two", {"ann": 1, "bob": 1, "cat": 1}),
+            ("change {} two one", {"ann": 1, "bob": 1, "cat": 1}),
+            ("upgrade {} two", {"ann": 1, "bob": 1, "cat": 1}),
+            ("remove {} two", {"ann": 1, "bob": 1, "cat": 1}),
+            ("reset {} two", {"ann": 1, "bob": 1, "cat": 1}),
+            ("enrol {} two", {"ann": 0, "bob": 1, "cat": 1}),
+            ("login {} one", {"ann": 1}),
+            ("upgrade {} one", {"ann": 1}),
+            ("change {} one two", {"ann": 2}),
+        ):
+            found = {it: round((work(line.format(it)) - none) / one) for it in hashes}
+            self.assertEqual((line, found), (line, hashes))
 
     def test_equal_work(self) -> None:
         """As many instructions whichever byte of the tag differs, so that no time tells how far
