@@ -8,6 +8,7 @@ mod copies;
 mod costs;
 mod files;
 mod log;
+mod options;
 mod order;
 mod part;
 mod program;

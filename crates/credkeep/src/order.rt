@@ -2,18 +2,18 @@
 
 use crate::arguments::credkeep;
 use crate::commands::{CommandText, command_in};
-use crate::size::kib_of;
+use crate::options::{
+    counts_in, echo_in, empty_in, importing_in, line_in, most_in, name_in, number_in, part_in,
+    remarks_in, size_in, threads_in,
+};
 use crate::tagged::Tagged;
 use crate::terminal::Echo;
 use clap::error::ErrorKind;
 use clap::{ArgMatches, Error};
-use cred_admin::{
-    Edit, EmptyPassword, Existing, Line, LockedRecords, NewPassword, NewSetting, Part, Rules,
-    setting_of,
-};
-use cred_book::{BookError, Name};
-use cred_cli::{CostBounds, exceeds};
-use cred_keep::{BadLines, Counts, Effect, Importing, Order};
+use cred_admin::{Edit, Line, NewPassword, NewSetting, Part, setting_of};
+use cred_book::BookError;
+use cred_cli::exceeds;
+use cred_keep::{Counts, Order};
 use cred_many::Costs;
 use cred_phc::{PhcError, draw_salt};
 use rand::rngs::StdRng;
@@ -24,8 +24,8 @@ use std::random::RandomSource;
 /// RFC 9106's second recommended choice: Argon2id, 64 MiB, three passes, four lanes.
 const DEFAULT_SETTING: &str = "$argon2id$v=19$m=65536,t=3,p=4";
 
-/// How much memory hashes of tagged lines may take together.
-const DEFAULT_MEMORY: &str = "2G";
+/// How many KiB hashes of tagged lines may need together.
+const DEFAULT_MEMORY: u64 = 2097152;
 
 /// At most as many threads hash for a command on one account as the default setting has lanes.
 const LANES: u8 = 4;
@@ -133,11 +133,7 @@ pub(crate) fn asked_by<'a, R: RandomSource + AllocGlobal>(
     };
     let file = matches.get_str("file").unwrap_or("");
     let wait = number_in(&matches, "wait", 0, 3600)?.unwrap_or(0);
-    let remarks = if matches.get_flag("quiet") {
-        Remarks::Hidden
-    } else {
-        Remarks::Told
-    };
+    let remarks = remarks_in(&matches);
     let act = match matches.subcommand() {
         Some((word, values)) => act_of(rt, word, values)?,
         None => Act::Init,
@@ -206,10 +202,7 @@ fn tagged_in<'a, R: RandomSource + AllocGlobal>(
     rt: &R,
     values: &ArgMatches<'a>,
 ) -> Result<Tagged, Refusal<'a>> {
-    let text = values.get_str("memory").unwrap_or(DEFAULT_MEMORY);
-    let Some(memory) = kib_of(text) else {
-        return Err(Refusal::Size("--memory"));
-    };
+    let memory = size_in(values.get_str("memory"), "--memory")?.unwrap_or(DEFAULT_MEMORY);
     let most = most_in(values)?;
     let setting = new_setting(rt, values)?.setting();
     if exceeds(&most, &setting) {
@@ -227,70 +220,6 @@ fn tagged_in<'a, R: RandomSource + AllocGlobal>(
         costs,
         most,
     })
-}
-
-/// What settings and records may ask for.
-fn most_in<'a>(values: &ArgMatches<'a>) -> Result<CostBounds, Refusal<'a>> {
-    Ok(CostBounds {
-        memory: size_in(values.get_str("most-memory"), "--most-memory")?,
-        work: size_in(values.get_str("most-work"), "--most-work")?,
-    })
-}
-
-/// The KiB of an option's size, if it is given.
-fn size_in<'a>(text: Option<&str>, option: &'static str) -> Result<Option<u64>, Refusal<'a>> {
-    let Some(text) = text else {
-        return Ok(None);
-    };
-    match kib_of(text) {
-        Some(kib) => Ok(Some(kib)),
-        None => Err(Refusal::Size(option)),
-    }
-}
-
-/// The number of an option, if it is given.
-fn number_in<'a>(
-    values: &ArgMatches<'a>,
-    option: &'static str,
-    low: u16,
-    high: u16,
-) -> Result<Option<u16>, Refusal<'a>> {
-    let Some(text) = values.get_str(option) else {
-        return Ok(None);
-    };
-    match text.parse::<u16>() {
-        Ok(number) if (low..=high).contains(&number) => Ok(Some(number)),
-        _ => Err(Refusal::Number { option, low, high }),
-    }
-}
-
-/// How many threads an option gives, if it is given.
-fn threads_in<'a>(
-    values: &ArgMatches<'a>,
-    option: &'static str,
-    most: u8,
-) -> Result<Option<u8>, Refusal<'a>> {
-    let number = number_in(values, option, 1, u16::from(most))?;
-    Ok(number.map(|number| u8::try_from(number).unwrap_or(most)))
-}
-
-/// How counts are written.
-fn counts_in(values: &ArgMatches<'_>) -> Counts {
-    if values.get_flag("json") {
-        Counts::Json
-    } else if values.get_flag("quiet") {
-        Counts::Hidden
-    } else {
-        Counts::Plain
-    }
-}
-
-fn echo_in(values: &ArgMatches<'_>) -> Echo {
-    if values.get_flag("echo") {
-        Echo::Taken
-    } else {
-        Echo::Refused
-    }
 }
 
 fn order_of<'a, R: RandomSource + AllocGlobal>(
@@ -355,79 +284,6 @@ fn order_on<'a, R: RandomSource + AllocGlobal>(
                 _ => Order::Upgrade { name, setting },
             })
         }
-    }
-}
-
-fn name_in(text: &str) -> Result<Name, Refusal<'_>> {
-    match Name::new(text.as_bytes()) {
-        Ok(name) => Ok(name),
-        Err(why) => Err(Refusal::Name { text, why }),
-    }
-}
-
-fn part_in(values: &ArgMatches<'_>) -> Part {
-    if values.get_flag("record") {
-        Part::Record
-    } else {
-        Part::Costs
-    }
-}
-
-/// How the accounts are listed.
-fn line_in(values: &ArgMatches<'_>) -> Line {
-    if values.get_flag("json") {
-        Line::Json(Part::Costs)
-    } else if values.get_flag("costs") {
-        Line::Passwd(Part::Costs)
-    } else {
-        Line::Name
-    }
-}
-
-/// How an import is done.
-fn importing_in<'a>(values: &ArgMatches<'a>) -> Result<Importing, Refusal<'a>> {
-    let locked = if values.get_flag("disable-locked") {
-        LockedRecords::Disabled
-    } else {
-        LockedRecords::Refused
-    };
-    let bad = if values.get_flag("skip-bad") {
-        BadLines::LeftOut
-    } else {
-        BadLines::Refused
-    };
-    let effect = if values.get_flag("dry-run") {
-        Effect::Foretold
-    } else {
-        Effect::Made
-    };
-    let rules = Rules {
-        existing: existing_in(values)?,
-        locked,
-        most: most_in(values)?,
-    };
-    Ok(Importing {
-        rules,
-        bad,
-        effect,
-        counts: counts_in(values),
-    })
-}
-
-fn existing_in<'a>(values: &ArgMatches<'a>) -> Result<Existing, Refusal<'a>> {
-    match (values.get_flag("skip-existing"), values.get_flag("update")) {
-        (true, true) => Err(Refusal::Existing),
-        (true, false) => Ok(Existing::Kept),
-        (false, true) => Ok(Existing::Updated),
-        (false, false) => Ok(Existing::Refused),
-    }
-}
-
-fn empty_in(values: &ArgMatches<'_>) -> EmptyPassword {
-    if values.get_flag("empty-password") {
-        EmptyPassword::Taken
-    } else {
-        EmptyPassword::Refused
     }
 }
 

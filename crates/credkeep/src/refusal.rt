@@ -76,7 +76,7 @@ fn tell_unknown<W: Write>(out: &mut W, command: Option<&'static CommandText>) ->
             writeln!(
                 out,
                 "credkeep: {}: a word or an option too many, which isn't shown: it may be a \
-                 password, which standard input has\n\nUsage: {}",
+                 password\nA password is read from standard input.\n\nUsage: {}",
                 text.word, text.usage
             )?;
         }
