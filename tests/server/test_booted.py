@@ -134,7 +134,7 @@ Seccomp: 2
 systemctl stop 0
 by its socket active
 ended success
-1 accounts, 0 changes in the log
+1 account, 0 changes in the log
 credkeep-server: end: status 137, stats yes=1 no=0
 credkeep-server: denied at login to uid 0: enrol
 done"""
