@@ -174,8 +174,14 @@ fn settled<J: Naming, R: Threads + Wait + Abort + Sync>(
 }
 
 fn judge_closed<R: Abort>(rt: &R, closed: &Closed) {
-    let (to, fro) = (entry(rt, "a", Some(B)), entry(rt, "a", Some(A)));
-    let journal = [to, fro, to, fro, to, fro];
+    let journal = [
+        entry(rt, "a", Some(B)),
+        entry(rt, "a", Some(A)),
+        entry(rt, "a", Some(B)),
+        entry(rt, "a", Some(A)),
+        entry(rt, "a", Some(B)),
+        entry(rt, "a", Some(A)),
+    ];
     assert_eq!(rt; closed.journal.as_slice(), journal.as_slice());
     assert_eq!(rt; closed.counts.as_slice(), [UPGRADES, 0].as_slice());
     assert_eq!(rt; closed.book.show(&name(rt, "a")), Ok(Some(stored(rt, A))));
