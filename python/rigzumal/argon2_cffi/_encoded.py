@@ -1,5 +1,4 @@
-"""Encoded hashes, with the salts and tags that no record of `rigzumal` has: any salt of 8 bytes and
-more, and any tag of 4."""
+"""Encoded hashes, with the salts and tags that no record of `rigzumal` has: those of any length."""
 
 from __future__ import annotations
 
@@ -8,11 +7,14 @@ from binascii import a2b_base64, b2a_base64
 from enum import Enum
 from typing import Final, NamedTuple, Optional
 
+RANGE: Final = 5
+"""The fault of a record with a number that the library doesn't take."""
+
 LONG: Final = (6, 7, 9)
-"""The faults of a record whose salt, tag or text is longer than the library reads."""
+"""The faults of a record whose salt, tag or text is longer than the library reads, or too short."""
 
 _NUMBER: Final = rb"(0|[1-9][0-9]{0,9})"
-_BASE64: Final = rb"([A-Za-z0-9+/]+)"
+_BASE64: Final = rb"([A-Za-z0-9+/]*)"
 _FORM: Final = re.compile(
     rb"\$argon2(d|i|id)(?:\$v=%b)?\$m=%b,t=%b,p=%b\$%b\$%b"
     % ((_NUMBER,) * 4 + (_BASE64,) * 2)
@@ -72,7 +74,7 @@ class Encoded(NamedTuple):
         kind, *numbers, salt, tag = found.groups()
         version, *costs = (0x10 if it is None else int(it) for it in numbers)
         salt, tag = _data(salt), _data(tag)
-        if salt is None or tag is None or len(salt) < 8 or len(tag) < 4:
+        if salt is None or tag is None:
             return None
         if max(version, *costs) >= 2**32:
             return None

@@ -6,7 +6,7 @@ from dataclasses import dataclass
 from typing import Union
 
 from rigzumal import _library
-from rigzumal.argon2_cffi._encoded import LONG, Encoded, Type
+from rigzumal.argon2_cffi._encoded import LONG, RANGE, Encoded, Type
 from rigzumal.argon2_cffi.exceptions import InvalidHashError
 
 _SCRYPT = 3
@@ -47,7 +47,7 @@ def extract_parameters(hash: Union[str, bytes]) -> Parameters:
         text = _library.text_bytes(hash)
         parts = _library.parts(text)
     except _library.InvalidRecordError as fault:
-        return _long_parameters(hash, fault.number)
+        return _other_parameters(hash, fault.number)
     except ValueError:  # it has no form in UTF-8
         raise InvalidHashError from None
     if parts.scheme == _SCRYPT:
@@ -63,9 +63,9 @@ def extract_parameters(hash: Union[str, bytes]) -> Parameters:
     )
 
 
-def _long_parameters(hash: Union[str, bytes], fault: int) -> Parameters:
-    """Those of a hash whose salt or tag is longer than the library reads, which has this fault."""
-    read = Encoded.read(_library.bytes_of(hash)) if fault in LONG else None
+def _other_parameters(hash: Union[str, bytes], fault: int) -> Parameters:
+    """Those of a hash whose numbers or sizes the library doesn't read, which has this fault."""
+    read = Encoded.read(_library.bytes_of(hash)) if fault in (RANGE, *LONG) else None
     if read is None:
         raise InvalidHashError(number=fault)
     it = read.numbers

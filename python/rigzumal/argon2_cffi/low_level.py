@@ -7,7 +7,7 @@ from typing import Final, Literal, Optional
 
 from rigzumal import _library
 from rigzumal._library import RigzumalError
-from rigzumal.argon2_cffi._encoded import LONG, Encoded, Numbers, Type
+from rigzumal.argon2_cffi._encoded import LONG, RANGE, Encoded, Numbers, Type
 from rigzumal.argon2_cffi.exceptions import (
     HashingError,
     VerificationError,
@@ -28,7 +28,6 @@ ARGON2_VERSION = 19
 
 
 _MOST_LANES: Final = 255
-_RANGE: Final = 5
 
 # libargon2's messages, from 0 down to -35.
 _MESSAGES: Final = (
@@ -192,7 +191,7 @@ def verify_secret(hash: bytes, secret: bytes, type: Type) -> Literal[True]:
 def _verdict(hash: bytes, secret: bytes) -> int:
     """The library's, which reads no salt of over 48 bytes and no tag of over 64; else ours."""
     fault = _library.check(hash, secret, threads=_MOST_LANES)
-    read = Encoded.read(hash) if fault in (_RANGE, *LONG) else None
+    read = Encoded.read(hash) if fault in (RANGE, *LONG) else None
     if read is None:
         return fault
     it, salt, tag = read

@@ -2,6 +2,7 @@
 the answers and messages are the same. Its own tests: argon2_cffi_own.py."""
 
 import array
+import base64
 import dataclasses
 import inspect
 import pickle
@@ -21,6 +22,12 @@ except ModuleNotFoundError:
 
 OLD = "$argon2i$m=256,t=2,p=1$c29tZXNhbHQ$/U3YPXYsSb3q9XxHvc0MLxur+GP960kN9j7emXX8zwY"
 COSTS = {"time_cost": 1, "memory_cost": 64, "parallelism": 2}
+
+
+def encoded(costs, salt, tag):
+    """A hash of this salt and tag, whoever may refuse it."""
+    fields = (base64.b64encode(it).decode().rstrip("=") for it in (salt, tag))
+    return "$".join(("$argon2id$v=19", costs, *fields))
 
 
 def outcome(call, *given, **named):
@@ -92,6 +99,12 @@ class LowLevel(unittest.TestCase):
                 for it in (ours, theirs)
             ]
             self.assertEqual(*answers, damage(hashed))
+        for salt, tag in ((b"seven..", b"t" * 32), (b"", b"tag"), (b"s" * 60, b"")):
+            text = encoded("m=8,t=1,p=1", salt, tag).encode()
+            answers = [
+                outcome(it.low_level.verify_secret, text, b"x", it.Type.ID) for it in (ours, theirs)
+            ]
+            self.assertEqual(*answers, text)
         with self.assertRaisesRegex(ours.exceptions.VerificationError, "Decoding failed"):
             unknown = hashed.replace(b"v=19", b"v=18")
             ours.low_level.verify_secret(unknown, b"x", ours.Type.ID)
@@ -240,6 +253,7 @@ class Parameters(unittest.TestCase):
         texts = [ours.PasswordHasher(**COSTS).hash("x"), OLD]
         for tag, salt in ((13, 9), (70, 16), (32, 60), (600, 600)):
             texts += [theirs.PasswordHasher(**COSTS, hash_len=tag, salt_len=salt).hash("x")]
+        texts += [encoded(it, b"seven..", b"tag") for it in ("m=2400,t=1,p=300", "m=7,t=0,p=1")]
         for text in texts:
             mine, other = ours.extract_parameters(text), theirs.extract_parameters(text)
             for it in dataclasses.fields(mine):
