@@ -3,7 +3,6 @@ pub mod Commits
 pub mod Draws
 pub mod Lines
 pub mod Listed
-pub mod Renaming
 pub mod Replacing
 pub mod Seen
 pub mod Serving

@@ -21,7 +21,7 @@ use Rattle.cred_cli.specs.declared.refusal.Refusal.TheVariants as refusal
 use Rattle.cred_many.specs.declared.ask.Ask.{Ask}
 use Rattle.cred_many.specs.declared.ask.Ask.TheVariants.{Account, Load, Show, Whole, Login, Reset}
 use Rattle.cred_many.specs.declared.ask.Ask.TheVariants.{Bad, Edit, List as Names}
-use Rattle.cred_many.specs.declared.edit.Edit.TheVariants.{Disable, Delete, Rename}
+use Rattle.cred_admin.specs.declared.edits.Edit.TheVariants.{Disable, Delete, Rename}
 use Rattle.cred_many.specs.declared.grammar.Making.{Making}
 use Rattle.cred_many.specs.declared.grammar.Making.TheVariants as making
 use Rattle.cred_many.specs.declared.grammar.Checking.{Checking}

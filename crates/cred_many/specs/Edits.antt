@@ -1,6 +1,6 @@
--- What an administrator's lines do.
-use Rattle.std.specs.Prelude.{◌≡◌, ℕ, List, [], ◌∷◌, ◌++◌, Bool, true, false, ◌&&◌, not}
-use Rattle.std.specs.Prelude.{nat_lt, codes, take, Result, Ok, Err}
+-- What lines do that change many accounts or list them.
+use Rattle.std.specs.Prelude.{◌≡◌, ℕ, List, [], ◌∷◌, ◌++◌, true, false, not, codes, take, Result}
+use Rattle.std.specs.Prelude.{Ok, Err}
 use Rattle.std.specs.List.{filter}
 use Rattle.std.specs.Option.{option_or}
 use Rattle.std.specs.Ordering.{is_lt}
@@ -9,38 +9,6 @@ use Rattle.cred_book.specs.Accounts.{Accounts}
 use Rattle.cred_book.specs.Names.{name_cmp}
 use Rattle.cred_book.specs.declared.error.BookError.{BookError}
 use Rattle.cred_book.specs.declared.error.BookError.TheVariants as error
-use Rattle.cred_admin.specs.Edits.{deletion, disabling, edit_status, renaming}
-use Rattle.cred_admin.specs.declared.edit_reply.EditReply.{EditReply}
-use Rattle.cred_admin.specs.declared.edit_reply.EditReply.TheVariants as reply
-use Rattle.cred_admin.specs.declared.status.Status.TheVariants as status
-use Rattle.cred_many.specs.declared.edit.Edit.{Edit}
-use Rattle.cred_many.specs.declared.edit.Edit.TheVariants.{Disable, Delete, Rename}
-
--- ---- changes without a password
-
-abbrev pub edited : Accounts → Edit → EditReply × Accounts
-edited book (Disable name) = disabling book name
-edited book (Delete name) = deletion book name
-edited book (Rename name other) = renaming book name other
-
-abbrev pub is_renamed : EditReply → Bool
-is_renamed reply.Renamed = true
-is_renamed _ = false
-
--- an account would be renamed, and there is no room for one more name, which that takes
-abbrev pub lacks_room : ℕ → Accounts → Edit → Bool
-lacks_room room book edit = is_renamed (edited book edit).0 && not (nat_lt (fin.len book) room)
-
--- what a keeper does; memory runs out only if the change could have been made
-abbrev pub EditsWithin : ℕ → Accounts → Accounts → Edit → Result EditReply BookError → Type 0
-EditsWithin room old new edit (Ok r) =
-    (lacks_room room old edit ≡ false) × ((r, new) ≡ edited old edit)
-EditsWithin room old new edit (Err error.Full) = (lacks_room room old edit ≡ true) × (new ≡ old)
-EditsWithin room old new edit (Err error.Memory) = (edit_status (edited old edit).0 ≡ status.Done)
-    × (lacks_room room old edit ≡ false) × (new ≡ old)
-EditsWithin room old new edit (Err error.Name) = ⊥
-EditsWithin room old new edit (Err error.Exists) = ⊥
-EditsWithin room old new edit (Err error.NoAccount) = ⊥
 
 -- ---- records that are replaced together
 

@@ -17,19 +17,19 @@ use Rattle.cred_cli.specs.History.{Answer, Done, Replied, Refused, show_answer}
 use Rattle.cred_cli.specs.Script.{lines_of}
 use Rattle.cred_cli.specs.Texts.{text_of}
 use Rattle.cred_cli.specs.Watched.{failed_of, inner_of}
-use Rattle.cred_admin.specs.Edits.{edit_status, edit_word}
+use Rattle.cred_admin.specs.Edits.{edit_status, edit_word, edited, lacks_room}
 use Rattle.cred_admin.specs.declared.edit_reply.EditReply.{EditReply}
 use Rattle.cred_admin.specs.declared.status.Status.TheVariants as status
 use Rattle.cred_cli.specs.declared.refusal.Refusal.TheVariants as refusal
 use Rattle.cred_many.specs.declared.ask.Ask.{Ask}
 use Rattle.cred_many.specs.declared.ask.Ask.TheVariants.{Account, Load, Show, Whole, Login, Reset}
 use Rattle.cred_many.specs.declared.ask.Ask.TheVariants.{Bad, Edit as Change, List as Names}
-use Rattle.cred_many.specs.declared.edit.Edit.{Edit}
+use Rattle.cred_admin.specs.declared.edits.Edit.{Edit}
 use Rattle.cred_many.specs.declared.fault.ServiceFault.{ServiceFault}
 use Rattle.cred_many.specs.declared.fault.ServiceFault.TheVariants as fault
 use Rattle.cred_many.specs.declared.served.Served.{Served}
 use Rattle.cred_many.specs.Asks.{Entry}
-use Rattle.cred_many.specs.Edits.{edited, lacks_room, names_text, page}
+use Rattle.cred_many.specs.Edits.{names_text, page}
 use Rattle.cred_many.specs.Service.{Service, asked}
 
 -- ---- what is answered

@@ -3,7 +3,7 @@
 ghost use Rattle.std.specs.Prelude.{◌≡◌};
 ghost use Rattle.cred_many.specs.Asks.{IsSound, is_costly, within};
 
-use crate::edit::Edit;
+use cred_admin::Edit;
 use cred_book::{Name, Request};
 use cred_cli::{CostBounds, Refusal, exceeds, request_exceeds};
 use cred_phc::{Password, Record, Setting};

@@ -8,7 +8,7 @@ ghost use Rattle.cred_many.specs.Asks.{count_field, count_of, list_ask, made, ma
 ghost use Rattle.cred_many.specs.Asks.{only_name, rename_ask, show_ask};
 
 use crate::ask::Ask;
-use crate::edit::Edit;
+use cred_admin::Edit;
 use cred_book::{Name, Request};
 use cred_cli::{Refusal, fields};
 use cred_phc::{Password, PhcError, Setting, decimal};

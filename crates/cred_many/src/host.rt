@@ -1,7 +1,6 @@
 //! The keeper of a book that is served.
 
-use crate::edit::Edit;
-use cred_admin::EditReply;
+use cred_admin::{Edit, EditReply};
 use cred_book::{BookError, Name, Register, Reply, Worked};
 use cred_phc::Record;
 
@@ -14,7 +13,8 @@ pub trait Host {
     ghost use Rattle.cred_book.specs.Accounts.{Accounts, most_accounts};
     ghost use Rattle.cred_book.specs.Calls.{AdmitsWithin, Loads};
     ghost use Rattle.cred_book.specs.Commits.{Commits};
-    ghost use Rattle.cred_many.specs.Edits.{EditsWithin, ReplacesAll};
+    ghost use Rattle.cred_admin.specs.Edits.{EditsWithin};
+    ghost use Rattle.cred_many.specs.Edits.{ReplacesAll};
 
     ghost book: { Self → Accounts };
 

@@ -1,19 +1,16 @@
 //! A kept book that answers tagged lines.
 
 ghost use Rattle.std.specs.Prelude.{◌≡◌};
-ghost use Rattle.cred_book.specs.Accounts.{register_capacity};
-ghost use Rattle.cred_many.specs.Edits.{EditsWithin, ReplacesAll};
+ghost use Rattle.cred_many.specs.Edits.{ReplacesAll};
 ghost use Rattle.cred_many.specs.Service.{service};
-ghost use Rattle.cred_many.specs.declared.edit.Edit.TheVariants as edit;
 
-use crate::edit::Edit;
 use crate::host::Host;
 use crate::message::Ending;
 use crate::naming::Naming;
 use crate::scribe::Scribe;
 use crate::service::{Means, serve_tagged};
 use crate::source::LineReader;
-use cred_admin::EditReply;
+use cred_admin::{Edit, EditReply, make_edit};
 use cred_book::{BookError, Name, Register, Reply, Worked};
 use cred_cli::Tools;
 use cred_file::FileBook;
@@ -51,11 +48,7 @@ impl<S: Alter> Host for FileBook<S> {
     }
 
     fn edit(&mut self, edit: &Edit) -> Result<EditReply, BookError> {
-        match *edit {
-            Edit::Disable(name) => disable(self, &name),
-            Edit::Delete(name) => delete(self, &name),
-            Edit::Rename(name, other) => rename(self, &name, &other),
-        }
+        make_edit(self, edit)
     }
 
     fn replace_all(&mut self, changed: Register) -> Result<(), BookError> {
@@ -64,58 +57,6 @@ impl<S: Alter> Host for FileBook<S> {
 
     fn has_failed(&self) -> bool {
         self.lost().is_some()
-    }
-}
-
-fn disable<S: Alter>(book: &mut FileBook<S>, name: &Name) -> Result<EditReply, BookError>
-    ensures { EditsWithin register_capacity book.old.book book.new.book
-        (edit.Disable name.now) result }
-{
-    match book.book().show(name) {
-        Ok(Some(_)) => {}
-        Ok(None) => return Ok(EditReply::Absent),
-        Err(_) => return Ok(EditReply::NoAccount),
-    }
-    match book.put(name, None) {
-        Ok(()) => Ok(EditReply::Disabled),
-        Err(_) => Err(BookError::Memory),
-    }
-}
-
-#[tactic(auto, using(crate::proofs::Renaming::renaming))]
-fn delete<S: Alter>(book: &mut FileBook<S>, name: &Name) -> Result<EditReply, BookError>
-    ensures { EditsWithin register_capacity book.old.book book.new.book
-        (edit.Delete name.now) result }
-{
-    match book.delete(name) {
-        Ok(()) => Ok(EditReply::Deleted),
-        Err(BookError::NoAccount) => Ok(EditReply::NoAccount),
-        Err(_) => Err(BookError::Memory),
-    }
-}
-
-#[tactic(auto, using(crate::proofs::Renaming::renaming))]
-fn rename<S: Alter>(
-    book: &mut FileBook<S>,
-    name: &Name,
-    other: &Name,
-) -> Result<EditReply, BookError>
-    ensures { EditsWithin register_capacity book.old.book book.new.book
-        (edit.Rename name.now other.now) result }
-{
-    let accounts = book.book();
-    if !accounts.contains(name) {
-        return Ok(EditReply::NoAccount);
-    }
-    if accounts.contains(other) {
-        return Ok(EditReply::Exists);
-    }
-    if accounts.is_full() {
-        return Err(BookError::Full);
-    }
-    match book.rename(name, other) {
-        Ok(()) => Ok(EditReply::Renamed),
-        Err(_) => Err(BookError::Memory),
     }
 }
 

@@ -10,7 +10,6 @@ mod budget;
 mod costs;
 mod decoder;
 mod desk;
-mod edit;
 mod fault;
 mod grammar;
 mod group;
@@ -32,7 +31,6 @@ mod service;
 mod source;
 
 pub use costs::Costs;
-pub use edit::Edit;
 pub use fault::ServiceFault;
 pub use host::Host;
 pub use job::{Hashed, Job};
