@@ -2,6 +2,7 @@
 
 ghost use Rattle.std.specs.Io.{ReadsAtMost};
 ghost use Rattle.std.specs.Io.KnownBytes.{ReadConsumes};
+ghost use Rattle.std.specs.Prelude.{◌≡◌};
 
 use crate::order::Remarks;
 use std::io;
@@ -91,7 +92,9 @@ impl<'a, R> Counted<'a, R> {
 
 impl<R> Counted<'_, R> {
     /// Says how many lines were read before a read of so many bytes.
-    fn tell(&mut self, count: usize) {
+    fn tell(&mut self, count: usize)
+        ensures same_reader { self.new.inner ≡ self.old.inner }
+    {
         if count != 0 {
             self.progress.tell(self.lines, LINES);
             return;
