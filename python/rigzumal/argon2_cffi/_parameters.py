@@ -65,13 +65,14 @@ def extract_parameters(hash: Union[str, bytes]) -> Parameters:
 
 def _other_parameters(hash: Union[str, bytes], fault: int) -> Parameters:
     """Those of a hash whose numbers or sizes the library doesn't read, which has this fault."""
-    read = Encoded.read(_library.bytes_of(hash)) if fault in (RANGE, *LONG) else None
+    text = _library.bytes_of(hash)
+    read = Encoded.read(text) if fault in (RANGE, *LONG) else None
     if read is None:
         raise InvalidHashError(number=fault)
     it = read.numbers
     return Parameters(
         type=it.type,
-        version=_NO_VERSION if it.version == 0x10 else it.version,
+        version=it.version if b"$v=" in text else _NO_VERSION,
         salt_len=len(read.salt),
         hash_len=len(read.tag),
         time_cost=it.time_cost,

@@ -254,6 +254,7 @@ class Parameters(unittest.TestCase):
         for tag, salt in ((13, 9), (70, 16), (32, 60), (600, 600)):
             texts += [theirs.PasswordHasher(**COSTS, hash_len=tag, salt_len=salt).hash("x")]
         texts += [encoded(it, b"seven..", b"tag") for it in ("m=2400,t=1,p=300", "m=7,t=0,p=1")]
+        texts += [texts[-1].replace("$v=19", version) for version in ("", "$v=16")]
         for text in texts:
             mine, other = ours.extract_parameters(text), theirs.extract_parameters(text)
             for it in dataclasses.fields(mine):
