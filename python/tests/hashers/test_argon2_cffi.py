@@ -308,6 +308,7 @@ class Exceptions(unittest.TestCase):
             (lambda: hasher.verify(hasher.hash("x"), "y"), rigzumal.VerifyMismatchError),
             (lambda: hasher.verify("x", "y"), rigzumal.InvalidRecordError),
             (lambda: ours.PasswordHasher(time_cost=0).hash("x"), rigzumal.RigzumalError),
+            (lambda: ours.PasswordHasher(1, 4096, 256).hash("x"), rigzumal.RigzumalError),
         ):
             with self.assertRaises(kind) as raised:
                 call()
