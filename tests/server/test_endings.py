@@ -14,6 +14,7 @@ from unittest import mock
 
 from served import SECRET, Case, Client, is_listening, need, until
 from daemon import doors
+from daemon.book import Book
 from daemon.options import Options
 from daemon.service import Service
 
@@ -50,7 +51,7 @@ class Endings(Case):
     def test_book_ends(self) -> None:
         """If the book ends so does the server, with its status; whoever waits is told."""
         for faults, ought in (("dies=4", 5), ("killed=4", 128 + 9), ("endless", 128 + 9)):
-            service = self.serving("--at-once", "3", faults=faults + ";slow=0.1")
+            service = self.serving("--at-once", "3", faults=faults + ";slow=0.4")
             clients, idle = [service.client("admin") for _ in range(8)], service.client()
             for client in clients:
                 client.send("a verify ada -\nb verify ada -\n")
@@ -60,6 +61,21 @@ class Endings(Case):
             self.assertTrue(idle.is_ended(), "it goes on")
             self.assertEqual(service.process.wait(timeout=40), ought, faults)
             self.assertIn(f"end: status {ought}", service.log())
+
+    def test_killed_once(self) -> None:
+        """A book that writes on is killed once, and nothing that it writes then is an answer."""
+
+        async def killed() -> tuple[int, list[bytes]]:
+            book, said, transport = Book(), list[bytes](), mock.Mock()
+            book.transport = transport
+            book.ask([b"verify", b"ada", b"-"], said.append)
+            for _ in range(3):
+                book.pipe_data_received(1, b"x" * 70_000)
+            book.pipe_data_received(1, b"\n1 yes\n")
+            book.kill()
+            return transport.kill.call_count, said
+
+        self.assertEqual(asyncio.run(killed()), (1, []))
 
     def test_clients_that_come_too_late(self) -> None:
         """Once it is ending, who comes is told and closed: none is waited for, however its line falls."""

@@ -19,7 +19,7 @@ class Book(asyncio.SubprocessProtocol):
 
     def __init__(self) -> None:
         self.asked: dict[bytes, Answered] = {}
-        self.last, self.rest, self.strays = 0, b"", 0
+        self.last, self.rest, self.strays, self.is_killed = 0, b"", 0, False
         self.lines: list[bytes] = []  # that are written together
         self.loop = asyncio.get_running_loop()
         self.ended: asyncio.Future[int] = self.loop.create_future()
@@ -58,6 +58,8 @@ class Book(asyncio.SubprocessProtocol):
             pipe.write(b"".join(lines))
 
     def pipe_data_received(self, fd: int, data: bytes) -> None:
+        if self.is_killed:
+            return
         *lines, self.rest = (self.rest + data).split(b"\n")
         for line in lines:
             tag, _, said = line.partition(b" ")
@@ -75,7 +77,9 @@ class Book(asyncio.SubprocessProtocol):
             pipe.close()
 
     def kill(self) -> None:
-        if self.transport and not self.ended.done():
+        """Kills it once: a second call may take its status away from asyncio's watcher."""
+        if self.transport and not self.ended.done() and not self.is_killed:
+            self.is_killed = True
             self.transport.kill()
 
     def connection_lost(self, fault: Optional[Exception]) -> None:
