@@ -7,7 +7,7 @@ static const struct {
     [RIGZUMAL_OK] = {"ok", "there is no fault"},
     [RIGZUMAL_SHAPE] = {"shape",
                         "it does not begin with '$', a field is missing, or there is one too many"},
-    [RIGZUMAL_SCHEME] = {"scheme", "the name is none of argon2d, argon2i, argon2id and scrypt"},
+    [RIGZUMAL_SCHEME] = {"scheme", "the scheme is none of argon2d, argon2i, argon2id and scrypt"},
     [RIGZUMAL_VERSION] = {"version", "the version is not one that can be read here"},
     [RIGZUMAL_PARAMS] = {"params", "the numbers are not written in the form of the scheme"},
     [RIGZUMAL_RANGE] = {"range", "a number is outside its range"},

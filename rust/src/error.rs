@@ -37,7 +37,7 @@ macro_rules! errors {
 errors! {
     /// A text doesn't begin with `$`, or a field is missing or too many.
     Shape = 1,
-    /// A text's name is none of argon2d, argon2i, argon2id and scrypt.
+    /// A text's scheme is none of argon2d, argon2i, argon2id and scrypt.
     Scheme = 2,
     /// A text's version is not one that can be read: 19, in a record 16 too.
     Version = 3,

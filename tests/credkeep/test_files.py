@@ -53,7 +53,7 @@ NO_BOOKS = [
     (
         database(TABLE + "INSERT INTO account VALUES ('ann', '$2y$10$abc')"),
         "row 1: the text there is no record: "
-        "the name is none of argon2d, argon2i, argon2id and scrypt (2 scheme)",
+        "the scheme is none of argon2d, argon2i, argon2id and scrypt (2 scheme)",
     ),
 ]
 ORDERS = ("list", "check ann", "run", "import", "add ann", "reset ann")

@@ -140,7 +140,7 @@ fn came_to_end<R>(was_ended: bool, reader: &Watched<R>) -> bool
     !was_ended && reader.ended()
 }
 
-/// Makes the account's record anew under the setting, if the reader's first line is its password
+/// Rehashes the account's record under the setting, if the reader's first line is its password
 /// and the record isn't of this scheme with these numbers.
 ///
 /// It writes `upgraded`, `kept`, `wrong`, `absent` or `noaccount`. Errors: `Read`, `NoPassword`,
@@ -262,7 +262,7 @@ fn enrol<T: Threads + Wait + Sync, K: Keeper>(
     }
 }
 
-/// Makes the record, and puts it at the account, if it is there.
+/// Makes the record, and puts it at the account, if it exists.
 fn put_anew<T: Threads + Wait + Sync, K: Keeper>(
     tools: &Tools<'_, T>,
     keeper: &mut K,
@@ -318,7 +318,7 @@ fn admit<T: Threads + Wait + Sync, K: Keeper>(
     }
 }
 
-/// Puts the record at an account that is there.
+/// Puts the record at an existing account.
 fn put<T: Threads + Wait + Sync, K: Keeper>(
     tools: &Tools<'_, T>,
     keeper: &mut K,

@@ -22,9 +22,9 @@ pub enum EditReply {
     Renamed,
     /// There is no record.
     Absent,
-    /// The other name is there already.
+    /// The other name exists already.
     Exists,
-    /// The name isn't there.
+    /// The name doesn't exist.
     NoAccount,
 }
 

@@ -32,7 +32,7 @@ pub enum Edit {
 }
 
 /// Changes an account, and writes what became of it: `disabled`, `deleted` or `renamed`; `absent`
-/// if it has no record to take away; `exists` if the second name is there; or `noaccount`.
+/// if it has no record to take away; `exists` if the second name exists; or `noaccount`.
 ///
 /// Errors: `Memory`, and `Full` if an account would be renamed and the book has no room for one
 /// more name: nothing is written or changed; `Write`.

@@ -20,7 +20,7 @@ use std::io::Read;
 /// How many bytes are asked for at once.
 const CHUNK: usize = 65536;
 
-/// What an import does with a line whose account is there already.
+/// What an import does with a line whose account exists already.
 #[derive(Clone, Copy, Debug, PartialEq, Eq)]
 pub enum Existing {
     /// The line is at fault.
@@ -86,9 +86,9 @@ pub enum ImportFault {
 pub struct Gathered {
     /// The accounts that are new.
     pub accounts: Register,
-    /// The accounts that are there, with the records that they have from now on.
+    /// The existing accounts, with the records that they have from now on.
     pub changed: Register,
-    /// How many lines name an account that is there, and stays as it is.
+    /// How many lines name an account that exists and stays as it is.
     pub kept: u64,
     /// The lines that aren't good, in their order.
     pub bad: Vec<BadLine>,
@@ -278,7 +278,7 @@ impl Gathered {
         }
     }
 
-    /// Adds a line whose account is there already.
+    /// Adds a line whose account exists already.
     fn take_existing(
         &mut self,
         how: Existing,

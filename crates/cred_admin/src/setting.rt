@@ -41,7 +41,7 @@ impl NewSetting {
     }
 }
 
-/// The setting that a text stands for. If the text ends before its salt, as
+/// The setting of a text. If the text ends before its salt, as
 /// `$argon2id$v=19$m=65536,t=3,p=4`, the setting has this salt.
 ///
 /// Errors: those of `parse_setting`; `Memory`.

@@ -5,7 +5,7 @@ ghost use Rattle.cred_argon.specs.Numbers.{kind_number, version_number};
 /// How Argon2 chooses the blocks that it reads (RFC 9106, section 3.1, type y).
 #[derive(Clone, Copy, Debug, PartialEq, Eq)]
 pub enum Kind {
-    /// By what stands in the memory, and so by the password.
+    /// By the contents of the memory, and so by the password.
     D,
     /// By the place alone.
     I,
@@ -15,7 +15,7 @@ pub enum Kind {
 }
 
 impl Kind {
-    /// The number that stands for the kind in Argon2's inputs: 0, 1 or 2.
+    /// The number of the kind in Argon2's inputs: 0, 1 or 2.
     pub fn number(self) -> u32
         ensures { result ≡ kind_number self }
     {

@@ -15,16 +15,16 @@ use thiserror::Error;
 #[error("not base64 with no padding")]
 pub struct NotBase64;
 
-/// How many bytes so many letters stand for.
+/// How many bytes so many letters encode.
 pub fn decoded_len(letters: usize) -> usize
     ensures { result ≡ letters * 3 / 4 }
 {
     letters / 4 * 3 + letters % 4 * 3 / 4
 }
 
-/// Writes the bytes that the letters stand for, of which there are `decoded_len(letters.len())`.
+/// Writes the bytes that the letters encode, of which there are `decoded_len(letters.len())`.
 ///
-/// Errors: `NotBase64` if they stand for none. Then the bytes are zero.
+/// Errors: `NotBase64` if they encode none. Then the bytes are zero.
 pub fn decode(letters: &[u8], bytes: &mut [u8]) -> Result<(), NotBase64>
     requires { length bytes.old ≡ length letters.now * 3 / 4 }
     ensures ok { OnOk result (bytes_with letters.now ≡ Some bytes.new) }

@@ -17,7 +17,7 @@ pub(crate) fn letter(sextet: u8) -> u8
     signs as u8
 }
 
-/// The six bits that a letter stands for, and some six bits if the byte is no letter.
+/// The six bits that a letter encodes, and some six bits if the byte is no letter.
 pub(crate) fn sextet_of(letter: u8) -> u8
     ensures letters { (sextet : ℕ) → sextet < 64 → letter ≡ letter_of sextet → result ≡ sextet }
     ensures six_bits { result < 64 }

@@ -21,7 +21,7 @@ pub(crate) fn sextet(bytes: &[u8], place: usize) -> u8
     }
 }
 
-/// The byte at a place of those that the letters stand for, and some byte if they stand for none.
+/// The byte at a place of those that the letters encode, and some byte if they encode none.
 pub(crate) fn byte(letters: &[u8], place: usize) -> u8
     requires { place < length letters.now }
     ensures { (bytes : List ℕ) → IsBytes bytes → letters.now ≡ letters_of bytes

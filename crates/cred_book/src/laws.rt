@@ -54,7 +54,7 @@ pub fn yes_is_the_password()
 /// operations in the same order, and the rows at the end are the same. An update whose row after is
 /// its copy needs only a second look at the row. A store that does every update whose copy still
 /// stands refuses one only if another at the same key was done since the copy was taken: so of
-/// clients that begin anew some client always gets on.
+/// clients that begin again some client always gets on.
 pub fn updates_are_one_history<V, R>()
     ensures replies { (store : Rows V) (updates : List (Update V R)) → IsLog store updates
         → replies_done updates ≡ seq_replies store (operations_done updates) }

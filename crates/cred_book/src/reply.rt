@@ -19,7 +19,7 @@ pub enum Reply {
     Replaced,
     /// The password is wrong, and nothing was done.
     Wrong,
-    /// The record was made anew.
+    /// The record was rehashed.
     Upgraded,
     /// The record has this scheme with these costs already.
     Kept,

@@ -26,7 +26,7 @@ pub enum Request {
         new_pw: Password,
         setting: Setting,
     },
-    /// Makes the record of the same password anew, unless it has this scheme with these costs
+    /// Rehashes the same password, unless it has this scheme with these costs
     /// already.
     Upgrade {
         name: Name,

@@ -60,7 +60,7 @@ pub(crate) fn scrypt_number(error: ScryptError) -> u8
     }
 }
 
-/// The kind that a number stands for.
+/// The kind with this number.
 pub(crate) fn kind_of(number: u32) -> Option<Kind>
     ensures found { (k : Kind) → number ≡ kind_number k → result ≡ Some k }
     ensures only { IfSome result (λ k. number ≡ kind_number k) }
@@ -74,7 +74,7 @@ pub(crate) fn kind_of(number: u32) -> Option<Kind>
     }
 }
 
-/// The variant that a number stands for.
+/// The variant with this number.
 pub(crate) fn variant_of(number: u32) -> Option<Variant>
     ensures found { (x : Variant) → number ≡ variant_number x → result ≡ Some x }
     ensures only { IfSome result (λ x. number ≡ variant_number x) }
@@ -88,7 +88,7 @@ pub(crate) fn variant_of(number: u32) -> Option<Variant>
     }
 }
 
-/// The version that a number stands for.
+/// The version with this number.
 pub(crate) fn version_of(number: u32) -> Option<Version>
     ensures found { (v : Version) → number ≡ version_number v → result ≡ Some v }
     ensures only { IfSome result (λ v. number ≡ version_number v) }

@@ -21,7 +21,7 @@ pub enum Operation {
 /// Why a step isn't taken.
 #[derive(Clone, Copy, PartialEq, Eq)]
 pub enum StepFault {
-    /// The copy's text stands for no record.
+    /// The copy's text is no record.
     Copy,
     /// A password has over 256 bytes.
     Long,
@@ -42,7 +42,7 @@ impl StepFault {
     }
 }
 
-/// The operation that a number stands for: 1 to 5.
+/// The operation of a number: 1 to 5.
 pub(crate) fn operation_of(number: u32) -> Option<Operation>
     ensures found { (o : Operation) → number ≡ operation_number o → result ≡ Some o }
     ensures only { IfSome result (λ o. number ≡ operation_number o) }

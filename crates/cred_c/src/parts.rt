@@ -53,7 +53,7 @@ pub extern "C" fn cred_record_fault(text: &[u8]) -> u8
 }
 
 /// Writes what a record's text says of itself into `parts`, so that the caller can see whether it
-/// should be made anew.
+/// needs a rehash.
 ///
 /// Answers 0, or the number of the text's fault.
 #[unsafe(no_mangle)]
@@ -108,7 +108,7 @@ fn parts_of(stored: &Record) -> Parts
     }
 }
 
-/// The number that stands for a variant.
+/// The number of a variant.
 fn variant_number(variant: Variant) -> u32
     ensures { result ≡ variant_number variant }
 {

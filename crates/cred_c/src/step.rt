@@ -123,7 +123,7 @@ fn put_after(
     }
 }
 
-/// The number that stands for a reply: 1 to 12, in their order.
+/// The number of a reply: 1 to 12, in their order.
 fn reply_number(reply: Reply) -> u32
     ensures { result ≡ reply_number reply }
 {

@@ -8,7 +8,7 @@ use crate::numbers::{kind_of, version_of};
 use crate::part_fault::PartFault;
 use cred_argon::Params;
 
-/// The numbers of Argon2 (RFC 9106, section 3.1), as they stand in a record.
+/// The numbers of Argon2 (RFC 9106, section 3.1), as in a record.
 #[repr(C)]
 #[derive(Clone, Copy, Debug, PartialEq, Eq)]
 pub struct Argon2Numbers {
@@ -62,7 +62,7 @@ pub(crate) fn params_of(numbers: &TagNumbers) -> Result<Params, PartFault>
     }
 }
 
-/// The numbers that stand for parameters.
+/// The numbers of parameters.
 pub(crate) fn numbers_of(params: &Params) -> TagNumbers
     requires { IsRaw params.now }
     ensures { StandFor result params.now }

@@ -14,7 +14,7 @@ pub enum AccountState {
     NoAccount,
 }
 
-/// What stands at a name that is there.
+/// What stands at an existing name.
 impl From<Option<Record>> for AccountState {
     ghost use Rattle.std.specs.Prelude.{◌≡◌};
     ghost use Rattle.cred_desk.specs.Histories.{state_of};

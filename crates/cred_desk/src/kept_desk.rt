@@ -133,7 +133,7 @@ impl<J: Naming, W: EntryWriter> KeptDesk<J, W> {
     /// Waits for the lock, and adds a name with no record. The session knows the list after it from
     /// then on, and counts an addition.
     ///
-    /// Errors: `Exists` if the name is there; `Full` if the book has 4096 names; `Memory` if it
+    /// Errors: `Exists` if the name exists; `Full` if the book has 4096 names; `Memory` if it
     /// runs out, or the writer's own, if the name would have been added. Nothing changes then but
     /// that the session knows the list at which it was refused.
     pub fn admit<R: Wait>(
@@ -152,10 +152,10 @@ impl<J: Naming, W: EntryWriter> KeptDesk<J, W> {
         admitted
     }
 
-    /// Waits for the lock, and puts a record at a name, in place of one that stands there. The
+    /// Waits for the lock, and puts a record at a name, in place of an existing one. The
     /// session knows the list after it from then on, and counts an addition.
     ///
-    /// Errors: `NoAccount` if the name isn't there; `Memory` if it runs out, or the writer's own,
+    /// Errors: `NoAccount` if the name doesn't exist; `Memory` if it runs out, or the writer's own,
     /// if the record would have been put. Nothing changes then but that the session knows the list
     /// at which it was refused.
     pub fn load<R: Wait>(
@@ -175,14 +175,14 @@ impl<J: Naming, W: EntryWriter> KeptDesk<J, W> {
         loaded
     }
 
-    /// Waits for the lock, and takes a name away, with the record if one stands there. So there is
+    /// Waits for the lock, and takes a name away, with the record if it has one. So there is
     /// room for another name. The session knows the list after it from then on, and counts an
     /// addition.
     ///
     /// A ticket that was begun at the name is answered `Reply::NoAccount` as it is settled, unless
     /// somebody admitted the name again.
     ///
-    /// Errors: `NoAccount` if the name isn't there; `Memory` if it runs out, or the writer's own,
+    /// Errors: `NoAccount` if the name doesn't exist; `Memory` if it runs out, or the writer's own,
     /// if the name would have been taken away. Nothing changes then but that the session knows the
     /// list at which it was refused.
     pub fn delete<R: Wait>(

@@ -9,7 +9,7 @@ use grow_log::Trace;
 use std::fmt;
 use std::marker::Model;
 
-/// The list of entries as it stood after a commit. A session that learns it reads no older book
+/// The list of entries after a commit. A session that learns it reads no older book
 /// from then on.
 #[derive(Drop)]
 pub struct Told<J: Naming> {

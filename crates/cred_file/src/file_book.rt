@@ -29,7 +29,7 @@ use std::alloc::Global;
 use std::marker::Model;
 use std::sync::Wait;
 
-/// A book of at most 2^24 accounts, whose table stands for it. As long as the disk returns what was
+/// A book of at most 2^24 accounts, whose table has it. As long as the disk returns what was
 /// written, a crash between calls leaves this book.
 ///
 /// If the database fails, the change that was under way is lost: it may be kept or not. From then

@@ -1,4 +1,4 @@
-//! The book that the rows of a table stand for.
+//! The book that the rows of a table hold.
 
 ghost use Rattle.std.specs.Prelude.{◌≡◌, ◌≤◌, [], true, IfErr, IfOk, IsTrue, MatchOption};
 ghost use Rattle.std.specs.Prelude.{MatchResult};

@@ -23,7 +23,7 @@ use sqlite::types::ValueRef;
 use sqlite::{Alter, Connection, Error};
 use std::alloc::Global;
 
-/// Adds the row of a name that isn't there, with a record's text or NULL.
+/// Adds the row of a name that doesn't exist, with a record's text or NULL.
 pub(crate) fn insert_row<S: Alter>(
     conn: &mut Connection<S>,
     name: &Name,
@@ -49,7 +49,7 @@ pub(crate) fn insert_row<S: Alter>(
     Ok(())
 }
 
-/// Puts a record's text, or NULL, at a name that is there.
+/// Puts a record's text, or NULL, at an existing name.
 pub(crate) fn update_row<S: Alter>(
     conn: &mut Connection<S>,
     name: &Name,
@@ -75,7 +75,7 @@ pub(crate) fn update_row<S: Alter>(
     Ok(())
 }
 
-/// Deletes the row of a name that is there.
+/// Deletes the row of an existing name.
 pub(crate) fn delete_row<S: Alter>(conn: &mut Connection<S>, name: &Name) -> Result<(), Error>
     ensures deleted { HasCleanDisk (state S.Store conn.new) → OnOk result
         (Makes (state S.Store conn.old) (state S.Store conn.new) (Has name.now)
@@ -134,7 +134,7 @@ pub(crate) fn create_table<S: Alter>(conn: &mut Connection<S>) -> Result<(), Err
     Ok(())
 }
 
-/// The book that the rows of the table stand for.
+/// The book that the rows of the table hold.
 pub(crate) fn read_table<S: Alter>(
     alloc: Global,
     conn: &mut Connection<S>,

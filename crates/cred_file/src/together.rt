@@ -165,7 +165,7 @@ fn insert_stored<S: Alter>(
     }
 }
 
-/// Adds the row of a name that isn't there, with a record's text or NULL.
+/// Adds the row of a name that doesn't exist, with a record's text or NULL.
 fn insert_within<S: Alter>(
     tx: &mut Transaction<'_, S>,
     name: &Name,
@@ -229,7 +229,7 @@ fn update_stored<S: Alter>(
     }
 }
 
-/// Puts a record's text, or NULL, in the row of a name that is there.
+/// Puts a record's text, or NULL, in the row of an existing name.
 fn update_within<S: Alter>(
     tx: &mut Transaction<'_, S>,
     name: &Name,

@@ -55,9 +55,9 @@ pub struct Imported {
     pub effect: Effect,
     /// How many accounts are new.
     pub added: usize,
-    /// How many accounts that were there have the record of their line.
+    /// How many existing accounts have the record of their line.
     pub changed: usize,
-    /// How many lines name an account that is there, and stays as it is.
+    /// How many lines name an account that exists and stays as it is.
     pub kept: u64,
     /// The lines that are left out since they aren't good, in their order.
     pub bad: Vec<BadLine>,

@@ -13,7 +13,7 @@ pub enum Order {
     /// Answers the lines of a script for as long as they come. Those that bring a setting or a
     /// record are refused if it asks for more than this.
     Serve { most: CostBounds },
-    /// Makes the first record of an account, and the account if it isn't there.
+    /// Makes the first record of an account, and the account if it doesn't exist.
     Add { name: Name, new: NewPassword },
     /// Asks whether a password is the account's.
     Check { name: Name },
@@ -21,7 +21,7 @@ pub enum Order {
     Change { name: Name, new: NewPassword },
     /// Puts the record of a new password at an account, without the old one.
     Reset { name: Name, new: NewPassword },
-    /// Makes the account's record anew under another scheme or other numbers.
+    /// Rehashes the account's record under another scheme or other numbers.
     Upgrade { name: Name, setting: NewSetting },
     /// Takes the account's record away.
     Remove { name: Name },

@@ -61,7 +61,7 @@ pub(crate) fn do_ask<K: Host>(
 }
 
 /// Gives the account this record, in place of any other. If memory runs out the book stays; it runs
-/// out only if the account is there.
+/// out only if the account exists.
 pub(crate) fn put_in_place<K: Host>(
     keeper: &mut K,
     name: &Name,

@@ -23,7 +23,7 @@ pub(crate) enum Ask {
     Edit(Edit),
     /// An operation on an account's record, answered by its reply.
     Whole(Request),
-    /// Asks whether the password is right, and if it is makes a record of other costs anew.
+    /// Asks whether the password is right, and if it is rehashes a record of other costs.
     Login(Name, Password, Setting),
     /// Gives an account the record of this password, in place of any other.
     Reset(Name, Password, Setting),

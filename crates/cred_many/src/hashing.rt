@@ -55,7 +55,7 @@ impl Hashing {
         message
     }
 
-    /// Hashes a job. A name that isn't there, and an account without a record, take a hash too.
+    /// Hashes a job. A name that doesn't exist, and an account without a record, take a hash too.
     fn hash<J: Naming>(&self, scratch: &mut Scratch, job: Job<J>) -> Message<J> {
         let request = job.ticket.request();
         if job.ticket.copy().is_none() && self.hash_for_nothing(scratch, &request).is_err() {

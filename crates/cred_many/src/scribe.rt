@@ -330,7 +330,7 @@ impl<J: Naming, K: Host, W: Write> Scribe<J, K, W> {
 }
 
 /// The request with a copy of its account's record. A name that isn't there is hashed as an account
-/// without a record, and its commit says that it isn't there.
+/// without a record, and its commit says that it doesn't exist.
 fn ticket_of<K: Host>(keeper: &K, request: Request) -> Ticket
     requires { is_for_current request ≡ true }
     ensures request { result.0 ≡ request }

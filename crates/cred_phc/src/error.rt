@@ -13,8 +13,8 @@ pub enum PhcError {
     /// A field is missing, or there is one too many.
     #[error("a field is missing, or there is one too many")]
     Shape,
-    /// The name is none of argon2d, argon2i, argon2id and scrypt.
-    #[error("the name is none of argon2d, argon2i, argon2id and scrypt")]
+    /// The scheme is none of argon2d, argon2i, argon2id and scrypt.
+    #[error("the scheme is none of argon2d, argon2i, argon2id and scrypt")]
     Scheme,
     /// The version isn't one that can be read here.
     #[error("the version is not one that can be read here")]

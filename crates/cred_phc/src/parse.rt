@@ -44,7 +44,7 @@ impl Form {
     }
 }
 
-/// The setting that a text stands for, as `$argon2id$v=19$m=256,t=2,p=1$c29tZXNhbHQ`. One of
+/// The setting of a text, as `$argon2id$v=19$m=256,t=2,p=1$c29tZXNhbHQ`. One of
 /// version 0x10 is not read: new records are of version 0x13.
 ///
 /// Errors: `TooLong` if the text has over 512 bytes; otherwise, by the first field from the left

@@ -51,7 +51,7 @@ impl Password {
         Some(Password { bytes })
     }
 
-    /// The 1 to 256 bytes that these letters stand for, in base64 with no padding (RFC 4648,
+    /// The 1 to 256 bytes that these letters encode, in base64 with no padding (RFC 4648,
     /// section 4).
     pub fn from_base64(letters: &[u8]) -> Option<Password>
         ensures { result ≡ bytes_of 1 MAX_PASSWORD letters.now }

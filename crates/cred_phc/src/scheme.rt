@@ -26,9 +26,9 @@ pub(crate) const MIN_SCRYPT_SALT: usize = 1;
 ///
 /// - Argon2 (RFC 9106, section 3.1): memory `m` in KiB, from 8 for each lane to 2097152; `t` passes
 ///   and `p` lanes, at least 1 of each.
-/// - scrypt (RFC 7914, section 2): `ln`, the logarithm to the base 2 of the cost, from 1 to 24 and
+/// - scrypt (RFC 7914, section 2): `ln`, the logarithm to the base 2 of the cost, at least 1 and
 ///   below 16 `r`; the block size `r` and the parallelization `p`, each at least 1. `r` times the
-///   cost is at most 2^24, so that memory is at most 2 GiB.
+///   cost is at most 2^24, so that `ln` is at most 23 and memory at most 2 GiB.
 ///
 /// A `Scheme` may be outside these ranges; that of a `Setting` isn't.
 #[derive(Clone, Copy, Debug, PartialEq, Eq)]

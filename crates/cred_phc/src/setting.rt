@@ -52,7 +52,7 @@ impl Setting {
         Ok(Setting { scheme, salt })
     }
 
-    /// This scheme, whose numbers are in their ranges, with the salt that these letters stand for.
+    /// This scheme, whose numbers are in their ranges, with the salt that these letters encode.
     pub(crate) fn from_base64(scheme: Scheme, letters: &[u8]) -> Option<Setting>
         requires { IsTrue (scheme_fits scheme) }
         ensures { result

@@ -59,7 +59,7 @@ impl<const CAP: usize> ShortBytes<CAP> {
         })
     }
 
-    /// The bytes that these letters stand for, in base64 with no padding (RFC 4648, section 4), if
+    /// The bytes that these letters encode, in base64 with no padding (RFC 4648, section 4), if
     /// there are at least `low` of them and at most `CAP`, which is at most 256.
     pub fn from_base64(letters: &[u8], low: usize) -> Option<ShortBytes<CAP>>
         requires { CAP ≤ 256 }

@@ -42,7 +42,7 @@ impl Tag {
         Some(Tag { bytes })
     }
 
-    /// The 4 to 64 bytes that these letters stand for.
+    /// The 4 to 64 bytes that these letters encode.
     pub(crate) fn from_base64(letters: &[u8]) -> Option<Tag>
         ensures { result ≡ bytes_of MIN_TAG MAX_TAG letters.now }
     {

@@ -59,8 +59,8 @@ impl ScryptParams {
     /// (RFC 7914, section 2).
     ///
     /// Errors: `BlockSize` if `r` is 0; otherwise `Blocks` if `p` is 0; otherwise `Cost` if `ln`
-    /// is not 1 to 24, is not below 16r, or the table would exceed 2 GiB; otherwise `Len` if `len`
-    /// is not 4 to 64.
+    /// is 0, is not below 16r, or the table would exceed 2 GiB, as with any `ln` over 23; otherwise
+    /// `Len` if `len` is not 4 to 64.
     pub fn new(ln: u8, r: u8, p: u8, len: u32) -> Result<ScryptParams, ScryptError>
         ensures block_size { (result ≡ Err ScryptError.BlockSize) ↔ (r ≡ 0) }
         ensures blocks { (result ≡ Err ScryptError.Blocks) ↔ ((1 ≤ r) × (p ≡ 0)) }

@@ -61,7 +61,7 @@ fn tell_scrypt<W: Write>(out: &mut W, text: &str) -> io::Result<()> {
     }
 }
 
-/// The number behind a label among the costs; 0 if the label isn't there.
+/// The number behind a label among the costs; 0 if the label doesn't exist.
 fn number_at(text: &str, label: &str) -> u64 {
     for field in text.split('$') {
         for cost in field.split(',') {

@@ -123,11 +123,11 @@ impl fmt::Display for FileFault {
 pub(crate) enum Beginning {
     /// In a new file, which is put at the place once it is whole.
     NewFile,
-    /// In the database that is there.
+    /// In the existing database.
     Database,
 }
 
-/// Sees that a book may begin at this path. A file that is there has to be one of this user's,
+/// Sees that a book may begin at this path. An existing file has to be one of this user's,
 /// which no other can read or write, and empty or a database.
 pub(crate) fn look_before_init(rt: &HostRuntime, path: &str) -> Result<Beginning, FileFault> {
     if path == ":memory:" {

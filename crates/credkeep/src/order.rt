@@ -102,7 +102,7 @@ pub(crate) enum Refusal<'a> {
     },
     /// The setting asks for more memory than the bound on the lines.
     Costly,
-    /// Accounts that are there can't both stay as they are and be updated.
+    /// Existing accounts can't both stay as they are and be updated.
     Existing,
     /// The system has no random bytes for a salt.
     Salt,

@@ -1,7 +1,7 @@
 //! A copy of a database as it is at one moment, also while another process serves it.
 //!
 //! A change is added at the end of the log, and the file itself is written only as the log is
-//! copied into it; then the log begins anew, with another salt in its header. So the file, and
+//! copied into it; then the log begins again, with another salt in its header. So the file, and
 //! after it the log from its start to its end, is the database at one moment, unless the log began
 //! anew meanwhile.
 
@@ -16,7 +16,7 @@ use std::thread::sleep;
 use std::time::Duration;
 use std::{fs, io};
 
-/// How often a copy is begun anew, and the milliseconds between.
+/// How often a copy is begun again, and the milliseconds between.
 const TRIES: u32 = 100;
 
 const PAUSE: u64 = 20;
@@ -42,7 +42,7 @@ const MANY: u64 = 16;
 
 /// Copies a database into a part, with its log beside it.
 ///
-/// Errors: `Busy` if its log begins anew at each try.
+/// Errors: `Busy` if its log begins again at each try.
 pub(crate) fn take_snapshot(
     rt: &HostRuntime,
     path: &str,

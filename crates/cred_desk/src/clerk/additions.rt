@@ -21,7 +21,7 @@ impl<J: Naming, W: EntryWriter> Clerk<J, W> {
     /// Adds a name with no record for the session, which knows the list after it from then on and
     /// counts an addition.
     ///
-    /// Errors: `Exists` if the name is there; `Full` if there is no room for it; as of `add`. The
+    /// Errors: `Exists` if the name exists; `Full` if there is no room for it; as of `add`. The
     /// list stays then, and the session knows it.
     pub(crate) fn admit<R: Wait>(
         &mut self,
@@ -46,7 +46,7 @@ impl<J: Naming, W: EntryWriter> Clerk<J, W> {
     /// Puts a record at a name for the session, which knows the list after it from then on and
     /// counts an addition.
     ///
-    /// Errors: `NoAccount` if the name isn't there; as of `add`. The list stays then, and the
+    /// Errors: `NoAccount` if the name doesn't exist; as of `add`. The list stays then, and the
     /// session knows it.
     pub(crate) fn load<R: Wait>(
         &mut self,
@@ -69,7 +69,7 @@ impl<J: Naming, W: EntryWriter> Clerk<J, W> {
     /// Takes a name away for the session, which knows the list after it from then on and counts an
     /// addition.
     ///
-    /// Errors: `NoAccount` if the name isn't there; as of `add`. The list stays then, and the
+    /// Errors: `NoAccount` if the name doesn't exist; as of `add`. The list stays then, and the
     /// session knows it.
     pub(crate) fn delete<R: Wait>(
         &mut self,

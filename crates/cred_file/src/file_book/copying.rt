@@ -15,7 +15,7 @@ use sqlite::{Alter, Connection};
 use std::alloc::Global;
 
 impl<S: Alter> FileBook<S> {
-    /// Begins a book in an empty database, with all accounts of a book that is there: they are
+    /// Begins a book in an empty database, with all accounts of an existing book: they are
     /// written by one transaction.
     ///
     /// Errors: `NotEmpty` if there is a table already; `Memory`; `Database`. The connection comes

@@ -75,9 +75,9 @@ impl<S: Alter> FileBook<S> {
         }
     }
 
-    /// Puts a record, or none, at a name, which is added if it isn't there.
+    /// Puts a record, or none, at a name, which is added if it doesn't exist.
     ///
-    /// Errors: `Full` if the name isn't there and there are 2^24 others; `Memory` if it runs out,
+    /// Errors: `Full` if the name doesn't exist and there are 2^24 others; `Memory` if it runs out,
     /// if the database fails, and if a change is lost.
     #[tactic(auto, using(crate::proofs::Keeping::put_replaced))]
     pub fn put(&mut self, name: &Name, stored: Option<Record>) -> Result<(), BookError>
@@ -226,7 +226,7 @@ impl<S: Alter> FileBook<S> {
         }
     }
 
-    /// Puts a record, or none, at a name that is there.
+    /// Puts a record, or none, at an existing name.
     pub(super) fn replace(&mut self, name: &Name, stored: Option<Record>) -> Result<(), BookError>
         requires { fin.contains_key self.old.book name.now ≡ true }
         ensures done { OnOk result (self.new.book ≡ fin.insert self.old.book name.now stored) }
@@ -250,7 +250,7 @@ impl<S: Alter> FileBook<S> {
         }
     }
 
-    /// Puts a record, or none, in the row of a name that is there, and then in the book. `value`
+    /// Puts a record, or none, in the row of an existing name, and then in the book. `value`
     /// tells it.
     fn replace_value(
         &mut self,

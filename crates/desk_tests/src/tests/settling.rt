@@ -31,7 +31,7 @@ fn upgraded_once<R: Threads + Wait + Abort + Sync>(
 }
 
 /// A session that has settled an upgrade reads it with nothing learned, and begins nothing at a
-/// name that isn't there.
+/// name that doesn't exist.
 #[test]
 fn own_settle_is_read(rt: HostRuntime) {
     let missing = Ok(Answer::Refused(DeskError::NoAccount));
