@@ -3,6 +3,7 @@
 import os
 import pathlib
 import pty
+import signal
 import subprocess
 import sys
 import unittest
@@ -96,6 +97,8 @@ class Shell(unittest.TestCase):
         """The status of the command, what it wrote, and what stood on its terminal."""
         child, terminal = pty.fork()
         if child == 0:
+            signal.signal(signal.SIGINT, signal.SIG_DFL)  # a shell's job may ignore it
+            signal.alarm(60)
             os.execv(sys.executable, [sys.executable, "-m", "rigzumal", *words])
         shown = b""
         for line in lines:

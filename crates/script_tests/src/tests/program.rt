@@ -272,8 +272,7 @@ static UNREAD: [(&[&str], &str); 6] = [
     ),
     (
         &["run", "--help"],
-        "Runs a script from standard input on an empty book, \
-            and answers each line on standard output\n\n\
+        "Answers a script from standard input, on an empty book\n\n\
             Usage: credbook run [OPTIONS]\n\nOptions:\n      \
             --workers <N>  How many threads may hash at once, from 1 to 64 [default: 1]\n  \
             -h, --help         Print help\n",

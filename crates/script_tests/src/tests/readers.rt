@@ -192,7 +192,13 @@ fn judge_prompt<R: Threads + Wait + Sync + Abort>(rt: &R, alloc: Global, door: D
         Door::Script => run_script(rt, alloc, workers, &mut book, &mut reader, &mut writer),
         Door::Service => {
             let tools = Tools { rt, alloc, workers };
-            serve(&tools, CostBounds::none(), &mut book, &mut reader, &mut writer)
+            serve(
+                &tools,
+                CostBounds::none(),
+                &mut book,
+                &mut reader,
+                &mut writer,
+            )
         }
     };
     hold_end(rt, most, end, Ok(End { lines: 6 }));
