@@ -3,7 +3,7 @@
 import base64
 import resource
 
-from tests.credkeep.books import CHEAP, RECORD, SALT, BookTest, says
+from tests.credkeep.books import CHEAP, RECORD, SALT, BookTest, imported, says
 from tests.credkeep.doors import Operation, in_base64
 from tests.helpers import counts, instructions, limited, need
 
@@ -49,7 +49,7 @@ class SyncsTest(BookTest):
         line = "account n{}\n" if order == "run" else "n{}:\n"
         given = "".join(line.format(at) for at in range(count))
         done, found = counts(self.begun().command(order), given)
-        self.assertEqual(done, (0, "ok\n" * count if order == "run" else "", ""))
+        self.assertEqual(done, (0, "ok\n" * count if order == "run" else imported(count), ""))
         return found["SYNCS"]
 
     def test_syncs_of_changes(self) -> None:

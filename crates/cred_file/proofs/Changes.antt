@@ -9,9 +9,9 @@ use Rattle.std.specs.FinMap as fin
 use Rattle.sqlite.specs.declared.types.Value.{Value}
 use Rattle.sqlite.specs.declared.types.Value.TheVariants.{Null, Int, Text}
 use Rattle.sqlite.specs.Order.{Row, column, value_cmp}
-use Rattle.sqlite.specs.Term.{Term, lit, col, Env, holds}
+use Rattle.sqlite.specs.Term.{Env, holds}
 use Rattle.sqlite_sql.specs.Ops.{unary, binary, is_true, from_truth}
-use Rattle.sqlite.specs.Query.{Query, IsAnswer, output, page, Output}
+use Rattle.sqlite.specs.Query.{IsAnswer, output, page, Output}
 use Rattle.sqlite.specs.Program.{overlay}
 use Rattle.sqlite.specs.Kind.TheVariants.{Integer}
 use Rattle.sqlite.specs.Source.TheVariants.{Values}

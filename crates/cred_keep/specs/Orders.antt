@@ -3,7 +3,7 @@ use Rattle.std.specs.Prelude.{◌≡◌, ℕ, ◌≤◌, Bool, true, false, List
 use Rattle.std.specs.Prelude.{IfErr, IfSome, Result, Ok, Err}
 use Rattle.std.specs.FinMap as map
 use Rattle.std.specs.Io.KnownBytes.{Appends, Keeps}
-use Rattle.cred_book.specs.Accounts.{Accounts, register_capacity}
+use Rattle.cred_book.specs.Accounts.{register_capacity}
 use Rattle.cred_book.specs.declared.request.Request.TheVariants as request
 use Rattle.cred_admin.specs.Commands.{Adds, Asks, AsksTwice, Resets}
 use Rattle.cred_admin.specs.Edits.{DisablesShown, Edits}
