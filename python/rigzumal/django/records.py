@@ -223,8 +223,8 @@ def judge_change(
 
 
 def in_thread(work: Callable[[], T]) -> Awaitable[T]:
-    """The work's answer, from a thread. No waiting frame, which a report of an error would
-    show, has a password: the work gets none as an argument, and no coroutine makes it.
+    """The work's answer, from a thread. An error report shows the frames that wait, so
+    none of them has a password: the work has no argument, and no coroutine makes it.
     """
     answer: Awaitable[T] = sync_to_async(hidden(work))()
     return answer
