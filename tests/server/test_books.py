@@ -350,6 +350,7 @@ class OverCredkeep(OverStandIn):
             return subprocess.run(words, capture_output=True, text=True, check=True).stdout
 
         names = said("list").split()
-        counts = f"{len(names)} accounts, 0 changes in the log\n"
+        plural = "" if len(names) == 1 else "s"
+        counts = f"{len(names)} account{plural}, 0 changes in the log\n"
         self.assertEqual(said("verify"), counts, "it wasn't closed in order")
         return names
