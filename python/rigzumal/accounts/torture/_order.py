@@ -42,7 +42,9 @@ class Operation:
     found_out: bool = False
 
     @classmethod
-    def seed(cls, record: Record, password: Optional[str], costs: float = 0) -> Operation:
+    def seed(
+        cls, record: Record, password: Optional[str], costs: float = 0
+    ) -> Operation:
         """What stood at first."""
         first = -math.inf
         made = cls("seed", "seed", password, first, costs=costs, answered=first)
