@@ -79,9 +79,7 @@ class Book:
         first = [] if wait is None else ["--wait", str(wait)]
         return [program("credkeep"), *first, str(self.path), *words]
 
-    def __call__(
-        self, *words: str, given: str = "", wait: object = None, **options: Any
-    ) -> Ended:
+    def __call__(self, *words: str, given: str = "", wait: object = None, **options: Any) -> Ended:
         """Runs the program on the file with these words."""
         return ended(self.command(*words, wait=wait), given, **options)
 

@@ -45,7 +45,9 @@ class LogsTest(CopyTest):
         self.assertEqual(book("verify"), counted(1, 0))
         self.assertEqual(book("verify", "--quiet"), DONE)
         done = book("verify", "--json")
-        self.assertEqual((done.status, json.loads(done.written)), (0, {"accounts": 1, "changes": 0}))
+        self.assertEqual(
+            (done.status, json.loads(done.written)), (0, {"accounts": 1, "changes": 0})
+        )
         with book.start("serve") as service:
             for at in range(1, 21):
                 self.assertEqual(service.ask(f"account k{at}"), "ok")
