@@ -2,9 +2,7 @@
 use Rattle.std.proofs.Common.{◌≡◌, ◌<◌, ℕ, List, Result, Ok, Err, false, sym, ◌∙◌, arith}
 use Rattle.std.specs.FinMap as map
 use Rattle.std.proofs.lemmas.Bool.{true≢false}
-use Rattle.cred_book.specs.Accounts.{Accounts, register_capacity}
-use Rattle.cred_book.specs.Calls.{AdmitsWithin}
-use Rattle.cred_book.specs.declared.error.BookError.{BookError}
+use Rattle.cred_book.specs.{Accounts.Accounts, Accounts.register_capacity, Calls.AdmitsWithin, declared.error.BookError.BookError}
 use Rattle.cred_book.specs.declared.error.BookError.TheVariants as error
 
 pub narrower : (old new : Accounts) (name : List ℕ) (r : Result (Unit {0}) BookError) → map.contains_key old name ≡ false → map.len old < 3 →

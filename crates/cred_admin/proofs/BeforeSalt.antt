@@ -1,12 +1,8 @@
 -- What comes before a setting's last field.
 use Rattle.std.proofs.Common.{◌≡◌, ◌+◌, ◌-◌, ◌*◌, ◌/◌, ℕ, List, [], ◌∷◌, ◌++◌, length, take, refl, sym, ap, ◌∙◌, arith}
-use Rattle.std.proofs.Math.Seq.{take-append_seam}
-use Rattle.std.proofs.lemmas.List.{length-append}
-use Rattle.cred_phc.specs.Base64.{base64}
-use Rattle.cred_phc.specs.Text.{scheme_text, setting_text}
-use Rattle.cred_phc.specs.Values.{SettingValue}
-use Rattle.cred_phc.proofs.Base64Laws.{length-base64}
-use Rattle.cred_phc.proofs.WritingLaws.{setting_written}
+use Rattle.std.proofs.{Math.Seq.take-append_seam, lemmas.List.length-append}
+use Rattle.cred_phc.specs.{Base64.base64, Text.scheme_text, Text.setting_text, Values.SettingValue}
+use Rattle.cred_phc.proofs.{Base64Laws.length-base64, WritingLaws.setting_written}
 
 cut_size : (text front salt : List ℕ) (n : ℕ) → text ≡ front ++ 36 ∷ base64 salt → n ≡ length text - ((4 * length salt + 2) / 3 + 1) → n ≡ length front
 cut_size text front salt n is size = omega (arith, size, ap length is, length-append front (36 ∷ base64 salt), length-base64 salt)

@@ -1,13 +1,8 @@
 -- A change that is made, and then answered.
 use Rattle.std.proofs.Common.{◌≡◌, ℕ, subst, sym, Result, Ok, Err, IfErr}
 use Rattle.cred_book.specs.Accounts.{Accounts}
-use Rattle.cred_admin.specs.Edits.{Edits, EditsWithin, told}
-use Rattle.cred_admin.specs.Listing.{Tells}
-use Rattle.cred_admin.specs.declared.edit_reply.EditReply.{EditReply}
-use Rattle.cred_admin.specs.declared.edits.Edit.{Edit}
-use Rattle.cred_admin.specs.declared.fault.Fault.{Fault}
-use Rattle.cred_admin.specs.declared.fault.Fault.TheVariants.{Write}
-use Rattle.cred_admin.specs.declared.status.Status.{Status}
+use Rattle.cred_admin.specs.{Edits.Edits, Edits.EditsWithin, Edits.told, Listing.Tells, declared.edit_reply.EditReply.EditReply, declared.edits.Edit.Edit}
+use Rattle.cred_admin.specs.{declared.fault.Fault.Fault, declared.fault.Fault.TheVariants.Write, declared.status.Status.Status}
 use Rattle.cred_cli.specs.Watched.{Writing}
 
 pub answered : (room : ℕ) (old new : Accounts) (edit : Edit) (reply : EditReply) (w : Writing) (r : Result Status Fault) →

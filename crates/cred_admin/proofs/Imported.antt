@@ -1,12 +1,9 @@
 -- What the lines of an import come to, a name at a time.
 use Rattle.std.proofs.Common.{Bool, true, false, cond, if◌then◌else◌, is_some, ◌≡◌, ℕ, ◌+◌, refl, List, [], ◌∷◌, ◌++◌, Option, None, Some, Result, Ok, Err, Ordering, Less, Equal, Greater, sym, ap, ◌∙◌}
 use Rattle.std.specs.FinMap as map
-use Rattle.std.specs.Ordering.{eq_by_cmp, is_eq}
-use Rattle.std.specs.Cmp.{eq_by_cmp_equiv}
-use Rattle.std.specs.Cmp.Lexicographic.{nat_list_cmp_total}
+use Rattle.std.specs.{Ordering.eq_by_cmp, Ordering.is_eq, Cmp.eq_by_cmp_equiv, Cmp.Lexicographic.nat_list_cmp_total}
 use Rattle.cred_phc.specs.Values.{RecordValue}
-use Rattle.cred_book.specs.Accounts.{Accounts}
-use Rattle.cred_book.specs.Names.{name_cmp}
+use Rattle.cred_book.specs.{Accounts.Accounts, Names.name_cmp}
 use Rattle.cred_book.specs.declared.error.BookError.TheVariants as error
 use Rattle.cred_admin.specs.declared.entry.LineFault.{LineFault}
 use Rattle.cred_admin.specs.declared.entry.LineFault.TheVariants.{Book, Costly, Locked as IsLocked}

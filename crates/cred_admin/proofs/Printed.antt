@@ -1,9 +1,8 @@
 -- Texts that are written a line at a time, in pieces.
 use Rattle.std.proofs.Common.{◌≡◌, inl, inr, ℕ, ◌<◌, ◌+◌, Option, List, [], ◌∷◌, ◌++◌, length, take, refl, sym, ap, subst, ◌∙◌, arith, append_assoc, append-nil}
-use Rattle.std.proofs.lemmas.List.{length-append, take-append-le}
-use Rattle.std.proofs.Math.Seq.{take-append_seam, take-append-add}
-use Rattle.std.specs.Io.KnownBytes.{Appends}
+use Rattle.std.proofs.{lemmas.List.length-append, lemmas.List.take-append-le, Math.Seq.take-append_seam, Math.Seq.take-append-add}
 use Rattle.std.proofs.KnownBytes.{Appends-nil, Appends-trans}
+use Rattle.std.specs.Io.KnownBytes.{Appends}
 use Rattle.cred_cli.specs.Outcome.{FrontWritten}
 use Rattle.cred_admin.specs.Listing.{Entry, IsPiece, lines_text}
 

@@ -1,10 +1,8 @@
 -- What a read of one byte makes of a line.
 use Rattle.std.proofs.Common.{◌≡◌, ◌≢◌, ℕ, ◌<◌, List, [], ◌∷◌, ◌++◌, length, take, Option, Some, None, IfSome, IfOk, OnOk, ◌⊎◌, inl, inr, Result, Ok, Err, subst, false, ◌==◌, if◌then◌else◌, refl, sym, ap, ◌∙◌, arith, append_assoc, append-nil, slice_index_or}
-use Rattle.std.proofs.lemmas.Bool.Decides.{eqb_tells}
-use Rattle.std.proofs.lemmas.List.{length-append}
+use Rattle.std.proofs.{lemmas.Bool.Decides.eqb_tells, lemmas.List.length-append}
 use Rattle.std.specs.Io.KnownBytes.{Consumes}
-use Rattle.cred_admin.specs.declared.fault.Fault.{Fault}
-use Rattle.cred_admin.specs.Lines.{line_before, behind_line, ReadsLine, Takes}
+use Rattle.cred_admin.specs.{declared.fault.Fault.Fault, Lines.line_before, Lines.behind_line, Lines.ReadsLine, Lines.Takes}
 
 -- ---- one byte
 

@@ -1,16 +1,10 @@
 -- Whole operations done at once, and first records.
 use Rattle.std.proofs.Common.{◌≡◌, ℕ, List, Bool, true, false, cond, is_some, Option, Some, None, Err, refl, sym, ap, ◌∙◌}
 use Rattle.std.specs.FinMap as map
-use Rattle.std.specs.Cmp.{eq_by_cmp_equiv}
-use Rattle.std.specs.Ordering.{eq_by_cmp}
-use Rattle.std.specs.Cmp.Lexicographic.{nat_list_cmp_total}
+use Rattle.std.specs.{Cmp.eq_by_cmp_equiv, Ordering.eq_by_cmp, Cmp.Lexicographic.nat_list_cmp_total}
 use Rattle.cred_phc.specs.Values.{RecordValue}
-use Rattle.cred_book.specs.Accounts.{Accounts}
-use Rattle.cred_book.specs.Calls.{Shows}
-use Rattle.cred_book.specs.Commits.{commit_outcome, commit_outcome_at, commit_outcome_if}
-use Rattle.cred_book.specs.Names.{name_cmp}
-use Rattle.cred_book.specs.Works.{Task, name_of, same, seq, seq_at, whole}
-use Rattle.cred_book.specs.declared.error.BookError.{BookError}
+use Rattle.cred_book.specs.{Accounts.Accounts, Calls.Shows, Commits.commit_outcome, Commits.commit_outcome_at, Commits.commit_outcome_if, Names.name_cmp}
+use Rattle.cred_book.specs.{Works.Task, Works.name_of, Works.same, Works.seq, Works.seq_at, Works.whole, declared.error.BookError.BookError}
 use Rattle.cred_book.specs.declared.error.BookError.TheVariants as error
 use Rattle.cred_book.specs.declared.reply.Reply.{Reply}
 use Rattle.cred_book.specs.declared.reply.Reply.TheVariants as reply

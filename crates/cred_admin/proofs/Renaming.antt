@@ -7,8 +7,7 @@ use Rattle.cred_book.specs.Accounts.{Accounts}
 use Rattle.cred_book.specs.declared.error.BookError.TheVariants as error
 use Rattle.cred_admin.specs.declared.edit_reply.EditReply.TheVariants as reply
 use Rattle.cred_file.specs.Edits.{renamed}
-use Rattle.cred_admin.specs.Edits.{EditsWithin}
-use Rattle.cred_admin.specs.declared.edits.Edit.TheVariants.{Delete, Rename}
+use Rattle.cred_admin.specs.{Edits.EditsWithin, declared.edits.Edit.TheVariants.Delete, declared.edits.Edit.TheVariants.Rename}
 
 none_of : (o : Option (Option RecordValue)) → is_some o ≡ false → o ≡ None
 none_of None is = refl

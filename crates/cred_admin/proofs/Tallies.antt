@@ -12,8 +12,7 @@ use Rattle.cred_admin.specs.declared.gathering.Existing.{Existing}
 use Rattle.cred_admin.specs.declared.gathering.Existing.TheVariants.{Refused, Kept, Updated}
 use Rattle.cred_admin.specs.declared.gathering.LockedRecords.{LockedRecords}
 use Rattle.cred_admin.specs.declared.gathering.LockedRecords.TheVariants as locked
-use Rattle.cred_admin.specs.declared.gathering.Rules.{Rules}
-use Rattle.cred_admin.specs.declared.gathering.ImportFault.{ImportFault}
+use Rattle.cred_admin.specs.{declared.gathering.Rules.Rules, declared.gathering.ImportFault.ImportFault}
 use Rattle.cred_admin.specs.declared.gathering.ImportFault.TheVariants as fault
 use Rattle.cred_admin.specs.Import.{Tally, is_costly, said_of, tally_from, with_account, with_bad, with_entry, with_existing, with_line, with_locked}
 use Rattle.cred_admin.specs.Listing.{Entry}

@@ -2,12 +2,10 @@
 use Rattle.std.proofs.Common.{◌≡◌, ℕ, ◌<◌, List, [], length, Bool, Option, Some, None, IfSome, Err, inr, refl}
 use Rattle.cred_book.specs.declared.request.Request.{Request}
 use Rattle.cred_admin.specs.Commands.{AsksTwice, Stays}
-use Rattle.cred_admin.specs.Lines.{HasEmptyLine, ReadsLine, SecondReadFails, behind_line, line_before}
-use Rattle.cred_admin.specs.Seen.{Seen}
+use Rattle.cred_admin.specs.{Lines.HasEmptyLine, Lines.ReadsLine, Lines.SecondReadFails, Lines.behind_line, Lines.line_before, Seen.Seen}
 use Rattle.cred_admin.specs.declared.fault.Fault.{Fault}
 use Rattle.cred_admin.specs.declared.fault.Fault.TheVariants as fault
-use Rattle.cred_admin.specs.declared.new_password.NewPassword.{NewPassword}
-use Rattle.cred_admin.specs.declared.new_password.EmptyPassword.TheVariants.{Refused}
+use Rattle.cred_admin.specs.{declared.new_password.NewPassword.NewPassword, declared.new_password.EmptyPassword.TheVariants.Refused}
 use Rattle.cred_phc.specs.declared.password.TheConstants.{MAX_PASSWORD}
 
 -- what holds of what is left after the first line

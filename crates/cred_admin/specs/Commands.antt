@@ -1,27 +1,18 @@
 -- What the commands on one account do.
-use Rattle.std.specs.Prelude.{◌≡◌, ◌⊎◌, ℕ, ◌≤◌, ◌<◌, List, [], length, Option, Some, None, IfSome}
-use Rattle.std.specs.Prelude.{Result, Ok, Err, true, false}
+use Rattle.std.specs.Prelude.{◌≡◌, ◌⊎◌, ℕ, ◌≤◌, ◌<◌, List, [], length, Option, Some, None, IfSome, Result, Ok, Err, true, false}
 use Rattle.std.specs.FinMap as map
 use Rattle.std.specs.Io.KnownBytes.{Appends, Keeps}
 use Rattle.cred_phc.specs.Values.{RecordValue}
-use Rattle.cred_book.specs.Accounts.{Accounts}
-use Rattle.cred_book.specs.Works.{new_record, seq}
-use Rattle.cred_book.specs.declared.reply.Reply.{Reply}
+use Rattle.cred_book.specs.{Accounts.Accounts, Works.new_record, Works.seq, declared.reply.Reply.Reply}
 use Rattle.cred_book.specs.declared.reply.Reply.TheVariants as reply
 use Rattle.cred_book.specs.declared.request.Request.{Request}
 use Rattle.cred_admin.specs.declared.fault.Fault.{Fault}
 use Rattle.cred_admin.specs.declared.fault.Fault.TheVariants as fault
-use Rattle.cred_admin.specs.declared.new_password.NewPassword.{NewPassword}
-use Rattle.cred_admin.specs.declared.new_password.EmptyPassword.TheVariants.{Refused}
-use Rattle.cred_admin.specs.declared.status.Hint.{Hint}
-use Rattle.cred_admin.specs.declared.status.Status.{Status}
-use Rattle.cred_cli.specs.Outcome.{FrontWritten}
-use Rattle.cred_cli.specs.Texts.{reply_line}
-use Rattle.cred_cli.specs.Watched.{Writing}
-use Rattle.cred_admin.specs.Lines.{HasEmptyLine, IsAdmitted, ReadsLine, behind_line, line_before}
-use Rattle.cred_admin.specs.Seen.{Seen}
+use Rattle.cred_admin.specs.{declared.new_password.NewPassword.NewPassword, declared.new_password.EmptyPassword.TheVariants.Refused, declared.status.Hint.Hint}
+use Rattle.cred_admin.specs.{declared.status.Status.Status, Lines.HasEmptyLine, Lines.IsAdmitted, Lines.ReadsLine, Lines.behind_line, Lines.line_before}
+use Rattle.cred_admin.specs.{Seen.Seen, Statuses.hint_of, Statuses.status_of}
+use Rattle.cred_cli.specs.{Outcome.FrontWritten, Texts.reply_line, Watched.Writing}
 use Rattle.cred_phc.specs.declared.password.TheConstants.{MAX_PASSWORD}
-use Rattle.cred_admin.specs.Statuses.{hint_of, status_of}
 
 -- nothing was written, and the book is as it was
 pub record Stays (s : Seen) : Type 0 where

@@ -1,36 +1,24 @@
 -- What an import makes of its text.
-use Rattle.std.specs.Prelude.{◌≡◌, ℕ, ◌+◌, ◌-◌, ◌<◌, Bool, true, false, ◌||◌, ◌==◌, if◌then◌else◌}
-use Rattle.std.specs.Prelude.{List, [], ◌∷◌, ◌++◌, length, take, drop, codes, Option, None, Some}
-use Rattle.std.specs.Prelude.{IfSome, Result, Ok, Err, nat_eq, ⊤}
+use Rattle.std.specs.Prelude.{◌≡◌, ℕ, ◌+◌, ◌-◌, ◌<◌, Bool, true, false, ◌||◌, ◌==◌, if◌then◌else◌, List, [], ◌∷◌, ◌++◌, length, take, drop, codes, Option, None, Some, IfSome, Result, Ok, Err, nat_eq, ⊤}
 use Rattle.std.specs.List.{ends_with, starts_with}
 use Rattle.std.specs.FinMap as map
-use Rattle.cred_phc.specs.Errors.{error_number as fault_number, error_word as fault_word}
-use Rattle.cred_phc.specs.Pieces.{pieces}
-use Rattle.cred_phc.specs.Reading.{read_record}
-use Rattle.cred_phc.specs.Values.{RecordValue}
+use Rattle.cred_phc.specs.{Errors.error_number as fault_number, Errors.error_word as fault_word, Pieces.pieces, Reading.read_record, Values.RecordValue}
 use Rattle.cred_phc.specs.declared.error.PhcError.{PhcError}
-use Rattle.cred_book.specs.Accounts.{Accounts, register_capacity}
-use Rattle.cred_book.specs.Names.{made_name}
-use Rattle.cred_book.specs.Errors.{error_number as refusal_number, error_word as refusal_word}
-use Rattle.cred_book.specs.declared.error.BookError.{BookError}
+use Rattle.cred_book.specs.{Accounts.Accounts, Accounts.register_capacity, Names.made_name}
+use Rattle.cred_book.specs.{Errors.error_number as refusal_number, Errors.error_word as refusal_word, declared.error.BookError.BookError}
 use Rattle.cred_book.specs.declared.error.BookError.TheVariants as error
-use Rattle.cred_cli.specs.Costs.{exceeds}
-use Rattle.cred_cli.specs.declared.costs.CostBounds.{CostBounds}
+use Rattle.cred_cli.specs.{Costs.exceeds, declared.costs.CostBounds.CostBounds}
 use Rattle.cred_admin.specs.declared.entry.LineFault.{LineFault}
-use Rattle.cred_admin.specs.declared.entry.LineFault.TheVariants.{Line, Text, Book, Costly}
-use Rattle.cred_admin.specs.declared.entry.LineFault.TheVariants.{Locked as IsLocked}
+use Rattle.cred_admin.specs.declared.entry.LineFault.TheVariants.{Line, Text, Book, Costly, Locked as IsLocked}
 use Rattle.cred_admin.specs.declared.entry.Said.{Said}
 use Rattle.cred_admin.specs.declared.entry.Said.TheVariants.{Nothing, Account, Locked}
-use Rattle.cred_admin.specs.declared.gathering.BadLine.{BadLine}
-use Rattle.cred_admin.specs.declared.gathering.Existing.{Existing}
+use Rattle.cred_admin.specs.{declared.gathering.BadLine.BadLine, declared.gathering.Existing.Existing}
 use Rattle.cred_admin.specs.declared.gathering.Existing.TheVariants.{Refused, Kept, Updated}
-use Rattle.cred_admin.specs.declared.gathering.Gathered.{Gathered}
-use Rattle.cred_admin.specs.declared.gathering.ImportFault.{ImportFault}
+use Rattle.cred_admin.specs.{declared.gathering.Gathered.Gathered, declared.gathering.ImportFault.ImportFault}
 use Rattle.cred_admin.specs.declared.gathering.ImportFault.TheVariants as fault
 use Rattle.cred_admin.specs.declared.gathering.LockedRecords.{LockedRecords}
 use Rattle.cred_admin.specs.declared.gathering.LockedRecords.TheVariants as locked
-use Rattle.cred_admin.specs.declared.gathering.Rules.{Rules}
-use Rattle.cred_admin.specs.Listing.{Entry}
+use Rattle.cred_admin.specs.{declared.gathering.Rules.Rules, Listing.Entry}
 
 abbrev pub line_number : LineFault → ℕ
 line_number Line = 11

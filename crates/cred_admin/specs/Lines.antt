@@ -1,6 +1,5 @@
 -- Passwords, a line each.
-use Rattle.std.specs.Prelude.{◌≡◌, ℕ, ◌<◌, ◌==◌, if◌then◌else◌, List, [], ◌∷◌, length, Option, Some}
-use Rattle.std.specs.Prelude.{None, ⊤, Bool, true}
+use Rattle.std.specs.Prelude.{◌≡◌, ℕ, ◌<◌, ◌==◌, if◌then◌else◌, List, [], ◌∷◌, length, Option, Some, None, ⊤, Bool, true}
 use Rattle.cred_admin.specs.declared.new_password.EmptyPassword.{EmptyPassword}
 use Rattle.cred_admin.specs.declared.new_password.EmptyPassword.TheVariants.{Refused, Taken}
 use Rattle.cred_admin.specs.declared.fault.Fault.{Fault}

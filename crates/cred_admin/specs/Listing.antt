@@ -1,22 +1,14 @@
 -- What lists and exports write.
-use Rattle.std.specs.Prelude.{◌≡◌, ℕ, List, [], ◌∷◌, ◌++◌, Option, Some, None, Result, Ok, Err}
-use Rattle.std.specs.Prelude.{true, ◌⊎◌, ◌<◌, codes, length, take}
+use Rattle.std.specs.Prelude.{◌≡◌, ℕ, List, [], ◌∷◌, ◌++◌, Option, Some, None, Result, Ok, Err, true, ◌⊎◌, ◌<◌, codes, length, take}
 use Rattle.std.specs.Io.KnownBytes.{Appends, Keeps}
-use Rattle.cred_phc.specs.Values.{RecordValue}
-use Rattle.cred_phc.specs.Text.{record_text, scheme_text}
+use Rattle.cred_phc.specs.{Values.RecordValue, Text.record_text, Text.scheme_text}
 use Rattle.cred_book.specs.declared.reply.Reply.TheVariants as reply
 use Rattle.cred_admin.specs.declared.listing.Line.{Line}
 use Rattle.cred_admin.specs.declared.listing.Line.TheVariants as line
-use Rattle.cred_admin.specs.declared.part.Part.{Part}
-use Rattle.cred_admin.specs.declared.part.Part.TheVariants.{Costs, Record}
-use Rattle.cred_admin.specs.declared.fault.Fault.{Fault}
+use Rattle.cred_admin.specs.{declared.part.Part.Part, declared.part.Part.TheVariants.Costs, declared.part.Part.TheVariants.Record, declared.fault.Fault.Fault}
 use Rattle.cred_admin.specs.declared.fault.Fault.TheVariants as fault
-use Rattle.cred_admin.specs.declared.status.Status.{Status}
-use Rattle.cred_admin.specs.declared.status.Status.TheVariants.{Done, No}
-use Rattle.cred_admin.specs.Statuses.{status_of}
-use Rattle.cred_cli.specs.Outcome.{FrontWritten}
-use Rattle.cred_cli.specs.Texts.{reply_line}
-use Rattle.cred_cli.specs.Watched.{Writing}
+use Rattle.cred_admin.specs.{declared.status.Status.Status, declared.status.Status.TheVariants.Done, declared.status.Status.TheVariants.No, Statuses.status_of}
+use Rattle.cred_cli.specs.{Outcome.FrontWritten, Texts.reply_line, Watched.Writing}
 
 -- a name, and the record that stands there, if one does
 abbrev pub Entry : Type 0

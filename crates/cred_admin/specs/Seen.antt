@@ -1,8 +1,7 @@
 -- What is seen of a command.
 use Rattle.std.specs.Prelude.{◌≡◌, List, ◌++◌, ℕ, false}
 use Rattle.cred_book.specs.Accounts.{Accounts}
-use Rattle.cred_cli.specs.Watched.{Basis, Contract, Fits, Reading, Transcript, Writing, ended_of}
-use Rattle.cred_cli.specs.Watched.{given_of}
+use Rattle.cred_cli.specs.Watched.{Basis, Contract, Fits, Reading, Transcript, Writing, ended_of, given_of}
 use Rattle.cred_cli.specs.declared.watched.Watched.{Watched}
 
 -- its reader, its writer, and the book before and after

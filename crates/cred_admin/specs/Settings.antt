@@ -1,8 +1,6 @@
 -- The setting of a new record.
 use Rattle.std.specs.Prelude.{ℕ, List, ◌++◌, codes, Result, Ok, Err}
-use Rattle.cred_phc.specs.Reading.{read_setting}
-use Rattle.cred_phc.specs.Values.{SettingValue, made_setting}
-use Rattle.cred_phc.specs.declared.error.PhcError.{PhcError}
+use Rattle.cred_phc.specs.{Reading.read_setting, Values.SettingValue, Values.made_setting, declared.error.PhcError.PhcError}
 
 -- as a field after a text that has no salt: 8 bytes of zero in base64
 abbrev pub any_salt : List ℕ

@@ -1,14 +1,11 @@
 //! The commands on one account.
 
-ghost use Rattle.std.specs.Prelude.{◌≡◌, ◌⊎◌, ◌≤◌, ◌&&◌, IfErr, IfOk, None, OnErr, OnOk, Some, false};
-ghost use Rattle.std.specs.Prelude.{not, true};
+ghost use Rattle.std.specs.Prelude.{◌≡◌, ◌⊎◌, ◌≤◌, ◌&&◌, IfErr, IfOk, None, OnErr, OnOk, Some, false, not, true};
 ghost use Rattle.std.specs.FinMap as map;
 ghost use Rattle.cred_book.specs.Works.{is_for_current, new_record, seq};
-ghost use Rattle.cred_book.specs.declared.request.Request.TheVariants.{Change, Remove, Upgrade};
-ghost use Rattle.cred_book.specs.declared.request.Request.TheVariants.{Verify};
+ghost use Rattle.cred_book.specs.declared.request.Request.TheVariants.{Change, Remove, Upgrade, Verify};
 ghost use Rattle.cred_cli.specs.Watched.{Basis, ended_of, reading_on, writing_on};
-ghost use Rattle.cred_admin.specs.Commands.{Adds, Asks, AsksTwice, Does, Enrols, Resets};
-ghost use Rattle.cred_admin.specs.Commands.{reset_step};
+ghost use Rattle.cred_admin.specs.Commands.{Adds, Asks, AsksTwice, Does, Enrols, Resets, reset_step};
 ghost use Rattle.cred_admin.specs.Seen.{FitsSince, seen};
 
 use crate::answer::status_of;

@@ -2,8 +2,7 @@
 
 ghost use Rattle.std.specs.Prelude.{◌≡◌, IfErr, true};
 ghost use Rattle.cred_cli.specs.Watched.{Basis, writing_on};
-ghost use Rattle.cred_admin.specs.Edits.{edit_line, edit_status, told};
-ghost use Rattle.cred_admin.specs.Listing.{Tells};
+ghost use Rattle.cred_admin.specs.{Edits.edit_line, Edits.edit_status, Edits.told, Listing.Tells};
 
 use crate::fault::Fault;
 use crate::printing::tell;

@@ -5,9 +5,7 @@
 //! and one that begins with `#` say nothing.
 
 ghost use Rattle.std.specs.Prelude.{◌≡◌};
-ghost use Rattle.cred_admin.specs.Import.{behind_braces, behind_word, is_locked, is_remark};
-ghost use Rattle.cred_admin.specs.Import.{line_number, line_word, record_part, said_as, said_of};
-ghost use Rattle.cred_admin.specs.Import.{stored_at, without_return};
+ghost use Rattle.cred_admin.specs.Import.{behind_braces, behind_word, is_locked, is_remark, line_number, line_word, record_part, said_as, said_of, stored_at, without_return};
 ghost use Rattle.cred_book.specs.Names.{made_name};
 ghost use Rattle.cred_phc.specs.Pieces.{pieces};
 

@@ -1,8 +1,7 @@
 //! Why a command ends without its answer.
 
 ghost use Rattle.std.specs.Prelude.{◌≡◌};
-ghost use Rattle.cred_admin.specs.Statuses.{status_of_fault};
-ghost use Rattle.cred_admin.specs.declared.fault.Fault.TheVariants.{Memory as OutOfMemory};
+ghost use Rattle.cred_admin.specs.{Statuses.status_of_fault, declared.fault.Fault.TheVariants.Memory as OutOfMemory};
 
 use crate::status::Status;
 use cred_phc::Record;

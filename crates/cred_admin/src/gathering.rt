@@ -1,13 +1,10 @@
 //! What the lines of a passwd-file come to, before they are taken in.
 
-ghost use Rattle.std.specs.Prelude.{◌≡◌, ◌⊎◌, ◌≤◌, ◌<◌, ◌++◌, IfErr, IfOk, IfSome, List};
-ghost use Rattle.std.specs.Prelude.{None, OnOk, true, ℕ};
+ghost use Rattle.std.specs.Prelude.{◌≡◌, ◌⊎◌, ◌≤◌, ◌<◌, ◌++◌, IfErr, IfOk, IfSome, List, None, OnOk, true, ℕ};
 ghost use Rattle.std.specs.FinMap as map;
 ghost use Rattle.cred_book.specs.Accounts.{register_capacity};
 ghost use Rattle.cred_cli.specs.Watched.{Basis, failed_of, left_on};
-ghost use Rattle.cred_admin.specs.Import.{GatherFails, is_costly, nothing_yet, said_of, tally};
-ghost use Rattle.cred_admin.specs.Import.{tally_of, with_bad, with_entry, with_existing};
-ghost use Rattle.cred_admin.specs.Import.{with_line, with_locked, with_said};
+ghost use Rattle.cred_admin.specs.Import.{GatherFails, is_costly, nothing_yet, said_of, tally, tally_of, with_bad, with_entry, with_existing, with_line, with_locked, with_said};
 ghost use Rattle.cred_admin.specs.Seen.{FitsSince};
 
 use crate::entry::{LineFault, Said, said_of};

@@ -1,13 +1,10 @@
 //! The commands that write the accounts, in the order of their names.
 
-ghost use Rattle.std.specs.Prelude.{◌≡◌, ◌++◌, ◌<◌, length, IfErr, IfOk, None, OnErr};
-ghost use Rattle.std.specs.Prelude.{OnOk, true};
+ghost use Rattle.std.specs.Prelude.{◌≡◌, ◌++◌, ◌<◌, length, IfErr, IfOk, None, OnErr, OnOk, true};
 ghost use Rattle.std.specs.FinMap as map;
 ghost use Rattle.cred_phc.specs.Values.{RecordValue};
-ghost use Rattle.cred_cli.specs.Outcome.{FrontWritten};
-ghost use Rattle.cred_cli.specs.Watched.{Basis, failed_of, held_on, writing_on};
-ghost use Rattle.cred_admin.specs.Listing.{IsPiece, Prints, json_line, json_part, line_text};
-ghost use Rattle.cred_admin.specs.Listing.{name_line, part_line, part_word};
+ghost use Rattle.cred_cli.specs.{Outcome.FrontWritten, Watched.Basis, Watched.failed_of, Watched.held_on, Watched.writing_on};
+ghost use Rattle.cred_admin.specs.Listing.{IsPiece, Prints, json_line, json_part, line_text, name_line, part_line, part_word};
 ghost use Rattle.cred_admin.specs.declared.listing.TheConstants.{PIECE};
 
 use crate::fault::Fault;

@@ -1,8 +1,7 @@
 //! What is shown of a record.
 
 ghost use Rattle.std.specs.Prelude.{◌≡◌, ◌++◌, ◌∷◌, ◌≤◌, List, ℕ, IfOk, length};
-ghost use Rattle.cred_phc.specs.Base64.{base64};
-ghost use Rattle.cred_phc.specs.Text.{scheme_text};
+ghost use Rattle.cred_phc.specs.{Base64.base64, Text.scheme_text};
 ghost use Rattle.cred_admin.specs.Listing.{part_text};
 
 use cred_phc::{Record, Setting, write_record, write_setting};

@@ -1,10 +1,8 @@
 //! Passwords as they are read: a line each.
 
-ghost use Rattle.std.specs.Prelude.{◌≡◌, ◌<◌, ◌++◌, ◌∷◌, [], Err, IfErr, IfOk, IfSome, OnOk};
-ghost use Rattle.std.specs.Prelude.{Some, false, length, true};
+ghost use Rattle.std.specs.Prelude.{◌≡◌, ◌<◌, ◌++◌, ◌∷◌, [], Err, IfErr, IfOk, IfSome, OnOk, Some, false, length, true};
 ghost use Rattle.cred_cli.specs.Watched.{Basis, ended_of, failed_of, left_on};
-ghost use Rattle.cred_admin.specs.Lines.{HasEmptyLine, IsAdmitted, IsOpen, NewReadFails, ReadFails};
-ghost use Rattle.cred_admin.specs.Lines.{ReadsLine, SecondReadFails, Takes, line_before};
+ghost use Rattle.cred_admin.specs.Lines.{HasEmptyLine, IsAdmitted, IsOpen, NewReadFails, ReadFails, ReadsLine, SecondReadFails, Takes, line_before};
 ghost use Rattle.cred_admin.specs.Seen.{FitsSince, GivesMore};
 ghost use Rattle.cred_phc.specs.declared.password.TheConstants.{MAX_PASSWORD};
 

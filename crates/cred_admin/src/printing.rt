@@ -1,9 +1,7 @@
 //! Writing a text whole, and answering by one.
 
-ghost use Rattle.std.specs.Prelude.{◌≡◌, IfErr, OnErr, OnOk, true};
-ghost use Rattle.std.specs.Io.KnownBytes.{Appends};
-ghost use Rattle.cred_cli.specs.Outcome.{FrontWritten};
-ghost use Rattle.cred_cli.specs.Watched.{Basis, failed_of, held_on, writing_on};
+ghost use Rattle.std.specs.{Prelude.◌≡◌, Prelude.IfErr, Prelude.OnErr, Prelude.OnOk, Prelude.true, Io.KnownBytes.Appends};
+ghost use Rattle.cred_cli.specs.{Outcome.FrontWritten, Watched.Basis, Watched.failed_of, Watched.held_on, Watched.writing_on};
 ghost use Rattle.cred_admin.specs.Listing.{Tells};
 
 use crate::fault::Fault;

@@ -1,15 +1,9 @@
 -- The depth of the recursion plays no part: a cell meets its own equation.
 use Rattle.std.proofs.Common.{◌≡◌, ℕ, zero, suc, ◌<◌, ◌≤◌, ◌+◌, ◌-◌, ◌*◌, ◌/◌, ◌%◌, ◌^◌, List, Bool, true, false, ◌==◌, if◌then◌else◌, slice_index, refl, ap, ap₂, ◌∙◌, inl, inr, true≢false, arith}
-use Rattle.std.proofs.lemmas.Nat.{le-div}
-use Rattle.std.proofs.lemmas.Bool.{cases_lt}
-use Rattle.std.proofs.lemmas.Bool.Decides.{nat_tests}
-use Rattle.cred_argon.specs.declared.kind.Version.{Version}
-use Rattle.cred_argon.specs.declared.kind.Version.TheVariants.{V10, V13}
-use Rattle.cred_argon.specs.declared.place.Place.{Place}
-use Rattle.cred_argon.specs.Parameters.{Parameters, IsUpTo, segment_len}
-use Rattle.cred_argon.specs.Compress.{compress, xor_words}
-use Rattle.cred_argon.specs.Places.{place, IsPlace, IsComputed, reference_place}
-use Rattle.cred_argon.specs.Times.{time_of}
+use Rattle.std.proofs.{lemmas.Nat.le-div, lemmas.Bool.cases_lt, lemmas.Bool.Decides.nat_tests}
+use Rattle.cred_argon.specs.{declared.kind.Version.Version, declared.kind.Version.TheVariants.V10, declared.kind.Version.TheVariants.V13}
+use Rattle.cred_argon.specs.{declared.place.Place.Place, Parameters.Parameters, Parameters.IsUpTo, Parameters.segment_len}
+use Rattle.cred_argon.specs.{Compress.compress, Compress.xor_words, Places.place, Places.IsPlace, Places.IsComputed, Places.reference_place, Times.time_of}
 use Rattle.cred_argon.specs.Cells.{first_cell, is_dependent, address_word, previous, older, word_by, reference_by, compression_at, is_first, is_fresh, cell_by, cell_within, cell}
 use Rattle.cred_argon.proofs.Picks.{reference_before}
 

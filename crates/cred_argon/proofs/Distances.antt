@@ -2,16 +2,10 @@
 -- memory.
 use Rattle.std.proofs.Common.{◌≡◌, ℕ, zero, suc, ◌<◌, ◌≤◌, ◌+◌, ◌-◌, ◌*◌, ◌/◌, ◌%◌, false, ◌==◌, refl, ap, ap₂, sym, ◌∙◌, inl, inr, arith}
 use Rattle.std.proofs.Math.Nat.{div-add-mod, mod-lt, mul-le-mul_right}
-use Rattle.std.proofs.lemmas.Nat.{div-mul-add, le-div, div_below, mul-add-lt}
-use Rattle.std.proofs.lemmas.Bool.{cases_eq}
+use Rattle.std.proofs.{lemmas.Nat.div-mul-add, lemmas.Nat.le-div, lemmas.Nat.div_below, lemmas.Nat.mul-add-lt, lemmas.Bool.cases_eq}
 use Rattle.std.proofs.lemmas.Bool.Decides.{nat_tests}
-use Rattle.cred_argon.specs.declared.place.Place.{Place}
-use Rattle.cred_argon.specs.declared.turn.Turn.{Turn}
-use Rattle.cred_argon.specs.Parameters.{segment_len}
-use Rattle.cred_argon.specs.Places.{place, segment_of, IsComputed}
-use Rattle.cred_argon.specs.Times.{time_of, IsBefore}
-use Rattle.cred_argon.specs.Cells.{previous}
-use Rattle.cred_argon.specs.Turns.{number, first_offset, place_in}
+use Rattle.cred_argon.specs.{declared.place.Place.Place, declared.turn.Turn.Turn, Parameters.segment_len, Places.place, Places.segment_of, Places.IsComputed}
+use Rattle.cred_argon.specs.{Times.time_of, Times.IsBefore, Cells.previous, Turns.number, Turns.first_offset, Turns.place_in}
 use Rattle.cred_argon.proofs.Sets.{time_is}
 
 -- the place of an offset is computed from others

@@ -1,10 +1,7 @@
 -- The first two blocks of each lane, as they are laid into a slice.
 use Rattle.std.proofs.Common.{◌≡◌, ◌≢◌, ℕ, zero, suc, ◌<◌, ◌≤◌, ◌+◌, ◌*◌, List, length, slice_index_or, slice_set, inl, inr, arith}
-use Rattle.std.proofs.Math.Nat.{mul-le-mul_right}
-use Rattle.std.proofs.lemmas.Bool.{cases_eq}
-use Rattle.std.proofs.lemmas.List.{get_or-set_same, get_or-set_other, length-set}
-use Rattle.cred_argon.specs.declared.block.Block.{Block}
-use Rattle.cred_argon.specs.Cells.{first_cell}
+use Rattle.std.proofs.{Math.Nat.mul-le-mul_right, lemmas.Bool.cases_eq, lemmas.List.get_or-set_same, lemmas.List.get_or-set_other, lemmas.List.length-set}
+use Rattle.cred_argon.specs.{declared.block.Block.Block, Cells.first_cell}
 
 pub record HasFirstBlocks (h : List ℕ) (s n : ℕ) (blocks : List Block) : Type 0 where
   pub some : 0 < n → 2 ≤ s

@@ -1,12 +1,9 @@
 -- Words read from bytes, and the first two cells of a lane.
 use Rattle.std.proofs.Common.{◌≡◌, ℕ, zero, suc, ◌<◌, ◌≤◌, ◌+◌, ◌*◌, List, [], ◌∷◌, ◌++◌, true, map, refl, ap, sym, ◌∙◌, arith}
+use Rattle.std.proofs.{lemmas.List.FromFn.map-range_with_len_more, lemmas.Bool.Decides.nat_tests}
 use Rattle.std.specs.List.{range_with_len}
-use Rattle.std.proofs.lemmas.List.FromFn.{map-range_with_len_more}
-use Rattle.std.proofs.lemmas.Bool.Decides.{nat_tests}
 use Rattle.cred_blake.specs.Words.{word_at, words_of}
-use Rattle.cred_argon.specs.Parameters.{Parameters, segment_len}
-use Rattle.cred_argon.specs.Places.{place}
-use Rattle.cred_argon.specs.Cells.{first_cell, is_first, cell_by, cell}
+use Rattle.cred_argon.specs.{Parameters.Parameters, Parameters.segment_len, Places.place, Cells.first_cell, Cells.is_first, Cells.cell_by, Cells.cell}
 use Rattle.cred_argon.proofs.CellLaw.{cell_is}
 
 pub words_of_is : (b : List ℕ) (n : ℕ) → words_of b n ≡ map (λ k. word_at b (8 * k)) (range_with_len 0 n)

@@ -1,10 +1,6 @@
 -- The last blocks of the lanes, one lane after the other.
 use Rattle.std.proofs.Common.{◌≡◌, ℕ, suc, ◌<◌, ◌+◌, ◌-◌, ◌*◌, ◌/◌, ◌%◌, List, ap, ap₂, arith}
-use Rattle.cred_argon.specs.Parameters.{Parameters, segment_len}
-use Rattle.cred_argon.specs.Compress.{xor_words}
-use Rattle.cred_argon.specs.Places.{place}
-use Rattle.cred_argon.specs.Cells.{cell}
-use Rattle.cred_argon.specs.Argon.{last_blocks}
+use Rattle.cred_argon.specs.{Parameters.Parameters, Parameters.segment_len, Compress.xor_words, Places.place, Cells.cell, Argon.last_blocks}
 
 pub last_blocks_next : (a : Parameters) (h : List ℕ) (n : ℕ)
     → xor_words (last_blocks a h n) (cell a h (place (a.passes - 1) n (4 * segment_len a - 1))) ≡ last_blocks a h (n + 1)

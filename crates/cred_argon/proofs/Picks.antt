@@ -1,11 +1,9 @@
 -- The place that two words name, in time.
 use Rattle.std.proofs.Common.{◌≡◌, ℕ, zero, suc, ◌<◌, ◌≤◌, ◌+◌, ◌-◌, ◌*◌, ◌/◌, ◌%◌, Bool, true, false, min, ◌==◌, ◌||◌, if◌then◌else◌, refl, sym, arith, zero-mul}
 use Rattle.std.proofs.Math.Nat.{div-add-mod, mod-add-mod, mod-lt, mul-le-mul_right, mul-lt-mul_of_pos_right, mod-eq_of_lt}
-use Rattle.std.proofs.lemmas.Nat.{div-mul-add, mod-mul-add, div_below}
-use Rattle.std.proofs.lemmas.Bool.Decides.{nat_tests}
+use Rattle.std.proofs.{lemmas.Nat.div-mul-add, lemmas.Nat.mod-mul-add, lemmas.Nat.div_below, lemmas.Bool.Decides.nat_tests}
 use Rattle.std.proofs.lemmas.List.FromFn.{length-map-range_with_len, get_or-map-range_with_len}
-use Rattle.cred_argon.specs.declared.place.Place.{Place}
-use Rattle.cred_argon.specs.declared.position.Position.{Position}
+use Rattle.cred_argon.specs.{declared.place.Place.Place, declared.position.Position.Position}
 use Rattle.cred_argon.specs.Places.{place_of, segment_of, IsComputed, reference_lane, pick, reference_place}
 use Rattle.cred_argon.specs.Times.{time_of, reference_count, IsBefore}
 use Rattle.cred_argon.proofs.Sets.{at_time, first_of, count_of, set_is, time_is, three_segments}

@@ -1,8 +1,7 @@
 -- What holds of each slot of a vector of four words.
 use Rattle.std.proofs.Common.{◌≡◌, ℕ, zero, suc, ◌<◌, ◌+◌, ◌-◌, ◌*◌, ◌/◌, ◌%◌, ◌^◌, List, [], ◌∷◌, length, slice_index, bit_and, bit_or, arith, refl, subst}
 use Rattle.std.proofs.lemmas.Nat.{and_mask}
-use Rattle.std.specs.Simd.Lanes.{zip2}
-use Rattle.std.specs.Int.{w64, rotate_right}
+use Rattle.std.specs.{Simd.Lanes.zip2, Int.w64, Int.rotate_right}
 use Rattle.cred_argon.specs.Compress.{add_product}
 
 pub below_four : (P : ℕ → Type 0) → P 0 → P 1 → P 2 → P 3 → (j : ℕ) → j < 4 → P j

@@ -1,8 +1,7 @@
 -- Lists that are made from a range of numbers.
 use Rattle.std.proofs.Common.{◌≡◌, ℕ, zero, suc, ◌<◌, ◌+◌, [], ◌∷◌, ◌++◌, Bool, true, false, map, refl, ap, ap₂, arith, add-zero, append-nil}
+use Rattle.std.proofs.{lemmas.List.map-append, lemmas.List.Elements.filter-append}
 use Rattle.std.specs.List.{range_with_len, filter}
-use Rattle.std.proofs.lemmas.List.{map-append}
-use Rattle.std.proofs.lemmas.List.Elements.{filter-append}
 
 pub range_append : (a m n : ℕ) → range_with_len a (m + n) ≡ range_with_len a m ++ range_with_len (a + m) n
 range_append a zero n =

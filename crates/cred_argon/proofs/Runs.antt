@@ -1,11 +1,8 @@
 -- A run that is worked segment by segment fills the memory with its cells.
 use Rattle.std.proofs.Common.{◌≡◌, ℕ, zero, suc, ◌<◌, ◌≤◌, ◌+◌, ◌-◌, ◌*◌, List, false, drop, slice_index_or, nat_lt, ◌∙◌, arith}
-use Rattle.std.proofs.lemmas.Bool.Decides.{nat_tests}
-use Rattle.std.proofs.lemmas.List.{get_or-take, get_or-drop}
-use Rattle.cred_argon.specs.declared.block.Block.{Block}
-use Rattle.cred_argon.specs.Parameters.{Parameters, segment_len, IsRaw}
-use Rattle.cred_argon.specs.declared.params.TheConstants.{MAX_RAW_TAG}
-use Rattle.cred_argon.specs.Lanes.{HoldsBlocks, IsReady, IsRun, own_blocks, blocks_before}
+use Rattle.std.proofs.{lemmas.Bool.Decides.nat_tests, lemmas.List.get_or-take, lemmas.List.get_or-drop}
+use Rattle.cred_argon.specs.{declared.block.Block.Block, Parameters.Parameters, Parameters.segment_len, Parameters.IsRaw}
+use Rattle.cred_argon.specs.{declared.params.TheConstants.MAX_RAW_TAG, Lanes.HoldsBlocks, Lanes.IsReady, Lanes.IsRun, Lanes.own_blocks, Lanes.blocks_before}
 use Rattle.cred_argon.proofs.CellLaw.{segment_some}
 
 own_at : (a : Parameters) (l k : ℕ) (blocks : List Block) (d : Block) → k < segment_len a

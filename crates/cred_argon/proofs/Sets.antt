@@ -1,12 +1,10 @@
 -- The set of places that a place may refer to, as one stretch of a lane's time.
 use Rattle.std.proofs.Common.{◌≡◌, ℕ, zero, suc, ◌<◌, ◌≤◌, ◌+◌, ◌-◌, ◌*◌, ◌/◌, ◌%◌, ◌++◌, Bool, true, false, min, map, filter, flat_map, nat_le, nat_lt, ◌==◌, ◌&&◌, ◌||◌, if◌then◌else◌, refl, ap, ap₂, sym, ◌∙◌, inl, inr, arith, zero-mul, add-mul}
-use Rattle.std.specs.List.{range_with_len}
 use Rattle.std.proofs.Math.Nat.{mul-add-div, div-add-mod, mod-lt}
-use Rattle.std.proofs.lemmas.Nat.{div-mul-add, mod-mul-add, le-div, div_below}
-use Rattle.std.proofs.lemmas.Bool.{cases_lt}
-use Rattle.std.proofs.lemmas.Bool.Decides.{nat_tests}
-use Rattle.std.proofs.lemmas.List.{map-append}
+use Rattle.std.proofs.{lemmas.Nat.div-mul-add, lemmas.Nat.mod-mul-add, lemmas.Nat.le-div, lemmas.Nat.div_below, lemmas.Bool.cases_lt}
+use Rattle.std.proofs.{lemmas.Bool.Decides.nat_tests, lemmas.List.map-append}
 use Rattle.std.proofs.lemmas.List.FromFn.{length-map-range_with_len, take-map-range_with_len}
+use Rattle.std.specs.List.{range_with_len}
 use Rattle.cred_argon.specs.declared.place.Place.{Place}
 use Rattle.cred_argon.specs.Places.{place, segment_of, lane_places, is_finished, without_last, reference_set}
 use Rattle.cred_argon.specs.Times.{time_of, finished_count, reference_count}

@@ -1,15 +1,9 @@
 -- A slice before and after its lanes are worked.
 use Rattle.std.proofs.Common.{◌≡◌, ℕ, zero, suc, ◌<◌, ◌≤◌, ◌+◌, ◌-◌, ◌*◌, ◌/◌, ◌%◌, List, false, ◌==◌, slice_index_or, refl, arith}
 use Rattle.std.proofs.lemmas.Bool.Decides.{nat_tests}
-use Rattle.cred_argon.specs.declared.block.Block.{Block}
-use Rattle.cred_argon.specs.declared.segment.Segment.{Segment}
-use Rattle.cred_argon.specs.declared.turn.Turn.{Turn}
-use Rattle.cred_argon.specs.declared.memory.Memory.{Memory}
-use Rattle.cred_argon.specs.Parameters.{Parameters, segment_len}
-use Rattle.cred_argon.specs.Places.{place}
-use Rattle.cred_argon.specs.Cells.{cell}
-use Rattle.cred_argon.specs.Turns.{number, first_offset, place_in, OwnHolds}
-use Rattle.cred_argon.specs.SegmentWork.{VecIsFull, VecHolds}
+use Rattle.cred_argon.specs.{declared.block.Block.Block, declared.segment.Segment.Segment, declared.turn.Turn.Turn, declared.memory.Memory.Memory}
+use Rattle.cred_argon.specs.{Parameters.Parameters, Parameters.segment_len, Places.place, Cells.cell}
+use Rattle.cred_argon.specs.{Turns.number, Turns.first_offset, Turns.place_in, Turns.OwnHolds, SegmentWork.VecIsFull, SegmentWork.VecHolds}
 use Rattle.cred_argon.specs.Segments.{IsSlice, IsFull, IsShaped, SharedHolds, HoldsSegment}
 use Rattle.cred_argon.specs.Slices.{IsMemory, MemoryHolds}
 

@@ -1,23 +1,14 @@
 -- One block of a segment: what is made of the block before and the reference is the cell.
 use Rattle.std.proofs.Common.{◌≡◌, ◌≢◌, ℕ, ◌<◌, ◌≤◌, ◌+◌, ◌-◌, ◌*◌, ◌/◌, ◌%◌, ◌^◌, List, ◌++◌, length, slice_index_or, slice_set, Bool, true, false, Option, Some, None, if◌then◌else◌, slice_index, refl, ap, ap₂, sym, ◌∙◌, inl, inr, arith}
-use Rattle.std.proofs.lemmas.Nat.{div-mul-add, mod-mul-add}
-use Rattle.std.proofs.lemmas.Bool.{cases_eq}
-use Rattle.std.proofs.lemmas.Bool.Decides.{nat_tests}
+use Rattle.std.proofs.{lemmas.Nat.div-mul-add, lemmas.Nat.mod-mul-add, lemmas.Bool.cases_eq, lemmas.Bool.Decides.nat_tests}
 use Rattle.std.proofs.lemmas.List.{get_or_append_left, get_or-append_right, set-append_right, get_or-set_same, get_or-set_other, length-append}
-use Rattle.cred_argon.specs.declared.block.Block.{Block}
-use Rattle.cred_argon.specs.declared.place.Place.{Place}
-use Rattle.cred_argon.specs.declared.turn.Turn.{Turn}
-use Rattle.cred_argon.specs.declared.position.Reference.{Reference}
-use Rattle.cred_argon.specs.Times.{IsBefore}
-use Rattle.cred_argon.specs.Parameters.{Parameters, segment_len}
-use Rattle.cred_argon.specs.Compress.{compress, xor_words}
+use Rattle.cred_argon.specs.{declared.block.Block.Block, declared.place.Place.Place, declared.turn.Turn.Turn, declared.position.Reference.Reference}
+use Rattle.cred_argon.specs.{Times.IsBefore, Parameters.Parameters, Parameters.segment_len, Compress.compress, Compress.xor_words}
 use Rattle.cred_argon.specs.Places.{IsComputed, reference_place}
 use Rattle.cred_argon.specs.Cells.{is_dependent, address_block, previous, older, word_by, compression_at, is_first, is_fresh, cell_by, cell}
-use Rattle.cred_argon.specs.Turns.{place_in, DoneHolds, OwnHolds}
-use Rattle.cred_argon.specs.declared.address.AddressBlock.{AddressBlock}
+use Rattle.cred_argon.specs.{Turns.place_in, Turns.DoneHolds, Turns.OwnHolds, declared.address.AddressBlock.AddressBlock}
 use Rattle.cred_argon.specs.Addresses.{ServesOffset, word_from}
-use Rattle.cred_argon.proofs.Picks.{reference_before}
-use Rattle.cred_argon.proofs.CellLaw.{cell_is, later_pass}
+use Rattle.cred_argon.proofs.{Picks.reference_before, CellLaw.cell_is, CellLaw.later_pass}
 
 not_first : (s lanes : ℕ) (p : Place) → IsComputed s lanes p → is_first p ≡ false
 not_first s lanes p computed = go p.pass refl

@@ -2,18 +2,13 @@
 -- address block are made by vectors/argon/compress.py of hash_tests: Argon2 in plain Python, which
 -- gives the tags of RFC 9106, section 5.
 use Rattle.std.proofs.Common.{◌≡◌, ℕ, List, [], ◌∷◌, refl, replicate}
-use Rattle.std.specs.Prelude.{slice_index}
-use Rattle.std.specs.List.{range_with_len}
+use Rattle.std.specs.{Prelude.slice_index, List.range_with_len}
 use Rattle.cred_blake.specs.Words.{word_at, words_of, bytes_of}
 use Rattle.cred_blake.specs.Blake2b.{blake, state_after, compress as blake_compress, rounds, round, mix, mixing as blake_mixing, work_vector, initial_state, key_block}
 use Rattle.cred_blake.specs.HashPrime.{hash_prime, halves, chain}
-use Rattle.cred_argon.specs.declared.kind.Kind.TheVariants.{Id}
-use Rattle.cred_argon.specs.declared.kind.Version.TheVariants.{V13}
-use Rattle.cred_argon.specs.Argon.{first_hash}
-use Rattle.cred_argon.specs.Cells.{first_cell, address_block}
+use Rattle.cred_argon.specs.{declared.kind.Kind.TheVariants.Id, declared.kind.Version.TheVariants.V13, Argon.first_hash, Cells.first_cell, Cells.address_block}
 use Rattle.cred_argon.specs.Compress.{mixing, column_step, diagonal_step, permutation, rows, columns, xor_words, compress}
-use Rattle.cred_argon.specs.Parameters.{Parameters, parameters}
-use Rattle.cred_argon.specs.Places.{place, reference_set, reference_place}
+use Rattle.cred_argon.specs.{Parameters.Parameters, Parameters.parameters, Places.place, Places.reference_set, Places.reference_place}
 
 mixed_words : mixing 1 2 3 4 ≡ (1099511639303, 6489126338118157830, 3244562069547450371, 3244562056560705536)
 unfolding mixing

@@ -1,8 +1,7 @@
 -- From vectors back to the block: what the rows and columns in vectors say of each word.
 use Rattle.std.proofs.Common.{◌≡◌, ℕ, ◌<◌, ◌≤◌, ◌+◌, ◌*◌, ◌/◌, ◌%◌, List, slice_index, length, map, arith, refl, sym, ap, ap₂, ◌∙◌, ◌-◌, ◌⊎◌, inl, inr, bit_xor}
-use Rattle.std.proofs.lemmas.Bool.{cases_lt}
+use Rattle.std.proofs.{lemmas.Bool.cases_lt, lemmas.List.FromFn.fill_by_all, lemmas.List.FromFn.get_or-map-range_with_len}
 use Rattle.std.specs.List.{range_with_len}
-use Rattle.std.proofs.lemmas.List.FromFn.{fill_by_all, get_or-map-range_with_len}
 use Rattle.cred_argon.specs.Compress.{permutation, row, column, rows, columns, xor_words, compress}
 use Rattle.cred_argon.specs.Quads.{slot_at, row_list, column_list, half_word, IsRows, IsHalf}
 use Rattle.cred_argon.proofs.QuadLemmas.{below_sixteen}

@@ -1,15 +1,9 @@
 -- A segment while it is worked.
 use Rattle.std.proofs.Common.{◌≡◌, ℕ, ◌<◌, ◌≤◌, List, Option, Vec, length, slice_index_or, vec_len, vec_capacity, inl, inr, arith}
 use Rattle.std.proofs.lemmas.Bool.{cases_lt}
-use Rattle.cred_argon.specs.declared.block.Block.{Block}
-use Rattle.cred_argon.specs.declared.segment.Segment.{Segment}
-use Rattle.cred_argon.specs.declared.segment.Shared.{Shared}
-use Rattle.cred_argon.specs.declared.address.AddressBlock.{AddressBlock}
-use Rattle.cred_argon.specs.Parameters.{Parameters, segment_len}
-use Rattle.cred_argon.specs.Addresses.{KeepsAddresses}
-use Rattle.cred_argon.specs.SegmentWork.{VecHolds}
-use Rattle.cred_argon.specs.Segments.{SharedHolds}
-use Rattle.cred_argon.specs.Turns.{OwnHolds, first_offset}
+use Rattle.cred_argon.specs.{declared.block.Block.Block, declared.segment.Segment.Segment, declared.segment.Shared.Shared}
+use Rattle.cred_argon.specs.{declared.address.AddressBlock.AddressBlock, Parameters.Parameters, Parameters.segment_len, Addresses.KeepsAddresses}
+use Rattle.cred_argon.specs.{SegmentWork.VecHolds, Segments.SharedHolds, Turns.OwnHolds, Turns.first_offset}
 
 pub record IsWorking {A : Type 0} (c : Shared (Vec Segment A)) (start now : Segment) (addresses : Option AddressBlock) (s k : ℕ) : Type 0 where
   pub lane : now.lane ≡ start.lane

@@ -1,9 +1,6 @@
 -- What the code keeps of address blocks, and what it reads of them.
-use Rattle.std.specs.Prelude.{◌≡◌, ℕ, ◌+◌, ◌/◌, List, Bool, true, false, Option, None, Some}
-use Rattle.std.specs.Prelude.{slice_index}
-use Rattle.cred_argon.specs.declared.address.AddressBlock.{AddressBlock}
-use Rattle.cred_argon.specs.declared.turn.Turn.{Turn}
-use Rattle.cred_argon.specs.Cells.{is_dependent, address_block}
+use Rattle.std.specs.Prelude.{◌≡◌, ℕ, ◌+◌, ◌/◌, List, Bool, true, false, Option, None, Some, slice_index}
+use Rattle.cred_argon.specs.{declared.address.AddressBlock.AddressBlock, declared.turn.Turn.Turn, Cells.is_dependent, Cells.address_block}
 
 -- whether the slice that is worked has its words from the blocks before
 abbrev pub follows_blocks : Turn → Bool

@@ -1,13 +1,8 @@
 -- Argon2 as a whole (RFC 9106, section 3.2).
 use Rattle.std.specs.Prelude.{ℕ, zero, suc, ◌-◌, ◌*◌, List, [], ◌++◌, length, replicate}
 use Rattle.std.specs.Int.{w32, to_le_bytes}
-use Rattle.cred_blake.specs.Blake2b.{blake}
-use Rattle.cred_blake.specs.HashPrime.{hash_prime}
-use Rattle.cred_blake.specs.Words.{bytes_of}
-use Rattle.cred_argon.specs.Parameters.{Parameters, segment_len}
-use Rattle.cred_argon.specs.Numbers.{kind_number, version_number}
-use Rattle.cred_argon.specs.Compress.{xor_words}
-use Rattle.cred_argon.specs.Places.{place}
+use Rattle.cred_blake.specs.{Blake2b.blake, HashPrime.hash_prime, Words.bytes_of}
+use Rattle.cred_argon.specs.{Parameters.Parameters, Parameters.segment_len, Numbers.kind_number, Numbers.version_number, Compress.xor_words, Places.place}
 use Rattle.cred_argon.specs.Cells.{cell}
 
 abbrev pub le32 : ℕ → List ℕ

@@ -1,21 +1,12 @@
 -- The blocks of Argon2's memory on each pass, each by the blocks that it names (RFC 9106, sections
 -- 3.2 and 3.4). There is no memory here, and no order in which it is filled.
-use Rattle.std.specs.Prelude.{ℕ, zero, suc, ◌+◌, ◌-◌, ◌*◌, ◌/◌, ◌%◌, ◌^◌, List, [], ◌∷◌, ◌++◌, Bool}
-use Rattle.std.specs.Prelude.{true, false, not, nat_lt, ◌==◌, ◌&&◌, if◌then◌else◌, slice_index}
-use Rattle.std.specs.Prelude.{replicate}
+use Rattle.std.specs.Prelude.{ℕ, zero, suc, ◌+◌, ◌-◌, ◌*◌, ◌/◌, ◌%◌, ◌^◌, List, [], ◌∷◌, ◌++◌, Bool, true, false, not, nat_lt, ◌==◌, ◌&&◌, if◌then◌else◌, slice_index, replicate}
 use Rattle.std.specs.Int.{w32, to_le_bytes}
-use Rattle.cred_blake.specs.Words.{words_of}
-use Rattle.cred_blake.specs.HashPrime.{hash_prime}
-use Rattle.cred_argon.specs.declared.kind.Kind.{Kind}
-use Rattle.cred_argon.specs.declared.kind.Kind.TheVariants.{D, I, Id}
-use Rattle.cred_argon.specs.declared.kind.Version.{Version}
-use Rattle.cred_argon.specs.declared.kind.Version.TheVariants.{V10, V13}
-use Rattle.cred_argon.specs.declared.place.Place.{Place}
-use Rattle.cred_argon.specs.Parameters.{Parameters, segment_len}
-use Rattle.cred_argon.specs.Numbers.{kind_number}
-use Rattle.cred_argon.specs.Compress.{compress, xor_words}
-use Rattle.cred_argon.specs.Places.{place, reference_place}
-use Rattle.cred_argon.specs.Times.{time_of}
+use Rattle.cred_blake.specs.{Words.words_of, HashPrime.hash_prime}
+use Rattle.cred_argon.specs.{declared.kind.Kind.Kind, declared.kind.Kind.TheVariants.D, declared.kind.Kind.TheVariants.I, declared.kind.Kind.TheVariants.Id}
+use Rattle.cred_argon.specs.{declared.kind.Version.Version, declared.kind.Version.TheVariants.V10, declared.kind.Version.TheVariants.V13}
+use Rattle.cred_argon.specs.{declared.place.Place.Place, Parameters.Parameters, Parameters.segment_len, Numbers.kind_number}
+use Rattle.cred_argon.specs.{Compress.compress, Compress.xor_words, Places.place, Places.reference_place, Times.time_of}
 
 -- the first two blocks of a lane, from the first hash h
 unfoldable pub first_cell : List ℕ → ℕ → ℕ → List ℕ

@@ -1,7 +1,6 @@
 -- The compression function G of Argon2 (RFC 9106, sections 3.5 and 3.6), on lists of 128 words.
 use Rattle.std.specs.Prelude.{ℕ, ◌+◌, ◌*◌, ◌/◌, ◌%◌, ◌^◌, List, [], ◌∷◌, map, bit_xor, slice_index}
-use Rattle.std.specs.List.{range_with_len}
-use Rattle.std.specs.Int.{w64, rotate_right}
+use Rattle.std.specs.{List.range_with_len, Int.w64, Int.rotate_right}
 
 -- the sum of two words and twice the product of their low halves, with the carry dropped
 abbrev pub add_product : ℕ → ℕ → ℕ

@@ -1,8 +1,7 @@
 -- The numbers and words of the errors.
 use Rattle.std.specs.Prelude.{ℕ, List, codes}
 use Rattle.cred_argon.specs.declared.error.ArgonError.{ArgonError}
-use Rattle.cred_argon.specs.declared.error.ArgonError.TheVariants.{Lanes, Cost, Passes, TagLen}
-use Rattle.cred_argon.specs.declared.error.ArgonError.TheVariants.{InputLen, Memory}
+use Rattle.cred_argon.specs.declared.error.ArgonError.TheVariants.{Lanes, Cost, Passes, TagLen, InputLen, Memory}
 
 abbrev pub error_number : ArgonError → ℕ
 error_number Lanes = 1

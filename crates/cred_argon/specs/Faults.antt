@@ -1,11 +1,9 @@
 -- Why parameters are refused: the first of their faults.
 use Rattle.std.specs.Prelude.{◌≡◌, ℕ, ◌*◌, ◌<◌, ◌≤◌, ◌⊎◌}
 use Rattle.cred_argon.specs.Parameters.{Parameters}
-use Rattle.cred_argon.specs.declared.params.TheConstants.{MAX_LANES, MAX_MEMORY}
-use Rattle.cred_argon.specs.declared.params.TheConstants.{MAX_RAW_TAG, MAX_TAG, MIN_TAG}
+use Rattle.cred_argon.specs.declared.params.TheConstants.{MAX_LANES, MAX_MEMORY, MAX_RAW_TAG, MAX_TAG, MIN_TAG}
 use Rattle.cred_argon.specs.declared.error.ArgonError.{ArgonError}
-use Rattle.cred_argon.specs.declared.error.ArgonError.TheVariants.{Lanes, Cost, Passes, TagLen}
-use Rattle.cred_argon.specs.declared.error.ArgonError.TheVariants.{InputLen, Memory}
+use Rattle.cred_argon.specs.declared.error.ArgonError.TheVariants.{Lanes, Cost, Passes, TagLen, InputLen, Memory}
 
 abbrev pub LanesFit : Parameters → Type 0
 LanesFit a = (1 ≤ a.lanes) × (a.lanes ≤ MAX_LANES)

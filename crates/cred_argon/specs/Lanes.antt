@@ -1,13 +1,8 @@
 -- The memory as four slices of blocks that lie lane after lane, and a run whose segments are worked
 -- by calls of their own. Segments are counted over all passes: segment g is that of pass g / 4 and
 -- slice g % 4.
-use Rattle.std.specs.Prelude.{◌≡◌, ℕ, ◌+◌, ◌-◌, ◌*◌, ◌/◌, ◌%◌, ◌<◌, ◌≤◌, List, slice_index_or}
-use Rattle.std.specs.Prelude.{take, drop, nat_lt, if◌then◌else◌}
-use Rattle.cred_argon.specs.declared.block.Block.{Block}
-use Rattle.cred_argon.specs.Parameters.{Parameters, segment_len}
-use Rattle.cred_argon.specs.Places.{place}
-use Rattle.cred_argon.specs.Cells.{cell}
-use Rattle.cred_argon.specs.Segments.{HoldsSegment}
+use Rattle.std.specs.Prelude.{◌≡◌, ℕ, ◌+◌, ◌-◌, ◌*◌, ◌/◌, ◌%◌, ◌<◌, ◌≤◌, List, slice_index_or, take, drop, nat_lt, if◌then◌else◌}
+use Rattle.cred_argon.specs.{declared.block.Block.Block, Parameters.Parameters, Parameters.segment_len, Places.place, Cells.cell, Segments.HoldsSegment}
 
 -- the blocks of a slice are the cells of segment g of each lane
 abbrev pub HoldsBlocks : Parameters → List ℕ → ℕ → List Block → Type 0

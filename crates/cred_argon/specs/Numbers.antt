@@ -1,9 +1,7 @@
 -- The numbers of the kinds and versions (RFC 9106, section 3.1; 0x10 is the version before it).
 use Rattle.std.specs.Prelude.{ℕ}
-use Rattle.cred_argon.specs.declared.kind.Kind.{Kind}
-use Rattle.cred_argon.specs.declared.kind.Kind.TheVariants.{D, I, Id}
-use Rattle.cred_argon.specs.declared.kind.Version.{Version}
-use Rattle.cred_argon.specs.declared.kind.Version.TheVariants.{V10, V13}
+use Rattle.cred_argon.specs.{declared.kind.Kind.Kind, declared.kind.Kind.TheVariants.D, declared.kind.Kind.TheVariants.I, declared.kind.Kind.TheVariants.Id}
+use Rattle.cred_argon.specs.{declared.kind.Version.Version, declared.kind.Version.TheVariants.V10, declared.kind.Version.TheVariants.V13}
 
 abbrev pub kind_number : Kind → ℕ
 kind_number D = 0

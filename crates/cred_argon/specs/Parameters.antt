@@ -1,9 +1,7 @@
 -- What an Argon2 tag is asked for (RFC 9106, section 3.1), and how the memory is cut (section 3.2).
 use Rattle.std.specs.Prelude.{ℕ, ◌*◌, ◌/◌, ◌≤◌}
-use Rattle.cred_argon.specs.declared.params.TheConstants.{MAX_LANES, MAX_MEMORY}
-use Rattle.cred_argon.specs.declared.params.TheConstants.{MAX_RAW_TAG, MAX_TAG, MIN_TAG}
-use Rattle.cred_argon.specs.declared.kind.Kind.{Kind}
-use Rattle.cred_argon.specs.declared.kind.Version.{Version}
+use Rattle.cred_argon.specs.declared.params.TheConstants.{MAX_LANES, MAX_MEMORY, MAX_RAW_TAG, MAX_TAG, MIN_TAG}
+use Rattle.cred_argon.specs.{declared.kind.Kind.Kind, declared.kind.Version.Version}
 
 -- version v, type y, memory size m in KiB, number of passes t, degree of parallelism p, tag length
 -- T in bytes

@@ -1,11 +1,8 @@
 -- Places of blocks, and the blocks that a place may refer to (RFC 9106, section 3.4.2). s is the
 -- number of columns of a segment.
-use Rattle.std.specs.Prelude.{◌≡◌, ℕ, ◌+◌, ◌-◌, ◌*◌, ◌/◌, ◌%◌, ◌^◌, ◌<◌, ◌≤◌, List, Bool, length}
-use Rattle.std.specs.Prelude.{map, filter, flat_map, take, nat_le, nat_lt, ◌==◌, ◌&&◌, ◌||◌}
-use Rattle.std.specs.Prelude.{if◌then◌else◌, slice_index_or}
+use Rattle.std.specs.Prelude.{◌≡◌, ℕ, ◌+◌, ◌-◌, ◌*◌, ◌/◌, ◌%◌, ◌^◌, ◌<◌, ◌≤◌, List, Bool, length, map, filter, flat_map, take, nat_le, nat_lt, ◌==◌, ◌&&◌, ◌||◌, if◌then◌else◌, slice_index_or}
 use Rattle.std.specs.List.{range_with_len}
-use Rattle.cred_argon.specs.declared.place.Place.{Place}
-use Rattle.cred_argon.specs.declared.position.Position.{Position}
+use Rattle.cred_argon.specs.{declared.place.Place.Place, declared.position.Position.Position}
 
 abbrev pub place : ℕ → ℕ → ℕ → Place
 place r i j = record { pass = r; lane = i; column = j }

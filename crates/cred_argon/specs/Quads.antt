@@ -1,7 +1,6 @@
 -- Sixteen-word lists that lie side by side in vectors of four words: how the code holds a block's
 -- rows and columns.
-use Rattle.std.specs.Prelude.{◌≡◌, ℕ, ◌+◌, ◌*◌, ◌/◌, ◌%◌, ◌<◌, List, [], ◌∷◌, bit_xor, slice_index}
-use Rattle.std.specs.Prelude.{slice_index_or}
+use Rattle.std.specs.Prelude.{◌≡◌, ℕ, ◌+◌, ◌*◌, ◌/◌, ◌%◌, ◌<◌, List, [], ◌∷◌, bit_xor, slice_index, slice_index_or}
 
 -- slot j of vector k
 abbrev pub slot_at : List (List ℕ) → ℕ → ℕ → ℕ

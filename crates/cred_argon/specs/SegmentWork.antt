@@ -1,10 +1,7 @@
 -- What the work on a lane's segment needs, and what it does.
 use Rattle.std.specs.Prelude.{◌≡◌, ℕ, ◌<◌, ◌≤◌, List, Vec, vec_len, vec_capacity}
-use Rattle.cred_argon.specs.declared.segment.Segment.{Segment}
-use Rattle.cred_argon.specs.declared.segment.Shared.{Shared}
-use Rattle.cred_argon.specs.Parameters.{Parameters, segment_len}
-use Rattle.cred_argon.specs.Turns.{OwnHolds, first_offset, begun_len}
-use Rattle.cred_argon.specs.Segments.{IsFull, HoldsSlice, IsShaped, SharedHolds}
+use Rattle.cred_argon.specs.{declared.segment.Segment.Segment, declared.segment.Shared.Shared, Parameters.Parameters, Parameters.segment_len}
+use Rattle.cred_argon.specs.{Turns.OwnHolds, Turns.first_offset, Turns.begun_len, Segments.IsFull, Segments.HoldsSlice, Segments.IsShaped, Segments.SharedHolds}
 
 -- of a slice as the vector of its segments
 abbrev pub VecIsFull : {A : Type 0} → Parameters → Vec Segment A → Type 0

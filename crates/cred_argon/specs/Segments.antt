@@ -1,14 +1,8 @@
 -- What the code's memory holds: four slices, each a list of one segment a lane, and what is shared
 -- of them while one is worked.
-use Rattle.std.specs.Prelude.{◌≡◌, ℕ, ◌+◌, ◌-◌, ◌*◌, ◌/◌, ◌%◌, ◌<◌, ◌≤◌, List, length}
-use Rattle.std.specs.Prelude.{slice_index_or, vec_len, vec_capacity}
-use Rattle.cred_argon.specs.declared.block.Block.{Block}
-use Rattle.cred_argon.specs.declared.segment.Segment.{Segment}
-use Rattle.cred_argon.specs.declared.segment.Shared.{Shared}
-use Rattle.cred_argon.specs.Parameters.{Parameters, segment_len}
-use Rattle.cred_argon.specs.Places.{place}
-use Rattle.cred_argon.specs.Cells.{cell}
-use Rattle.cred_argon.specs.Turns.{number}
+use Rattle.std.specs.Prelude.{◌≡◌, ℕ, ◌+◌, ◌-◌, ◌*◌, ◌/◌, ◌%◌, ◌<◌, ◌≤◌, List, length, slice_index_or, vec_len, vec_capacity}
+use Rattle.cred_argon.specs.{declared.block.Block.Block, declared.segment.Segment.Segment, declared.segment.Shared.Shared}
+use Rattle.cred_argon.specs.{Parameters.Parameters, Parameters.segment_len, Places.place, Cells.cell, Turns.number}
 
 -- a segment for each lane, in order, with room for its blocks: it has them all if n segments or
 -- more were worked before segment g, and otherwise as many as it began with

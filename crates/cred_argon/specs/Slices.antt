@@ -1,13 +1,7 @@
 -- The memory between two slices.
-use Rattle.std.specs.Prelude.{◌≡◌, ℕ, ◌-◌, ◌<◌, ◌≤◌, List, length, slice_index_or, vec_len}
-use Rattle.std.specs.Prelude.{vec_capacity, ◌==◌, if◌then◌else◌}
-use Rattle.cred_argon.specs.declared.block.Block.{Block}
-use Rattle.cred_argon.specs.declared.segment.Segment.{Segment}
-use Rattle.cred_argon.specs.declared.memory.Memory.{Memory}
-use Rattle.cred_argon.specs.Parameters.{Parameters, segment_len}
-use Rattle.cred_argon.specs.Places.{place}
-use Rattle.cred_argon.specs.Cells.{cell, first_cell}
-use Rattle.cred_argon.specs.Segments.{IsSlice, HoldsSlice}
+use Rattle.std.specs.Prelude.{◌≡◌, ℕ, ◌-◌, ◌<◌, ◌≤◌, List, length, slice_index_or, vec_len, vec_capacity, ◌==◌, if◌then◌else◌}
+use Rattle.cred_argon.specs.{declared.block.Block.Block, declared.segment.Segment.Segment, declared.memory.Memory.Memory}
+use Rattle.cred_argon.specs.{Parameters.Parameters, Parameters.segment_len, Places.place, Cells.cell, Cells.first_cell, Segments.IsSlice, Segments.HoldsSlice}
 
 -- the shapes of the four slices before segment g of each lane is worked
 pub record IsMemory (g : ℕ) (m : Memory) : Type 0 where

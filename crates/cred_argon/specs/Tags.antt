@@ -1,8 +1,6 @@
 -- What a call answers that is asked for a tag.
 use Rattle.std.specs.Prelude.{◌≡◌, ℕ, ◌^◌, ◌≤◌, ◌↔◌, ◌⊎◌, List, length, Vec, Result, Err, IfOk, IfErr}
-use Rattle.cred_argon.specs.Parameters.{Parameters}
-use Rattle.cred_argon.specs.Argon.{argon}
-use Rattle.cred_argon.specs.declared.error.ArgonError.{ArgonError}
+use Rattle.cred_argon.specs.{Parameters.Parameters, Argon.argon, declared.error.ArgonError.ArgonError}
 use Rattle.cred_argon.specs.declared.error.ArgonError.TheVariants.{InputLen, Memory}
 
 -- the length of an input is written in 32 bits

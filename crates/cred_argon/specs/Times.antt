@@ -1,8 +1,7 @@
 -- Places as the code counts them: by time, the number of columns that come before a place in its
 -- lane, over all passes.
 use Rattle.std.specs.Prelude.{◌≢◌, ℕ, ◌+◌, ◌-◌, ◌*◌, ◌<◌, ◌≤◌, Bool, min, ◌==◌, ◌||◌, if◌then◌else◌}
-use Rattle.cred_argon.specs.declared.place.Place.{Place}
-use Rattle.cred_argon.specs.Places.{segment_of}
+use Rattle.cred_argon.specs.{declared.place.Place.Place, Places.segment_of}
 
 abbrev pub time_of : ℕ → Place → ℕ
 time_of s p = p.pass * (4 * s) + p.column

@@ -1,16 +1,8 @@
 -- The slice that is worked, and one lane's segment of it. Segments are counted over all passes, so
 -- that segment g is that of pass g / 4 and slice g % 4.
-use Rattle.std.specs.Prelude.{◌≡◌, ℕ, ◌+◌, ◌-◌, ◌*◌, ◌<◌, ◌≤◌, List, length, slice_index_or}
-use Rattle.std.specs.Prelude.{◌==◌, if◌then◌else◌}
-use Rattle.cred_argon.specs.declared.block.Block.{Block}
-use Rattle.cred_argon.specs.declared.place.Place.{Place}
-use Rattle.cred_argon.specs.declared.position.Position.{Position}
-use Rattle.cred_argon.specs.declared.position.Reference.{Reference}
-use Rattle.cred_argon.specs.declared.turn.Turn.{Turn}
-use Rattle.cred_argon.specs.Parameters.{segment_len}
-use Rattle.cred_argon.specs.Places.{place}
-use Rattle.cred_argon.specs.Times.{IsBefore}
-use Rattle.cred_argon.specs.Cells.{cell}
+use Rattle.std.specs.Prelude.{◌≡◌, ℕ, ◌+◌, ◌-◌, ◌*◌, ◌<◌, ◌≤◌, List, length, slice_index_or, ◌==◌, if◌then◌else◌}
+use Rattle.cred_argon.specs.{declared.block.Block.Block, declared.place.Place.Place, declared.position.Position.Position, declared.position.Reference.Reference}
+use Rattle.cred_argon.specs.{declared.turn.Turn.Turn, Parameters.segment_len, Places.place, Times.IsBefore, Cells.cell}
 
 -- the number of the segment that is worked
 abbrev pub number : Turn → ℕ

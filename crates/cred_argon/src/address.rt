@@ -2,8 +2,7 @@
 //! of blocks that are made of the segment's position and a running number (RFC 9106, section
 //! 3.4.1.2).
 ghost use Rattle.std.specs.Prelude.{◌≡◌, ◌+◌, ◌*◌, ◌/◌, IsTrue, ◌↔◌};
-ghost use Rattle.cred_argon.specs.Parameters.{segment_len};
-ghost use Rattle.cred_argon.specs.Cells.{address_input, address_block};
+ghost use Rattle.cred_argon.specs.{Parameters.segment_len, Cells.address_input, Cells.address_block};
 
 use crate::block::{Block, compress};
 use crate::params::Params;

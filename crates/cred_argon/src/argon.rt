@@ -1,8 +1,6 @@
 //! Argon2 as a whole (RFC 9106, section 3.2).
 ghost use Rattle.std.specs.Prelude.{◌≡◌, ◌<◌, ℕ, length, slice_index_or};
-ghost use Rattle.cred_argon.specs.SegmentWork.{CanWork, Works};
-ghost use Rattle.cred_argon.specs.Tags.{Hashes};
-ghost use Rattle.cred_argon.specs.declared.segment.Segment.{Segment};
+ghost use Rattle.cred_argon.specs.{SegmentWork.CanWork, SegmentWork.Works, Tags.Hashes, declared.segment.Segment.Segment};
 ghost use denote.Param.Send.{IsSync};
 
 use crate::error::ArgonError;

@@ -1,8 +1,6 @@
 //! A block of the memory, and the compression function G (RFC 9106, section 3.5).
-ghost use Rattle.std.specs.Prelude.{◌≡◌, ℕ, ◌+◌, ◌*◌, ◌<◌, ◌≤◌, ◌⊎◌, List, length, bit_xor};
-ghost use Rattle.std.specs.Prelude.{slice_index};
-ghost use Rattle.cred_argon.specs.Compress.{compress, rows, columns, xor_words};
-ghost use Rattle.cred_argon.specs.Quads.{half_word, IsRows, IsHalf};
+ghost use Rattle.std.specs.Prelude.{◌≡◌, ℕ, ◌+◌, ◌*◌, ◌<◌, ◌≤◌, ◌⊎◌, List, length, bit_xor, slice_index};
+ghost use Rattle.cred_argon.specs.{Compress.compress, Compress.rows, Compress.columns, Compress.xor_words, Quads.half_word, Quads.IsRows, Quads.IsHalf};
 
 use crate::permutation::xor;
 use crate::rows_columns::{four_columns, four_rows};

@@ -1,8 +1,7 @@
 //! Why a call of this crate was refused.
 
 ghost use Rattle.std.specs.Prelude.{◌≡◌};
-ghost use Rattle.cred_argon.specs.Errors.{error_number, error_word};
-ghost use Rattle.cred_argon.specs.declared.error.ArgonError.TheVariants.{Memory as OutOfMemory};
+ghost use Rattle.cred_argon.specs.{Errors.error_number, Errors.error_word, declared.error.ArgonError.TheVariants.Memory as OutOfMemory};
 
 use std::alloc::AllocError;
 use thiserror::Error;

@@ -1,7 +1,6 @@
 //! A slice in memory of the caller's: the segments of its lanes one after another.
 ghost use Rattle.std.specs.Prelude.{◌≡◌, ◌+◌, ◌*◌, ◌^◌, ◌<◌, ◌≤◌, length};
-ghost use Rattle.cred_argon.specs.Parameters.{segment_len};
-ghost use Rattle.cred_argon.specs.Lanes.{HoldsBlocks};
+ghost use Rattle.cred_argon.specs.{Parameters.segment_len, Lanes.HoldsBlocks};
 
 use crate::block::Block;
 use crate::params::Params;

@@ -1,11 +1,8 @@
 //! The first hash of all inputs, and the first two blocks of each lane (RFC 9106, section 3.2,
 //! steps 1, 3 and 4).
-ghost use Rattle.std.specs.Prelude.{◌≡◌, ℕ, ◌+◌, ◌^◌, ◌<◌, ◌≤◌, ◌↔◌, List, ◌++◌, length};
-ghost use Rattle.std.specs.Prelude.{IsTrue, take};
+ghost use Rattle.std.specs.Prelude.{◌≡◌, ℕ, ◌+◌, ◌^◌, ◌<◌, ◌≤◌, ◌↔◌, List, ◌++◌, length, IsTrue, take};
 ghost use Rattle.cred_blake.specs.Hasher.{Holds};
-ghost use Rattle.cred_argon.specs.Argon.{le32, first_hash};
-ghost use Rattle.cred_argon.specs.Cells.{first_cell};
-ghost use Rattle.cred_argon.specs.Tags.{IsAnyTooLong};
+ghost use Rattle.cred_argon.specs.{Argon.le32, Argon.first_hash, Cells.first_cell, Tags.IsAnyTooLong};
 
 use crate::block::Block;
 use crate::bytes::block_of_bytes;

@@ -1,11 +1,7 @@
 //! Argon2 in parts, for a caller who works the lanes in threads of its own (RFC 9106, section 3.4).
 //! The memory is four slices of blocks, each with the segments of its lanes one after another.
-ghost use Rattle.std.specs.Prelude.{◌≡◌, ℕ, ◌+◌, ◌-◌, ◌*◌, ◌<◌, ◌≤◌, ◌↔◌, List, IfOk};
-ghost use Rattle.std.specs.Prelude.{IfErr, length, slice_index_or};
-ghost use Rattle.cred_argon.specs.declared.block.Block.{Block};
-ghost use Rattle.cred_argon.specs.Parameters.{Parameters, segment_len};
-ghost use Rattle.cred_argon.specs.Argon.{argon, first_hash};
-ghost use Rattle.cred_argon.specs.Tags.{IsAnyTooLong};
+ghost use Rattle.std.specs.Prelude.{◌≡◌, ℕ, ◌+◌, ◌-◌, ◌*◌, ◌<◌, ◌≤◌, ◌↔◌, List, IfOk, IfErr, length, slice_index_or};
+ghost use Rattle.cred_argon.specs.{declared.block.Block.Block, Parameters.Parameters, Parameters.segment_len, Argon.argon, Argon.first_hash, Tags.IsAnyTooLong};
 ghost use Rattle.cred_argon.specs.Lanes.{HoldsBlocks, HoldsFirstBlocks, WorksSegment};
 
 use crate::block::Block;

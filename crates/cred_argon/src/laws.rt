@@ -1,11 +1,7 @@
 //! The laws of the definitions that the contracts of `argon2` and of its parts rest on.
 ghost use Rattle.std.specs.Prelude.{◌≡◌, List, ℕ, ◌*◌, ◌-◌};
-ghost use Rattle.cred_argon.specs.Parameters.{Parameters, IsRaw, IsUpTo, segment_len};
-ghost use Rattle.cred_argon.specs.Places.{IsPlace};
-ghost use Rattle.cred_argon.specs.Cells.{cell, cell_by};
-ghost use Rattle.cred_argon.specs.declared.place.Place.{Place};
-ghost use Rattle.cred_argon.specs.declared.block.Block.{Block};
-ghost use Rattle.cred_argon.specs.Lanes.{HoldsBlocks, IsRun};
+ghost use Rattle.cred_argon.specs.{Parameters.Parameters, Parameters.IsRaw, Parameters.IsUpTo, Parameters.segment_len, Places.IsPlace};
+ghost use Rattle.cred_argon.specs.{Cells.cell, Cells.cell_by, declared.place.Place.Place, declared.block.Block.Block, Lanes.HoldsBlocks, Lanes.IsRun};
 
 /// Each block of the memory is what its equation says of the blocks that it names (RFC 9106,
 /// section 3.2): those of the first two columns are hashes, and every other is made of the block

@@ -1,10 +1,7 @@
 //! The memory: four slices, worked one after another. While one is worked, its segments are parts
 //! that threads work, and the other three are shared (RFC 9106, section 3.4).
 ghost use Rattle.std.specs.Prelude.{◌≡◌, ℕ, ◌+◌, ◌*◌, ◌<◌, ◌≤◌, List};
-ghost use Rattle.cred_argon.specs.Parameters.{segment_len};
-ghost use Rattle.cred_argon.specs.Segments.{IsSlice, HoldsSlice};
-ghost use Rattle.cred_argon.specs.Turns.{number};
-ghost use Rattle.cred_argon.specs.Slices.{IsMemory, MemoryHolds};
+ghost use Rattle.cred_argon.specs.{Parameters.segment_len, Segments.IsSlice, Segments.HoldsSlice, Turns.number, Slices.IsMemory, Slices.MemoryHolds};
 
 use crate::scratch::ArgonScratch;
 use crate::segment::{Segment, Shared};

@@ -1,7 +1,6 @@
 //! What an Argon2 tag is asked for.
 ghost use Rattle.std.specs.Prelude.{◌≡◌, ◌*◌, ◌≤◌, ◌↔◌, IfOk};
-ghost use Rattle.cred_argon.specs.declared.params.TheConstants.{MAX_LANES, MAX_MEMORY, MAX_PASSES};
-ghost use Rattle.cred_argon.specs.declared.params.TheConstants.{MAX_RAW_TAG, MAX_TAG, MIN_TAG};
+ghost use Rattle.cred_argon.specs.declared.params.TheConstants.{MAX_LANES, MAX_MEMORY, MAX_PASSES, MAX_RAW_TAG, MAX_TAG, MIN_TAG};
 ghost use Rattle.cred_argon.specs.Faults.{IsFaultUpTo, IsFirstFault, IsFirstRawFault};
 ghost use Rattle.cred_argon.specs.Parameters.{parameters, IsParameters, IsRaw, IsUpTo, segment_len};
 

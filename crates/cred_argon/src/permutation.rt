@@ -1,9 +1,7 @@
 //! The permutation P of Argon2 on four lists of sixteen words at once: list j lies in slot j
 //! of sixteen vectors (RFC 9106, section 3.6).
-ghost use Rattle.std.specs.Prelude.{◌≡◌, ℕ, ◌<◌, bit_xor, slice_index};
-ghost use Rattle.std.specs.Int.{w64, rotate_right};
-ghost use Rattle.cred_argon.specs.Compress.{add_product, mixing, column_step, diagonal_step};
-ghost use Rattle.cred_argon.specs.Quads.{slot_list};
+ghost use Rattle.std.specs.{Prelude.◌≡◌, Prelude.ℕ, Prelude.◌<◌, Prelude.bit_xor, Prelude.slice_index, Int.w64, Int.rotate_right};
+ghost use Rattle.cred_argon.specs.{Compress.add_product, Compress.mixing, Compress.column_step, Compress.diagonal_step, Quads.slot_list};
 
 use std::simd::u64x4;
 

@@ -1,11 +1,8 @@
 //! Which block a place refers to (RFC 9106, section 3.4.2): the finished blocks that it may refer
 //! to are one stretch of a lane, so a start and a count stand for their list.
-ghost use Rattle.std.specs.Prelude.{◌≡◌, ◌+◌, ◌-◌, ◌*◌, ◌/◌, ◌%◌, ◌<◌, ◌≤◌, min, if◌then◌else◌};
-ghost use Rattle.std.specs.Prelude.{◌==◌};
-ghost use Rattle.cred_argon.specs.declared.params.TheConstants.{MAX_MEMORY};
-ghost use Rattle.cred_argon.specs.Parameters.{segment_len};
-ghost use Rattle.cred_argon.specs.Places.{IsComputed, pick, place_of, reference_place};
-ghost use Rattle.cred_argon.specs.Times.{reference_count};
+ghost use Rattle.std.specs.Prelude.{◌≡◌, ◌+◌, ◌-◌, ◌*◌, ◌/◌, ◌%◌, ◌<◌, ◌≤◌, min, if◌then◌else◌, ◌==◌};
+ghost use Rattle.cred_argon.specs.{declared.params.TheConstants.MAX_MEMORY, Parameters.segment_len};
+ghost use Rattle.cred_argon.specs.{Places.IsComputed, Places.pick, Places.place_of, Places.reference_place, Times.reference_count};
 
 use crate::params::Params;
 use crate::place::Place;

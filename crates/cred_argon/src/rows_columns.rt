@@ -1,8 +1,7 @@
 //! The permutation P on the rows and the columns of a block, four at a time (RFC 9106, section
 //! 3.5). A block's words lie four to a vector, so that a row is four vectors.
 ghost use Rattle.std.specs.Prelude.{◌≡◌, ℕ, ◌<◌, [], ◌∷◌, slice_index};
-ghost use Rattle.cred_argon.specs.Compress.{permutation};
-ghost use Rattle.cred_argon.specs.Quads.{slot_list, row_list, column_list};
+ghost use Rattle.cred_argon.specs.{Compress.permutation, Quads.slot_list, Quads.row_list, Quads.column_list};
 
 use crate::permutation::{column_step, diagonal_step};
 use std::simd::u64x4;

@@ -1,19 +1,11 @@
 //! The work on a lane's segment, which reads the three slices before, and the segments of a slice
 //! as parts that threads work (RFC 9106, section 3.4).
-ghost use Rattle.std.specs.Prelude.{◌≡◌, ℕ, [], ◌∷◌, ◌++◌, ◌+◌, ◌-◌, ◌*◌, ◌/◌, ◌%◌, ◌^◌, ◌<◌, ◌≤◌};
-ghost use Rattle.std.specs.Prelude.{List, length, slice_index, slice_index_or, vec_len};
-ghost use Rattle.std.specs.Prelude.{vec_capacity, if◌then◌else◌};
-ghost use Rattle.cred_argon.specs.declared.block.Block.{Block};
-ghost use Rattle.cred_argon.specs.declared.place.Place.{Place};
-ghost use Rattle.cred_argon.specs.declared.segment.Segment.{Segment};
-ghost use Rattle.cred_argon.specs.Parameters.{Parameters, segment_len};
-ghost use Rattle.cred_argon.specs.Places.{place, reference_place};
-ghost use Rattle.cred_argon.specs.Times.{IsBefore};
+ghost use Rattle.std.specs.Prelude.{◌≡◌, ℕ, [], ◌∷◌, ◌++◌, ◌+◌, ◌-◌, ◌*◌, ◌/◌, ◌%◌, ◌^◌, ◌<◌, ◌≤◌, List, length, slice_index, slice_index_or, vec_len, vec_capacity, if◌then◌else◌};
+ghost use Rattle.cred_argon.specs.{declared.block.Block.Block, declared.place.Place.Place, declared.segment.Segment.Segment};
+ghost use Rattle.cred_argon.specs.{Parameters.Parameters, Parameters.segment_len, Places.place, Places.reference_place, Times.IsBefore};
 ghost use Rattle.cred_argon.specs.Cells.{cell, is_dependent, is_fresh, previous, older};
-ghost use Rattle.cred_argon.specs.Addresses.{KeepsAddresses, ServesOffset, word_from};
-ghost use Rattle.cred_argon.specs.SegmentWork.{CanWork, Works};
-ghost use Rattle.cred_argon.specs.Turns.{first_offset, number, place_in, position_in, OwnHolds};
-ghost use Rattle.cred_argon.specs.Turns.{DoneHolds, IsReadable};
+ghost use Rattle.cred_argon.specs.{Addresses.KeepsAddresses, Addresses.ServesOffset, Addresses.word_from, SegmentWork.CanWork, SegmentWork.Works};
+ghost use Rattle.cred_argon.specs.Turns.{first_offset, number, place_in, position_in, OwnHolds, DoneHolds, IsReadable};
 ghost use Rattle.cred_argon.specs.Segments.{IsFull, HoldsSlice, IsShaped, SharedHolds};
 
 use crate::address::AddressBlock;

@@ -1,8 +1,6 @@
 //! A slice of the memory as the work on a later one reads it.
 ghost use Rattle.std.specs.Prelude.{◌≡◌, ℕ, ◌+◌, ◌*◌, ◌/◌, ◌%◌, ◌<◌, List};
-ghost use Rattle.cred_argon.specs.Parameters.{Parameters, segment_len};
-ghost use Rattle.cred_argon.specs.Places.{place};
-ghost use Rattle.cred_argon.specs.Cells.{cell};
+ghost use Rattle.cred_argon.specs.{Parameters.Parameters, Parameters.segment_len, Places.place, Cells.cell};
 
 use crate::block::Block;
 use crate::params::Params;

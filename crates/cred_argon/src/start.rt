@@ -1,13 +1,8 @@
 //! The memory before it is filled: room for all blocks, and the first two blocks of each lane (RFC
 //! 9106, section 3.2, steps 2 to 4).
-ghost use Rattle.std.specs.Prelude.{◌≡◌, ℕ, ◌+◌, ◌<◌, ◌≤◌, List, [], ◌∷◌, ◌++◌, length};
-ghost use Rattle.std.specs.Prelude.{slice_index_or, vec_len, vec_capacity, IfOk};
-ghost use Rattle.cred_argon.specs.declared.block.Block.{Block};
-ghost use Rattle.cred_argon.specs.declared.segment.Segment.{Segment};
-ghost use Rattle.cred_argon.specs.Parameters.{segment_len};
-ghost use Rattle.cred_argon.specs.Segments.{IsSlice};
-ghost use Rattle.cred_argon.specs.Slices.{IsMemory, MemoryHolds, IsEmptySlice, IsBegun};
-ghost use Rattle.cred_argon.specs.Cells.{first_cell};
+ghost use Rattle.std.specs.Prelude.{◌≡◌, ℕ, ◌+◌, ◌<◌, ◌≤◌, List, [], ◌∷◌, ◌++◌, length, slice_index_or, vec_len, vec_capacity, IfOk};
+ghost use Rattle.cred_argon.specs.{declared.block.Block.Block, declared.segment.Segment.Segment, Parameters.segment_len, Segments.IsSlice};
+ghost use Rattle.cred_argon.specs.{Slices.IsMemory, Slices.MemoryHolds, Slices.IsEmptySlice, Slices.IsBegun, Cells.first_cell};
 
 use crate::inputs::first_block;
 use crate::memory::Memory;

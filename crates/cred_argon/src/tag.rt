@@ -1,7 +1,6 @@
 //! The tag of a memory that is filled (RFC 9106, section 3.2, steps 7 and 8).
 ghost use Rattle.std.specs.Prelude.{◌≡◌, ℕ, ◌-◌, ◌*◌, ◌≤◌, List, IfOk, IfErr, length};
-ghost use Rattle.cred_argon.specs.Parameters.{segment_len};
-ghost use Rattle.cred_argon.specs.Argon.{argon, first_hash, last_blocks};
+ghost use Rattle.cred_argon.specs.{Parameters.segment_len, Argon.argon, Argon.first_hash, Argon.last_blocks};
 
 use crate::block::{Block, add_onto};
 use crate::bytes::bytes_of_block;

@@ -1,7 +1,6 @@
 //! Which slice is worked.
 ghost use Rattle.std.specs.Prelude.{◌≡◌, if◌then◌else◌};
-ghost use Rattle.cred_argon.specs.Cells.{is_dependent, is_fresh};
-ghost use Rattle.cred_argon.specs.Turns.{first_offset, position_in};
+ghost use Rattle.cred_argon.specs.{Cells.is_dependent, Cells.is_fresh, Turns.first_offset, Turns.position_in};
 
 use crate::kind::{Kind, Version};
 use crate::params::Params;

@@ -1,18 +1,11 @@
 -- What decodes is bytes, and their letters are the text.
 use Rattle.std.proofs.Common.{◌≡◌, ◌∙◌, ℕ, zero, suc, ◌+◌, ◌*◌, ◌/◌, ◌-◌, ◌<◌, true, false, List, [], ◌∷◌, ◌++◌, length, take, drop, get_or, slice_index, Some, None, arith, inl, inr, refl, ap, sym, subst, ◌⊎◌, take-append-drop, length-drop}
-use Rattle.std.proofs.lemmas.Bool.{cases_lt}
-use Rattle.std.proofs.lemmas.Grind.{same_number_lists}
-use Rattle.std.proofs.lemmas.List.{get_or-drop, nil_from_length}
-use Rattle.std.specs.Result.{result_ok}
-use Rattle.std.specs.declared.option.Option.{Option}
-use Rattle.std.specs.declared.result.Result.{Result}
+use Rattle.std.proofs.{lemmas.Bool.cases_lt, lemmas.Grind.same_number_lists, lemmas.List.get_or-drop, lemmas.List.nil_from_length}
+use Rattle.std.specs.{Result.result_ok, declared.option.Option.Option, declared.result.Result.Result}
 use Rattle.std.specs.declared.result.Result.TheVariants.{Ok, Err}
 use Rattle.base64.specs.Decode.{or_else, symbol_error, group_error, group_bytes, groups_error, groups_bytes, groups_before_last, decode_group, decode_error, decode_outcome, decoded_bytes, lone_error, suffix_error, suffix_bytes, scan_last, leftover_bytes, no_leftover}
-use Rattle.base64.specs.Engines.{standard_no_pad}
-use Rattle.base64.specs.GeneralPurpose.{IsBytes, decode_of, decoded_of, encode_of}
-use Rattle.base64.specs.Tables.{is_inverse}
-use Rattle.base64.specs.declared.decode.DecodeError.{DecodeError}
-use Rattle.base64.specs.declared.engine.DecodePaddingMode.{DecodePaddingMode}
+use Rattle.base64.specs.{Engines.standard_no_pad, GeneralPurpose.IsBytes, GeneralPurpose.decode_of, GeneralPurpose.decoded_of, GeneralPurpose.encode_of}
+use Rattle.base64.specs.{Tables.is_inverse, declared.decode.DecodeError.DecodeError, declared.engine.DecodePaddingMode.DecodePaddingMode}
 use Rattle.base64.specs.declared.engine.general_purpose.GeneralPurpose.{GeneralPurpose}
 use Rattle.base64.proofs.Canonical.{IsScanned-scan, decoded_bytes-nil}
 use Rattle.base64.proofs.EngineFacts.{decode_of_strict, decode_of-encode_of, decode_of_bytes, front_bytes}

@@ -1,12 +1,9 @@
 -- A text by its places: the letter at each is that of the six bits there.
 use Rattle.std.proofs.Common.{◌≡◌, ◌∙◌, ℕ, zero, suc, ◌+◌, ◌*◌, ◌/◌, ◌%◌, ◌<◌, ◌≤◌, List, [], ◌∷◌, length, get_or, slice_index, arith, refl, ap, sym, append-nil}
 use Rattle.std.proofs.lemmas.Grind.{same_number_lists}
-use Rattle.base64.specs.Engines.{standard_no_pad}
-use Rattle.base64.specs.GeneralPurpose.{IsBytes, engine_symbols}
-use Rattle.base64.specs.Rfc4648.{encode_symbols, unpadded_len}
+use Rattle.base64.specs.{Engines.standard_no_pad, GeneralPurpose.IsBytes, GeneralPurpose.engine_symbols, Rfc4648.encode_symbols, Rfc4648.unpadded_len}
 use Rattle.base64.proofs.RoundTrip.{length-encode_symbols}
-use Rattle.cred_base64.specs.Letters.{letter_of, letters_of}
-use Rattle.cred_base64.specs.Sextets.{sextet_at, group_sextet}
+use Rattle.cred_base64.specs.{Letters.letter_of, Letters.letters_of, Sextets.sextet_at, Sextets.group_sextet}
 
 pub length-letters : (bytes : List ℕ) → length (letters_of bytes) ≡ unpadded_len (length bytes)
 unfolding letters_of

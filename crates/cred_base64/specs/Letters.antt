@@ -1,8 +1,7 @@
 -- The letters of base64 (RFC 4648, section 4), with no padding: there is no `=`, and the bits
 -- after the last byte are zero.
 use Rattle.std.specs.Prelude.{ℕ, List, slice_index, Option}
-use Rattle.base64.specs.Engines.{standard_no_pad}
-use Rattle.base64.specs.GeneralPurpose.{decoded_of, encode_of, engine_symbols}
+use Rattle.base64.specs.{Engines.standard_no_pad, GeneralPurpose.decoded_of, GeneralPurpose.encode_of, GeneralPurpose.engine_symbols}
 
 -- the letter of six bits (table 1)
 unfoldable pub letter_of : ℕ → ℕ

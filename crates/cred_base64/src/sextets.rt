@@ -2,8 +2,7 @@
 
 ghost use Rattle.std.specs.Prelude.{◌≡◌, ℕ, ◌<◌, List, length, slice_index};
 ghost use Rattle.base64.specs.GeneralPurpose.{IsBytes};
-ghost use Rattle.cred_base64.specs.Letters.{letters_of};
-ghost use Rattle.cred_base64.specs.Sextets.{sextet_at};
+ghost use Rattle.cred_base64.specs.{Letters.letters_of, Sextets.sextet_at};
 
 use crate::letters::sextet_of;
 

@@ -3,9 +3,7 @@ use Rattle.std.proofs.Common.{◌≡◌, ℕ, ◌+◌, ◌-◌, ◌*◌, ◌/◌
 use Rattle.std.proofs.Math.Seq.{take-append-add, drop-append-add}
 use Rattle.std.proofs.lemmas.List.{append-nil, drop-append-le, drop-drop, length-replicate}
 use Rattle.cred_blake.specs.Blake2b.{compress, padded_block, key_block, initial_state, state_after, block_count}
-use Rattle.cred_blake.specs.Hasher.{IsTaken, IsFed, Holds}
-use Rattle.cred_blake.specs.declared.hasher.Blake2b.{Blake2b}
-use Rattle.cred_blake.specs.declared.state.State.{State}
+use Rattle.cred_blake.specs.{Hasher.IsTaken, Hasher.IsFed, Hasher.Holds, declared.hasher.Blake2b.Blake2b, declared.state.State.State}
 use Rattle.cred_blake.proofs.Blocks.{state_after_none, state_after_inner, state_after_last, state_after_append}
 
 -- ---- the word of the contracts, opened

@@ -2,8 +2,7 @@
 use Rattle.std.proofs.Common.{◌≡◌, ℕ, suc, ◌+◌, ◌-◌, ◌*◌, ◌/◌, ◌<◌, ◌≤◌, true, false, nat_le, List, [], ◌++◌, take, refl, ap, arith}
 use Rattle.std.proofs.lemmas.Bool.Decides.{nat_tests}
 use Rattle.std.specs.Int.{w32, to_le_bytes}
-use Rattle.cred_blake.specs.Blake2b.{blake}
-use Rattle.cred_blake.specs.HashPrime.{chain, halves, hash_prime}
+use Rattle.cred_blake.specs.{Blake2b.blake, HashPrime.chain, HashPrime.halves, HashPrime.hash_prime}
 
 pub hash_prime_short : (t : ℕ) (a : List ℕ) → t ≤ 64 → hash_prime t a ≡ blake t [] (to_le_bytes w32 t ++ a)
 unfolding hash_prime

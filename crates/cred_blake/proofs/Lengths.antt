@@ -3,8 +3,7 @@ use Rattle.std.proofs.Common.{◌≡◌, ℕ, ◌-◌, ◌/◌, ◌≤◌, Bool,
 use Rattle.std.proofs.lemmas.List.{length-take-le}
 use Rattle.cred_blake.specs.Blake2b.{blake, block_count, compress, initial_state, key_block, state_after, block, counter}
 use Rattle.cred_blake.specs.Words.{bytes_of}
-use Rattle.cred_blake.proofs.Blocks.{state_after_next}
-use Rattle.cred_blake.proofs.WordBytes.{length-bytes_of}
+use Rattle.cred_blake.proofs.{Blocks.state_after_next, WordBytes.length-bytes_of}
 
 pub length-compress : (h b : List ℕ) (t : ℕ) (last : Bool) → length (compress h b t last) ≡ 8
 unfolding compress

@@ -1,7 +1,6 @@
 -- Each entry of the message schedule names one of a block's sixteen words.
 use Rattle.std.proofs.Common.{◌≡◌, ℕ, ◌+◌, ◌*◌, ◌/◌, ◌%◌, ◌<◌, [], true, nat_lt, slice_index, slice_index_or, refl, arith}
-use Rattle.std.proofs.lemmas.Bool.{agree_below_at}
-use Rattle.std.proofs.lemmas.Bool.Decides.{nat_tests}
+use Rattle.std.proofs.{lemmas.Bool.agree_below_at, lemmas.Bool.Decides.nat_tests}
 use Rattle.cred_blake.specs.Blake2b.{schedule}
 
 -- entry i of row r

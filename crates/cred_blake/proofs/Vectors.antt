@@ -1,8 +1,7 @@
 -- The definitions computed at outside vectors. The expected bytes are those of the RFCs or of
 -- Python's hashlib.blake2b, and for H' of the formula of RFC 9106 over that function.
 use Rattle.std.proofs.Common.{◌≡◌, [], ◌∷◌, refl}
-use Rattle.std.specs.Prelude.{codes}
-use Rattle.std.specs.List.{range_with_len}
+use Rattle.std.specs.{Prelude.codes, List.range_with_len}
 use Rattle.cred_blake.specs.Words.{word_at, words_of, bytes_of}
 use Rattle.cred_blake.specs.Blake2b.{blake, state_after, compress, rounds, round, mix, mixing, work_vector, initial_state, key_block}
 use Rattle.cred_blake.specs.HashPrime.{hash_prime, halves, chain}

@@ -1,7 +1,6 @@
 -- H', the hash of any length that Argon2 uses (RFC 9106, section 3.3), as a function on lists of
 -- bytes.
-use Rattle.std.specs.Prelude.{ℕ, zero, suc, ◌+◌, ◌-◌, ◌*◌, ◌/◌, nat_le, if◌then◌else◌, List, []}
-use Rattle.std.specs.Prelude.{◌++◌, take}
+use Rattle.std.specs.Prelude.{ℕ, zero, suc, ◌+◌, ◌-◌, ◌*◌, ◌/◌, nat_le, if◌then◌else◌, List, [], ◌++◌, take}
 use Rattle.std.specs.Int.{w32, to_le_bytes}
 use Rattle.cred_blake.specs.Blake2b.{blake}
 

@@ -1,8 +1,6 @@
 -- The message that a hasher holds. A hasher's fields do not determine it, so this is a relation.
 use Rattle.std.specs.Prelude.{◌≡◌, ℕ, ◌-◌, ◌*◌, ◌/◌, ◌%◌, ◌^◌, List, ◌++◌, length, drop}
-use Rattle.cred_blake.specs.Blake2b.{key_block, initial_state, state_after}
-use Rattle.cred_blake.specs.declared.hasher.Blake2b.{Blake2b}
-use Rattle.cred_blake.specs.declared.state.State.{State}
+use Rattle.cred_blake.specs.{Blake2b.key_block, Blake2b.initial_state, Blake2b.state_after, declared.hasher.Blake2b.Blake2b, declared.state.State.State}
 
 -- begun from h0, the state s has taken in the first i blocks of the bytes d
 abbrev pub IsTaken : List ℕ → List ℕ → State → ℕ → Type 0

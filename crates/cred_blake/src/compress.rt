@@ -2,8 +2,7 @@
 //! into the state.
 
 ghost use Rattle.std.specs.Prelude.{◌≡◌, ◌+◌, ◌≤◌, ◌<◌, [], length, slice_index, slice_index_or};
-ghost use Rattle.cred_blake.specs.Blake2b.{compress, mix, mixing, round, rounds, schedule};
-ghost use Rattle.cred_blake.specs.Blake2b.{work_vector};
+ghost use Rattle.cred_blake.specs.Blake2b.{compress, mix, mixing, round, rounds, schedule, work_vector};
 ghost use Rattle.cred_blake.specs.Words.{word_at, words_of};
 
 /// The length of a block in bytes.

@@ -1,9 +1,7 @@
 //! H', the hash of any length that Argon2 builds from BLAKE2b (RFC 9106, section 3.3).
 
-ghost use Rattle.std.specs.Prelude.{◌≡◌, ◌↔◌, ◌+◌, ◌^◌, ◌<◌, ◌≤◌, [], ◌++◌, length, take, vec_len};
-ghost use Rattle.std.specs.Prelude.{IfOk};
-ghost use Rattle.cred_blake.specs.Blake2b.{blake};
-ghost use Rattle.cred_blake.specs.HashPrime.{hash_prime};
+ghost use Rattle.std.specs.Prelude.{◌≡◌, ◌↔◌, ◌+◌, ◌^◌, ◌<◌, ◌≤◌, [], ◌++◌, length, take, vec_len, IfOk};
+ghost use Rattle.cred_blake.specs.{Blake2b.blake, HashPrime.hash_prime};
 
 use crate::digest::{Digest, MAX_LEN};
 use crate::error::BlakeError;

@@ -1,18 +1,13 @@
 -- What a commit changes: what its work told, or nothing.
 use Rattle.std.proofs.Common.{◌≡◌, ℕ, List, Bool, true, false, cond, Option, Some, None, MatchOption, if◌then◌else◌, not, refl, sym, ap, ◌∙◌}
 use Rattle.std.specs.FinMap as map
-use Rattle.std.specs.Ordering.{is_eq}
-use Rattle.std.specs.Cmp.Lexicographic.{nat_list_cmp_total}
-use Rattle.std.specs.declared.cmp.Ordering.{Ordering}
+use Rattle.std.specs.{Ordering.is_eq, Cmp.Lexicographic.nat_list_cmp_total, declared.cmp.Ordering.Ordering}
 use Rattle.std.specs.declared.cmp.Ordering.TheVariants.{Less, Equal, Greater}
 use Rattle.cred_phc.specs.Values.{RecordValue}
-use Rattle.cred_book.specs.Accounts.{Accounts}
-use Rattle.cred_book.specs.Changes.{change_with, change_of, judged_book}
+use Rattle.cred_book.specs.{Accounts.Accounts, Changes.change_with, Changes.change_of, Changes.judged_book}
 use Rattle.cred_book.specs.Commits.{commit_outcome, commit_outcome_at, commit_outcome_if, judgement, judgement_at, judgement_if}
-use Rattle.cred_book.specs.Names.{name_cmp}
-use Rattle.cred_book.specs.Works.{Task, name_of, same, same_scheme, whole, makes_change, right}
-use Rattle.cred_book.specs.declared.reply.Reply.{Reply}
-use Rattle.cred_book.specs.declared.request.Request.{Request}
+use Rattle.cred_book.specs.{Names.name_cmp, Works.Task, Works.name_of, Works.same, Works.same_scheme, Works.whole, Works.makes_change, Works.right}
+use Rattle.cred_book.specs.{declared.reply.Reply.Reply, declared.request.Request.Request}
 use Rattle.cred_book.specs.declared.request.Request.TheVariants.{Enrol, Verify, Change as Replace, Upgrade, Remove}
 use Rattle.cred_book.proofs.Equality.{same-Decides}
 

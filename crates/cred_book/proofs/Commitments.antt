@@ -3,16 +3,12 @@ use Rattle.std.proofs.Common.{◌≡◌, ℕ, List, Bool, true, false, Option, S
 use Rattle.std.specs.FinMap as map
 use Rattle.std.specs.Result.{is_ok}
 use Rattle.cred_phc.specs.Values.{RecordValue}
-use Rattle.cred_book.specs.Accounts.{Accounts}
-use Rattle.cred_book.specs.Calls.{Loads, Shows}
-use Rattle.cred_book.specs.declared.error.BookError.{BookError}
+use Rattle.cred_book.specs.{Accounts.Accounts, Calls.Loads, Calls.Shows, declared.error.BookError.BookError}
 use Rattle.cred_book.specs.declared.error.BookError.TheVariants as error
 use Rattle.cred_book.specs.Commits.{Sets, commit_outcome, commit_outcome_at, commit_outcome_if, judgement, judgement_at, judgement_if}
-use Rattle.cred_book.specs.Works.{Task, name_of, same, whole, makes_change}
-use Rattle.cred_book.specs.declared.reply.Reply.{Reply}
+use Rattle.cred_book.specs.{Works.Task, Works.name_of, Works.same, Works.whole, Works.makes_change, declared.reply.Reply.Reply}
 use Rattle.cred_book.specs.declared.reply.Reply.TheVariants as reply
-use Rattle.cred_book.proofs.Changes.{insert_again}
-use Rattle.cred_book.proofs.Equality.{same-Decides}
+use Rattle.cred_book.proofs.{Changes.insert_again, Equality.same-Decides}
 
 -- the answer at a record, by the test whether it is the copied one
 module _ (work : Task) (now : Option RecordValue) where

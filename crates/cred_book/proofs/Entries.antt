@@ -1,20 +1,14 @@
 -- Entries in the order of their keys: what a binary search finds among them, and what a write at
 -- its place does.
-use Rattle.std.proofs.Common.{◌≡◌, ℕ, zero, suc, ◌<◌, ◌≤◌, List, [], ◌∷◌, length, lit≤, get_or, set, Some, None, Result, Ok, Err, T, Bool, true, false, cond, not, refl, sym, ap, subst, ◌∙◌, arith, ◌&&◌}
-use Rattle.std.specs.List.{insert, remove}
-use Rattle.std.specs.List.Sorted.{IsSearchInRange, IsBinarySearchResult, IsNonDecreasingBy}
-use Rattle.std.specs.Ordering.{ordering_index, ordering_reverse, is_lt, is_eq, eq_by_cmp}
-use Rattle.std.specs.declared.cmp.Ordering.{Ordering}
-use Rattle.std.specs.declared.cmp.Ordering.TheVariants.{Less, Equal, Greater}
-use Rattle.std.specs.Bool.{IsTrue}
-use Rattle.std.specs.Cmp.{IsTotalOrder, eq_by_cmp_equiv}
-use Rattle.std.proofs.lemmas.Cmp.{alike_right}
-use Rattle.std.proofs.lemmas.Bool.{cases_eq}
-use Rattle.std.proofs.Common.{inl, inr}
-use Rattle.std.specs.Result.{MatchResult}
-use Rattle.cred_book.specs.Places.{IsPlaceOf, IsGapFor}
+use Rattle.std.proofs.Common.{◌≡◌, ℕ, zero, suc, ◌<◌, ◌≤◌, List, [], ◌∷◌, length, lit≤, get_or, set, Some, None, Result, Ok, Err, T, Bool, true, false, cond, not, refl, sym, ap, subst, ◌∙◌, arith, ◌&&◌, inl, inr}
+use Rattle.std.proofs.{lemmas.Cmp.alike_right, lemmas.Bool.cases_eq}
+use Rattle.std.specs.{List.insert, List.remove, List.Sorted.IsSearchInRange, List.Sorted.IsBinarySearchResult, List.Sorted.IsNonDecreasingBy}
+use Rattle.std.specs.{Ordering.ordering_index, Ordering.ordering_reverse, Ordering.is_lt, Ordering.is_eq, Ordering.eq_by_cmp, declared.cmp.Ordering.Ordering}
+use Rattle.std.specs.{declared.cmp.Ordering.TheVariants.Less, declared.cmp.Ordering.TheVariants.Equal, declared.cmp.Ordering.TheVariants.Greater, Bool.IsTrue}
+use Rattle.std.specs.{Cmp.IsTotalOrder, Cmp.eq_by_cmp_equiv, Result.MatchResult}
 use Rattle.std.specs.FinMap.{entries, find, put, is_sorted, get, insert as map_insert, remove as map_remove, len, from_sorted, IsAntisymmetric, same_map, same_entries_map, entries-from_sorted, entries-insert, get-from_sorted, get-remove, len-entries, empty, empty_of_len}
 use Rattle.std.specs.FinMap.Entries.{below_all, find-where_key, is_sorted-put, is_sorted-where_key, where_key}
+use Rattle.cred_book.specs.Places.{IsPlaceOf, IsGapFor}
 
 first : (a b : Bool) → T (a && b) → T a
 first true b h = tt

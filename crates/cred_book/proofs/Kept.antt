@@ -4,12 +4,9 @@ use Rattle.std.proofs.lemmas.Bool.Decides.{nat_tests}
 use Rattle.std.specs.List.{insert, remove}
 use Rattle.std.specs.FinMap as map
 use Rattle.std.specs.Cmp.Lexicographic.{nat_list_cmp_total}
-use Rattle.std.proofs.lemmas.List.Edits.{length-insert, length-remove}
-use Rattle.std.proofs.Math.ListN.{length-set}
+use Rattle.std.proofs.{lemmas.List.Edits.length-insert, lemmas.List.Edits.length-remove, Math.ListN.length-set}
 use Rattle.cred_phc.specs.Values.{RecordValue}
-use Rattle.cred_book.specs.Accounts.{Accounts, IsKept, most_accounts, with_entry}
-use Rattle.cred_book.specs.Names.{name_cmp}
-use Rattle.cred_book.specs.Places.{IsPlaceOf, IsGapFor}
+use Rattle.cred_book.specs.{Accounts.Accounts, Accounts.IsKept, Accounts.most_accounts, Accounts.with_entry, Names.name_cmp, Places.IsPlaceOf, Places.IsGapFor}
 use Rattle.cred_book.proofs.Entries.{get_place, get_gap, sorted_place, sorted_gap, sorted_without, set_place, insert_gap, remove_entry, len-from_sorted, entries_from}
 use Rattle.cred_book.proofs.Registered.{same_names}
 

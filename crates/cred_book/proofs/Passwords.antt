@@ -3,11 +3,8 @@ use Rattle.std.proofs.Common.{◌≡◌, ℕ, List, Bool, true, false, length, O
 use Rattle.std.specs.Bool.{Decides}
 use Rattle.std.specs.FinMap as map
 use Rattle.std.proofs.lemmas.Slice.Eq.{bytes_eq-Decides}
-use Rattle.cred_phc.specs.Tags.{tag}
-use Rattle.cred_phc.specs.Values.{RecordValue}
-use Rattle.cred_book.specs.Accounts.{Accounts}
-use Rattle.cred_book.specs.Commits.{judgement, judgement_at, judgement_if}
-use Rattle.cred_book.specs.Passwords.{IsPasswordAt, IsPasswordOf}
+use Rattle.cred_phc.specs.{Tags.tag, Values.RecordValue}
+use Rattle.cred_book.specs.{Accounts.Accounts, Commits.judgement, Commits.judgement_at, Commits.judgement_if, Passwords.IsPasswordAt, Passwords.IsPasswordOf}
 use Rattle.cred_book.specs.Works.{right, same, whole}
 use Rattle.cred_book.specs.declared.reply.Reply.TheVariants as reply
 use Rattle.cred_book.specs.declared.request.Request.TheVariants.{Verify}

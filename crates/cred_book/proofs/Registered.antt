@@ -1,21 +1,14 @@
 -- What the entries of a tree say of a register's map, and what a write among them does to it.
 use Rattle.std.proofs.Common.{◌≡◌, ℕ, ◌+◌, ◌<◌, ◌≤◌, if◌then◌else◌, List, [], ◌∷◌, ◌++◌, append_assoc, append-nil, length, Option, Some, None, is_some, Bool, true, false, cond, ◌&&◌, T, MatchBool, nat_le, refl, sym, ap, subst, ◌∙◌, arith}
-use Rattle.std.specs.List.{AllByRecursion}
-use Rattle.std.specs.List.Sorted.{IsStrictlySortedBy}
-use Rattle.std.specs.Bool.{IsTrue}
-use Rattle.std.specs.Ordering.{is_eq, is_lt, eq_by_cmp}
+use Rattle.std.proofs.lemmas.Bool.Decides.{nat_tests}
+use Rattle.std.specs.{List.AllByRecursion, List.Sorted.IsStrictlySortedBy, Bool.IsTrue, Ordering.is_eq, Ordering.is_lt, Ordering.eq_by_cmp}
 use Rattle.std.specs.declared.cmp.Ordering.{Ordering}
 use Rattle.std.specs.declared.cmp.Ordering.TheVariants.{Less, Equal, Greater}
-use Rattle.std.specs.Map.{keys_of, lookup}
-use Rattle.std.specs.BTreeMap.{is_at}
-use Rattle.std.proofs.lemmas.Bool.Decides.{nat_tests}
-use Rattle.std.specs.Cmp.{eq_by_cmp_equiv}
-use Rattle.std.specs.Cmp.Lexicographic.{nat_list_cmp_total}
+use Rattle.std.specs.{Map.keys_of, Map.lookup, BTreeMap.is_at, Cmp.eq_by_cmp_equiv, Cmp.Lexicographic.nat_list_cmp_total}
 use Rattle.std.specs.FinMap as map
 use Rattle.std.specs.FinMap.Entries.{below_all}
 use Rattle.cred_phc.specs.Values.{RecordValue}
-use Rattle.cred_book.specs.Accounts.{Accounts, IsKept, IsRegister, most_accounts, register_capacity}
-use Rattle.cred_book.specs.Names.{name_cmp}
+use Rattle.cred_book.specs.{Accounts.Accounts, Accounts.IsKept, Accounts.IsRegister, Accounts.most_accounts, Accounts.register_capacity, Names.name_cmp}
 use Rattle.cred_book.proofs.Entries.{len-from_sorted, entries_from}
 
 -- only equal names tie

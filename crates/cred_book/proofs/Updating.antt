@@ -4,14 +4,10 @@ use Rattle.std.specs.Prelude.{unwrap_or}
 use Rattle.std.specs.FinMap as map
 use Rattle.std.specs.Cmp.Lexicographic.{nat_list_cmp_total}
 use Rattle.cred_phc.specs.Values.{RecordValue}
-use Rattle.cred_book.specs.Accounts.{Accounts}
-use Rattle.cred_book.specs.Commits.{commit_outcome, commit_outcome_at, commit_outcome_if}
-use Rattle.cred_book.specs.Names.{name_cmp}
+use Rattle.cred_book.specs.{Accounts.Accounts, Commits.commit_outcome, Commits.commit_outcome_at, Commits.commit_outcome_if, Names.name_cmp}
 use Rattle.cred_book.specs.Updates.{HasDone, IsConditional, IsExact, IsLog, IsWorked, Rows, Update, answer, operation_of, operations_done, outcome_at, outcome_on, refusal, replies_done, seq_after, seq_replies, standing, store_after, update_of, updated, with_row}
-use Rattle.cred_book.specs.Works.{Task, name_of, same, seq, seq_at}
-use Rattle.cred_book.specs.declared.reply.Reply.{Reply}
-use Rattle.cred_book.specs.declared.reply.Reply.TheVariants.{NoAccount}
-use Rattle.cred_book.specs.declared.request.Request.{Request}
+use Rattle.cred_book.specs.{Works.Task, Works.name_of, Works.same, Works.seq, Works.seq_at, declared.reply.Reply.Reply}
+use Rattle.cred_book.specs.{declared.reply.Reply.TheVariants.NoAccount, declared.request.Request.Request}
 use Rattle.cred_book.proofs.Equality.{same-Decides}
 
 -- ---- one row

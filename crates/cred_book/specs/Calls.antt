@@ -1,10 +1,8 @@
 -- What each call does to a book, by its answer.
-use Rattle.std.specs.Prelude.{◌≡◌, ℕ, ◌<◌, ◌≤◌, List, Option, Some, None, Result, Ok, Err, true}
-use Rattle.std.specs.Prelude.{false}
+use Rattle.std.specs.Prelude.{◌≡◌, ℕ, ◌<◌, ◌≤◌, List, Option, Some, None, Result, Ok, Err, true, false}
 use Rattle.std.specs.FinMap as map
 use Rattle.cred_phc.specs.Values.{RecordValue}
-use Rattle.cred_book.specs.Accounts.{Accounts, most_accounts}
-use Rattle.cred_book.specs.declared.error.BookError.{BookError}
+use Rattle.cred_book.specs.{Accounts.Accounts, Accounts.most_accounts, declared.error.BookError.BookError}
 use Rattle.cred_book.specs.declared.error.BookError.TheVariants as error
 
 -- a new name is there from now on, with this record or none, where there is room for so many names;

@@ -1,11 +1,8 @@
 -- What beginnings and commits do, by their answers.
-use Rattle.std.specs.Prelude.{◌≡◌, ℕ, List, Bool, true, false, if◌then◌else◌, Option, Some, None}
-use Rattle.std.specs.Prelude.{Result, Ok, Err}
+use Rattle.std.specs.Prelude.{◌≡◌, ℕ, List, Bool, true, false, if◌then◌else◌, Option, Some, None, Result, Ok, Err}
 use Rattle.std.specs.FinMap as map
 use Rattle.cred_phc.specs.Values.{RecordValue}
-use Rattle.cred_book.specs.Accounts.{Accounts}
-use Rattle.cred_book.specs.Works.{Task, name_of, same, whole, makes_change}
-use Rattle.cred_book.specs.declared.error.BookError.{BookError}
+use Rattle.cred_book.specs.{Accounts.Accounts, Works.Task, Works.name_of, Works.same, Works.whole, Works.makes_change, declared.error.BookError.BookError}
 use Rattle.cred_book.specs.declared.error.BookError.TheVariants as error
 use Rattle.cred_book.specs.declared.reply.Reply.{Reply}
 use Rattle.cred_book.specs.declared.reply.Reply.TheVariants as reply

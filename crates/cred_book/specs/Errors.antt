@@ -1,8 +1,7 @@
 -- The numbers and words of the errors.
 use Rattle.std.specs.Prelude.{ℕ, List, codes}
 use Rattle.cred_book.specs.declared.error.BookError.{BookError}
-use Rattle.cred_book.specs.declared.error.BookError.TheVariants.{Exists, Full, Name, Memory}
-use Rattle.cred_book.specs.declared.error.BookError.TheVariants.{NoAccount}
+use Rattle.cred_book.specs.declared.error.BookError.TheVariants.{Exists, Full, Name, Memory, NoAccount}
 
 abbrev pub error_number : BookError → ℕ
 error_number Exists = 1

@@ -2,9 +2,7 @@
 use Rattle.std.specs.Prelude.{◌≡◌, ℕ, ◌≤◌, List, Result, IfOk}
 use denote.Ref.{Bor}
 use denote.Param.Members.{Shared}
-use Rattle.cred_phc.specs.declared.hashing.TagError.{TagError}
-use Rattle.cred_phc.specs.Tags.{tag}
-use Rattle.cred_phc.specs.Values.{SettingValue}
+use Rattle.cred_phc.specs.{declared.hashing.TagError.TagError, Tags.tag, Values.SettingValue}
 
 -- the closure f may be called for a tag of 4 to 64 bytes, and gives the password's if any
 pub record MakesTags {F : Type 0}

@@ -1,8 +1,7 @@
 -- Whose password it is.
 use Rattle.std.specs.Prelude.{◌≡◌, ℕ, List, length, Some}
 use Rattle.std.specs.FinMap as map
-use Rattle.cred_phc.specs.Tags.{tag}
-use Rattle.cred_phc.specs.Values.{RecordValue}
+use Rattle.cred_phc.specs.{Tags.tag, Values.RecordValue}
 use Rattle.cred_book.specs.Accounts.{Accounts}
 
 -- the password's tag under the record's setting, of the record's length, is the record's tag

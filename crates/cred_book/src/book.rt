@@ -1,14 +1,10 @@
 //! The book: the names of all accounts, and the record of each.
 
-ghost use Rattle.std.specs.Prelude.{◌≡◌, ◌⊎◌, ◌<◌, ◌≤◌, IfOk, IfErr, IsTrue, MatchBool, MatchResult};
-ghost use Rattle.std.specs.Prelude.{true};
+ghost use Rattle.std.specs.Prelude.{◌≡◌, ◌⊎◌, ◌<◌, ◌≤◌, IfOk, IfErr, IsTrue, MatchBool, MatchResult, true};
 ghost use Rattle.std.specs.FinMap as map;
 ghost use Rattle.std.specs.Slice.Iter.{iter_rest};
-ghost use Rattle.cred_book.specs.Accounts.{most_accounts, with_entry};
-ghost use Rattle.cred_book.specs.Calls.{Admits, Loads, Shows};
-ghost use Rattle.cred_book.specs.Commits.{Begins, Sets, commit_outcome, judgement};
-ghost use Rattle.cred_book.specs.Names.{name_cmp};
-ghost use Rattle.cred_book.specs.Places.{IsGapFor, IsPlaceOf};
+ghost use Rattle.cred_book.specs.{Accounts.most_accounts, Accounts.with_entry, Calls.Admits, Calls.Loads, Calls.Shows};
+ghost use Rattle.cred_book.specs.{Commits.Begins, Commits.Sets, Commits.commit_outcome, Commits.judgement, Names.name_cmp, Places.IsGapFor, Places.IsPlaceOf};
 ghost use Rattle.cred_book.specs.Works.{is_for_current};
 
 use crate::error::BookError;

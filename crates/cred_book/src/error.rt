@@ -1,8 +1,7 @@
 //! Why a call on a book is refused.
 
 ghost use Rattle.std.specs.Prelude.{◌≡◌};
-ghost use Rattle.cred_book.specs.Errors.{error_number, error_word};
-ghost use Rattle.cred_book.specs.declared.error.BookError.TheVariants.{Memory as OutOfMemory};
+ghost use Rattle.cred_book.specs.{Errors.error_number, Errors.error_word, declared.error.BookError.TheVariants.Memory as OutOfMemory};
 
 use std::alloc::AllocError;
 use thiserror::Error;

@@ -4,14 +4,9 @@
 ghost use Rattle.std.specs.Prelude.{◌≡◌, ◌↔◌, Bool, List, MatchOption, Option, true, false, ℕ};
 ghost use Rattle.std.specs.FinMap as map;
 ghost use Rattle.cred_phc.specs.Values.{RecordValue};
-ghost use Rattle.cred_book.specs.Accounts.{Accounts};
-ghost use Rattle.cred_book.specs.Changes.{change_of, judged_book};
-ghost use Rattle.cred_book.specs.Commits.{commit_outcome, judgement};
+ghost use Rattle.cred_book.specs.{Accounts.Accounts, Changes.change_of, Changes.judged_book, Commits.commit_outcome, Commits.judgement};
 ghost use Rattle.cred_book.specs.Passwords.{IsPasswordAt, IsPasswordOf};
-ghost use Rattle.cred_book.specs.Updates.{HasDone, IsConditional, IsExact, IsLog, Rows, Update};
-ghost use Rattle.cred_book.specs.Updates.{answer, operation_of, operations_done, outcome_on};
-ghost use Rattle.cred_book.specs.Updates.{replies_done, seq_after, seq_replies, standing};
-ghost use Rattle.cred_book.specs.Updates.{store_after, update_of, updated};
+ghost use Rattle.cred_book.specs.Updates.{HasDone, IsConditional, IsExact, IsLog, Rows, Update, answer, operation_of, operations_done, outcome_on, replies_done, seq_after, seq_replies, standing, store_after, update_of, updated};
 ghost use Rattle.cred_book.specs.Works.{Task, makes_change, seq, whole};
 
 use crate::reply::Reply;

@@ -1,7 +1,6 @@
 //! The names of accounts.
 
-ghost use Rattle.std.specs.Prelude.{◌≡◌, IsTrue};
-ghost use Rattle.std.specs.List.{list_all};
+ghost use Rattle.std.specs.{Prelude.◌≡◌, Prelude.IsTrue, List.list_all};
 ghost use Rattle.cred_book.specs.Names.{is_name, is_name_byte, made_name};
 
 use crate::error::BookError;

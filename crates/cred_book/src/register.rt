@@ -2,10 +2,8 @@
 
 ghost use Rattle.std.specs.Prelude.{◌≡◌, ◌+◌, ◌<◌, ◌≤◌, IfErr, IfOk, MatchBool, true};
 ghost use Rattle.std.specs.FinMap as map;
-ghost use Rattle.cred_book.specs.Accounts.{register_capacity};
-ghost use Rattle.cred_book.specs.Calls.{AdmitsWithin, EntersWithin, Loads, Shows};
-ghost use Rattle.cred_book.specs.Commits.{Begins, Sets, commit_outcome, judgement};
-ghost use Rattle.cred_book.specs.Works.{is_for_current};
+ghost use Rattle.cred_book.specs.{Accounts.register_capacity, Calls.AdmitsWithin, Calls.EntersWithin, Calls.Loads, Calls.Shows};
+ghost use Rattle.cred_book.specs.{Commits.Begins, Commits.Sets, Commits.commit_outcome, Commits.judgement, Works.is_for_current};
 
 use crate::error::BookError;
 use crate::keeper::Keeper;

@@ -2,9 +2,7 @@
 //! and then what it does at the copy.
 
 ghost use Rattle.std.specs.Prelude.{◌≡◌, IfErr, IfOk, true, false};
-ghost use Rattle.cred_book.specs.Changes.{change_of};
-ghost use Rattle.cred_book.specs.Commits.{judgement_at};
-ghost use Rattle.cred_book.specs.Works.{is_verify, whole};
+ghost use Rattle.cred_book.specs.{Changes.change_of, Commits.judgement_at, Works.is_verify, Works.whole};
 
 use crate::change::Change;
 use crate::outcome::{Hashing, HashingIn, Operations, Outcome};

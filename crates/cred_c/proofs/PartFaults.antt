@@ -1,17 +1,10 @@
 -- The first that is wrong with a tag's numbers is what reading them answers.
 use Rattle.std.proofs.Common.{◌≡◌, ℕ, Result, Err, inl, inr, arith}
-use Rattle.cred_argon.specs.Faults.{IsFirstRawFault}
-use Rattle.cred_argon.specs.Numbers.{kind_number, version_number}
-use Rattle.cred_argon.specs.Parameters.{Parameters}
-use Rattle.cred_argon.specs.declared.error.ArgonError.{ArgonError}
+use Rattle.cred_argon.specs.{Faults.IsFirstRawFault, Numbers.kind_number, Numbers.version_number, Parameters.Parameters, declared.error.ArgonError.ArgonError}
 use Rattle.cred_argon.specs.declared.error.ArgonError.TheVariants.{Lanes, Cost, Passes, TagLen, InputLen, Memory}
-use Rattle.cred_argon.specs.declared.kind.Kind.{Kind}
-use Rattle.cred_argon.specs.declared.kind.Kind.TheVariants.{D, I, Id}
-use Rattle.cred_argon.specs.declared.kind.Version.{Version}
-use Rattle.cred_argon.specs.declared.kind.Version.TheVariants.{V10, V13}
-use Rattle.cred_c.specs.Inputs.{IsKind, IsVersion}
-use Rattle.cred_c.specs.Lanes.{IsNumbersFault, ranged}
-use Rattle.cred_c.specs.declared.part_fault.PartFault.{PartFault}
+use Rattle.cred_argon.specs.{declared.kind.Kind.Kind, declared.kind.Kind.TheVariants.D, declared.kind.Kind.TheVariants.I, declared.kind.Kind.TheVariants.Id}
+use Rattle.cred_argon.specs.{declared.kind.Version.Version, declared.kind.Version.TheVariants.V10, declared.kind.Version.TheVariants.V13}
+use Rattle.cred_c.specs.{Inputs.IsKind, Inputs.IsVersion, Lanes.IsNumbersFault, Lanes.ranged, declared.part_fault.PartFault.PartFault}
 use Rattle.cred_c.specs.declared.part_fault.PartFault.TheVariants.{NoKind, NoVersion, Argon, Place, Scrypt}
 use Rattle.cred_c.specs.declared.tag_numbers.TagNumbers.{TagNumbers}
 

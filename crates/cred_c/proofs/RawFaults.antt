@@ -1,8 +1,6 @@
 -- Parameters in the ranges of a raw tag have no fault.
 use Rattle.std.proofs.Common.{◌≡◌, arith}
-use Rattle.cred_argon.specs.Parameters.{Parameters, IsRaw}
-use Rattle.cred_argon.specs.Faults.{IsFirstRawFault}
-use Rattle.cred_argon.specs.declared.error.ArgonError.{ArgonError}
+use Rattle.cred_argon.specs.{Parameters.Parameters, Parameters.IsRaw, Faults.IsFirstRawFault, declared.error.ArgonError.ArgonError}
 use Rattle.cred_argon.specs.declared.error.ArgonError.TheVariants.{Lanes, Cost, Passes, TagLen, InputLen, Memory}
 
 -- the ranges are those of one value, and the fault of one that differs in kind and version alone

@@ -1,18 +1,14 @@
 -- Records whose tags are worked in parts: what is made of the last slice, and what is answered of it.
 use Rattle.std.proofs.Common.{◌≡◌, ◌∙◌, ◌⊎◌, ◌↔◌, ℕ, List, [], length, Option, Some, None, Result, Ok, Err, IfOk, IfErr, inl, inr, ap, refl, sym, arith}
-use Rattle.cred_argon.specs.Argon.{argon}
-use Rattle.cred_argon.specs.Parameters.{Parameters, parameters}
-use Rattle.cred_phc.specs.Tags.{argon_kind, argon_parameters, scheme_tag, tag}
-use Rattle.cred_phc.specs.Text.{record_text}
-use Rattle.cred_phc.specs.Values.{RecordValue, SettingValue, record_of}
+use Rattle.cred_argon.specs.{Argon.argon, Parameters.Parameters, Parameters.parameters, declared.block.Block.Block}
+use Rattle.cred_argon.specs.declared.error.ArgonError.TheVariants.{Memory}
+use Rattle.cred_phc.specs.{Tags.argon_kind, Tags.argon_parameters, Tags.scheme_tag, Tags.tag, Text.record_text}
+use Rattle.cred_phc.specs.{Values.RecordValue, Values.SettingValue, Values.record_of, declared.scheme.Scheme.Scheme}
+use Rattle.cred_phc.specs.declared.scheme.Scheme.TheVariants.{Argon2, Scrypt}
 use Rattle.cred_c.specs.Answers.{IsWritten, Output, output}
 use Rattle.cred_c.specs.Lanes.{IsFilled, IsSlice, IsEndUnder, IsRecordEndUnder, part_fault_number, record_inputs}
 use Rattle.cred_c.specs.declared.part_fault.PartFault.{PartFault}
 use Rattle.cred_c.specs.declared.part_fault.PartFault.TheVariants.{Argon, Place, Scrypt as NoLanes}
-use Rattle.cred_argon.specs.declared.block.Block.{Block}
-use Rattle.cred_argon.specs.declared.error.ArgonError.TheVariants.{Memory}
-use Rattle.cred_phc.specs.declared.scheme.Scheme.{Scheme}
-use Rattle.cred_phc.specs.declared.scheme.Scheme.TheVariants.{Argon2, Scrypt}
 
 scheme_tag_is : (scheme : Scheme) (n : ℕ) (a : Parameters) (pw salt : List ℕ) → argon_parameters scheme n ≡ Some a
     → scheme_tag scheme n pw salt ≡ argon a pw salt [] []

@@ -1,14 +1,10 @@
 -- What the exports answer: one table of numbers for all of them, and what each leaves behind.
 use Rattle.std.specs.Prelude.{◌≡◌, ℕ, ◌^◌, ◌<◌, ◌≤◌, ◌⊎◌, List, length, take}
 use Rattle.cred_argon.specs.declared.error.ArgonError.{ArgonError}
-use Rattle.cred_argon.specs.declared.error.ArgonError.TheVariants.{Lanes, Cost, Passes, TagLen}
-use Rattle.cred_argon.specs.declared.error.ArgonError.TheVariants.{InputLen, Memory}
+use Rattle.cred_argon.specs.declared.error.ArgonError.TheVariants.{Lanes, Cost, Passes, TagLen, InputLen, Memory}
 use Rattle.cred_scrypt.specs.declared.error.ScryptError.{ScryptError}
-use Rattle.cred_scrypt.specs.declared.error.ScryptError.TheVariants.{Cost as ScryptCost, BlockSize}
-use Rattle.cred_scrypt.specs.declared.error.ScryptError.TheVariants.{Blocks, Len}
-use Rattle.cred_scrypt.specs.declared.error.ScryptError.TheVariants.{Memory as ScryptMemory}
-use Rattle.cred_phc.specs.Tags.{tag}
-use Rattle.cred_phc.specs.Values.{RecordValue}
+use Rattle.cred_scrypt.specs.declared.error.ScryptError.TheVariants.{Cost as ScryptCost, BlockSize, Blocks, Len, Memory as ScryptMemory}
+use Rattle.cred_phc.specs.{Tags.tag, Values.RecordValue}
 
 -- 1 to 9 are the faults of texts, and 8 is out of memory everywhere; 10 is another password, 11 too
 -- little room, 12 no kind and 13 no version; 23 is no operation, 24 a copy that isn't a record, 25

@@ -1,15 +1,10 @@
 -- What numbers stand for.
 use Rattle.std.specs.Prelude.{◌≡◌, ℕ, ◌≤◌, ◌⊎◌, List, Result, Ok, Err}
-use Rattle.cred_argon.specs.Numbers.{kind_number, version_number}
-use Rattle.cred_argon.specs.Parameters.{Parameters, parameters}
-use Rattle.cred_argon.specs.declared.kind.Kind.{Kind}
+use Rattle.cred_argon.specs.{Numbers.kind_number, Numbers.version_number, Parameters.Parameters, Parameters.parameters, declared.kind.Kind.Kind}
 use Rattle.cred_argon.specs.declared.kind.Version.{Version}
 use Rattle.cred_c.specs.declared.tag_numbers.Argon2Numbers.{Argon2Numbers}
-use Rattle.cred_phc.specs.declared.error.PhcError.{PhcError}
-use Rattle.cred_phc.specs.declared.scheme.Scheme.{Scheme}
-use Rattle.cred_phc.specs.declared.scheme.Scheme.TheVariants.{Argon2}
-use Rattle.cred_phc.specs.declared.scheme.Variant.{Variant}
-use Rattle.cred_phc.specs.Values.{RecordValue, SettingValue, made_setting, made_record}
+use Rattle.cred_phc.specs.{declared.error.PhcError.PhcError, declared.scheme.Scheme.Scheme, declared.scheme.Scheme.TheVariants.Argon2}
+use Rattle.cred_phc.specs.{declared.scheme.Variant.Variant, Values.RecordValue, Values.SettingValue, Values.made_setting, Values.made_record}
 
 -- a kind of Argon2
 abbrev pub IsKind : ℕ → Type 0

@@ -1,26 +1,15 @@
 -- Argon2 worked in parts over memory of the caller's: what numbers stand for, what is wrong with
 -- what a part is given, and what the parts make.
-use Rattle.std.specs.Prelude.{◌≡◌, ℕ, ◌-◌, ◌*◌, ◌^◌, ◌<◌, ◌⊎◌, List, [], length}
-use Rattle.std.specs.Prelude.{Option, Some, None}
-use Rattle.cred_argon.specs.Argon.{first_hash}
-use Rattle.cred_argon.specs.Faults.{IsFirstRawFault}
-use Rattle.cred_argon.specs.Lanes.{HoldsBlocks, HoldsFirstBlocks}
-use Rattle.cred_argon.specs.Numbers.{kind_number, version_number}
-use Rattle.cred_argon.specs.Parameters.{Parameters, parameters, segment_len, IsRaw}
-use Rattle.cred_argon.specs.Tags.{IsAnyTooLong}
-use Rattle.cred_argon.specs.declared.block.Block.{Block}
-use Rattle.cred_argon.specs.declared.kind.Kind.TheVariants.{Id}
-use Rattle.cred_argon.specs.declared.kind.Version.TheVariants.{V13}
+use Rattle.std.specs.Prelude.{◌≡◌, ℕ, ◌-◌, ◌*◌, ◌^◌, ◌<◌, ◌⊎◌, List, [], length, Option, Some, None}
+use Rattle.cred_argon.specs.{Argon.first_hash, Faults.IsFirstRawFault, Lanes.HoldsBlocks, Lanes.HoldsFirstBlocks, Numbers.kind_number, Numbers.version_number}
+use Rattle.cred_argon.specs.{Parameters.Parameters, Parameters.parameters, Parameters.segment_len, Parameters.IsRaw, Tags.IsAnyTooLong}
+use Rattle.cred_argon.specs.{declared.block.Block.Block, declared.kind.Kind.TheVariants.Id, declared.kind.Version.TheVariants.V13}
 use Rattle.cred_argon.specs.declared.lanes.SegmentIndex.{SegmentIndex}
-use Rattle.cred_c.specs.Answers.{IsVerdict, IsWritten, Output, argon_number}
-use Rattle.cred_c.specs.Inputs.{IsKind, IsVersion}
+use Rattle.cred_c.specs.{Answers.IsVerdict, Answers.IsWritten, Answers.Output, Answers.argon_number, Inputs.IsKind, Inputs.IsVersion}
 use Rattle.cred_c.specs.declared.part_fault.PartFault.{PartFault}
-use Rattle.cred_c.specs.declared.part_fault.PartFault.TheVariants.{NoKind, NoVersion, Argon, Place}
-use Rattle.cred_c.specs.declared.part_fault.PartFault.TheVariants.{Scrypt}
+use Rattle.cred_c.specs.declared.part_fault.PartFault.TheVariants.{NoKind, NoVersion, Argon, Place, Scrypt}
 use Rattle.cred_c.specs.declared.tag_numbers.TagNumbers.{TagNumbers}
-use Rattle.cred_phc.specs.Tags.{argon_parameters, tag}
-use Rattle.cred_phc.specs.Text.{record_text}
-use Rattle.cred_phc.specs.Values.{RecordValue, SettingValue, record_of}
+use Rattle.cred_phc.specs.{Tags.argon_parameters, Tags.tag, Text.record_text, Values.RecordValue, Values.SettingValue, Values.record_of}
 
 -- ---- faults
 

@@ -1,12 +1,9 @@
 -- What is kept of a text of Argon2 between the calls for its lanes.
 use Rattle.std.specs.Prelude.{◌≡◌, ℕ, ◌≤◌, Option, Some, None, length, take}
 use Rattle.cred_argon.specs.Numbers.{version_number}
-use Rattle.cred_c.specs.Parts.{variant_number}
-use Rattle.cred_c.specs.declared.reading.RecordReading.{RecordReading}
-use Rattle.cred_c.specs.declared.reading.SettingReading.{SettingReading}
+use Rattle.cred_c.specs.{Parts.variant_number, declared.reading.RecordReading.RecordReading, declared.reading.SettingReading.SettingReading}
 use Rattle.cred_c.specs.declared.tag_numbers.TagNumbers.{TagNumbers}
-use Rattle.cred_phc.specs.Values.{RecordValue, SettingValue}
-use Rattle.cred_phc.specs.declared.scheme.Scheme.{Scheme}
+use Rattle.cred_phc.specs.{Values.RecordValue, Values.SettingValue, declared.scheme.Scheme.Scheme}
 use Rattle.cred_phc.specs.declared.scheme.Scheme.TheVariants.{Argon2, Scrypt}
 
 -- the numbers of a tag of len bytes by a scheme, if it is one of Argon2

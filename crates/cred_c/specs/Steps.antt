@@ -1,21 +1,15 @@
 -- A step: one whole operation, worked at a copy of an account's record, for a store that puts the
 -- record after in place of the copy if that is still there.
-use Rattle.std.specs.Prelude.{◌≡◌, ◌⊎◌, ℕ, ◌==◌, if◌then◌else◌, List, [], length}
-use Rattle.std.specs.Prelude.{Option, Some, None}
+use Rattle.std.specs.Prelude.{◌≡◌, ◌⊎◌, ℕ, ◌==◌, if◌then◌else◌, List, [], length, Option, Some, None}
 use Rattle.std.specs.Option.{option_map}
-use Rattle.cred_phc.specs.Errors.{error_number}
-use Rattle.cred_phc.specs.Faults.{record_fault, setting_fault}
-use Rattle.cred_phc.specs.Text.{IsRecordText, IsSettingText, record_text}
+use Rattle.cred_phc.specs.{Errors.error_number, Faults.record_fault, Faults.setting_fault, Text.IsRecordText, Text.IsSettingText, Text.record_text}
 use Rattle.cred_phc.specs.Values.{IsRecord, IsSetting, RecordValue, password_fits}
-use Rattle.cred_book.specs.Works.{makes_change}
-use Rattle.cred_book.specs.declared.reply.Reply.{Reply}
+use Rattle.cred_book.specs.{Works.makes_change, declared.reply.Reply.Reply}
 use Rattle.cred_book.specs.declared.reply.Reply.TheVariants as reply
 use Rattle.cred_book.specs.declared.request.Request.{Request}
 use Rattle.cred_book.specs.declared.request.Request.TheVariants as request
-use Rattle.cred_c.specs.Answers.{IsWritten, Output}
-use Rattle.cred_c.specs.declared.operation.Operation.{Operation}
-use Rattle.cred_c.specs.declared.operation.Operation.TheVariants.{Enrol, Verify, Change, Upgrade}
-use Rattle.cred_c.specs.declared.operation.Operation.TheVariants.{Remove}
+use Rattle.cred_c.specs.{Answers.IsWritten, Answers.Output, declared.operation.Operation.Operation}
+use Rattle.cred_c.specs.declared.operation.Operation.TheVariants.{Enrol, Verify, Change, Upgrade, Remove}
 use Rattle.cred_c.specs.declared.operation.StepFault.{StepFault}
 use Rattle.cred_c.specs.declared.operation.StepFault.TheVariants.{Copy, Long, Setting}
 

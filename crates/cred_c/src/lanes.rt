@@ -3,12 +3,8 @@
 //! lane, counted over all passes, is that of pass g / 4 and slice g % 4; it is worked once, after
 //! all segments of slice g - 1.
 ghost use Rattle.std.specs.Prelude.{◌≡◌, ℕ, ◌+◌, ◌*◌, ◌<◌, ◌≤◌, ◌↔◌, ◌⊎◌, List, length, IsTrue};
-ghost use Rattle.cred_argon.specs.Argon.{argon};
-ghost use Rattle.cred_argon.specs.Lanes.{WorksSegment};
-ghost use Rattle.cred_argon.specs.Parameters.{Parameters, segment_len};
-ghost use Rattle.cred_c.specs.Lanes.{IsBegun, IsFilled, IsNumbersFault, IsSegment, IsSlice};
-ghost use Rattle.cred_c.specs.Lanes.{StandFor, TagInputs, inputs, part_fault_number};
-ghost use Rattle.cred_c.specs.Lanes.{slices_before};
+ghost use Rattle.cred_argon.specs.{Argon.argon, Lanes.WorksSegment, Parameters.Parameters, Parameters.segment_len};
+ghost use Rattle.cred_c.specs.Lanes.{IsBegun, IsFilled, IsNumbersFault, IsSegment, IsSlice, StandFor, TagInputs, inputs, part_fault_number, slices_before};
 ghost use Rattle.cred_c.specs.declared.part_fault.PartFault.{PartFault};
 
 use crate::numbers::{DONE, NO_PLACE, argon_number};

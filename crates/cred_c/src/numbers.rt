@@ -1,11 +1,7 @@
 //! The numbers that the exports answer, and those that they are given.
 ghost use Rattle.std.specs.Prelude.{◌≡◌, ◌<◌, ◌≤◌, ◌↔◌, IfSome, None, Some};
-ghost use Rattle.cred_argon.specs.Numbers.{kind_number, version_number};
-ghost use Rattle.cred_argon.specs.declared.kind.Kind.{Kind};
-ghost use Rattle.cred_argon.specs.declared.kind.Version.{Version};
-ghost use Rattle.cred_c.specs.Answers.{argon_number, scrypt_number};
-ghost use Rattle.cred_c.specs.Inputs.{IsVersion};
-ghost use Rattle.cred_c.specs.Parts.{variant_number};
+ghost use Rattle.cred_argon.specs.{Numbers.kind_number, Numbers.version_number, declared.kind.Kind.Kind, declared.kind.Version.Version};
+ghost use Rattle.cred_c.specs.{Answers.argon_number, Answers.scrypt_number, Inputs.IsVersion, Parts.variant_number};
 ghost use Rattle.cred_phc.specs.declared.scheme.Variant.{Variant};
 
 use cred_argon::{ArgonError, Kind, Version};

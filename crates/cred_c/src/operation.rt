@@ -1,9 +1,7 @@
 //! What a step is asked: an operation by its number, with passwords and texts.
 ghost use Rattle.std.specs.Prelude.{◌≡◌, ◌↔◌, IfErr, IfOk, IfSome, None, OnOk, Some, false, true};
-ghost use Rattle.cred_c.specs.Steps.{AsksFor, IsCopy, IsOperation, copy_fault, fault_number};
-ghost use Rattle.cred_c.specs.Steps.{new_setting_fault, operation_number, request_fault};
-ghost use Rattle.cred_phc.specs.Text.{IsSettingText};
-ghost use Rattle.cred_phc.specs.Values.{IsSetting, password_fits};
+ghost use Rattle.cred_c.specs.Steps.{AsksFor, IsCopy, IsOperation, copy_fault, fault_number, new_setting_fault, operation_number, request_fault};
+ghost use Rattle.cred_phc.specs.{Text.IsSettingText, Values.IsSetting, Values.password_fits};
 
 use cred_book::{Name, Request};
 use cred_phc::{Password, PhcError, Record, Setting, parse_record, parse_setting};

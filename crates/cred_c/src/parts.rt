@@ -1,10 +1,7 @@
 //! What is wrong with a text, and what a record's text says of itself.
 ghost use Rattle.std.specs.Prelude.{◌≡◌, None, Some};
 ghost use Rattle.cred_c.specs.Parts.{parts_of, variant_number};
-ghost use Rattle.cred_phc.specs.Errors.{error_number};
-ghost use Rattle.cred_phc.specs.Faults.{record_fault, setting_fault};
-ghost use Rattle.cred_phc.specs.Text.{IsRecordText};
-ghost use Rattle.cred_phc.specs.Values.{IsRecord, RecordValue};
+ghost use Rattle.cred_phc.specs.{Errors.error_number, Faults.record_fault, Faults.setting_fault, Text.IsRecordText, Values.IsRecord, Values.RecordValue};
 ghost use Rattle.cred_phc.specs.declared.error.PhcError.{PhcError};
 
 use crate::numbers::DONE;

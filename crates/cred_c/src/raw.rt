@@ -1,16 +1,9 @@
 //! Tags and keys as they come from the functions.
 ghost use Rattle.std.specs.Prelude.{◌≡◌, ◌<◌, ◌≤◌, ◌^◌, ◌⊎◌, ◌↔◌, IfOk, length};
-ghost use Rattle.cred_argon.specs.Argon.{argon};
-ghost use Rattle.cred_argon.specs.Faults.{IsFirstRawFault};
-ghost use Rattle.cred_argon.specs.Parameters.{IsRaw};
-ghost use Rattle.cred_argon.specs.Tags.{IsAnyTooLong};
-ghost use Rattle.cred_argon.specs.declared.error.ArgonError.{ArgonError};
-ghost use Rattle.cred_argon.specs.declared.kind.Kind.{Kind};
-ghost use Rattle.cred_argon.specs.declared.kind.Version.{Version};
-ghost use Rattle.cred_c.specs.Answers.{argon_number};
-ghost use Rattle.cred_c.specs.Inputs.{AreOf, IsKind, IsPositiveByte, IsVersion, tag_parameters};
-ghost use Rattle.cred_scrypt.specs.Params.{IsCostly};
-ghost use Rattle.cred_scrypt.specs.Scrypt.{scrypt};
+ghost use Rattle.cred_argon.specs.{Argon.argon, Faults.IsFirstRawFault, Parameters.IsRaw, Tags.IsAnyTooLong, declared.error.ArgonError.ArgonError};
+ghost use Rattle.cred_argon.specs.{declared.kind.Kind.Kind, declared.kind.Version.Version};
+ghost use Rattle.cred_c.specs.{Answers.argon_number, Inputs.AreOf, Inputs.IsKind, Inputs.IsPositiveByte, Inputs.IsVersion, Inputs.tag_parameters};
+ghost use Rattle.cred_scrypt.specs.{Params.IsCostly, Scrypt.scrypt};
 
 use crate::numbers::{
     DONE, NO_KIND, NO_VERSION, argon_number, byte_of, kind_of, scrypt_number, version_of,

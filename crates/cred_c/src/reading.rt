@@ -1,11 +1,8 @@
 //! What C keeps of a text of Argon2 between the calls for its lanes, so that each text is read
 //! once.
 ghost use Rattle.std.specs.Prelude.{◌≡◌, ◌≤◌, IfSome, IsTrue, Some, length, take};
-ghost use Rattle.cred_c.specs.Lanes.{AreNumbers, record_parameters};
-ghost use Rattle.cred_c.specs.Readings.{IsReadRecord, IsReadSetting, tag_numbers};
-ghost use Rattle.cred_phc.specs.Ranges.{scheme_fits};
-ghost use Rattle.cred_phc.specs.Tags.{argon_parameters};
-ghost use Rattle.cred_phc.specs.Values.{IsRecord, IsSetting, RecordValue, SettingValue};
+ghost use Rattle.cred_c.specs.{Lanes.AreNumbers, Lanes.record_parameters, Readings.IsReadRecord, Readings.IsReadSetting, Readings.tag_numbers};
+ghost use Rattle.cred_phc.specs.{Ranges.scheme_fits, Tags.argon_parameters, Values.IsRecord, Values.IsSetting, Values.RecordValue, Values.SettingValue};
 ghost use Rattle.cred_phc.specs.declared.scheme.Scheme.{Scheme};
 
 use crate::numbers::{DONE, variant_of, version_of};

@@ -1,16 +1,11 @@
 //! Records of Argon2 whose tags are worked in parts: checked against a password, and made under a
 //! setting. Begin and end are of the record; between them segments are worked as for any tag.
-ghost use Rattle.std.specs.Prelude.{◌≡◌, ℕ, ◌<◌, ◌≤◌, ◌⊎◌, ◌↔◌, List, IfErr, IfOk, None, Some};
-ghost use Rattle.std.specs.Prelude.{MatchResult, drop, length};
+ghost use Rattle.std.specs.Prelude.{◌≡◌, ℕ, ◌<◌, ◌≤◌, ◌⊎◌, ◌↔◌, List, IfErr, IfOk, None, Some, MatchResult, drop, length};
 ghost use Rattle.cred_argon.specs.Parameters.{Parameters};
 ghost use Rattle.cred_c.specs.Answers.{output};
-ghost use Rattle.cred_c.specs.Lanes.{AreNumbers, IsBegunUnder, IsEndUnder, IsFilled, IsSlice};
-ghost use Rattle.cred_c.specs.Lanes.{IsRecordEndUnder, part_fault_number, record_inputs};
-ghost use Rattle.cred_c.specs.Lanes.{record_parameters};
+ghost use Rattle.cred_c.specs.Lanes.{AreNumbers, IsBegunUnder, IsEndUnder, IsFilled, IsSlice, IsRecordEndUnder, part_fault_number, record_inputs, record_parameters};
 ghost use Rattle.cred_c.specs.Readings.{IsReadRecord, IsReadSetting};
-ghost use Rattle.cred_phc.specs.Errors.{error_number};
-ghost use Rattle.cred_phc.specs.Faults.{record_fault, setting_fault};
-ghost use Rattle.cred_phc.specs.Tags.{argon_parameters, tag};
+ghost use Rattle.cred_phc.specs.{Errors.error_number, Faults.record_fault, Faults.setting_fault, Tags.argon_parameters, Tags.tag};
 ghost use Rattle.cred_phc.specs.Text.{IsRecordText, IsSettingText, record_text};
 ghost use Rattle.cred_phc.specs.Values.{IsRecord, IsSetting, RecordValue, SettingValue, record_of};
 ghost use Rattle.cred_phc.specs.declared.error.PhcError.{PhcError};

@@ -1,9 +1,7 @@
 //! Records: checked against a password, and made under a setting.
 ghost use Rattle.std.specs.Prelude.{◌≡◌, ◌<◌, ◌≤◌, ◌^◌, ◌⊎◌, ◌↔◌, None, Some, drop, length};
 ghost use Rattle.cred_c.specs.Answers.{IsRight, IsVerdict, IsWritten, output};
-ghost use Rattle.cred_phc.specs.Errors.{error_number};
-ghost use Rattle.cred_phc.specs.Faults.{record_fault, setting_fault};
-ghost use Rattle.cred_phc.specs.Tags.{tag};
+ghost use Rattle.cred_phc.specs.{Errors.error_number, Faults.record_fault, Faults.setting_fault, Tags.tag};
 ghost use Rattle.cred_phc.specs.Text.{IsRecordText, IsSettingText, record_text};
 ghost use Rattle.cred_phc.specs.Values.{IsRecord, IsSetting, RecordValue, SettingValue, record_of};
 ghost use Rattle.cred_phc.specs.declared.error.PhcError.{PhcError};

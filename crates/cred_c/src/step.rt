@@ -1,13 +1,10 @@
 //! One whole operation at a copy of an account's record, for a store that puts the record after in
 //! place of the copy if that is still there.
 ghost use Rattle.std.specs.Prelude.{◌≡◌, ◌↔◌, IfErr, IfOk, None, OnOk, Option, Some, drop};
-ghost use Rattle.cred_book.specs.Updates.{outcome_at};
-ghost use Rattle.cred_book.specs.declared.request.Request.{Request};
+ghost use Rattle.cred_book.specs.{Updates.outcome_at, declared.request.Request.Request};
 ghost use Rattle.cred_c.specs.Answers.{IsWritten, output};
-ghost use Rattle.cred_c.specs.Steps.{AsksFor, IsCopy, IsOperation, IsStep, fault_number};
-ghost use Rattle.cred_c.specs.Steps.{operation_number, reply_number, step_fault, text_after};
-ghost use Rattle.cred_c.specs.declared.operation.Operation.{Operation};
-ghost use Rattle.cred_c.specs.declared.operation.StepFault.{StepFault};
+ghost use Rattle.cred_c.specs.Steps.{AsksFor, IsCopy, IsOperation, IsStep, fault_number, operation_number, reply_number, step_fault, text_after};
+ghost use Rattle.cred_c.specs.{declared.operation.Operation.Operation, declared.operation.StepFault.StepFault};
 ghost use Rattle.cred_phc.specs.Values.{RecordValue};
 
 use crate::numbers::{DONE, NO_OPERATION};

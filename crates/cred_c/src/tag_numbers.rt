@@ -1,8 +1,7 @@
 //! The numbers of a tag: those of Argon2, and with its length if it is worked in parts.
 ghost use Rattle.std.specs.Prelude.{◌≡◌, ◌↔◌, Ok, Err};
 ghost use Rattle.cred_argon.specs.Parameters.{Parameters, IsRaw};
-ghost use Rattle.cred_c.specs.Lanes.{IsNumbersFault, StandFor};
-ghost use Rattle.cred_c.specs.declared.part_fault.PartFault.{PartFault};
+ghost use Rattle.cred_c.specs.{Lanes.IsNumbersFault, Lanes.StandFor, declared.part_fault.PartFault.PartFault};
 
 use crate::numbers::{kind_of, version_of};
 use crate::part_fault::PartFault;

@@ -1,13 +1,8 @@
 //! The texts of records, written into buffers of the caller's.
 ghost use Rattle.std.specs.Prelude.{◌≡◌, ◌<◌, ◌↔◌, drop};
 ghost use Rattle.cred_argon.specs.declared.kind.Version.{Version};
-ghost use Rattle.cred_c.specs.Answers.{IsWritten, output};
-ghost use Rattle.cred_c.specs.Inputs.{AreOf, IsKind, IsVersion, record_of_parts, record_scheme};
-ghost use Rattle.cred_phc.specs.Errors.{error_number};
-ghost use Rattle.cred_phc.specs.Tags.{argon_kind};
-ghost use Rattle.cred_phc.specs.Text.{record_text};
-ghost use Rattle.cred_phc.specs.Values.{RecordValue};
-ghost use Rattle.cred_phc.specs.declared.error.PhcError.{PhcError};
+ghost use Rattle.cred_c.specs.{Answers.IsWritten, Answers.output, Inputs.AreOf, Inputs.IsKind, Inputs.IsVersion, Inputs.record_of_parts, Inputs.record_scheme};
+ghost use Rattle.cred_phc.specs.{Errors.error_number, Tags.argon_kind, Text.record_text, Values.RecordValue, declared.error.PhcError.PhcError};
 ghost use Rattle.cred_phc.specs.declared.scheme.Variant.{Variant};
 
 use crate::numbers::{DONE, NO_KIND, NO_ROOM, NO_VERSION, byte_of, variant_of, version_of};

@@ -1,10 +1,7 @@
 -- The answers before a place, place by place.
 use Rattle.std.proofs.Common.{◌≡◌, ℕ, suc, List, [], ◌++◌, refl}
 use Rattle.cred_book.specs.Accounts.{Accounts}
-use Rattle.cred_cli.specs.declared.event.Event.{Event}
-use Rattle.cred_cli.specs.History.{answer_at}
-use Rattle.cred_cli.specs.Script.{answers_before}
-use Rattle.cred_cli.specs.Texts.{line_of}
+use Rattle.cred_cli.specs.{declared.event.Event.Event, History.answer_at, Script.answers_before, Texts.line_of}
 
 pub answers_before-suc : (capacity : ℕ) (book : Accounts) (events : List Event) (i : ℕ) → answers_before capacity book events (suc i) ≡ answers_before capacity book events i ++ line_of (answer_at capacity book events i)
 unfolding answers_before

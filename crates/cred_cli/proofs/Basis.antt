@@ -4,18 +4,10 @@ use Rattle.std.proofs.KnownBytes.{Appends-nil, Appends-trans, Consumes-kept, Con
 use Rattle.std.proofs.Math.Seq.{drop-append_seam}
 use Rattle.std.specs.Io.KnownBytes.{Consumes, IsAtEnd, Keeps}
 use Rattle.cred_book.specs.Accounts.{Accounts}
-use Rattle.cred_cli.specs.Calls.{Call}
-use Rattle.cred_cli.specs.Outcome.{HasCause, IsAnsweredAs}
-use Rattle.cred_cli.specs.Script.{out, script_start}
-use Rattle.cred_cli.specs.declared.script.End.{End}
-use Rattle.cred_cli.specs.Steps.{WriteFails}
+use Rattle.cred_cli.specs.{Calls.Call, Outcome.HasCause, Outcome.IsAnsweredAs, Script.out, Script.script_start, declared.script.End.End, Steps.WriteFails}
 use Rattle.cred_cli.specs.Watched.{Basis, Contract, Transcript, Fits, GivesAsContracted, IsWritten, Reading, TakesAsContracted, call_on, ended_of, failed_of, transcript_reading, given_of, held_on, inner_of, left_on, log_on, log_of, name_of, reading_on, taken_of}
-use Rattle.cred_cli.specs.declared.fault.ScriptFault.{ScriptFault}
-use Rattle.cred_cli.specs.declared.watched.Watched.{Watched}
-use Rattle.cred_cli.specs.declared.run.Run.{Run}
-use Rattle.cred_cli.specs.Feeding.{standing}
-use Rattle.cred_cli.proofs.Prompts.{Finds}
-use Rattle.cred_cli.proofs.Writes.{taken_later}
+use Rattle.cred_cli.specs.{declared.fault.ScriptFault.ScriptFault, declared.watched.Watched.Watched, declared.run.Run.Run, Feeding.standing}
+use Rattle.cred_cli.proofs.{Prompts.Finds, Writes.taken_later}
 
 -- ---- what a writer took
 

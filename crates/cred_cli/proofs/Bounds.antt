@@ -1,23 +1,15 @@
 -- Events within bounds.
 use Rattle.std.proofs.Common.{◌≡◌, ℕ, suc, List, [], ◌∷◌, ◌++◌, length, map, Some, Bool, true, false, if◌then◌else◌, option_map, refl, ap, ◌∙◌, slice_get, codes}
+use Rattle.std.proofs.{lemmas.List.length-map, lemmas.Option.slice_get-map}
 use Rattle.std.specs.Fmt.{digits}
-use Rattle.std.proofs.lemmas.List.{length-map}
-use Rattle.std.proofs.lemmas.Option.{slice_get-map}
 use Rattle.cred_book.specs.Accounts.{Accounts}
 use Rattle.cred_book.specs.declared.request.Request.TheVariants.{Enrol, Verify, Change, Upgrade, Remove}
-use Rattle.cred_cli.specs.declared.costs.CostBounds.{CostBounds}
-use Rattle.cred_cli.specs.declared.event.Event.{Event}
+use Rattle.cred_cli.specs.{declared.costs.CostBounds.CostBounds, declared.event.Event.Event}
 use Rattle.cred_cli.specs.declared.event.Event.TheVariants.{Account, Load, Show, Begin, Commit, Bad}
-use Rattle.cred_cli.specs.declared.refusal.Refusal.TheVariants.{Costly}
-use Rattle.cred_cli.specs.Costs.{events_within, is_costly, no_bounds, within}
+use Rattle.cred_cli.specs.{declared.refusal.Refusal.TheVariants.Costly, Costs.events_within, Costs.is_costly, Costs.no_bounds, Costs.within}
 use Rattle.cred_cli.specs.History.{after, answer_at, answer_of, book_at, deed_of, deeds_before, names_at, open_after, open_at}
-use Rattle.cred_cli.specs.Script.{events_of}
-use Rattle.cred_cli.specs.Starving.{events_by, unended}
-use Rattle.cred_cli.specs.declared.mode.Mode.TheVariants.{Script}
-use Rattle.cred_cli.specs.Texts.{line_of}
-use Rattle.cred_cli.proofs.Names.{book_at-suc}
-use Rattle.cred_cli.proofs.Openings.{open_at-suc}
-use Rattle.cred_cli.proofs.Unended.{unended_same}
+use Rattle.cred_cli.specs.{Script.events_of, Starving.events_by, Starving.unended, declared.mode.Mode.TheVariants.Script, Texts.line_of}
+use Rattle.cred_cli.proofs.{Names.book_at-suc, Openings.open_at-suc, Unended.unended_same}
 
 -- nothing is too costly without bounds
 cheap : (event : Event) → is_costly no_bounds event ≡ false

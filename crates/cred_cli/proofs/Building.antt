@@ -1,10 +1,7 @@
 -- What a command line is after one more argument or subcommand.
 use Rattle.std.proofs.Common.{◌≡◌, ◌∙◌, ◌||◌, Bool, false, Result, Ok, Err, IfOk, ap₂}
-use Rattle.clap.specs.Built.{AddsArg, AddsSubcommand}
-use Rattle.clap.specs.Words.{App, Rule, app_of, rule_of, with_rule, with_subcommand}
-use Rattle.clap.specs.Simple.{Shape, shape_of}
-use Rattle.clap.specs.declared.builder.arg.Arg.{Arg}
-use Rattle.clap.specs.declared.builder.command.Command.{Command}
+use Rattle.clap.specs.{Built.AddsArg, Built.AddsSubcommand, Words.App, Words.Rule, Words.app_of, Words.rule_of, Words.with_rule, Words.with_subcommand}
+use Rattle.clap.specs.{Simple.Shape, Simple.shape_of, declared.builder.arg.Arg.Arg, declared.builder.command.Command.Command}
 use Rattle.clap.specs.declared.builder.command.Command.TheViews.{out-Command}
 
 abbrev pub has_globals : Command → Bool

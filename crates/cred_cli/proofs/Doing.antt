@@ -3,22 +3,18 @@ use Rattle.std.specs.Bool.{Decides}
 use Rattle.std.proofs.Common.{◌≡◌, Bool, ℕ, zero, suc, ◌-◌, List, [], ◌∷◌, Option, Some, None, Result, Ok, Err, IfOk, true, false, is_some, set, get_or, refl, sym, ap, ◌∙◌}
 use Rattle.std.specs.FinMap as map
 use Rattle.cred_phc.specs.Values.{RecordValue}
-use Rattle.cred_book.specs.Accounts.{Accounts}
-use Rattle.cred_book.specs.Commits.{Begins, Commits, commit_outcome}
-use Rattle.cred_book.specs.Works.{Task, name_of, same}
+use Rattle.cred_book.specs.{Accounts.Accounts, Commits.Begins, Commits.Commits, Commits.commit_outcome, Works.Task, Works.name_of, Works.same}
 use Rattle.cred_book.specs.declared.error.BookError.TheVariants as error
 use Rattle.cred_book.specs.declared.reply.Reply.{Reply}
 use Rattle.cred_book.specs.declared.reply.Reply.TheVariants as reply
 use Rattle.cred_book.specs.declared.request.Request.{Request}
 use Rattle.cred_cli.specs.declared.answer.AnswerLine.{AnswerLine}
 use Rattle.cred_cli.specs.declared.refusal.Refusal.TheVariants.{Book, Busy, Idle}
-use Rattle.cred_cli.specs.Answers.{IsDone, line_bytes}
-use Rattle.cred_cli.specs.History.{Answer, Begun, Refused}
+use Rattle.cred_cli.specs.{Answers.IsDone, Answers.line_bytes, History.Answer, History.Begun, History.Refused}
 use Rattle.cred_cli.specs.Steps.{Step, stay, slot, begin_step, begin_step_at, commit_step, reply_answer}
 use Rattle.cred_cli.specs.Texts.{line_of, reply_line}
 use Rattle.std.proofs.lemmas.List.{set-get_or, set-set}
-use Rattle.cred_book.proofs.Commitments.{committed_found}
-use Rattle.cred_book.proofs.Equality.{same-Decides}
+use Rattle.cred_book.proofs.{Commitments.committed_found, Equality.same-Decides}
 use Rattle.cred_cli.proofs.Simulation.{begun-at, committing-at}
 
 -- what a result tells is as much as this

@@ -1,19 +1,15 @@
 -- An event's line is its words and fields.
 use Rattle.std.proofs.Common.{◌≡◌, ℕ, List, [], ◌∷◌, Bool, true, false, if◌then◌else◌, nat_lt, length, Result, Ok, Err, ◌⊎◌, inl, inr, refl, codes}
-use Rattle.std.specs.List.{join_with_byte}
-use Rattle.std.specs.Str.{bytes_eq}
-use Rattle.cred_phc.specs.Pieces.{pieces}
-use Rattle.cred_phc.specs.Reading.{◌>>=◌}
-use Rattle.cred_phc.proofs.FieldLaws.{same_bytes}
-use Rattle.cred_phc.proofs.PieceLaws.{join-pieces}
+use Rattle.std.specs.{List.join_with_byte, Str.bytes_eq}
+use Rattle.cred_phc.specs.{Pieces.pieces, Reading.◌>>=◌}
+use Rattle.cred_phc.proofs.{FieldLaws.same_bytes, PieceLaws.join-pieces}
 use Rattle.cred_book.specs.declared.request.Request.{Request}
 use Rattle.cred_book.specs.declared.request.Request.TheVariants.{Enrol, Verify, Change, Upgrade, Remove}
 use Rattle.cred_cli.specs.declared.event.Event.{Event}
 use Rattle.cred_cli.specs.declared.event.Event.TheVariants.{Account, Load, Show, Begin, Commit, Bad}
 use Rattle.cred_cli.specs.declared.event.Operation.{Operation}
 use Rattle.cred_cli.specs.declared.event.Operation.TheVariants as operation
-use Rattle.cred_cli.specs.declared.refusal.Refusal.{Refusal}
-use Rattle.cred_cli.specs.declared.refusal.Refusal.TheVariants.{Long}
+use Rattle.cred_cli.specs.{declared.refusal.Refusal.Refusal, declared.refusal.Refusal.TheVariants.Long}
 use Rattle.cred_cli.specs.Events.{account_event, begin_event, commit_event, event_of, event_of_pieces, key_field, load_event, longest_line, name_field, operation_of, or_bad, password_field, record_field, request_of, setting_field, show_event}
 use Rattle.cred_cli.specs.EventLines.{IsLineOf, IsRequestOf}
 

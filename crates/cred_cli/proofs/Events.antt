@@ -2,9 +2,7 @@
 use Rattle.std.proofs.Common.{◌≡◌, ℕ, List, [], ◌∷◌, ◌++◌, length, take, false, nat_lt, if◌then◌else◌, Result, arith, refl, ap, ◌∙◌}
 use Rattle.std.proofs.lemmas.List.{take-append-le, take_all}
 use Rattle.cred_phc.specs.Pieces.{pieces}
-use Rattle.cred_cli.specs.declared.event.Event.{Event}
-use Rattle.cred_cli.specs.declared.event.Event.TheVariants.{Bad}
-use Rattle.cred_cli.specs.declared.refusal.Refusal.{Refusal}
+use Rattle.cred_cli.specs.{declared.event.Event.Event, declared.event.Event.TheVariants.Bad, declared.refusal.Refusal.Refusal}
 use Rattle.cred_cli.specs.declared.refusal.Refusal.TheVariants.{Long}
 use Rattle.cred_cli.specs.Events.{event_of, event_of_pieces, longest_line, most_pieces, or_bad}
 

@@ -3,15 +3,9 @@ use Rattle.std.proofs.Common.{◌≡◌, ℕ, suc, ◌+◌, ◌<◌, List, [], �
 use Rattle.std.proofs.lemmas.Bool.{cases_lt}
 use Rattle.std.proofs.lemmas.List.{length-append, length-map, length-take, take-append-le, take_all, take_more}
 use Rattle.std.proofs.Math.Seq.{drop-cons}
-use Rattle.cred_cli.specs.Events.{event_of, most_kept}
-use Rattle.cred_cli.specs.Feeding.{unfinished_from}
-use Rattle.cred_cli.specs.Costs.{events_within, within}
-use Rattle.cred_cli.specs.Script.{lines_of, line_ends}
-use Rattle.cred_cli.specs.Starving.{events_by, unended}
-use Rattle.cred_cli.specs.declared.costs.CostBounds.{CostBounds}
-use Rattle.cred_cli.specs.declared.mode.Mode.{Mode}
-use Rattle.cred_cli.proofs.Bounds.{length-within, within_at}
-use Rattle.cred_cli.proofs.Unended.{ends_sooner, length-unended, unended_at, unended_last}
+use Rattle.cred_cli.specs.{Events.event_of, Events.most_kept, Feeding.unfinished_from, Costs.events_within, Costs.within, Script.lines_of, Script.line_ends}
+use Rattle.cred_cli.specs.{Starving.events_by, Starving.unended, declared.costs.CostBounds.CostBounds, declared.mode.Mode.Mode}
+use Rattle.cred_cli.proofs.{Bounds.length-within, Bounds.within_at, Unended.ends_sooner, Unended.length-unended, Unended.unended_at, Unended.unended_last}
 use Rattle.cred_cli.proofs.Lines.{whole_from, lines_of-line_end, lines_of-ended, lines_of-unfinished, length-whole_from, event_of-kept}
 
 get_seam : (front : List (List ℕ)) (line : List ℕ) (more : List (List ℕ)) → slice_get (map event_of (front ++ line ∷ more)) (length front) ≡ Some (event_of line)

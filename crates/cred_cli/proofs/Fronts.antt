@@ -1,18 +1,13 @@
 -- What stands at a place of a history is told by the events before it.
 use Rattle.std.proofs.Common.{◌≡◌, ℕ, zero, suc, ◌<◌, ◌≤◌, List, ◌∷◌, [], Option, Some, None, refl, sym, ap, ◌∙◌, arith, slice_get, set, length, ◌≢◌}
 use Rattle.std.specs.FinMap as map
-use Rattle.cred_book.specs.Accounts.{Accounts}
-use Rattle.cred_book.specs.Works.{Task, name_of}
+use Rattle.cred_book.specs.{Accounts.Accounts, Works.Task, Works.name_of}
 use Rattle.cred_cli.specs.declared.event.Event.{Event}
 use Rattle.cred_cli.specs.declared.event.Event.TheVariants.{Account, Load, Show, Begin, Commit, Bad}
 use Rattle.cred_cli.specs.History.{Deed, Opened, answer_at, answer_of, book_after, book_at, commit_deed, deed_of, deeds_before, is_stale, names_at, open_at, show_answer}
-use Rattle.cred_cli.specs.Outcome.{StandsAfter}
-use Rattle.cred_cli.specs.Script.{answers_before}
-use Rattle.cred_cli.specs.Starving.{IsSameBefore, NeedsHash}
-use Rattle.cred_cli.specs.Tickets.{HoldTickets, IsTicketOf}
+use Rattle.cred_cli.specs.{Outcome.StandsAfter, Script.answers_before, Starving.IsSameBefore, Starving.NeedsHash, Tickets.HoldTickets, Tickets.IsTicketOf}
 use Rattle.cred_cli.proofs.Names.{done-suc, done-zero, names_at-suc, names_at-zero}
-use Rattle.cred_cli.proofs.Openings.{known_at, open_at-suc, open_at-zero}
-use Rattle.cred_cli.proofs.Answered.{answers_before-suc, answers_before-zero}
+use Rattle.cred_cli.proofs.{Openings.known_at, Openings.open_at-suc, Openings.open_at-zero, Answered.answers_before-suc, Answered.answers_before-zero}
 
 pub sooner : (i j : ℕ) (old new : List Event) → i ≤ j → IsSameBefore j old new → IsSameBefore i old new
 sooner i j old new le same = λ k before. same k (omega (arith, le, before))

@@ -1,14 +1,10 @@
 -- The lines of bytes that come in pieces.
 use Rattle.std.proofs.Common.{◌≡◌, ℕ, suc, ◌<◌, ◌≤◌, ◌≢◌, List, [], ◌∷◌, ◌++◌, length, take, true, if◌then◌else◌, nat_lt, refl, sym, ap, ◌∙◌, arith, append-nil, inl, inr}
+use Rattle.std.proofs.{lemmas.Bool.Decides.eqb_tells, lemmas.Bool.Decides.nat_tests, lemmas.Bool.cases_lt, lemmas.List.length-take, lemmas.List.take_all}
 use Rattle.std.specs.Bool.{◌==◌}
-use Rattle.std.proofs.lemmas.Bool.Decides.{eqb_tells, nat_tests}
-use Rattle.std.proofs.lemmas.Bool.{cases_lt}
-use Rattle.std.proofs.lemmas.List.{length-take, take_all}
 use Rattle.cred_phc.specs.Pieces.{pieces}
-use Rattle.cred_cli.specs.declared.event.Event.TheVariants.{Bad}
-use Rattle.cred_cli.specs.declared.refusal.Refusal.TheVariants.{Long}
-use Rattle.cred_cli.specs.Events.{event_of, event_of_pieces, or_bad, longest_line, most_kept}
-use Rattle.cred_cli.specs.Feeding.{unfinished_from}
+use Rattle.cred_cli.specs.{declared.event.Event.TheVariants.Bad, declared.refusal.Refusal.TheVariants.Long}
+use Rattle.cred_cli.specs.{Events.event_of, Events.event_of_pieces, Events.or_bad, Events.longest_line, Events.most_kept, Feeding.unfinished_from}
 use Rattle.cred_cli.specs.Script.{lines_of, onto_first, line_ends}
 
 -- the lines that ended

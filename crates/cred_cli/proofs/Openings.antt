@@ -1,9 +1,7 @@
 -- The numbers that are open, and what is known of their begins.
 use Rattle.std.proofs.Common.{◌≡◌, ℕ, zero, suc, ◌<◌, List, [], ◌∷◌, ◌++◌, length, Option, Some, None, Bool, true, false, ◌&&◌, ◌||◌, if◌then◌else◌, is_none, nat_lt, slice_get, refl, sym, ap, ◌∙◌, arith}
-use Rattle.std.specs.Bool.{◌==◌}
-use Rattle.std.specs.Str.{bytes_eq}
-use Rattle.cred_book.specs.Accounts.{Accounts}
-use Rattle.cred_book.specs.Works.{name_of}
+use Rattle.std.specs.{Bool.◌==◌, Str.bytes_eq}
+use Rattle.cred_book.specs.{Accounts.Accounts, Works.name_of}
 use Rattle.cred_cli.specs.declared.event.Event.{Event}
 use Rattle.cred_cli.specs.declared.event.Event.TheVariants.{Account, Load, Show, Begin, Commit, Bad}
 use Rattle.cred_cli.specs.History.{is_among, names_after, names_at, Opened, open_after, open_at}

@@ -3,25 +3,12 @@ use Rattle.std.proofs.Common.{◌≡◌, ℕ, List, [], Option, Some, None, Bool
 use Rattle.std.specs.FinMap as map
 use Rattle.std.proofs.KnownBytes.{Appends-nil}
 use Rattle.cred_book.specs.Accounts.{Accounts, most_accounts}
-use Rattle.cred_cli.specs.declared.fault.ScriptFault.{ScriptFault}
-use Rattle.cred_cli.specs.declared.fault.ScriptFault.TheVariants.{Memory}
-use Rattle.cred_cli.specs.Statuses.{status_number, status_of}
-use Rattle.cred_cli.specs.Commands.{Runs}
-use Rattle.cred_cli.specs.declared.exit_status.ExitStatus.TheVariants.{Done}
-use Rattle.cred_cli.specs.declared.script.End.{End}
-use Rattle.cred_cli.specs.Calls.{Call}
-use Rattle.cred_cli.specs.Outcome.{HasCause, ScriptFails, StandsAfter, longest_script}
-use Rattle.cred_cli.specs.Prompt.{IsPrompt}
-use Rattle.cred_cli.specs.Script.{events_of, script_start, start_as}
-use Rattle.cred_cli.specs.Starving.{EndsAs, IsHistory, events_by}
-use Rattle.cred_cli.specs.declared.event.Event.{Event}
-use Rattle.cred_cli.specs.declared.policy.Policy.{Policy}
-use Rattle.cred_cli.proofs.Starvings.{history_asked}
-use Rattle.cred_cli.specs.Watched.{Reading, Writing}
-use Rattle.cred_cli.proofs.Names.{book_at-zero}
-use Rattle.cred_cli.proofs.Prompts.{no_calls}
-use Rattle.cred_cli.proofs.Readings.{if_known}
-use Rattle.cred_cli.proofs.Answered.{answers_before-zero}
+use Rattle.cred_cli.specs.{declared.fault.ScriptFault.ScriptFault, declared.fault.ScriptFault.TheVariants.Memory, Statuses.status_number, Statuses.status_of}
+use Rattle.cred_cli.specs.{Commands.Runs, declared.exit_status.ExitStatus.TheVariants.Done, declared.script.End.End, Calls.Call}
+use Rattle.cred_cli.specs.{Outcome.HasCause, Outcome.ScriptFails, Outcome.StandsAfter, Outcome.longest_script, Prompt.IsPrompt}
+use Rattle.cred_cli.specs.{Script.events_of, Script.script_start, Script.start_as, Starving.EndsAs, Starving.IsHistory, Starving.events_by}
+use Rattle.cred_cli.specs.{declared.event.Event.Event, declared.policy.Policy.Policy, Watched.Reading, Watched.Writing}
+use Rattle.cred_cli.proofs.{Starvings.history_asked, Names.book_at-zero, Prompts.no_calls, Readings.if_known, Answered.answers_before-zero}
 
 pub nothing_done : (capacity : ℕ) (book : Accounts) (events : List Event) (before : Option (List ℕ)) → StandsAfter capacity book events 0 before before book
 nothing_done capacity book events before = record {

@@ -1,20 +1,12 @@
 -- What a run's calls of its reader find, and how many there are.
 use Rattle.std.proofs.Common.{◌≡◌, ℕ, ◌+◌, ◌≤◌, ◌<◌, arith, List, [], ◌∷◌, ◌++◌, length, Option, Some, None, IfSome, refl, sym, ap, ◌∙◌}
-use Rattle.std.specs.Io.KnownBytes.{Consumes}
 use Rattle.std.proofs.lemmas.List.{append_cancel_right, length-append}
+use Rattle.std.specs.Io.KnownBytes.{Consumes}
 use Rattle.cred_book.specs.Accounts.{Accounts}
-use Rattle.cred_cli.specs.Calls.{Call}
-use Rattle.cred_cli.specs.Feeding.{IsAt, Standing}
-use Rattle.cred_cli.specs.History.{book_at}
-use Rattle.cred_cli.specs.Prompt.{HasFewer, IsPrompt, IsPromptAt, left_length}
+use Rattle.cred_cli.specs.{Calls.Call, Feeding.IsAt, Feeding.Standing, History.book_at, Prompt.HasFewer, Prompt.IsPrompt, Prompt.IsPromptAt, Prompt.left_length}
 use Rattle.cred_cli.specs.Script.{ScriptStart, answers_before, events_of, line_ends, script_start, with_events}
-use Rattle.cred_cli.specs.Starving.{GoesOn, IsSameBefore}
-use Rattle.cred_cli.specs.declared.event.Event.{Event}
-use Rattle.cred_cli.specs.declared.policy.Policy.{Policy}
-use Rattle.cred_cli.proofs.Fronts.{stands_front}
-use Rattle.cred_cli.proofs.Lines.{line_ends_longer}
-use Rattle.cred_cli.proofs.Starvings.{at_again}
-use Rattle.cred_cli.proofs.Readings.{HasCome, cut_behind, if_known}
+use Rattle.cred_cli.specs.{Starving.GoesOn, Starving.IsSameBefore, declared.event.Event.Event, declared.policy.Policy.Policy}
+use Rattle.cred_cli.proofs.{Fronts.stands_front, Lines.line_ends_longer, Starvings.at_again, Readings.HasCome, Readings.cut_behind, Readings.if_known}
 
 -- ---- while a script is read
 

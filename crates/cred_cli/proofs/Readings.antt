@@ -1,21 +1,11 @@
 -- What a read makes of a script: its start, the bytes that came, and its end.
 use Rattle.std.proofs.Common.{◌≡◌, ℕ, zero, suc, get_or, ◌-◌, replicate, List, [], ◌++◌, take, Option, Some, None, IfSome, Result, Ok, Err, IfOk, IfErr, OnOk, MatchResult, refl, sym, ap, ◌∙◌, append_assoc}
+use Rattle.std.proofs.{KnownBytes.Appends-nil, lemmas.List.length-replicate}
 use Rattle.std.specs.Io.KnownBytes.{Consumes, IsAtEnd, Keeps}
-use Rattle.std.proofs.KnownBytes.{Appends-nil}
-use Rattle.cred_book.specs.Accounts.{Accounts}
-use Rattle.cred_cli.specs.declared.progress.Progress.{Progress}
-use Rattle.std.proofs.lemmas.List.{length-replicate}
-use Rattle.cred_book.specs.Works.{Task}
-use Rattle.cred_cli.specs.declared.event.Event.{Event}
-use Rattle.cred_cli.specs.Feeding.{IsAt}
-use Rattle.cred_cli.specs.Tickets.{HoldTickets}
-use Rattle.cred_cli.proofs.Openings.{open_at-zero}
-use Rattle.cred_cli.specs.Script.{start_as}
-use Rattle.cred_cli.specs.Starving.{events_by}
-use Rattle.cred_cli.specs.declared.policy.Policy.{Policy}
-use Rattle.cred_cli.proofs.Names.{book_at-zero}
-use Rattle.cred_cli.proofs.Answered.{answers_before-zero}
-use Rattle.cred_cli.proofs.Starvings.{history_asked}
+use Rattle.cred_book.specs.{Accounts.Accounts, Works.Task}
+use Rattle.cred_cli.specs.{declared.progress.Progress.Progress, declared.event.Event.Event, Feeding.IsAt, Tickets.HoldTickets, Script.start_as}
+use Rattle.cred_cli.specs.{Starving.events_by, declared.policy.Policy.Policy}
+use Rattle.cred_cli.proofs.{Openings.open_at-zero, Names.book_at-zero, Answered.answers_before-zero, Starvings.history_asked}
 
 no_task : (n k : ℕ) → get_or (replicate {A = Option Task} n None) k None ≡ None
 no_task zero k = refl

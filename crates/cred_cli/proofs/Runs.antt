@@ -1,23 +1,14 @@
 -- A line that was done, or that met a fault.
 use Rattle.std.proofs.Common.{◌≡◌, ℕ, suc, ◌<◌, List, length, Option, Some, Bool, false, Result, Ok, Err, OnOk, IfErr, MatchResult, ap, ◌∙◌, inl, slice_get}
-use Rattle.std.specs.Io.KnownBytes.{Appends}
 use Rattle.std.proofs.KnownBytes.{Appends-trans}
-use Rattle.cred_book.specs.Accounts.{Accounts}
-use Rattle.cred_cli.specs.declared.event.Event.{Event}
-use Rattle.cred_cli.specs.declared.fault.ScriptFault.{ScriptFault}
+use Rattle.std.specs.Io.KnownBytes.{Appends}
+use Rattle.cred_book.specs.{Accounts.Accounts, Works.Task}
+use Rattle.cred_cli.specs.{declared.event.Event.Event, declared.fault.ScriptFault.ScriptFault}
 use Rattle.cred_cli.specs.declared.fault.ScriptFault.TheVariants.{Read, Write, Memory, TooLong}
-use Rattle.cred_book.specs.Works.{Task}
-use Rattle.cred_cli.specs.declared.answer.AnswerLine.{AnswerLine}
-use Rattle.cred_cli.specs.Answers.{IsDone, line_bytes}
-use Rattle.cred_cli.specs.Events.{IsSound}
-use Rattle.cred_cli.specs.Tickets.{HoldTickets}
-use Rattle.cred_cli.specs.History.{answer_at}
-use Rattle.cred_cli.specs.Outcome.{FailsAs, FrontWritten, HasCause, StandsAfter, StopsIn}
-use Rattle.cred_cli.specs.Script.{ScriptStart}
-use Rattle.cred_cli.specs.Steps.{LineFails, WriteFails, step}
-use Rattle.cred_cli.specs.Texts.{line_of}
-use Rattle.cred_cli.proofs.Answered.{answers_before-suc}
-use Rattle.cred_cli.proofs.Simulation.{IsStep, stepped_at}
+use Rattle.cred_cli.specs.{declared.answer.AnswerLine.AnswerLine, Answers.IsDone, Answers.line_bytes, Events.IsSound, Tickets.HoldTickets, History.answer_at}
+use Rattle.cred_cli.specs.{Outcome.FailsAs, Outcome.FrontWritten, Outcome.HasCause, Outcome.StandsAfter, Outcome.StopsIn, Script.ScriptStart}
+use Rattle.cred_cli.specs.{Steps.LineFails, Steps.WriteFails, Steps.step, Texts.line_of}
+use Rattle.cred_cli.proofs.{Answered.answers_before-suc, Simulation.IsStep, Simulation.stepped_at}
 
 write_fault : (capacity : ℕ) (book : Accounts) (events : List Event) (i : ℕ) (before now : Option (List ℕ)) (accounts : Accounts) (e : ScriptFault) → e ≡ Write →
     StopsIn capacity book events i before now accounts → LineFails capacity book events i before now accounts e

@@ -2,14 +2,10 @@
 -- of its place.
 use Rattle.std.proofs.Common.{◌≡◌, ◌≢◌, ℕ, suc, ◌-◌, ◌≤◌, List, take, Option, Some, None, Bool, true, false, not, ◌&&◌, if◌then◌else◌, is_none, is_some, nat_lt, refl, sym, ap, ◌∙◌, slice_get, set, arith, inl, inr}
 use Rattle.std.specs.FinMap as map
-use Rattle.std.proofs.lemmas.Bool.Decides.{eqb_tells}
-use Rattle.std.proofs.Common.{eq-eqb}
-use Rattle.std.proofs.lemmas.Bool.{ne_eqb}
-use Rattle.std.proofs.lemmas.List.{get_or-set_same, get_or-set_other}
+use Rattle.std.proofs.{lemmas.Bool.Decides.eqb_tells, Common.eq-eqb, lemmas.Bool.ne_eqb, lemmas.List.get_or-set_same, lemmas.List.get_or-set_other}
 use Rattle.std.proofs.Math.ListN.{length-set}
 use Rattle.cred_phc.specs.Values.{RecordValue}
-use Rattle.cred_book.specs.Accounts.{Accounts}
-use Rattle.cred_book.specs.Commits.{commit_outcome, commit_outcome_at}
+use Rattle.cred_book.specs.{Accounts.Accounts, Commits.commit_outcome, Commits.commit_outcome_at}
 use Rattle.cred_book.specs.Works.{Task, name_of, right, same, same_scheme, seq, seq_at, whole}
 use Rattle.cred_book.specs.declared.error.BookError.TheVariants.{Exists, Full, NoAccount}
 use Rattle.cred_book.specs.declared.reply.Reply.{Reply}
@@ -24,8 +20,7 @@ use Rattle.cred_cli.specs.Events.{IsSound}
 use Rattle.cred_cli.specs.History.{Answer, Done, Replied, Refused, Deed, Admission, Loading, Whole, Opened, open_after, open_at, answer_of, answer_at, book_at, book_after, names_at, deed_of, deeds_before, after, commit_deed, commit_answer, is_stale, is_among, same_entry}
 use Rattle.cred_cli.specs.Steps.{Step, step, stay, slot, begin_step, begin_step_at, commit_step, commit_step_at, reply_answer}
 use Rattle.cred_cli.specs.Tickets.{HoldTickets, IsTicketOf}
-use Rattle.cred_cli.proofs.Names.{same_names, book_at-suc, take-done}
-use Rattle.cred_cli.proofs.Openings.{IsKnown, known_at, open_at-suc}
+use Rattle.cred_cli.proofs.{Names.same_names, Names.book_at-suc, Names.take-done, Openings.IsKnown, Openings.known_at, Openings.open_at-suc}
 
 -- a step at place i of a history
 pub record IsStep (capacity : ℕ) (book : Accounts) (events : List Event) (i : ℕ) (step : Step) : Type 0 where

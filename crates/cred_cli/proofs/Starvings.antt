@@ -3,40 +3,23 @@ use Rattle.std.proofs.Common.{◌≡◌, ℕ, suc, ◌≤◌, ◌<◌, List, Opt
 use Rattle.std.specs.Fmt.{digits}
 use Rattle.std.specs.FinMap as map
 use Rattle.std.specs.Io.KnownBytes.{Appends}
-use Rattle.std.proofs.lemmas.Bool.{cases_lt}
-use Rattle.std.proofs.lemmas.Option.{slice_get_within}
-use Rattle.std.proofs.Math.ListN.{length-set}
+use Rattle.std.proofs.{lemmas.Bool.cases_lt, lemmas.Option.slice_get_within, Math.ListN.length-set}
 use Rattle.cred_phc.specs.Values.{RecordValue}
-use Rattle.cred_book.specs.Accounts.{Accounts}
-use Rattle.cred_book.specs.Works.{Task, name_of, same}
+use Rattle.cred_book.specs.{Accounts.Accounts, Works.Task, Works.name_of, Works.same}
 use Rattle.cred_book.proofs.Equality.{same-Decides}
-use Rattle.cred_cli.specs.declared.answer.AnswerLine.{AnswerLine}
-use Rattle.cred_cli.specs.declared.event.Event.{Event}
-use Rattle.cred_cli.specs.declared.event.Event.TheVariants.{Commit}
-use Rattle.cred_cli.specs.declared.fault.ScriptFault.{ScriptFault}
-use Rattle.cred_cli.specs.declared.mode.Mode.{Mode}
+use Rattle.cred_cli.specs.{declared.answer.AnswerLine.AnswerLine, declared.event.Event.Event, declared.event.Event.TheVariants.Commit}
+use Rattle.cred_cli.specs.{declared.fault.ScriptFault.ScriptFault, declared.mode.Mode.Mode}
 use Rattle.cred_cli.specs.declared.mode.Mode.TheVariants.{Script, Service}
-use Rattle.cred_cli.specs.Answers.{IsDoneOrStarved, MayStarve, line_bytes}
-use Rattle.cred_cli.specs.Events.{IsSound}
+use Rattle.cred_cli.specs.{Answers.IsDoneOrStarved, Answers.MayStarve, Answers.line_bytes, Events.IsSound}
 use Rattle.cred_cli.specs.History.{Opened, after, answer_at, answer_of, book_at, deed_of, deeds_before, names_at, open_after, open_at}
-use Rattle.cred_cli.specs.Texts.{line_of}
-use Rattle.cred_cli.proofs.Names.{book_at-suc}
-use Rattle.cred_cli.proofs.Openings.{open_at-suc}
-use Rattle.cred_cli.specs.Outcome.{FailsAs, IsAnswered, StandsAfter}
-use Rattle.cred_cli.specs.Prompt.{IsPrompt}
-use Rattle.cred_cli.specs.Watched.{Reading, Writing}
-use Rattle.cred_cli.specs.declared.script.End.{End}
-use Rattle.cred_cli.specs.Feeding.{IsAt, Standing, TakesLineAs, between}
-use Rattle.cred_cli.specs.Costs.{no_bounds}
-use Rattle.cred_cli.specs.declared.policy.Policy.{Policy}
-use Rattle.cred_cli.specs.Script.{ScriptStart, script_start, start_as, with_events}
-use Rattle.cred_cli.proofs.Bounds.{unbounded}
+use Rattle.cred_cli.specs.{Texts.line_of, Outcome.FailsAs, Outcome.IsAnswered, Outcome.StandsAfter, Prompt.IsPrompt, Watched.Reading, Watched.Writing}
+use Rattle.cred_cli.specs.{declared.script.End.End, Feeding.IsAt, Feeding.Standing, Feeding.TakesLineAs, Feeding.between, Costs.no_bounds}
+use Rattle.cred_cli.specs.{declared.policy.Policy.Policy, Script.ScriptStart, Script.script_start, Script.start_as, Script.with_events}
 use Rattle.cred_cli.specs.Starving.{Becomes, EndsAs, GoesOn, IsHistory, IsSameBefore, IsServed, IsStarved, NeedsHash, events_by, starved}
-use Rattle.cred_cli.specs.Steps.{WriteFails, slot}
-use Rattle.cred_cli.specs.Tickets.{HoldTickets, IsTicketOf}
+use Rattle.cred_cli.specs.{Steps.WriteFails, Steps.slot, Tickets.HoldTickets, Tickets.IsTicketOf}
+use Rattle.cred_cli.proofs.{Names.book_at-suc, Openings.open_at-suc, Bounds.unbounded}
 use Rattle.cred_cli.proofs.Fronts.{needs_front, set_before, set_elsewhere, set_here, stands_front, tickets_front}
-use Rattle.cred_cli.proofs.Runs.{line_ended}
-use Rattle.cred_cli.proofs.Simulation.{stale}
+use Rattle.cred_cli.proofs.{Runs.line_ended, Simulation.stale}
 
 -- a record is the same as itself
 same_again : (stored : Option RecordValue) → same stored stored ≡ true

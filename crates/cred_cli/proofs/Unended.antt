@@ -1,8 +1,6 @@
 -- Lines of which the last one may have no end.
 use Rattle.std.proofs.Common.{◌≡◌, ℕ, zero, suc, ◌<◌, ◌≤◌, List, [], ◌∷◌, ◌++◌, length, take, drop, map, option_map, refl, ap, arith, slice_get, inl, inr}
-use Rattle.std.proofs.lemmas.Bool.Decides.{eqb_tells}
-use Rattle.std.proofs.lemmas.List.{length-map}
-use Rattle.std.proofs.lemmas.Option.{slice_get-map}
+use Rattle.std.proofs.{lemmas.Bool.Decides.eqb_tells, lemmas.List.length-map, lemmas.Option.slice_get-map}
 use Rattle.cred_cli.specs.Script.{line_ends, with_unended}
 
 -- a line that ends later isn't counted yet

@@ -1,9 +1,7 @@
 -- Several writes in a row.
 use Rattle.std.proofs.Common.{◌≡◌, ℕ, ◌<◌, List, [], ◌++◌, length, take, drop, Option, sym, ap, ◌∙◌, arith, append_assoc, append-nil, take-append-drop}
-use Rattle.std.proofs.lemmas.List.{length-append}
-use Rattle.std.proofs.Math.Seq.{take-append_seam}
+use Rattle.std.proofs.{lemmas.List.length-append, Math.Seq.take-append_seam, KnownBytes.Appends-trans}
 use Rattle.std.specs.Io.KnownBytes.{Appends}
-use Rattle.std.proofs.KnownBytes.{Appends-trans}
 use Rattle.cred_cli.specs.Outcome.{FrontWritten}
 
 -- what is written is a proper front, while something is left

@@ -1,17 +1,10 @@
 -- The bytes of an answer as the code holds them, and what an event that was done leaves.
 use Rattle.std.specs.Prelude.{◌≡◌, ◌⊎◌, ℕ, List, Option, Some, true}
 use Rattle.std.specs.FinMap as map
-use Rattle.cred_book.specs.Accounts.{Accounts}
-use Rattle.cred_book.specs.Works.{Task, name_of}
-use Rattle.cred_cli.specs.declared.answer.AnswerLine.{AnswerLine}
-use Rattle.cred_cli.specs.declared.answer.AnswerLine.TheVariants.{Fixed, Made}
-use Rattle.cred_cli.specs.declared.event.Event.{Event}
-use Rattle.cred_cli.specs.declared.event.Event.TheVariants.{Commit}
-use Rattle.cred_cli.specs.declared.mode.Mode.{Mode}
-use Rattle.cred_cli.specs.declared.mode.Mode.TheVariants.{Service}
-use Rattle.cred_cli.specs.Starving.{hashes, starved}
-use Rattle.cred_cli.specs.Steps.{Step, slot, step}
-use Rattle.cred_cli.specs.Texts.{line_of}
+use Rattle.cred_book.specs.{Accounts.Accounts, Works.Task, Works.name_of}
+use Rattle.cred_cli.specs.{declared.answer.AnswerLine.AnswerLine, declared.answer.AnswerLine.TheVariants.Fixed, declared.answer.AnswerLine.TheVariants.Made}
+use Rattle.cred_cli.specs.{declared.event.Event.Event, declared.event.Event.TheVariants.Commit, declared.mode.Mode.Mode, declared.mode.Mode.TheVariants.Service}
+use Rattle.cred_cli.specs.{Starving.hashes, Starving.starved, Steps.Step, Steps.slot, Steps.step, Texts.line_of}
 
 abbrev pub line_bytes : AnswerLine → List ℕ
 line_bytes (Fixed bytes) = bytes.now

@@ -1,31 +1,17 @@
 -- What the program does, by its words.
-use Rattle.std.specs.Prelude.{◌≡◌, ◌⊎◌, ℕ, ◌≤◌, Bool, true, false, if◌then◌else◌, Option, Some}
-use Rattle.std.specs.Prelude.{None, IfSome, Result, Ok, List, [], ◌∷◌, ◌++◌, length, codes}
-use Rattle.std.specs.Prelude.{MatchBool, MatchResult}
-use Rattle.std.specs.Option.{ok_or}
-use Rattle.std.specs.Str.{bytes_eq}
+use Rattle.std.specs.Prelude.{◌≡◌, ◌⊎◌, ℕ, ◌≤◌, Bool, true, false, if◌then◌else◌, Option, Some, None, IfSome, Result, Ok, List, [], ◌∷◌, ◌++◌, length, codes, MatchBool, MatchResult}
+use Rattle.std.specs.{Option.ok_or, Str.bytes_eq}
 use Rattle.std.specs.FinMap as map
 use Rattle.std.specs.Io.KnownBytes.{Appends, Keeps}
 use Rattle.clap.specs.Words.{Row, Text, first_of}
-use Rattle.cred_phc.specs.Base64.{bytes_of}
-use Rattle.cred_phc.specs.Reading.{◌>>=◌}
-use Rattle.cred_phc.specs.Values.{RecordValue, SettingValue}
-use Rattle.cred_book.specs.Accounts.{Accounts, most_accounts}
-use Rattle.cred_book.specs.Works.{new_record, right}
-use Rattle.cred_cli.specs.declared.fault.ScriptFault.{ScriptFault}
-use Rattle.cred_cli.specs.declared.refusal.Refusal.{Refusal}
-use Rattle.cred_cli.specs.declared.refusal.Refusal.TheVariants.{Password}
+use Rattle.cred_phc.specs.{Base64.bytes_of, Reading.◌>>=◌, Values.RecordValue, Values.SettingValue}
+use Rattle.cred_book.specs.{Accounts.Accounts, Accounts.most_accounts, Works.new_record, Works.right}
+use Rattle.cred_cli.specs.{declared.fault.ScriptFault.ScriptFault, declared.refusal.Refusal.Refusal, declared.refusal.Refusal.TheVariants.Password}
 use Rattle.cred_cli.specs.declared.exit_status.ExitStatus.{ExitStatus}
-use Rattle.cred_cli.specs.declared.exit_status.ExitStatus.TheVariants.{Done, Refused, Failed}
-use Rattle.cred_cli.specs.declared.exit_status.ExitStatus.TheVariants.{OutOfMemory, No}
-use Rattle.cred_cli.specs.Statuses.{status_number, status_of}
-use Rattle.cred_cli.specs.Events.{record_field, setting_field}
-use Rattle.cred_cli.specs.Outcome.{FrontWritten, HasCause, ScriptFails, longest_script}
-use Rattle.cred_cli.specs.History.{Shown}
-use Rattle.cred_cli.specs.Prompt.{IsPrompt}
-use Rattle.cred_cli.specs.Script.{out, script_start}
-use Rattle.cred_cli.specs.Texts.{line_of}
-use Rattle.cred_cli.specs.Watched.{Reading, Writing}
+use Rattle.cred_cli.specs.declared.exit_status.ExitStatus.TheVariants.{Done, Refused, Failed, OutOfMemory, No}
+use Rattle.cred_cli.specs.{Statuses.status_number, Statuses.status_of, Events.record_field, Events.setting_field}
+use Rattle.cred_cli.specs.{Outcome.FrontWritten, Outcome.HasCause, Outcome.ScriptFails, Outcome.longest_script, History.Shown, Prompt.IsPrompt}
+use Rattle.cred_cli.specs.{Script.out, Script.script_start, Texts.line_of, Watched.Reading, Watched.Writing}
 
 -- whenever more of a script on an empty book was asked for, what had come was answered
 abbrev pub RunsPrompt : Reading → Writing → Type 0

@@ -1,17 +1,12 @@
 -- How much memory and work hashes take, and which lines bring a setting or a record that asks for
 -- more than is allowed.
-use Rattle.std.specs.Prelude.{ℕ, ◌+◌, ◌*◌, ◌/◌, ◌^◌, Bool, false, ◌||◌, if◌then◌else◌, nat_lt}
-use Rattle.std.specs.Prelude.{List, Option, Some, None, map}
-use Rattle.cred_phc.specs.declared.scheme.Scheme.{Scheme}
-use Rattle.cred_phc.specs.declared.scheme.Scheme.TheVariants.{Argon2, Scrypt}
+use Rattle.std.specs.Prelude.{ℕ, ◌+◌, ◌*◌, ◌/◌, ◌^◌, Bool, false, ◌||◌, if◌then◌else◌, nat_lt, List, Option, Some, None, map}
+use Rattle.cred_phc.specs.{declared.scheme.Scheme.Scheme, declared.scheme.Scheme.TheVariants.Argon2, declared.scheme.Scheme.TheVariants.Scrypt}
 use Rattle.cred_book.specs.declared.request.Request.{Request}
-use Rattle.cred_book.specs.declared.request.Request.TheVariants.{Enrol, Verify, Change, Upgrade}
-use Rattle.cred_book.specs.declared.request.Request.TheVariants.{Remove}
-use Rattle.cred_cli.specs.declared.costs.CostBounds.{CostBounds}
-use Rattle.cred_cli.specs.declared.event.Event.{Event}
+use Rattle.cred_book.specs.declared.request.Request.TheVariants.{Enrol, Verify, Change, Upgrade, Remove}
+use Rattle.cred_cli.specs.{declared.costs.CostBounds.CostBounds, declared.event.Event.Event}
 use Rattle.cred_cli.specs.declared.event.Event.TheVariants.{Load, Begin, Bad}
-use Rattle.cred_cli.specs.declared.refusal.Refusal.TheVariants.{Costly}
-use Rattle.cred_cli.specs.Script.{events_of}
+use Rattle.cred_cli.specs.{declared.refusal.Refusal.TheVariants.Costly, Script.events_of}
 
 -- the KiB of so many tables of scrypt's, rounded up: each has 128 r 2^ln bytes (RFC 7914, section
 -- 5)

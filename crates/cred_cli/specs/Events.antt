@@ -1,28 +1,16 @@
 -- What a line of a script asks for.
-use Rattle.std.specs.Prelude.{◌≡◌, ℕ, ◌+◌, ◌≤◌, List, [], ◌∷◌, length, nat_lt, if◌then◌else◌}
-use Rattle.std.specs.Prelude.{Option, Some, None, Result, Ok, Err, true, codes}
-use Rattle.std.specs.Option.{ok_or}
-use Rattle.std.specs.Str.{bytes_eq}
-use Rattle.cred_phc.specs.Base64.{bytes_of}
-use Rattle.cred_phc.specs.Number.{number_of}
-use Rattle.cred_phc.specs.Pieces.{pieces}
-use Rattle.cred_phc.specs.Ranges.{between}
-use Rattle.cred_phc.specs.Reading.{◌>>=◌, read_record, read_setting}
-use Rattle.cred_phc.specs.Values.{RecordValue, SettingValue}
-use Rattle.cred_phc.specs.declared.error.PhcError.{PhcError}
-use Rattle.cred_book.specs.Names.{made_name}
-use Rattle.cred_book.specs.Works.{is_for_current}
-use Rattle.cred_book.specs.declared.error.BookError.{BookError}
-use Rattle.cred_book.specs.declared.request.Request.{Request}
-use Rattle.cred_book.specs.declared.request.Request.TheVariants.{Enrol, Verify, Change, Upgrade}
-use Rattle.cred_book.specs.declared.request.Request.TheVariants.{Remove}
+use Rattle.std.specs.Prelude.{◌≡◌, ℕ, ◌+◌, ◌≤◌, List, [], ◌∷◌, length, nat_lt, if◌then◌else◌, Option, Some, None, Result, Ok, Err, true, codes}
+use Rattle.std.specs.{Option.ok_or, Str.bytes_eq}
+use Rattle.cred_phc.specs.{Base64.bytes_of, Number.number_of, Pieces.pieces, Ranges.between, Reading.◌>>=◌, Reading.read_record, Reading.read_setting}
+use Rattle.cred_phc.specs.{Values.RecordValue, Values.SettingValue, declared.error.PhcError.PhcError}
+use Rattle.cred_book.specs.{Names.made_name, Works.is_for_current, declared.error.BookError.BookError, declared.request.Request.Request}
+use Rattle.cred_book.specs.declared.request.Request.TheVariants.{Enrol, Verify, Change, Upgrade, Remove}
 use Rattle.cred_cli.specs.declared.event.Event.{Event}
 use Rattle.cred_cli.specs.declared.event.Event.TheVariants.{Account, Load, Show, Begin, Commit, Bad}
 use Rattle.cred_cli.specs.declared.event.Operation.{Operation}
 use Rattle.cred_cli.specs.declared.event.Operation.TheVariants as operation
 use Rattle.cred_cli.specs.declared.refusal.Refusal.{Refusal}
-use Rattle.cred_cli.specs.declared.refusal.Refusal.TheVariants.{Long, Line, Key, Password, Text}
-use Rattle.cred_cli.specs.declared.refusal.Refusal.TheVariants.{Book}
+use Rattle.cred_cli.specs.declared.refusal.Refusal.TheVariants.{Long, Line, Key, Password, Text, Book}
 
 -- ---- the fields; the first from the left that stands for no value refuses the line
 

@@ -1,21 +1,10 @@
 -- Where a script stands after some of its bytes.
-use Rattle.std.specs.Prelude.{◌≡◌, ℕ, suc, ◌≤◌, ◌==◌, if◌then◌else◌, Option, Some, List, [], ◌∷◌}
-use Rattle.std.specs.Prelude.{◌++◌, length, take, slice_get, Result, MatchResult}
-use Rattle.cred_book.specs.Accounts.{Accounts}
-use Rattle.cred_book.specs.Works.{Task}
-use Rattle.cred_cli.specs.Events.{most_kept}
-use Rattle.cred_cli.specs.declared.event.Event.{Event}
-use Rattle.cred_cli.specs.declared.fault.ScriptFault.{ScriptFault}
-use Rattle.cred_cli.specs.declared.mode.Mode.{Mode}
-use Rattle.cred_cli.specs.declared.policy.Policy.{Policy}
-use Rattle.cred_cli.specs.declared.progress.Progress.{Progress}
-use Rattle.cred_cli.specs.declared.run.Run.{Run}
-use Rattle.cred_cli.specs.declared.script.End.{End}
-use Rattle.cred_cli.specs.Outcome.{FailsAs, IsAnsweredAs, StandsAfter}
-use Rattle.cred_cli.specs.Script.{ScriptStart, line_ends, with_events}
-use Rattle.cred_cli.specs.Starving.{Becomes, EndsAs, GoesOn, IsHistory, events_by}
-use Rattle.cred_cli.specs.Steps.{LineFails}
-use Rattle.cred_cli.specs.Tickets.{HoldTickets}
+use Rattle.std.specs.Prelude.{◌≡◌, ℕ, suc, ◌≤◌, ◌==◌, if◌then◌else◌, Option, Some, List, [], ◌∷◌, ◌++◌, length, take, slice_get, Result, MatchResult}
+use Rattle.cred_book.specs.{Accounts.Accounts, Works.Task}
+use Rattle.cred_cli.specs.{Events.most_kept, declared.event.Event.Event, declared.fault.ScriptFault.ScriptFault, declared.mode.Mode.Mode}
+use Rattle.cred_cli.specs.{declared.policy.Policy.Policy, declared.progress.Progress.Progress, declared.run.Run.Run, declared.script.End.End}
+use Rattle.cred_cli.specs.{Outcome.FailsAs, Outcome.IsAnsweredAs, Outcome.StandsAfter, Script.ScriptStart, Script.line_ends, Script.with_events}
+use Rattle.cred_cli.specs.{Starving.Becomes, Starving.EndsAs, Starving.GoesOn, Starving.IsHistory, Starving.events_by, Steps.LineFails, Tickets.HoldTickets}
 use Rattle.cred_cli.specs.Watched.{Reading, Writing}
 
 -- the bytes after the last line end

@@ -1,14 +1,10 @@
 -- How a script ends, and what stands then.
-use Rattle.std.specs.Prelude.{◌≡◌, ◌⊎◌, ℕ, suc, ◌+◌, ◌-◌, ◌^◌, ◌<◌, Option, Some, Bool, true}
-use Rattle.std.specs.Prelude.{List, ◌++◌, length, take}
+use Rattle.std.specs.Prelude.{◌≡◌, ◌⊎◌, ℕ, suc, ◌+◌, ◌-◌, ◌^◌, ◌<◌, Option, Some, Bool, true, List, ◌++◌, length, take}
 use Rattle.std.specs.Io.KnownBytes.{Appends, Consumes}
 use Rattle.cred_book.specs.Accounts.{Accounts}
-use Rattle.cred_cli.specs.declared.event.Event.{Event}
-use Rattle.cred_cli.specs.declared.fault.ScriptFault.{ScriptFault}
+use Rattle.cred_cli.specs.{declared.event.Event.Event, declared.fault.ScriptFault.ScriptFault}
 use Rattle.cred_cli.specs.declared.fault.ScriptFault.TheVariants.{Read, Write, Memory, TooLong}
-use Rattle.cred_cli.specs.History.{answer_at, book_at}
-use Rattle.cred_cli.specs.Script.{ScriptStart, answers_before, line_ends, script_start}
-use Rattle.cred_cli.specs.Texts.{line_of}
+use Rattle.cred_cli.specs.{History.answer_at, History.book_at, Script.ScriptStart, Script.answers_before, Script.line_ends, Script.script_start, Texts.line_of}
 
 -- the longest script in bytes
 abbrev pub longest_script : ℕ

@@ -1,9 +1,7 @@
 -- What stands whenever more of a script is asked for.
 use Rattle.std.specs.Prelude.{◌≡◌, ℕ, ◌<◌, Option, Some, None, List, [], ◌∷◌, length}
 use Rattle.std.specs.Io.KnownBytes.{Consumes}
-use Rattle.cred_cli.specs.Calls.{Call}
-use Rattle.cred_cli.specs.Outcome.{StandsAfter}
-use Rattle.cred_cli.specs.Script.{ScriptStart, line_ends}
+use Rattle.cred_cli.specs.{Calls.Call, Outcome.StandsAfter, Script.ScriptStart, Script.line_ends}
 
 -- As the call was made, each whole line of the bytes that had come was done and answered, and
 -- nothing else was: the keeper's book is the one after them, and the writer of this name holds

@@ -3,8 +3,7 @@ use Rattle.std.specs.Prelude.{ℕ, List, codes}
 use Rattle.cred_phc.specs.Errors.{error_number as text_number, error_word as text_word}
 use Rattle.cred_book.specs.Errors.{error_number as book_number, error_word as book_word}
 use Rattle.cred_cli.specs.declared.refusal.Refusal.{Refusal}
-use Rattle.cred_cli.specs.declared.refusal.Refusal.TheVariants.{Long, Line, Key, Password, Busy}
-use Rattle.cred_cli.specs.declared.refusal.Refusal.TheVariants.{Idle, Costly, Text, Book}
+use Rattle.cred_cli.specs.declared.refusal.Refusal.TheVariants.{Long, Line, Key, Password, Busy, Idle, Costly, Text, Book}
 
 abbrev pub error_number : Refusal → ℕ
 error_number Long = 16

@@ -1,11 +1,7 @@
 -- What a script is answered.
-use Rattle.std.specs.Prelude.{ℕ, zero, suc, ◌==◌, if◌then◌else◌, List, [], ◌∷◌, ◌++◌, length, map}
-use Rattle.std.specs.Prelude.{Option, drop, take}
+use Rattle.std.specs.Prelude.{ℕ, zero, suc, ◌==◌, if◌then◌else◌, List, [], ◌∷◌, ◌++◌, length, map, Option, drop, take}
 use Rattle.cred_book.specs.Accounts.{Accounts}
-use Rattle.cred_cli.specs.declared.event.Event.{Event}
-use Rattle.cred_cli.specs.Events.{event_of}
-use Rattle.cred_cli.specs.History.{answer_at}
-use Rattle.cred_cli.specs.Texts.{line_of}
+use Rattle.cred_cli.specs.{declared.event.Event.Event, Events.event_of, History.answer_at, Texts.line_of}
 
 abbrev pub onto_first : ℕ → List (List ℕ) → List (List ℕ)
 onto_first c [] = (c ∷ []) ∷ []

@@ -1,31 +1,17 @@
 -- The history of a service. A last line without its end is refused. So may a commit be for whose
 -- hash there is no memory; it does nothing then, and its number stays open.
-use Rattle.std.specs.Prelude.{◌≡◌, ◌⊎◌, ℕ, ◌<◌, ◌≤◌, Bool, true, false, Option, Some, None}
-use Rattle.std.specs.Prelude.{List, length, slice_get, slice_set, IfErr, IfOk, IfSome, OnOk}
-use Rattle.std.specs.Prelude.{Result}
+use Rattle.std.specs.Prelude.{◌≡◌, ◌⊎◌, ℕ, ◌<◌, ◌≤◌, Bool, true, false, Option, Some, None, List, length, slice_get, slice_set, IfErr, IfOk, IfSome, OnOk, Result}
 use Rattle.std.specs.FinMap as map
 use Rattle.cred_phc.specs.Values.{RecordValue}
-use Rattle.cred_book.specs.Accounts.{Accounts}
-use Rattle.cred_book.specs.Works.{name_of}
-use Rattle.cred_book.specs.declared.error.BookError.TheVariants.{Memory}
-use Rattle.cred_book.specs.declared.request.Request.{Request}
-use Rattle.cred_book.specs.declared.request.Request.TheVariants.{Enrol, Verify, Change, Upgrade}
-use Rattle.cred_book.specs.declared.request.Request.TheVariants.{Remove}
-use Rattle.cred_cli.specs.Costs.{events_within}
-use Rattle.cred_cli.specs.History.{Opened, book_at, deeds_before, is_stale, open_at}
-use Rattle.cred_cli.specs.Outcome.{FailsAs, IsAnsweredAs, longest_service}
-use Rattle.cred_cli.specs.Prompt.{IsPrompt}
-use Rattle.cred_cli.specs.Script.{ScriptStart, start_as, with_unended}
-use Rattle.cred_cli.specs.Watched.{Reading, Writing}
-use Rattle.cred_cli.specs.declared.costs.CostBounds.{CostBounds}
-use Rattle.cred_cli.specs.declared.event.Event.{Event}
-use Rattle.cred_cli.specs.declared.event.Event.TheVariants.{Commit, Bad}
-use Rattle.cred_cli.specs.declared.fault.ScriptFault.{ScriptFault}
-use Rattle.cred_cli.specs.declared.policy.Policy.{Policy}
-use Rattle.cred_cli.specs.declared.refusal.Refusal.TheVariants.{Book, Line}
-use Rattle.cred_cli.specs.declared.script.End.{End}
-use Rattle.cred_cli.specs.declared.mode.Mode.{Mode}
-use Rattle.cred_cli.specs.declared.mode.Mode.TheVariants.{Script, Service}
+use Rattle.cred_book.specs.{Accounts.Accounts, Works.name_of, declared.error.BookError.TheVariants.Memory, declared.request.Request.Request}
+use Rattle.cred_book.specs.declared.request.Request.TheVariants.{Enrol, Verify, Change, Upgrade, Remove}
+use Rattle.cred_cli.specs.{Costs.events_within, History.Opened, History.book_at, History.deeds_before, History.is_stale, History.open_at}
+use Rattle.cred_cli.specs.{Outcome.FailsAs, Outcome.IsAnsweredAs, Outcome.longest_service, Prompt.IsPrompt}
+use Rattle.cred_cli.specs.{Script.ScriptStart, Script.start_as, Script.with_unended, Watched.Reading, Watched.Writing, declared.costs.CostBounds.CostBounds}
+use Rattle.cred_cli.specs.{declared.event.Event.Event, declared.event.Event.TheVariants.Commit, declared.event.Event.TheVariants.Bad}
+use Rattle.cred_cli.specs.{declared.fault.ScriptFault.ScriptFault, declared.policy.Policy.Policy}
+use Rattle.cred_cli.specs.{declared.refusal.Refusal.TheVariants.Book, declared.refusal.Refusal.TheVariants.Line, declared.script.End.End}
+use Rattle.cred_cli.specs.{declared.mode.Mode.Mode, declared.mode.Mode.TheVariants.Script, declared.mode.Mode.TheVariants.Service}
 
 -- ---- what is asked
 

@@ -3,8 +3,7 @@ use Rattle.std.specs.Prelude.{ℕ}
 use Rattle.cred_cli.specs.declared.fault.ScriptFault.{ScriptFault}
 use Rattle.cred_cli.specs.declared.fault.ScriptFault.TheVariants.{Read, Write, Memory, TooLong}
 use Rattle.cred_cli.specs.declared.exit_status.ExitStatus.{ExitStatus}
-use Rattle.cred_cli.specs.declared.exit_status.ExitStatus.TheVariants.{Done, Refused, Failed}
-use Rattle.cred_cli.specs.declared.exit_status.ExitStatus.TheVariants.{OutOfMemory, No}
+use Rattle.cred_cli.specs.declared.exit_status.ExitStatus.TheVariants.{Done, Refused, Failed, OutOfMemory, No}
 
 abbrev pub status_number : ExitStatus → ℕ
 status_number Done = 0

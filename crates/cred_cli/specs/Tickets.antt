@@ -1,11 +1,8 @@
 -- What the open tickets have to do with the history.
 use Rattle.std.specs.Prelude.{◌≡◌, ℕ, ◌≤◌, Option, Some, None, List, length}
 use Rattle.std.specs.FinMap as map
-use Rattle.cred_book.specs.Accounts.{Accounts}
-use Rattle.cred_book.specs.Works.{Task, name_of}
-use Rattle.cred_cli.specs.declared.event.Event.{Event}
-use Rattle.cred_cli.specs.History.{Opened, book_at, open_at}
-use Rattle.cred_cli.specs.Steps.{slot}
+use Rattle.cred_book.specs.{Accounts.Accounts, Works.Task, Works.name_of}
+use Rattle.cred_cli.specs.{declared.event.Event.Event, History.Opened, History.book_at, History.open_at, Steps.slot}
 
 -- a ticket is the begin's request, with the record of its name in the book at the begin's place
 abbrev pub IsTicketOf : ℕ → Accounts → List Event → Option Opened → Option Task → Type 0

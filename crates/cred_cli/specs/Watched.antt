@@ -1,9 +1,7 @@
 -- What is seen of a watched reader or writer.
-use Rattle.std.specs.Prelude.{◌≡◌, ℕ, Bool, true, false, List, [], ◌++◌, Option, Some, Result}
-use Rattle.std.specs.Prelude.{MatchResult, drop, length, map, take}
+use Rattle.std.specs.Prelude.{◌≡◌, ℕ, Bool, true, false, List, [], ◌++◌, Option, Some, Result, MatchResult, drop, length, map, take}
 use Rattle.std.specs.Io.KnownBytes.{Appends, Consumes}
-use Rattle.cred_cli.specs.Calls.{Call}
-use Rattle.cred_cli.specs.declared.watched.Watched.{Watched}
+use Rattle.cred_cli.specs.{Calls.Call, declared.watched.Watched.Watched}
 
 abbrev pub inner_of : {X : Type 0} → Watched X → X
 inner_of watched = watched.inner

@@ -1,17 +1,11 @@
 //! What an event does, and the line that answers it.
 
-ghost use Rattle.std.specs.Prelude.{◌≡◌, ◌↔◌, ◌-◌, IfErr, IfOk, IsTrue, List, None};
-ghost use Rattle.std.specs.Prelude.{OnOk, OnErr, Option, Some, slice_set, true};
+ghost use Rattle.std.specs.Prelude.{◌≡◌, ◌↔◌, ◌-◌, IfErr, IfOk, IsTrue, List, None, OnOk, OnErr, Option, Some, slice_set, true};
 ghost use Rattle.std.specs.Io.KnownBytes.{Appends};
 ghost use Rattle.cred_book.specs.Works.{Task, is_for_current};
-ghost use Rattle.cred_cli.specs.Answers.{IsDone, IsDoneOrStarved, line_bytes};
-ghost use Rattle.cred_cli.specs.Events.{IsSound};
-ghost use Rattle.cred_cli.specs.History.{Done, Refused, Shown};
-ghost use Rattle.cred_cli.specs.Starving.{hashes};
-ghost use Rattle.cred_cli.specs.Steps.{WriteFails, begin_step, slot};
-ghost use Rattle.cred_cli.specs.Texts.{line_of, reply_line};
-ghost use Rattle.cred_cli.specs.declared.event.Event.TheVariants.{Commit};
-ghost use Rattle.cred_cli.specs.Watched.{Basis, IsWritten, failed_of, held_on};
+ghost use Rattle.cred_cli.specs.{Answers.IsDone, Answers.IsDoneOrStarved, Answers.line_bytes, Events.IsSound, History.Done, History.Refused, History.Shown};
+ghost use Rattle.cred_cli.specs.{Starving.hashes, Steps.WriteFails, Steps.begin_step, Steps.slot, Texts.line_of, Texts.reply_line};
+ghost use Rattle.cred_cli.specs.{declared.event.Event.TheVariants.Commit, Watched.Basis, Watched.IsWritten, Watched.failed_of, Watched.held_on};
 
 use crate::event::Event;
 use crate::fault::ScriptFault;

@@ -1,11 +1,9 @@
 //! The command line of `credbook`.
 
 ghost use Rattle.std.specs.Prelude.{◌≡◌, IfOk, codes, false, map, option_map};
-ghost use Rattle.clap.specs.Words.{FailsBy, app_of, fault_of, first_of, found_of, rows_of, rule_of};
-ghost use Rattle.clap.specs.Words.{subcommand_of, subcommand_rows_of, with_rule, with_subcommand};
+ghost use Rattle.clap.specs.Words.{FailsBy, app_of, fault_of, first_of, found_of, rows_of, rule_of, subcommand_of, subcommand_rows_of, with_rule, with_subcommand};
 ghost use Rattle.clap.specs.declared.builder.command.Command.TheViews.{out-Command};
-ghost use Rattle.cred_cli.specs.Arguments.{credbook, needed_rule, one_app, password_rule, run_app};
-ghost use Rattle.cred_cli.specs.Arguments.{base_app, workers_rule};
+ghost use Rattle.cred_cli.specs.Arguments.{credbook, needed_rule, one_app, password_rule, run_app, base_app, workers_rule};
 
 use clap::{Arg, ArgMatches, Command, Error};
 use std::alloc::{AllocError, Global};

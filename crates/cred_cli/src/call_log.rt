@@ -1,8 +1,6 @@
 //! What proofs read of the calls on a reader. It takes no memory, and does nothing at run time.
 
-ghost use Rattle.std.specs.Prelude.{◌≡◌, ℕ, List, [], ◌∷◌};
-ghost use Rattle.std.specs.Borrow.{ftrue};
-ghost use Rattle.std.specs.Coded.{coded_list};
+ghost use Rattle.std.specs.{Prelude.◌≡◌, Prelude.ℕ, Prelude.List, Prelude.[], Prelude.◌∷◌, Borrow.ftrue, Coded.coded_list};
 ghost use Rattle.cred_cli.specs.Calls.{Call, call_code};
 
 use crate::transcript::Transcript;

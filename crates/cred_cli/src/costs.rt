@@ -1,8 +1,7 @@
 //! How much memory and work hashes take, and what asks for more than is allowed.
 
 ghost use Rattle.std.specs.Prelude.{◌≡◌, ◌≤◌, ◌*◌, ◌^◌};
-ghost use Rattle.cred_cli.specs.Costs.{exceeds, is_above, memory_alone, memory_of, no_bounds};
-ghost use Rattle.cred_cli.specs.Costs.{request_exceeds, tables_kib, work_of};
+ghost use Rattle.cred_cli.specs.Costs.{exceeds, is_above, memory_alone, memory_of, no_bounds, request_exceeds, tables_kib, work_of};
 
 use cred_book::Request;
 use cred_phc::{Scheme, Setting};

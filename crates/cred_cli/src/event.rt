@@ -1,14 +1,10 @@
 //! What a line of a script asks for.
 
 ghost use Rattle.std.specs.Prelude.{◌≡◌, IfOk, length, map, nat_lt, take, true};
-ghost use Rattle.cred_phc.specs.Pieces.{pieces};
-ghost use Rattle.cred_phc.specs.Ranges.{is_current};
+ghost use Rattle.cred_phc.specs.{Pieces.pieces, Ranges.is_current};
 ghost use Rattle.cred_book.specs.Works.{is_for_current};
 ghost use Rattle.cred_cli.specs.Costs.{is_costly, within};
-ghost use Rattle.cred_cli.specs.Events.{IsSound, account_event, begin_event, change_request};
-ghost use Rattle.cred_cli.specs.Events.{commit_event, event_of, event_of_pieces, load_event};
-ghost use Rattle.cred_cli.specs.Events.{longest_line, most_pieces, operation_of, own_setting};
-ghost use Rattle.cred_cli.specs.Events.{request_of, show_event};
+ghost use Rattle.cred_cli.specs.Events.{IsSound, account_event, begin_event, change_request, commit_event, event_of, event_of_pieces, load_event, longest_line, most_pieces, operation_of, own_setting, request_of, show_event};
 
 use crate::costs::{CostBounds, exceeds, request_exceeds};
 use crate::fields;

@@ -1,8 +1,7 @@
 //! Why a script ended before its last line was answered.
 
 ghost use Rattle.std.specs.Prelude.{◌≡◌};
-ghost use Rattle.cred_cli.specs.Faults.{error_number, error_word};
-ghost use Rattle.cred_cli.specs.declared.fault.ScriptFault.TheVariants.{Memory as OutOfMemory};
+ghost use Rattle.cred_cli.specs.{Faults.error_number, Faults.error_word, declared.fault.ScriptFault.TheVariants.Memory as OutOfMemory};
 
 use std::alloc::AllocError;
 use thiserror::Error;

@@ -2,8 +2,7 @@
 
 ghost use Rattle.std.specs.Prelude.{◌≡◌, ◌≤◌, IfOk, true};
 ghost use Rattle.cred_phc.specs.Ranges.{is_current};
-ghost use Rattle.cred_cli.specs.Events.{key_field, name_field, password_field, password_of};
-ghost use Rattle.cred_cli.specs.Events.{record_field, setting_field};
+ghost use Rattle.cred_cli.specs.Events.{key_field, name_field, password_field, password_of, record_field, setting_field};
 
 use crate::key::Key;
 use crate::refusal::Refusal;

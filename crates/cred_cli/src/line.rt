@@ -1,9 +1,7 @@
 //! One line: what it comes to is done, and answered.
 
 ghost use Rattle.std.specs.Prelude.{false, IfErr};
-ghost use Rattle.cred_cli.specs.Events.{IsSound};
-ghost use Rattle.cred_cli.specs.Feeding.{TakesLine, between};
-ghost use Rattle.cred_cli.specs.Outcome.{HasCause};
+ghost use Rattle.cred_cli.specs.{Events.IsSound, Feeding.TakesLine, Feeding.between, Outcome.HasCause};
 ghost use Rattle.cred_cli.specs.Watched.{Basis, IsWritten, failed_of, held_on};
 
 use crate::answer::do_event;

@@ -1,8 +1,7 @@
 //! Whether lines are a script's or a service's.
 
 ghost use Rattle.std.specs.Prelude.{◌≡◌, MatchBool};
-ghost use Rattle.cred_cli.specs.Events.{IsSound};
-ghost use Rattle.cred_cli.specs.Starving.{unended};
+ghost use Rattle.cred_cli.specs.{Events.IsSound, Starving.unended};
 
 use crate::event::Event;
 use crate::refusal::Refusal;

@@ -2,8 +2,7 @@
 //! with.
 
 ghost use Rattle.std.specs.Prelude.{◌≡◌};
-ghost use Rattle.cred_cli.specs.Costs.{within};
-ghost use Rattle.cred_cli.specs.Events.{IsSound, event_of};
+ghost use Rattle.cred_cli.specs.{Costs.within, Events.IsSound, Events.event_of};
 
 use crate::costs::CostBounds;
 use crate::event::Event;

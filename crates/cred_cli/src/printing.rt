@@ -1,9 +1,7 @@
 //! What the program prints: one line on its output, or the cause of its end on `faults`.
 
 ghost use Rattle.std.specs.Prelude.{◌≡◌};
-ghost use Rattle.cred_cli.specs.Commands.{Prints};
-ghost use Rattle.cred_cli.specs.Statuses.{status_number, status_of};
-ghost use Rattle.cred_cli.specs.Watched.{Basis, TakesAsContracted, writing_on};
+ghost use Rattle.cred_cli.specs.{Commands.Prints, Statuses.status_number, Statuses.status_of, Watched.Basis, Watched.TakesAsContracted, Watched.writing_on};
 
 use crate::exit_status::ExitStatus;
 use crate::fault::ScriptFault;

@@ -1,8 +1,7 @@
 //! The program as its process runs it: on the words that it was started with, and with a status
 //! that the shell sees.
 
-ghost use Rattle.std.specs.Prelude.{◌≡◌, ◌⊎◌, MatchResult};
-ghost use Rattle.std.specs.Process.{exit_status};
+ghost use Rattle.std.specs.{Prelude.◌≡◌, Prelude.◌⊎◌, Prelude.MatchResult, Process.exit_status};
 ghost use Rattle.cred_cli.specs.Statuses.{status_number};
 
 use crate::exit_status::ExitStatus;

@@ -2,11 +2,8 @@
 
 ghost use Rattle.std.specs.Prelude.{◌≡◌, ◌⊎◌, ℕ, List, [], false, map};
 ghost use Rattle.clap.specs.Words.{fault_of, subcommand_of, subcommand_rows_of};
-ghost use Rattle.cred_cli.specs.Arguments.{credbook};
-ghost use Rattle.cred_cli.specs.Commands.{Acts, Ends, Runs, is_run};
-ghost use Rattle.cred_cli.specs.Statuses.{status_number};
-ghost use Rattle.cred_cli.specs.Watched.{GivesAsContracted, IsNew, MayFollow, TakesAsContracted};
-ghost use Rattle.cred_cli.specs.Watched.{reading, transcript_reading, transcript_writing, writing};
+ghost use Rattle.cred_cli.specs.{Arguments.credbook, Commands.Acts, Commands.Ends, Commands.Runs, Commands.is_run, Statuses.status_number};
+ghost use Rattle.cred_cli.specs.Watched.{GivesAsContracted, IsNew, MayFollow, TakesAsContracted, reading, transcript_reading, transcript_writing, writing};
 
 use crate::arguments::{matches_of, workers_of};
 use crate::exit_status::ExitStatus;

@@ -1,8 +1,7 @@
 //! How far a script has been read.
 
 ghost use Rattle.std.specs.Prelude.{◌≡◌, [], ◌∷◌, ◌++◌, ◌≤◌, take};
-ghost use Rattle.cred_cli.specs.Events.{most_kept};
-ghost use Rattle.cred_cli.specs.Outcome.{longest_service};
+ghost use Rattle.cred_cli.specs.{Events.most_kept, Outcome.longest_service};
 
 use crate::event::LONGEST_LINE;
 use crate::limit::Limit;

@@ -1,9 +1,7 @@
 //! Why a line is refused.
 
 ghost use Rattle.std.specs.Prelude.{◌≡◌};
-ghost use Rattle.cred_cli.specs.Refusals.{error_number, error_word};
-ghost use Rattle.cred_cli.specs.History.{Refused};
-ghost use Rattle.cred_cli.specs.Texts.{line_of};
+ghost use Rattle.cred_cli.specs.{Refusals.error_number, Refusals.error_word, History.Refused, Texts.line_of};
 ghost use Rattle.cred_cli.specs.declared.refusal.Refusal.TheVariants.{Book, Text};
 
 use cred_book::BookError;

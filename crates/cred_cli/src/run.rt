@@ -1,15 +1,10 @@
 //! A script that is being run: its bytes are read and taken in turn, and each whole line is
 //! answered.
 
-ghost use Rattle.std.specs.Prelude.{◌≡◌, ◌+◌, ◌≤◌, false, true, List, [], ◌∷◌, length, Some};
-ghost use Rattle.std.specs.Prelude.{IfErr, IfSome, OnOk};
-ghost use Rattle.cred_cli.specs.Feeding.{Finishes, IsAt, Plays, Takes, standing};
-ghost use Rattle.cred_cli.specs.Outcome.{HasCause};
-ghost use Rattle.cred_cli.specs.Script.{ScriptStart, start_as};
-ghost use Rattle.cred_cli.specs.Starving.{EndsAs, IsHistory, events_by};
-ghost use Rattle.cred_cli.specs.Watched.{Basis, Fits, GivesAsContracted, IsNew, IsWritten};
-ghost use Rattle.cred_cli.specs.Watched.{TakesAsContracted, calls_of, ended_of, failed_of, held_on};
-ghost use Rattle.cred_cli.specs.Watched.{left_on, reading_on, writing_on};
+ghost use Rattle.std.specs.Prelude.{◌≡◌, ◌+◌, ◌≤◌, false, true, List, [], ◌∷◌, length, Some, IfErr, IfSome, OnOk};
+ghost use Rattle.cred_cli.specs.{Feeding.Finishes, Feeding.IsAt, Feeding.Plays, Feeding.Takes, Feeding.standing, Outcome.HasCause};
+ghost use Rattle.cred_cli.specs.{Script.ScriptStart, Script.start_as, Starving.EndsAs, Starving.IsHistory, Starving.events_by};
+ghost use Rattle.cred_cli.specs.Watched.{Basis, Fits, GivesAsContracted, IsNew, IsWritten, TakesAsContracted, calls_of, ended_of, failed_of, held_on, left_on, reading_on, writing_on};
 ghost use Rattle.cred_cli.specs.declared.event.Event.{Event};
 
 use crate::fault::ScriptFault;

@@ -1,15 +1,9 @@
 //! A whole script: read to its end, each line done and answered in turn.
 
-ghost use Rattle.std.specs.Prelude.{◌≡◌, ◌+◌, ◌≤◌, ◌++◌, ℕ, List, true, length};
-ghost use Rattle.std.specs.Prelude.{IfErr, IfOk, IfSome, OnOk};
-ghost use Rattle.cred_cli.specs.Outcome.{HasCause, IsAnswered, ScriptFails, longest_script};
-ghost use Rattle.cred_cli.specs.Outcome.{most_calls};
-ghost use Rattle.cred_cli.specs.Prompt.{IsPrompt};
-ghost use Rattle.cred_cli.specs.Script.{out, script_start};
-ghost use Rattle.cred_cli.specs.Starving.{EndsAs};
-ghost use Rattle.cred_cli.specs.Watched.{GivesAsContracted, IsNew, MayFollow, TakesAsContracted};
-ghost use Rattle.cred_cli.specs.Watched.{calls_of, ended_of, failed_of, given_of, inner_of, log_of};
-ghost use Rattle.cred_cli.specs.Watched.{name_of, taken_of, transcript_reading, transcript_writing};
+ghost use Rattle.std.specs.Prelude.{◌≡◌, ◌+◌, ◌≤◌, ◌++◌, ℕ, List, true, length, IfErr, IfOk, IfSome, OnOk};
+ghost use Rattle.cred_cli.specs.{Outcome.HasCause, Outcome.IsAnswered, Outcome.ScriptFails, Outcome.longest_script, Outcome.most_calls, Prompt.IsPrompt};
+ghost use Rattle.cred_cli.specs.{Script.out, Script.script_start, Starving.EndsAs};
+ghost use Rattle.cred_cli.specs.Watched.{GivesAsContracted, IsNew, MayFollow, TakesAsContracted, calls_of, ended_of, failed_of, given_of, inner_of, log_of, name_of, taken_of, transcript_reading, transcript_writing};
 
 use crate::costs::CostBounds;
 use crate::fault::ScriptFault;

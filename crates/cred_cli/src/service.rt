@@ -1,11 +1,8 @@
 //! A script with no end: its lines are answered as they come.
 
 ghost use Rattle.std.specs.Prelude.{◌≡◌, ◌+◌, ◌≤◌, ℕ, List, true, length, IfErr, IfSome, OnOk};
-ghost use Rattle.cred_cli.specs.Outcome.{HasCause};
-ghost use Rattle.cred_cli.specs.Starving.{Serves};
-ghost use Rattle.cred_cli.specs.Watched.{GivesAsContracted, IsNew, MayFollow, TakesAsContracted};
-ghost use Rattle.cred_cli.specs.Watched.{calls_of, ended_of, failed_of, given_of, inner_of, reading};
-ghost use Rattle.cred_cli.specs.Watched.{transcript_reading, transcript_writing, writing};
+ghost use Rattle.cred_cli.specs.{Outcome.HasCause, Starving.Serves};
+ghost use Rattle.cred_cli.specs.Watched.{GivesAsContracted, IsNew, MayFollow, TakesAsContracted, calls_of, ended_of, failed_of, given_of, inner_of, reading, transcript_reading, transcript_writing, writing};
 
 use crate::costs::CostBounds;
 use crate::fault::ScriptFault;

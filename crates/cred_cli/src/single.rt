@@ -1,13 +1,10 @@
 //! The subcommands on one setting or record: `hash` and `check`.
 
-ghost use Rattle.std.specs.Prelude.{◌≡◌, IfOk, codes, option_map};
-ghost use Rattle.std.specs.Io.KnownBytes.{Keeps};
+ghost use Rattle.std.specs.{Prelude.◌≡◌, Prelude.IfOk, Prelude.codes, Prelude.option_map, Io.KnownBytes.Keeps};
 ghost use Rattle.clap.specs.Words.{first_of, found_of, rows_of};
 ghost use Rattle.cred_book.specs.Works.{new_record};
-ghost use Rattle.cred_cli.specs.Commands.{Checks, Hashes, password_word, record_line, to_check};
-ghost use Rattle.cred_cli.specs.Commands.{to_hash};
-ghost use Rattle.cred_cli.specs.Statuses.{status_number};
-ghost use Rattle.cred_cli.specs.Watched.{Basis, TakesAsContracted, writing_on};
+ghost use Rattle.cred_cli.specs.Commands.{Checks, Hashes, password_word, record_line, to_check, to_hash};
+ghost use Rattle.cred_cli.specs.{Statuses.status_number, Watched.Basis, Watched.TakesAsContracted, Watched.writing_on};
 
 use crate::answer::record_line;
 use crate::arguments::value;

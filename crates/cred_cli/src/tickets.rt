@@ -1,7 +1,6 @@
 //! The tickets of a script's open operations, by their numbers.
 
-ghost use Rattle.std.specs.Prelude.{◌≡◌, ◌-◌, IfOk, IsTrue, Option, Some, None, is_some, replicate};
-ghost use Rattle.std.specs.Prelude.{slice_index_or, slice_set};
+ghost use Rattle.std.specs.Prelude.{◌≡◌, ◌-◌, IfOk, IsTrue, Option, Some, None, is_some, replicate, slice_index_or, slice_set};
 
 use crate::key::{KEYS, Key};
 use cred_book::Ticket;

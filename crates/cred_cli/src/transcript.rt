@@ -1,7 +1,6 @@
 //! The bytes that passed, as proofs read them. It takes no memory, and does nothing at run time.
 
-ghost use Rattle.std.specs.Prelude.{◌≡◌, ◌++◌, ℕ, List, []};
-ghost use Rattle.std.specs.Borrow.{ftrue};
+ghost use Rattle.std.specs.{Prelude.◌≡◌, Prelude.◌++◌, Prelude.ℕ, Prelude.List, Prelude.[], Borrow.ftrue};
 
 use std::marker::Model;
 

@@ -1,13 +1,9 @@
 //! A reader or a writer that counts the calls on it, and keeps in mind whether one failed. Proofs
 //! also see all the bytes that passed.
 
-ghost use Rattle.std.specs.Prelude.{◌≡◌, ◌||◌, ◌+◌, ◌-◌, ◌^◌, ◌<◌, ◌∷◌};
-ghost use Rattle.std.specs.Prelude.{min, true, length, IfOk, OnOk};
-ghost use Rattle.std.specs.Prelude.{OnErr};
-ghost use Rattle.std.specs.Io.{ReadsAtMost, WritesAtMost};
-ghost use Rattle.std.specs.Io.KnownBytes.{Keeps, ReadConsumes, WriteAppends};
-ghost use Rattle.cred_cli.specs.Watched.{IsNew, calls_of, failed_of, inner_of, name_of};
-ghost use Rattle.cred_cli.specs.Watched.{Passes, ended_of, given_of, log_of, taken_of};
+ghost use Rattle.std.specs.Prelude.{◌≡◌, ◌||◌, ◌+◌, ◌-◌, ◌^◌, ◌<◌, ◌∷◌, min, true, length, IfOk, OnOk, OnErr};
+ghost use Rattle.std.specs.{Io.ReadsAtMost, Io.WritesAtMost, Io.KnownBytes.Keeps, Io.KnownBytes.ReadConsumes, Io.KnownBytes.WriteAppends};
+ghost use Rattle.cred_cli.specs.Watched.{IsNew, calls_of, failed_of, inner_of, name_of, Passes, ended_of, given_of, log_of, taken_of};
 
 use crate::call_log::CallLog;
 use crate::transcript::Transcript;

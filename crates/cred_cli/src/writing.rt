@@ -1,9 +1,7 @@
 //! Writing a text whole.
 
-ghost use Rattle.std.specs.Prelude.{◌≡◌, ◌++◌, IfErr, OnOk};
-ghost use Rattle.std.specs.Io.KnownBytes.{Appends};
-ghost use Rattle.cred_cli.specs.Steps.{WriteFails};
-ghost use Rattle.cred_cli.specs.Watched.{TakesAsContracted, failed_of, inner_of, name_of, taken_of};
+ghost use Rattle.std.specs.{Prelude.◌≡◌, Prelude.◌++◌, Prelude.IfErr, Prelude.OnOk, Io.KnownBytes.Appends};
+ghost use Rattle.cred_cli.specs.{Steps.WriteFails, Watched.TakesAsContracted, Watched.failed_of, Watched.inner_of, Watched.name_of, Watched.taken_of};
 
 use crate::fault::ScriptFault;
 use crate::watched::Watched;

@@ -1,15 +1,12 @@
 -- Beginnings of one list, and books after entries.
 use Rattle.std.proofs.Common.{◌≡◌, ℕ, ◌+◌, ◌<◌, List, [], ◌∷◌, ◌++◌, length, Bool, true, false, MatchBool, Option, Some, None, inl, inr, is_some, refl, ap, subst, arith, length-append, get_or, sym, ◌∙◌}
-use Rattle.std.proofs.lemmas.Bool.{cases_eq}
-use Rattle.std.proofs.lemmas.List.{get_or_read, append_assoc}
+use Rattle.std.proofs.{lemmas.Bool.cases_eq, lemmas.List.get_or_read, lemmas.List.append_assoc}
 use mathlib.Core.List.{IsPrefix}
 use Rattle.std.specs.FinMap as map
 use Rattle.cred_phc.specs.Values.{RecordValue}
 use Rattle.cred_book.specs.Accounts.{Accounts, with_entry}
 use Rattle.cred_book.proofs.Kept.{with_known, with_new}
-use Rattle.cred_desk.specs.declared.entry.AccountState.{AccountState}
-use Rattle.cred_desk.specs.declared.entry.Entry.{Entry}
-use Rattle.cred_desk.specs.Commits.{list_after, weight}
+use Rattle.cred_desk.specs.{declared.entry.AccountState.AccountState, declared.entry.Entry.Entry, Commits.list_after, Commits.weight}
 use Rattle.cred_desk.specs.Histories.{put, after, FollowsAt, IsAllowed, IsLegal, IsListed, IsMade}
 use Rattle.grow_log.specs.Beginnings.{IsLonger}
 use Rattle.grow_log.proofs.Prefixes.{prefix_whole}

@@ -1,24 +1,16 @@
 -- What a desk does for a session that settles work or adds an entry of its own (an admission, a
 -- load or a deletion), and what it answers if a writer may refuse the entry.
-use Rattle.std.specs.Prelude.{◌≡◌, ◌≢◌, ◌+◌, ℕ, Bool, true, false, List, ◌∷◌, [], ◌++◌, None}
-use Rattle.std.specs.Prelude.{Result, Some, Ok, Err}
+use Rattle.std.specs.Prelude.{◌≡◌, ◌≢◌, ◌+◌, ℕ, Bool, true, false, List, ◌∷◌, [], ◌++◌, None, Result, Some, Ok, Err}
 use mathlib.Core.List.{IsPrefix}
 use Rattle.std.specs.FinMap as map
-use Rattle.cred_book.specs.Accounts.{Accounts}
-use Rattle.cred_book.specs.Calls.{Admits, Loads}
-use Rattle.cred_book.specs.Works.{Task}
-use Rattle.cred_book.specs.declared.error.BookError.{BookError}
+use Rattle.cred_book.specs.{Accounts.Accounts, Calls.Admits, Calls.Loads, Works.Task, declared.error.BookError.BookError}
 use Rattle.cred_book.specs.declared.error.BookError.TheVariants as error
 use Rattle.cred_book.specs.declared.reply.Reply.{Reply}
 use Rattle.cred_desk.specs.Commits.{entry_of, list_after, reply_of, weight}
-use Rattle.cred_desk.specs.Histories.{IsAdmitted, IsDeleted, IsListed, IsLoaded, after, deletion}
-use Rattle.cred_desk.specs.Histories.{entry}
-use Rattle.cred_desk.specs.Naming.{Naming}
-use Rattle.cred_desk.specs.Standing.{Standing, IsUncounted}
-use Rattle.cred_desk.specs.declared.entry.AccountState.{AccountState}
+use Rattle.cred_desk.specs.Histories.{IsAdmitted, IsDeleted, IsListed, IsLoaded, after, deletion, entry}
+use Rattle.cred_desk.specs.{Naming.Naming, Standing.Standing, Standing.IsUncounted, declared.entry.AccountState.AccountState}
 use Rattle.cred_desk.specs.declared.entry.AccountState.TheVariants as state
-use Rattle.cred_desk.specs.declared.entry.Entry.{Entry}
-use Rattle.cred_desk.specs.declared.writer.KeepError.{KeepError}
+use Rattle.cred_desk.specs.{declared.entry.Entry.Entry, declared.writer.KeepError.KeepError}
 use Rattle.cred_desk.specs.declared.writer.KeepError.TheVariants.{Book, Writer}
 
 -- what a book would say: if a writer refuses an entry, the change would have been done

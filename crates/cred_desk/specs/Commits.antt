@@ -1,16 +1,9 @@
 -- What a commit answers, and what becomes of the list.
 use Rattle.std.specs.Prelude.{◌≡◌, ℕ, List, [], ◌∷◌, ◌++◌, if◌then◌else◌, Option, Some, None}
 use Rattle.cred_phc.specs.Values.{IsPassword}
-use Rattle.cred_book.specs.Accounts.{Accounts}
-use Rattle.cred_book.specs.Commits.{judgement}
-use Rattle.cred_book.specs.Works.{Task, name_of}
-use Rattle.cred_book.specs.declared.reply.Reply.{Reply}
-use Rattle.cred_book.specs.declared.request.Request.{Request}
-use Rattle.cred_book.specs.declared.request.Request.TheVariants.{Enrol, Verify, Change, Upgrade}
-use Rattle.cred_book.specs.declared.request.Request.TheVariants.{Remove}
-use Rattle.cred_desk.specs.Histories.{IsAllowed, IsListed, after, entry, put}
-use Rattle.cred_desk.specs.Naming.{Naming}
-use Rattle.cred_desk.specs.declared.entry.Entry.{Entry}
+use Rattle.cred_book.specs.{Accounts.Accounts, Commits.judgement, Works.Task, Works.name_of, declared.reply.Reply.Reply, declared.request.Request.Request}
+use Rattle.cred_book.specs.declared.request.Request.TheVariants.{Enrol, Verify, Change, Upgrade, Remove}
+use Rattle.cred_desk.specs.{Histories.IsAllowed, Histories.IsListed, Histories.after, Histories.entry, Histories.put, Naming.Naming, declared.entry.Entry.Entry}
 
 -- the answer at this book
 abbrev pub reply_of : Accounts → Task → Reply

@@ -1,11 +1,8 @@
 -- Lists of entries, the books that they lead to, and which of them come about.
-use Rattle.std.specs.Prelude.{◌≡◌, ◌⊎◌, ℕ, ◌<◌, List, [], ◌∷◌, Bool, true, false, Option, Some}
-use Rattle.std.specs.Prelude.{None}
+use Rattle.std.specs.Prelude.{◌≡◌, ◌⊎◌, ℕ, ◌<◌, List, [], ◌∷◌, Bool, true, false, Option, Some, None}
 use Rattle.std.specs.FinMap as map
-use Rattle.cred_phc.specs.Tags.{tag}
-use Rattle.cred_phc.specs.Values.{RecordValue, IsPassword}
-use Rattle.cred_book.specs.Accounts.{Accounts, most_accounts}
-use Rattle.cred_book.specs.Works.{right}
+use Rattle.cred_phc.specs.{Tags.tag, Values.RecordValue, Values.IsPassword}
+use Rattle.cred_book.specs.{Accounts.Accounts, Accounts.most_accounts, Works.right}
 use Rattle.cred_desk.specs.declared.entry.AccountState.{AccountState}
 use Rattle.cred_desk.specs.declared.entry.AccountState.TheVariants as state
 use Rattle.cred_desk.specs.declared.entry.Entry.{Entry}

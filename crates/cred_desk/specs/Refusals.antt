@@ -1,8 +1,7 @@
 -- The numbers and the words of a desk's refusals.
 use Rattle.std.specs.Prelude.{◌≡◌, ℕ, List, codes, Bool, true, false}
 use Rattle.cred_desk.specs.declared.error.DeskError.{DeskError}
-use Rattle.cred_desk.specs.declared.error.DeskError.TheVariants.{Memory, Sessions, Session, Reader}
-use Rattle.cred_desk.specs.declared.error.DeskError.TheVariants.{NoAccount, Older}
+use Rattle.cred_desk.specs.declared.error.DeskError.TheVariants.{Memory, Sessions, Session, Reader, NoAccount, Older}
 
 abbrev pub refusal_number : DeskError → ℕ
 refusal_number Memory = 1

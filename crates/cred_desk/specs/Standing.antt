@@ -1,13 +1,8 @@
 -- What a clause sees of a session, and what its calls do.
 use Rattle.std.specs.Prelude.{◌≡◌, ◌≢◌, ◌<◌, ℕ, List, [], length, Some, None, Result, Ok, Err}
 use Rattle.std.specs.FinMap as map
-use Rattle.cred_book.specs.Accounts.{Accounts}
-use Rattle.cred_book.specs.Works.{Task, name_of}
-use Rattle.cred_book.specs.declared.reply.Reply.{Reply}
-use Rattle.cred_book.specs.declared.request.Request.{Request}
-use Rattle.cred_desk.specs.Commits.{reply_of}
-use Rattle.cred_desk.specs.declared.entry.Entry.{Entry}
-use Rattle.cred_desk.specs.declared.error.DeskError.{DeskError}
+use Rattle.cred_book.specs.{Accounts.Accounts, Works.Task, Works.name_of, declared.reply.Reply.Reply, declared.request.Request.Request}
+use Rattle.cred_desk.specs.{Commits.reply_of, declared.entry.Entry.Entry, declared.error.DeskError.DeskError}
 use Rattle.cred_desk.specs.declared.error.DeskError.TheVariants as error
 
 pub record Standing : Type 0 where

@@ -1,8 +1,7 @@
 //! What a commit makes of a book.
 
 ghost use Rattle.std.specs.Prelude.{◌≡◌, IfSome};
-ghost use Rattle.cred_desk.specs.Commits.{HavePasswords, entry_of, reply_of};
-ghost use Rattle.cred_desk.specs.Histories.{IsMade};
+ghost use Rattle.cred_desk.specs.{Commits.HavePasswords, Commits.entry_of, Commits.reply_of, Histories.IsMade};
 
 use crate::entry::{AccountState, Entry};
 use cred_book::{Book, Reply, Request, Worked};

@@ -1,14 +1,11 @@
 //! What lies behind a desk's lock: the publisher of its book, the recorder of its entries, and the
 //! count of all that its sessions made.
 
-ghost use Rattle.std.specs.Prelude.{◌≡◌, ◌≢◌, ◌+◌, ◌<◌, ◌^◌, ◌++◌, ◌∷◌, ◌≤◌, [], All, IfErr};
-ghost use Rattle.std.specs.Prelude.{IfOk, MatchResult, None, length, vec_capacity};
+ghost use Rattle.std.specs.Prelude.{◌≡◌, ◌≢◌, ◌+◌, ◌<◌, ◌^◌, ◌++◌, ◌∷◌, ◌≤◌, [], All, IfErr, IfOk, MatchResult, None, length, vec_capacity};
 ghost use mathlib.Core.List.{IsPrefix};
 ghost use Rattle.cred_book.specs.declared.error.BookError.TheVariants.{Memory as memory};
-ghost use Rattle.cred_desk.specs.Changes.{refusal_of};
-ghost use Rattle.cred_desk.specs.Commits.{entry_of, list_after, reply_of, weight};
-ghost use Rattle.cred_desk.specs.Histories.{IsAllowed, IsListed, after};
-ghost use Rattle.cred_desk.specs.Standing.{IsMissed, IsUncounted};
+ghost use Rattle.cred_desk.specs.{Changes.refusal_of, Commits.entry_of, Commits.list_after, Commits.reply_of, Commits.weight};
+ghost use Rattle.cred_desk.specs.{Histories.IsAllowed, Histories.IsListed, Histories.after, Standing.IsMissed, Standing.IsUncounted};
 
 mod additions;
 

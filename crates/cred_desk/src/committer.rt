@@ -1,16 +1,11 @@
 //! The one who keeps a published book: what it changes, its sessions see.
 
-ghost use Rattle.std.specs.Prelude.{◌≡◌, ◌+◌, ◌^◌, ◌++◌, ◌∷◌, [], All, IfErr, IfOk, IsOk};
-ghost use Rattle.std.specs.Prelude.{MatchResult, None, Some, length, nat_le, true, vec_len};
+ghost use Rattle.std.specs.Prelude.{◌≡◌, ◌+◌, ◌^◌, ◌++◌, ◌∷◌, [], All, IfErr, IfOk, IsOk, MatchResult, None, Some, length, nat_le, true, vec_len};
 ghost use mathlib.Core.List.{IsPrefix};
-ghost use Rattle.cred_book.specs.Calls.{Admits, Loads};
-ghost use Rattle.cred_book.specs.Commits.{Commits};
+ghost use Rattle.cred_book.specs.{Calls.Admits, Calls.Loads, Commits.Commits, declared.error.BookError.TheVariants.Memory as memory};
 ghost use Rattle.cred_desk.specs.Commits.{entry_of, list_after, reply_of};
-ghost use Rattle.cred_book.specs.declared.error.BookError.TheVariants.{Memory as memory};
 ghost use Rattle.cred_desk.specs.Histories.{IsAllowed, IsLawful, IsLegal, IsMade, after, entry};
-ghost use Rattle.cred_desk.specs.Naming.{IsNamed, StartsAt};
-ghost use Rattle.cred_desk.specs.Refusals.{IsRefusedToMake};
-ghost use Rattle.cred_desk.specs.Standing.{IsNew};
+ghost use Rattle.cred_desk.specs.{Naming.IsNamed, Naming.StartsAt, Refusals.IsRefusedToMake, Standing.IsNew};
 ghost use Rattle.cred_desk.specs.declared.error.DeskError.TheVariants as error;
 
 use crate::change::judge;

@@ -1,12 +1,8 @@
 //! A desk: sessions settle their work behind its lock, and read its book with no lock.
 
-ghost use Rattle.std.specs.Prelude.{◌≡◌, ◌&&◌, All, IfErr, IfOk, MatchResult, false, length};
-ghost use Rattle.std.specs.Prelude.{map, nat_le, sum, true, vec_len};
+ghost use Rattle.std.specs.Prelude.{◌≡◌, ◌&&◌, All, IfErr, IfOk, MatchResult, false, length, map, nat_le, sum, true, vec_len};
 ghost use mathlib.Core.List.{IsPrefix};
-ghost use Rattle.cred_desk.specs.Changes.{Settles};
-ghost use Rattle.cred_desk.specs.Histories.{IsLegal, after};
-ghost use Rattle.cred_desk.specs.Naming.{IsNamed, StartsAt};
-ghost use Rattle.cred_desk.specs.Refusals.{IsRefusedToMake};
+ghost use Rattle.cred_desk.specs.{Changes.Settles, Histories.IsLegal, Histories.after, Naming.IsNamed, Naming.StartsAt, Refusals.IsRefusedToMake};
 ghost use Rattle.cred_desk.specs.Standing.{IsMissed, IsNew};
 ghost use Rattle.cred_desk.specs.declared.error.DeskError.TheVariants as error;
 

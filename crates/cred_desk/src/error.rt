@@ -1,8 +1,7 @@
 //! Why a call on a desk, a committer or a session is refused.
 
 ghost use Rattle.std.specs.Prelude.{◌≡◌};
-ghost use Rattle.cred_desk.specs.Refusals.{refusal_number, refusal_word};
-ghost use Rattle.cred_desk.specs.declared.error.DeskError.TheVariants.{Memory as OutOfMemory};
+ghost use Rattle.cred_desk.specs.{Refusals.refusal_number, Refusals.refusal_word, declared.error.DeskError.TheVariants.Memory as OutOfMemory};
 
 use std::alloc::AllocError;
 use thiserror::Error;

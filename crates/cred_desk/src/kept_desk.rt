@@ -1,16 +1,11 @@
 //! A desk whose entries a writer of its owner's keeps, and at which people sign up.
 
-ghost use Rattle.std.specs.Prelude.{◌≡◌, ◌+◌, ◌++◌, ◌&&◌, [], All, IfErr, IfOk, List};
-ghost use Rattle.std.specs.Prelude.{MatchResult, None, Some, false, length, map, nat_le, sum, true};
-ghost use Rattle.std.specs.Prelude.{vec_len};
+ghost use Rattle.std.specs.Prelude.{◌≡◌, ◌+◌, ◌++◌, ◌&&◌, [], All, IfErr, IfOk, List, MatchResult, None, Some, false, length, map, nat_le, sum, true, vec_len};
 ghost use mathlib.Core.List.{IsPrefix};
 ghost use Rattle.cred_book.specs.declared.error.BookError.TheVariants.{Memory as memory};
 ghost use Rattle.cred_desk.specs.Changes.{Adds, IsAt, Settles, refusal_of};
-ghost use Rattle.cred_desk.specs.Histories.{IsListed, after, deletion, entry};
-ghost use Rattle.cred_desk.specs.Naming.{IsNamed, StartsAt};
-ghost use Rattle.cred_desk.specs.Refusals.{IsRefusedToMake};
-ghost use Rattle.cred_desk.specs.Standing.{IsMissed, IsNew, IsUncounted};
-ghost use Rattle.cred_desk.specs.declared.entry.Entry.{Entry as DeskEntry};
+ghost use Rattle.cred_desk.specs.{Histories.IsListed, Histories.after, Histories.deletion, Histories.entry, Naming.IsNamed, Naming.StartsAt};
+ghost use Rattle.cred_desk.specs.{Refusals.IsRefusedToMake, Standing.IsMissed, Standing.IsNew, Standing.IsUncounted, declared.entry.Entry.Entry as DeskEntry};
 
 use crate::clerk::Clerk;
 use crate::closed::{Closed, Finished, Kept, Remains, Unclosed};

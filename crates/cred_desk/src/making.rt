@@ -1,9 +1,7 @@
 //! How a publisher and its sessions are made of a book.
 
 ghost use Rattle.std.specs.Prelude.{◌≡◌, [], All, IfErr, IfOk, true, vec_len};
-ghost use Rattle.cred_desk.specs.Naming.{IsNamed, StartsAt};
-ghost use Rattle.cred_desk.specs.Refusals.{IsRefusedToMake};
-ghost use Rattle.cred_desk.specs.Standing.{IsNew};
+ghost use Rattle.cred_desk.specs.{Naming.IsNamed, Naming.StartsAt, Refusals.IsRefusedToMake, Standing.IsNew};
 
 use crate::error::DeskError;
 use crate::list::Front;

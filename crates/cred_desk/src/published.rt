@@ -1,8 +1,7 @@
 //! What readers see: the book, beside the list of entries that led to it.
 
 ghost use Rattle.std.specs.Prelude.{◌≡◌, IfOk};
-ghost use Rattle.cred_desk.specs.Commits.{LeadsTo};
-ghost use Rattle.cred_desk.specs.Histories.{IsAllowed, after, put};
+ghost use Rattle.cred_desk.specs.{Commits.LeadsTo, Histories.IsAllowed, Histories.after, Histories.put};
 
 use crate::entry::{AccountState, Entry};
 use crate::list::Front;

@@ -2,10 +2,8 @@
 
 ghost use Rattle.std.specs.Prelude.{◌≡◌, ◌+◌, ◌<◌, ◌^◌, [], IfSome, MatchBool, false, true};
 ghost use mathlib.Core.List.{IsPrefix};
-ghost use Rattle.cred_book.specs.Commits.{Begins};
-ghost use Rattle.cred_book.specs.Works.{is_for_current};
-ghost use Rattle.cred_desk.specs.Commits.{reply_of};
-ghost use Rattle.cred_desk.specs.Histories.{IsListed, after};
+ghost use Rattle.cred_book.specs.{Commits.Begins, Works.is_for_current};
+ghost use Rattle.cred_desk.specs.{Commits.reply_of, Histories.IsListed, Histories.after};
 ghost use Rattle.cred_desk.specs.Standing.{BeginsAt, ClosesAt, IsNew, IsUncounted};
 ghost use Rattle.grow_log.specs.Beginnings.{IsLonger};
 

@@ -1,7 +1,6 @@
 //! How many changes and additions sessions made, each and all together.
 
-ghost use Rattle.std.specs.Prelude.{◌≡◌, ◌+◌, ◌≤◌, [], IfOk, false, length, map, sum};
-ghost use Rattle.std.specs.Prelude.{vec_capacity, vec_len};
+ghost use Rattle.std.specs.Prelude.{◌≡◌, ◌+◌, ◌≤◌, [], IfOk, false, length, map, sum, vec_capacity, vec_len};
 
 use crate::naming::Naming;
 use crate::session::Session;

@@ -1,44 +1,25 @@
 -- What the statements that change an account do to the table, at Ok and over a crash.
 use Rattle.std.proofs.Common.{◌≡◌, ◌⊎◌, inl, inr, ℕ, ℤ, List, [], ◌∷◌, ◌++◌, map, filter, flat_map, Bool, true, false, not, cond, ◌&&◌, ◌||◌, Some, None, Option, is_some, unwrap_or, IsTrue, Ok, Err, Result, refl, sym, ap, subst, subst₂, ◌∙◌}
-use Rattle.std.specs.List.{list_any, list_all}
-use Rattle.std.specs.List.Sorted.{IsPermutation}
-use Rattle.std.specs.Ordering.{is_eq, eq_by_cmp}
-use Rattle.std.specs.Cmp.{eq_by_cmp_equiv}
+use Rattle.std.specs.{List.list_any, List.list_all, List.Sorted.IsPermutation, Ordering.is_eq, Ordering.eq_by_cmp, Cmp.eq_by_cmp_equiv}
 use Rattle.std.specs.Cmp.Lexicographic.{nat_list_cmp_total}
 use Rattle.std.specs.FinMap as fin
 use Rattle.sqlite.specs.declared.types.Value.{Value}
 use Rattle.sqlite.specs.declared.types.Value.TheVariants.{Null, Int, Text}
-use Rattle.sqlite.specs.Order.{Row, column, value_cmp}
-use Rattle.sqlite.specs.Term.{Env, holds}
+use Rattle.sqlite.specs.{Order.Row, Order.column, Order.value_cmp, Term.Env, Term.holds, Query.IsAnswer, Query.output, Query.page, Query.Output}
+use Rattle.sqlite.specs.{Program.overlay, Kind.TheVariants.Integer, Source.TheVariants.Values}
+use Rattle.sqlite.specs.{Command.TheVariants.Insert, Command.TheVariants.Update, Command.TheVariants.Delete, declared.run.Mode.Mode}
+use Rattle.sqlite.specs.{Edit.Edit, Edit.edit_of, Edit.edited, Cast.cast, Rowids.TheVariants.Chosen, Rowids.TheVariants.Given, Does.Tally, Does.Does}
+use Rattle.sqlite.specs.{Rows.Written, Tree.Trees, Effect.Database, Table.Table}
 use Rattle.sqlite_sql.specs.Ops.{unary, binary, is_true, from_truth}
-use Rattle.sqlite.specs.Query.{IsAnswer, output, page, Output}
-use Rattle.sqlite.specs.Program.{overlay}
-use Rattle.sqlite.specs.Kind.TheVariants.{Integer}
-use Rattle.sqlite.specs.Source.TheVariants.{Values}
-use Rattle.sqlite.specs.Command.TheVariants.{Insert, Update, Delete}
-use Rattle.sqlite.specs.declared.run.Mode.{Mode}
-use Rattle.sqlite.specs.Edit.{Edit, edit_of, edited}
-use Rattle.sqlite_rules.specs.Edit.{taken_by, put_all, next_rowid, is_taken, are_fresh}
-use Rattle.sqlite.specs.Cast.{cast}
-use Rattle.sqlite_rules.specs.Cast.{cast_row}
-use Rattle.sqlite_rules.specs.Calls.{ids_of}
-use Rattle.sqlite.specs.Rowids.TheVariants.{Chosen, Given}
-use Rattle.sqlite.specs.Does.{Tally, Does}
-use Rattle.sqlite.specs.Rows.{Written}
-use Rattle.sqlite.specs.Tree.{Trees}
+use Rattle.sqlite_rules.specs.{Edit.taken_by, Edit.put_all, Edit.next_rowid, Edit.is_taken, Edit.are_fresh, Cast.cast_row, Calls.ids_of, Action.works}
 use Rattle.sqlite_trees.specs.Tree.{has_rowid, put_row, without_rowid}
-use Rattle.sqlite.specs.Effect.{Database}
 use Rattle.sqlite.proofs.Callers.{one_step, one_permutation}
 use Rattle.cred_phc.specs.Values.{RecordValue}
-use Rattle.cred_book.specs.Accounts.{Accounts}
-use Rattle.cred_book.specs.Names.{is_name, name_cmp}
-use Rattle.sqlite.specs.Table.{Table}
+use Rattle.cred_book.specs.{Accounts.Accounts, Names.is_name, Names.name_cmp}
 use Rattle.sqlite_schema.specs.declared.schema.Keys.{Keys}
-use Rattle.sqlite_rules.specs.Action.{works}
-use Rattle.cred_file.specs.Schema.{account, book_schema}
-use Rattle.std.specs.FinMap.{get-from_entries}
-use Rattle.cred_file.specs.Edits.{renamed}
+use Rattle.cred_file.specs.{Schema.account, Schema.book_schema, Edits.renamed}
 use Rattle.cred_file.specs.Table.{Line, Says, Tells, entry_of, has_name, StandsFor}
+use Rattle.std.specs.FinMap.{get-from_entries}
 use Rattle.cred_file.proofs.TableLemmas.{stands_put, stands_without, row_of, insert_again, absent_now, named_in}
 use Rattle.cred_file.proofs.Texts.{matched, terms, deleting, renaming}
 

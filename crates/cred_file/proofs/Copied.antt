@@ -1,13 +1,9 @@
 -- A copy of a book, as its accounts are entered into an empty one.
 use Rattle.std.proofs.Common.{◌≡◌, ◌⊎◌, inl, inr, ◌≤◌, None, subst, sym, ◌∙◌}
 use Rattle.std.specs.FinMap as fin
-use Rattle.sqlite.specs.Held.{Held, state}
-use Rattle.sqlite.specs.State.{State, HasCleanDisk}
-use Rattle.sqlite.specs.Store.{Ghosts}
-use Rattle.sqlite.specs.Tree.{Trees}
+use Rattle.sqlite.specs.{Held.Held, Held.state, State.State, State.HasCleanDisk, Store.Ghosts, Tree.Trees}
 use Rattle.cred_book.specs.Accounts.{Accounts, register_capacity}
-use Rattle.cred_file.specs.Copies.{MayCopy}
-use Rattle.cred_file.specs.Keeps.{HoldsBook, IsTableOf, Keeps, LeavesOnly}
+use Rattle.cred_file.specs.{Copies.MayCopy, Keeps.HoldsBook, Keeps.IsTableOf, Keeps.Keeps, Keeps.LeavesOnly}
 
 -- the table stands for the copy, and a crash leaves it
 pub keeps_copy : {S : Type 0} (g : Ghosts S) (new : Held S) (book : Accounts) → fin.len book ≤ register_capacity → (HasCleanDisk (state g new) → IsTableOf (state g new) book) → Keeps g new book None

@@ -1,19 +1,13 @@
 -- What CREATE TABLE does to an empty database.
 use Rattle.std.proofs.Common.{◌≡◌, ◌⊎◌, inl, inr, ℕ, List, [], false, if◌then◌else◌, Option, None, Ok, Err, Result, refl, sym, ap, subst, ◌∙◌}
 use Rattle.std.specs.FinMap as fin
-use Rattle.sqlite.specs.Command.TheVariants.{CreateTable}
-use Rattle.sqlite.specs.Change.{created, next_tree}
-use Rattle.sqlite.specs.Does.{Tally, Does, lacks_sequence}
-use Rattle.sqlite.specs.Effect.{Database}
+use Rattle.sqlite.specs.{Command.TheVariants.CreateTable, Change.created, Change.next_tree, Does.Tally, Does.Does, Does.lacks_sequence, Effect.Database}
 use Rattle.sqlite.specs.State.{State, HasCleanDisk, Survives, CommitsBy, MayCommit, MayWrite, Writes, Executes, mode_of}
-use Rattle.sqlite.specs.declared.run.Mode.{Mode}
-use Rattle.sqlite.specs.Tree.{Trees}
+use Rattle.sqlite.specs.{declared.run.Mode.Mode, Tree.Trees}
 use Rattle.sqlite.proofs.Callers.{runs_as}
-use Rattle.cred_file.specs.Schema.{IsBookSchema, account, book_schema, create_text, no_schema}
-use Rattle.cred_file.specs.Table.{StandsFor}
+use Rattle.cred_file.specs.{Schema.IsBookSchema, Schema.account, Schema.book_schema, Schema.create_text, Schema.no_schema, Table.StandsFor}
 use Rattle.cred_file.specs.Keeps.{HoldsBook, IsTableOf}
-use Rattle.cred_file.proofs.Keeping.{IsSettled, holds, commits_as}
-use Rattle.cred_file.proofs.Texts.{create_is, create_plain, created_is}
+use Rattle.cred_file.proofs.{Keeping.IsSettled, Keeping.holds, Keeping.commits_as, Texts.create_is, Texts.create_plain, Texts.created_is}
 
 went : {B E R : Type 0} {b : B} {Stops : E → Type 0} → ((stop : E) × Stops stop × (Ok b ≡ Err stop)) ⊎ R → R
 went (inl stopped) = absurd (let e = stopped.2 in cc)

@@ -4,16 +4,10 @@ use Rattle.std.specs.List.{AllZip}
 use Rattle.std.specs.FinMap as fin
 use Rattle.sqlite.specs.declared.types.Value.{Value}
 use Rattle.sqlite.specs.declared.types.Value.TheVariants.{Null, Int, Real, Text, Blob}
-use Rattle.sqlite.specs.Order.{Row}
-use Rattle.sqlite.specs.Tree.{Trees}
-use Rattle.sqlite.specs.Held.{Held, state}
-use Rattle.sqlite.specs.Store.{Ghosts}
-use Rattle.sqlite.specs.State.{HasCleanDisk}
+use Rattle.sqlite.specs.{Order.Row, Tree.Trees, Held.Held, Held.state, Store.Ghosts, State.HasCleanDisk}
 use Rattle.cred_phc.specs.Values.{RecordValue}
 use Rattle.cred_book.specs.Accounts.{Accounts}
-use Rattle.cred_file.specs.declared.fault.Lost.{Lost}
-use Rattle.cred_file.specs.Table.{Line, Says, Tells, entry_of, StandsFor}
-use Rattle.cred_file.specs.Keeps.{Keeps, IsOrWith}
+use Rattle.cred_file.specs.{declared.fault.Lost.Lost, Table.Line, Table.Says, Table.Tells, Table.entry_of, Table.StandsFor, Keeps.Keeps, Keeps.IsOrWith}
 
 told_once : (v : Value) (a b : Option RecordValue) → Tells v a → Tells v b → a ≡ b
 told_once Null None None p q = refl

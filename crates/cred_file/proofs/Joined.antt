@@ -1,8 +1,7 @@
 -- The accounts of two books, as those of one are added to the other and taken out again.
 use Rattle.std.proofs.Common.{◌≡◌, ◌+◌, ◌≤◌, ℕ, List, [], ◌∷◌, ◌++◌, length, append_assoc, append-nil, Bool, true, false, cond, ◌||◌, ◌&&◌, T, Option, Some, None, is_some, refl, sym, ap, subst, ◌∙◌, arith}
 use Rattle.std.proofs.lemmas.List.{length-append}
-use Rattle.std.specs.Ordering.{eq_by_cmp, is_eq, is_lt, ordering_reverse}
-use Rattle.std.specs.declared.cmp.Ordering.{Ordering}
+use Rattle.std.specs.{Ordering.eq_by_cmp, Ordering.is_eq, Ordering.is_lt, Ordering.ordering_reverse, declared.cmp.Ordering.Ordering}
 use Rattle.std.specs.declared.cmp.Ordering.TheVariants.{Less, Equal, Greater}
 use Rattle.std.specs.Cmp.{eq_by_cmp_equiv}
 use Rattle.std.specs.FinMap as fin
@@ -11,10 +10,8 @@ use Rattle.std.specs.FinMap.{get-entries, get-from_entries, get-insert, get-remo
 use Rattle.std.specs.Cmp.Lexicographic.{nat_list_cmp_total}
 use Rattle.sqlite.specs.State.{State, HasCleanDisk}
 use Rattle.cred_phc.specs.Values.{RecordValue}
-use Rattle.cred_book.specs.Accounts.{Accounts}
-use Rattle.cred_book.specs.Names.{name_cmp}
-use Rattle.cred_file.specs.Edits.{AreApart, AreThere, joined, taken_in}
-use Rattle.cred_file.specs.Keeps.{Has}
+use Rattle.cred_book.specs.{Accounts.Accounts, Names.name_cmp}
+use Rattle.cred_file.specs.{Edits.AreApart, Edits.AreThere, Edits.joined, Edits.taken_in, Keeps.Has}
 use Rattle.cred_file.specs.Together.{IsPartOf, IsUnderWay, MakesWithin}
 
 abbrev pub Entries : Type 0

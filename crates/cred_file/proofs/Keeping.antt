@@ -1,42 +1,25 @@
 -- What the statements do to a connection that keeps a book.
 use Rattle.std.proofs.Common.{is_ok, is_err, is_some, arith, ◌≤◌, ◌≡◌, ◌⊎◌, inl, inr, ℕ, List, [], ◌∷◌, append-nil, true, false, if◌then◌else◌, cond, ◌+◌, Some, None, Option, Ok, Err, Result, IsTrue, refl, sym, ap, subst, subst₂, ◌∙◌}
 use Rattle.std.specs.FinMap as fin
-use Rattle.std.specs.FinMap.{len-insert}
-use Rattle.std.specs.Cmp.Lexicographic.{nat_list_cmp_total}
+use Rattle.std.specs.{FinMap.len-insert, Cmp.Lexicographic.nat_list_cmp_total}
 use Rattle.sqlite.specs.declared.types.Value.{Value}
 use Rattle.sqlite.specs.declared.types.Value.TheVariants.{Null, Int, Real, Text, Blob}
-use Rattle.sqlite.specs.Values.{bound_value}
-use Rattle.sqlite.specs.Order.{Row}
-use Rattle.sqlite.specs.Tree.{Trees}
-use Rattle.sqlite.specs.Schema.{Schema}
-use Rattle.sqlite_schema.specs.declared.command.Command.{Command}
-use Rattle.sqlite.specs.Command.TheVariants.{Insert, Update, Delete}
-use Rattle.sqlite.specs.Source.TheVariants.{Values}
-use Rattle.sqlite.specs.Effect.{Database}
+use Rattle.sqlite.specs.{Values.bound_value, Order.Row, Tree.Trees, Schema.Schema}
+use Rattle.sqlite.specs.{Command.TheVariants.Insert, Command.TheVariants.Update, Command.TheVariants.Delete, Source.TheVariants.Values, Effect.Database}
 use Rattle.sqlite.specs.Listing.{understood}
 use Rattle.sqlite.specs.State.{State, HasCleanDisk, Survives, Executes, CommitsBy, MayCommit, MayWrite, Writes, Runs, mode_of}
-use Rattle.sqlite.specs.declared.run.Mode.{Mode}
-use Rattle.sqlite.specs.Does.{Does, Tally}
+use Rattle.sqlite.specs.{declared.run.Mode.Mode, Does.Does, Does.Tally, Held.Held, Held.state, Store.Ghosts}
+use Rattle.sqlite_schema.specs.declared.command.Command.{Command}
 use Rattle.sqlite.proofs.Callers.{IsPlain, command_of, statement_of, runs_as}
-use Rattle.cred_phc.specs.Values.{IsRecord, RecordValue}
-use Rattle.cred_phc.specs.Text.{record_text}
-use Rattle.cred_phc.specs.Reading.{read_record}
+use Rattle.cred_phc.specs.{Values.IsRecord, Values.RecordValue, Text.record_text, Reading.read_record}
 use Rattle.cred_phc.proofs.RecordLaws.{read_back}
-use Rattle.std.proofs.Common.{nat_lt, ◌<◌, false, ◌||◌, OnOk, IfErr}
-use Rattle.std.proofs.lemmas.Bool.{lt-ltb, le-ltb}
-use Rattle.cred_book.specs.Accounts.{Accounts, register_capacity}
+use Rattle.std.proofs.{Common.nat_lt, Common.◌<◌, Common.false, Common.◌||◌, Common.OnOk, Common.IfErr, lemmas.Bool.lt-ltb, lemmas.Bool.le-ltb}
+use Rattle.cred_book.specs.{Accounts.Accounts, Accounts.register_capacity, Calls.EntersWithin, Calls.Shows, Names.is_name, declared.error.BookError.BookError}
 use Rattle.sqlite_catalog.specs.Listing.{IsSound}
 use Rattle.cred_file.specs.Schema.{IsBookSchema, statistics, insert_text, update_text, delete_text, rename_text}
-use Rattle.cred_file.specs.Table.{StandsFor, Tells}
-use Rattle.cred_file.specs.Edits.{after_edit, renamed, PutsEntry}
-use Rattle.cred_file.specs.Keeps.{HoldsBook, IsTableOf, IsRenamable, LeavesOnly, Keeps, IsOrWith}
-use Rattle.cred_file.specs.declared.fault.Lost.{Lost}
-use Rattle.sqlite.specs.Held.{Held, state}
-use Rattle.sqlite.specs.Store.{Ghosts}
+use Rattle.cred_file.specs.{Table.StandsFor, Table.Tells, Edits.after_edit, Edits.renamed, Edits.PutsEntry}
+use Rattle.cred_file.specs.{Keeps.HoldsBook, Keeps.IsTableOf, Keeps.IsRenamable, Keeps.LeavesOnly, Keeps.Keeps, Keeps.IsOrWith, declared.fault.Lost.Lost}
 use Rattle.sqlite_trees.specs.View.{doubt}
-use Rattle.cred_book.specs.Calls.{EntersWithin, Shows}
-use Rattle.cred_book.specs.Names.{is_name}
-use Rattle.cred_book.specs.declared.error.BookError.{BookError}
 use Rattle.cred_book.specs.declared.error.BookError.TheVariants as error
 use Rattle.cred_file.proofs.Texts.{of_book, insert_is, update_is, delete_is, rename_is, insert_plain, update_plain, delete_plain, rename_plain, matched, deleting, renaming, terms}
 use Rattle.cred_file.proofs.Changes.{does_insert, does_update, does_delete, does_rename}

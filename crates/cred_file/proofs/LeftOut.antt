@@ -1,15 +1,10 @@
 -- What a row that is left out says of all rows.
 use Rattle.std.proofs.Common.{◌≡◌, inl, inr, ℕ, ℤ, List, [], ◌∷◌, length, filter, take, drop, get_or, Bool, true, false, cond, not, ◌||◌, ◌&&◌, refl, sym, ap, ◌∙◌, ◌<◌, ◌≤◌, ◌+◌, arith}
-use Rattle.std.proofs.lemmas.List.{take-append-drop, length-take}
-use Rattle.std.proofs.lemmas.List.Folds.{list_any-append, list_any_at}
+use Rattle.std.proofs.{lemmas.List.take-append-drop, lemmas.List.length-take, lemmas.List.Folds.list_any-append, lemmas.List.Folds.list_any_at}
 use Rattle.std.proofs.lemmas.List.Sums.{count_by_more_yes, sum_by-take-le, length-filter}
-use Rattle.std.specs.List.{AllZip, list_any}
-use Rattle.std.specs.Ordering.{is_eq}
-use Rattle.std.specs.Cmp.{eq_by_cmp_equiv}
-use Rattle.sqlite.specs.declared.types.Value.TheVariants.{Int, Text}
-use Rattle.sqlite.specs.Order.{Row, column, value_cmp}
-use Rattle.sqlite_trees.specs.Tree.{has_rowid}
-use Rattle.sqlite_trees.specs.View.{is_int}
+use Rattle.std.specs.{List.AllZip, List.list_any, Ordering.is_eq, Cmp.eq_by_cmp_equiv}
+use Rattle.sqlite.specs.{declared.types.Value.TheVariants.Int, declared.types.Value.TheVariants.Text, Order.Row, Order.column, Order.value_cmp}
+use Rattle.sqlite_trees.specs.{Tree.has_rowid, View.is_int}
 use Rattle.sqlite_value.proofs.OrderLemmas.{value_cmp_total, value_cmp-Text}
 use Rattle.cred_book.specs.Accounts.{Accounts}
 use Rattle.cred_file.specs.declared.fault.OpenFault.{OpenFault}
@@ -17,8 +12,7 @@ use Rattle.cred_file.specs.declared.fault.OpenFault.TheVariants as fault
 use Rattle.cred_file.specs.Table.{Line, Says, has_id, has_name}
 use Rattle.cred_file.specs.Opening.{agree, is_no_name, is_no_record, is_repeated, AreAtFault}
 use Rattle.cred_file.specs.Drafts.{IsDraftOf, IsUnread, IsSpare, IsNotAdded, knows}
-use Rattle.cred_file.proofs.TableLemmas.{or_false, id_symm, any_rows}
-use Rattle.cred_file.proofs.Pushed.{any_known}
+use Rattle.cred_file.proofs.{TableLemmas.or_false, TableLemmas.id_symm, TableLemmas.any_rows, Pushed.any_known}
 
 -- a test of two parts, both true
 both : (a b : Bool) → a ≡ true → b ≡ true → (a && b) ≡ true

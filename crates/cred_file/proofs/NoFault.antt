@@ -3,29 +3,21 @@ use Rattle.std.proofs.Common.{◌≡◌, inl, inr, suc, ◌+◌, ◌≤◌, arit
 use Rattle.std.proofs.lemmas.Bool.{true≢false}
 use Rattle.std.specs.FinMap as fin
 use Rattle.std.specs.FinMap.{same_map, get-insert, get-from_entries, len-empty, len-insert, slice_cmp-IsAntisymmetric, nat_cmp-IsAntisymmetric}
-use Rattle.std.specs.FinMap.Entries.{is_some-find}
-use Rattle.std.specs.Cmp.Lexicographic.{nat_list_cmp_total}
-use Rattle.std.specs.List.{AllZip, list_any}
-use Rattle.std.specs.Ordering.{is_eq, eq_by_cmp}
+use Rattle.std.specs.{FinMap.Entries.is_some-find, Cmp.Lexicographic.nat_list_cmp_total, List.AllZip, List.list_any, Ordering.is_eq, Ordering.eq_by_cmp}
 use Rattle.std.specs.Cmp.{eq_by_cmp_equiv}
 use Rattle.sqlite.specs.declared.types.Value.{Value}
 use Rattle.sqlite.specs.declared.types.Value.TheVariants.{Null, Int, Real, Text, Blob}
-use Rattle.sqlite.specs.Order.{Row, column, value_cmp}
-use Rattle.sqlite.specs.State.{State}
-use Rattle.sqlite.specs.Effect.{IsDatabase}
+use Rattle.sqlite.specs.{Order.Row, Order.column, Order.value_cmp, State.State, Effect.IsDatabase}
 use Rattle.sqlite_trees.specs.Tree.{has_rowid}
 use Rattle.sqlite_value.proofs.OrderLemmas.{value_cmp_total, value_cmp-Text}
-use Rattle.cred_phc.specs.Values.{RecordValue}
-use Rattle.cred_phc.specs.declared.error.PhcError.{PhcError}
+use Rattle.cred_phc.specs.{Values.RecordValue, declared.error.PhcError.PhcError}
 use Rattle.cred_book.specs.Accounts.{Accounts, register_capacity}
 use Rattle.cred_file.specs.declared.fault.OpenFault.{OpenFault}
 use Rattle.cred_file.specs.declared.fault.OpenFault.TheVariants as fault
 use Rattle.cred_book.specs.Names.{name_cmp}
-use Rattle.cred_file.specs.Table.{Line, Says, Tells, entry_of, has_name, AreApart, StandsFor}
-use Rattle.cred_file.specs.Keeps.{HoldsBook}
+use Rattle.cred_file.specs.{Table.Line, Table.Says, Table.Tells, Table.entry_of, Table.has_name, Table.AreApart, Table.StandsFor, Keeps.HoldsBook}
 use Rattle.cred_file.specs.Opening.{agree, is_no_name, is_no_record, is_refused, is_repeated, AreAtFault, IsUnopened, IsForWant}
-use Rattle.cred_file.proofs.TableLemmas.{or_false, or_both, name_symm, any_names}
-use Rattle.cred_file.proofs.Catalogued.{still_book}
+use Rattle.cred_file.proofs.{TableLemmas.or_false, TableLemmas.or_both, TableLemmas.name_symm, TableLemmas.any_names, Catalogued.still_book}
 
 -- a test that no row passes
 none_pass : (test : Row → Bool) → ((row : Row) (l : Line) → Says row l → test row ≡ false) → (rows : List Row) (ls : List Line) → AllZip Says rows ls → list_any test rows ≡ false

@@ -1,13 +1,8 @@
 -- The book that is opened from files is that of the database which they hold.
 use Rattle.std.proofs.Common.{◌≡◌, ap, subst, ◌∙◌}
 use Rattle.cred_book.specs.Accounts.{Accounts}
-use Rattle.cred_file.specs.Keeps.{HoldsBook}
-use Rattle.cred_file.specs.Opening.{IsFound}
-use Rattle.cred_file.specs.Table.{StandsFor}
-use Rattle.sqlite.specs.Files.{HoldsDatabase}
-use Rattle.sqlite.specs.Start.{FindsIn}
-use Rattle.sqlite.specs.State.{IsLive, Opens, State}
-use Rattle.sqlite.specs.Tree.{Trees}
+use Rattle.cred_file.specs.{Keeps.HoldsBook, Opening.IsFound, Table.StandsFor}
+use Rattle.sqlite.specs.{Files.HoldsDatabase, Start.FindsIn, State.IsLive, State.Opens, State.State, Tree.Trees}
 use Rattle.sqlite_catalog.specs.Listing.{IsSound}
 
 pub held : (image : _) (old new : State) (book : Accounts) → Opens old → IsLive old → FindsIn image old → IsFound old new book → (db : Trees) → HoldsDatabase image db → HoldsBook db book

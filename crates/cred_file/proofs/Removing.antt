@@ -1,15 +1,12 @@
 -- What is left of a book where a name is taken out of it or renamed.
 use Rattle.std.proofs.Common.{◌≡◌, ◌≤◌, ◌+◌, ◌-◌, ℕ, List, Bool, true, false, cond, Option, Some, None, is_some, unwrap_or, refl, sym, ap, ◌∙◌, arith}
-use Rattle.std.specs.Ordering.{eq_by_cmp, is_eq}
-use Rattle.std.specs.declared.cmp.Ordering.{Ordering}
+use Rattle.std.specs.{Ordering.eq_by_cmp, Ordering.is_eq, declared.cmp.Ordering.Ordering}
 use Rattle.std.specs.declared.cmp.Ordering.TheVariants.{Less, Equal, Greater}
 use Rattle.std.specs.Cmp.{eq_by_cmp_equiv}
 use Rattle.std.specs.FinMap as fin
-use Rattle.std.specs.FinMap.{len-insert, len-remove, get-remove, get-insert}
-use Rattle.std.specs.Cmp.Lexicographic.{nat_list_cmp_total}
+use Rattle.std.specs.{FinMap.len-insert, FinMap.len-remove, FinMap.get-remove, FinMap.get-insert, Cmp.Lexicographic.nat_list_cmp_total}
 use Rattle.cred_phc.specs.Values.{RecordValue}
-use Rattle.cred_book.specs.Accounts.{Accounts, register_capacity}
-use Rattle.cred_book.specs.Names.{name_cmp}
+use Rattle.cred_book.specs.{Accounts.Accounts, Accounts.register_capacity, Names.name_cmp}
 use Rattle.cred_file.specs.Edits.{renamed}
 
 -- only equal names tie

@@ -1,22 +1,13 @@
 -- What the query of all rows answers, and that it changes nothing.
 use Rattle.std.proofs.Common.{◌≡◌, inl, inr, arith, List, [], ◌∷◌, map, flat_map, IsTrue, false, refl, sym, ap, subst, ◌∙◌}
-use Rattle.std.specs.List.Sorted.{IsPermutation}
 use Rattle.std.proofs.lemmas.List.Sorted.{IsPermutation-map, IsPermutation-sym}
-use Rattle.sqlite.specs.declared.types.Value.TheVariants.{Null}
-use Rattle.sqlite.specs.Order.{Row}
-use Rattle.sqlite.specs.Query.{IsAnswer, output, Output}
-use Rattle.sqlite.specs.Program.{overlay}
-use Rattle.sqlite.specs.Effect.{Database, IsDatabase}
-use Rattle.sqlite.specs.State.{State, Shown, IsUnchanged, CommitsShowing, Survives}
+use Rattle.std.specs.List.Sorted.{IsPermutation}
+use Rattle.sqlite.specs.{declared.types.Value.TheVariants.Null, Order.Row, Query.IsAnswer, Query.output, Query.Output, Program.overlay}
+use Rattle.sqlite.specs.{Effect.Database, Effect.IsDatabase, State.State, State.Shown, State.IsUnchanged, State.CommitsShowing, State.Survives}
 use Rattle.sqlite.proofs.Callers.{IsPlain, reads_as, never_commits}
 use Rattle.cred_book.specs.Accounts.{Accounts}
-use Rattle.cred_file.specs.Schema.{IsBookSchema}
-use Rattle.cred_file.specs.Table.{StandsFor}
-use Rattle.cred_file.specs.Keeps.{IsTableOf}
-use Rattle.cred_file.specs.Opening.{rows_text, IsAsBefore}
-use Rattle.cred_file.proofs.Texts.{all_rows, rows_is, rows_listed, rows_plain}
-use Rattle.cred_file.proofs.Keeping.{IsSettled, holds}
-use Rattle.cred_file.proofs.Shuffled.{shown}
+use Rattle.cred_file.specs.{Schema.IsBookSchema, Table.StandsFor, Keeps.IsTableOf, Opening.rows_text, Opening.IsAsBefore}
+use Rattle.cred_file.proofs.{Texts.all_rows, Texts.rows_is, Texts.rows_listed, Texts.rows_plain, Keeping.IsSettled, Keeping.holds, Shuffled.shown}
 
 each : (rows : List Row) → flat_map (λ r. ([] ∷ r ∷ []) ∷ []) rows ≡ map (λ r. [] ∷ r ∷ []) rows
 each [] = refl

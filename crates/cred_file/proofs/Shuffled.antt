@@ -1,20 +1,13 @@
 -- The order of the rows plays no part.
 use Rattle.std.proofs.Common.{◌≡◌, ℕ, List, [], ◌∷◌, map, length, filter, Bool, cond, not, ◌||◌, ◌&&◌, Some, refl, sym, ap, ◌∙◌, arith, inl, inr}
-use Rattle.std.specs.List.{AllZip, list_any}
-use Rattle.std.proofs.lemmas.List.{length-map}
-use Rattle.std.proofs.lemmas.List.Sums.{length-filter}
-use Rattle.std.specs.List.Sorted.{IsPermutation}
-use Rattle.std.proofs.lemmas.List.Sorted.{length_permutation, sum_by-IsPermutation}
-use Rattle.std.specs.Ordering.{eq_by_cmp}
-use Rattle.std.specs.Cmp.Lexicographic.{nat_list_cmp_total}
+use Rattle.std.proofs.{lemmas.List.length-map, lemmas.List.Sums.length-filter, lemmas.List.Sorted.length_permutation, lemmas.List.Sorted.sum_by-IsPermutation}
+use Rattle.std.specs.{List.AllZip, List.list_any, List.Sorted.IsPermutation, Ordering.eq_by_cmp, Cmp.Lexicographic.nat_list_cmp_total}
 use Rattle.std.specs.FinMap as fin
 use Rattle.std.specs.FinMap.{same_map, get-from_entries, slice_cmp-IsAntisymmetric, nat_cmp-IsAntisymmetric}
 use Rattle.sqlite.specs.Order.{Row, column}
 use Rattle.sqlite_trees.proofs.ListLemmas.{along_permutation, filter-map}
-use Rattle.sqlite_trees.specs.Tree.{has_rowid}
-use Rattle.sqlite_trees.specs.View.{is_int}
-use Rattle.cred_book.specs.Accounts.{Accounts}
-use Rattle.cred_book.specs.Names.{name_cmp}
+use Rattle.sqlite_trees.specs.{Tree.has_rowid, View.is_int}
+use Rattle.cred_book.specs.{Accounts.Accounts, Names.name_cmp}
 use Rattle.cred_file.specs.declared.fault.OpenFault.{OpenFault}
 use Rattle.cred_file.specs.declared.fault.OpenFault.TheVariants as fault
 use Rattle.cred_file.specs.Table.{Line, Says, entry_of, has_id, has_name, AreApart, StandsFor}

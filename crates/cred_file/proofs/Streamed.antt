@@ -1,30 +1,19 @@
 -- What rows that are read one at a time say of the table.
 use Rattle.std.proofs.Common.{◌≡◌, ◌<◌, List, [], ◌∷◌, ◌++◌, length, take, get_or, Ok, None, inl, inr, ◌≤◌, refl, sym, ap, subst, ◌∙◌, arith, length-append}
-use Rattle.std.specs.List.Sorted.{IsPermutation}
-use Rattle.sqlite.specs.Order.{Row}
-use Rattle.sqlite.specs.Held.{Held, state}
-use Rattle.sqlite.specs.Store.{Ghosts}
-use Rattle.sqlite.specs.Given.{HasGiven}
-use Rattle.sqlite.specs.Listing.{understood, IsSourceOf, reads_listing}
+use Rattle.std.specs.{List.Sorted.IsPermutation, Prelude.ℤ, Prelude.map}
+use Rattle.sqlite.specs.{Order.Row, Held.Held, Held.state, Store.Ghosts, Given.HasGiven, Listing.understood, Listing.IsSourceOf, Listing.reads_listing}
 use Rattle.sqlite.specs.Effect.{Database, RefusesToRead}
-use Rattle.sqlite.specs.State.{State, IsUnchanged, IsStatement, Shown, FailsToQuery, FailsToShow, IsNotRun}
-use Rattle.sqlite.specs.Clock.{timed}
+use Rattle.sqlite.specs.{State.State, State.IsUnchanged, State.IsStatement, State.Shown, State.FailsToQuery, State.FailsToShow, State.IsNotRun, Clock.timed}
+use Rattle.sqlite.specs.declared.error.Error.{Error}
 use Rattle.sqlite_schema.specs.declared.command.Command.{Command}
 use Rattle.sqlite_resolve.specs.declared.compiled.Compiled.{Compiled}
-use Rattle.sqlite.specs.declared.error.Error.{Error}
 use Rattle.sqlite.proofs.Callers.{EndsIn, IsPlain, begins_shown, command_of, given_begin, unchanged_then}
 use Rattle.sqlite.proofs.StreamLemmas.{fails_since}
 use Rattle.cred_book.specs.Accounts.{Accounts}
-use Rattle.cred_file.specs.declared.fault.OpenFault.{OpenFault}
-use Rattle.cred_file.specs.Schema.{IsBookSchema}
-use Rattle.cred_file.specs.Table.{StandsFor}
-use Rattle.cred_file.specs.Drafts.{IsDraftOf, IsNotAdded}
+use Rattle.cred_file.specs.{declared.fault.OpenFault.OpenFault, Schema.IsBookSchema, Table.StandsFor, Drafts.IsDraftOf, Drafts.IsNotAdded}
 use Rattle.cred_file.specs.Opening.{AreAtFault, rows_text}
-use Rattle.cred_file.proofs.LeftOut.{left_out}
-use Rattle.cred_file.proofs.Selected.{selected}
-use Rattle.cred_file.proofs.Shuffled.{fault_unshown, shown, stands_unshown}
+use Rattle.cred_file.proofs.{LeftOut.left_out, Selected.selected, Shuffled.fault_unshown, Shuffled.shown, Shuffled.stands_unshown}
 use Rattle.cred_file.proofs.Texts.{rows_is, rows_plain}
-use Rattle.std.specs.Prelude.{ℤ, map}
 
 take_front : {A : Type 0} (xs : List A) (y : A) (ys : List A) → take (length xs) ((xs ++ y ∷ []) ++ ys) ≡ xs
 take_front [] y ys = refl

@@ -1,24 +1,14 @@
 -- What happens to the table within a transaction, and as it is committed.
 use Rattle.std.proofs.Common.{◌≡◌, ◌⊎◌, inl, inr, ℕ, List, ◌∷◌, [], true, false, Option, OnErr, OnOk, Ok, Err, Result, IsTrue, refl, sym, ap, subst, ◌∙◌}
 use Rattle.std.specs.FinMap as fin
-use Rattle.sqlite.specs.declared.types.Value.{Value}
-use Rattle.sqlite.specs.declared.types.Value.TheVariants.{Text}
-use Rattle.sqlite.specs.Tree.{Trees}
-use Rattle.sqlite.specs.Command.TheVariants.{Insert, Update}
-use Rattle.sqlite.specs.Source.TheVariants.{Values}
-use Rattle.sqlite.specs.Effect.{Database}
-use Rattle.sqlite.specs.Listing.{understood}
-use Rattle.sqlite.specs.State.{State, HasCleanDisk, Survives, Executes, Shows, mode_of}
-use Rattle.sqlite.specs.Held.{Held, state}
-use Rattle.sqlite.specs.Store.{Ghosts}
+use Rattle.sqlite.specs.{declared.types.Value.Value, declared.types.Value.TheVariants.Text, Tree.Trees, Command.TheVariants.Insert, Command.TheVariants.Update}
+use Rattle.sqlite.specs.{Source.TheVariants.Values, Effect.Database, Listing.understood}
+use Rattle.sqlite.specs.{State.State, State.HasCleanDisk, State.Survives, State.Executes, State.Shows, State.mode_of, Held.Held, Held.state, Store.Ghosts}
 use Rattle.sqlite.proofs.Callers.{runs_as, statement_of}
 use Rattle.sqlite_catalog.specs.Listing.{IsSound}
 use Rattle.cred_phc.specs.Values.{RecordValue}
-use Rattle.cred_book.specs.Accounts.{Accounts}
-use Rattle.cred_book.specs.Names.{is_name}
-use Rattle.cred_file.specs.Schema.{IsBookSchema, insert_text, update_text}
-use Rattle.cred_file.specs.Table.{StandsFor, Tells}
-use Rattle.cred_file.specs.Keeps.{IsTableOf, LeavesOnly}
+use Rattle.cred_book.specs.{Accounts.Accounts, Names.is_name}
+use Rattle.cred_file.specs.{Schema.IsBookSchema, Schema.insert_text, Schema.update_text, Table.StandsFor, Table.Tells, Keeps.IsTableOf, Keeps.LeavesOnly}
 use Rattle.cred_file.specs.Together.{IsUnderWay}
 use Rattle.cred_file.proofs.Texts.{insert_is, insert_plain, matched, terms, update_is, update_plain}
 use Rattle.cred_file.proofs.Keeping.{IsSettled, holds, insert_does, update_does}

@@ -1,15 +1,11 @@
 -- Why a copy of a book isn't begun, and what a crash leaves of one.
 use Rattle.std.specs.Prelude.{◌≡◌, ◌≢◌, ◌⊎◌}
 use Rattle.std.specs.FinMap as fin
-use Rattle.sqlite.specs.Held.{Held, state}
-use Rattle.sqlite.specs.State.{State}
-use Rattle.sqlite.specs.Store.{Ghosts}
-use Rattle.sqlite.specs.Tree.{Trees}
+use Rattle.sqlite.specs.{Held.Held, Held.state, State.State, Store.Ghosts, Tree.Trees}
 use Rattle.cred_book.specs.Accounts.{Accounts}
 use Rattle.cred_file.specs.declared.fault.OpenFault.{OpenFault}
 use Rattle.cred_file.specs.declared.fault.OpenFault.TheVariants as fault
-use Rattle.cred_file.specs.Keeps.{HoldsBook}
-use Rattle.cred_file.specs.Schema.{no_schema}
+use Rattle.cred_file.specs.{Keeps.HoldsBook, Schema.no_schema}
 
 -- There is a table already, and the connection is as it was; or there was no memory, or the
 -- database failed.

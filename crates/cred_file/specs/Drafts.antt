@@ -1,18 +1,13 @@
 -- The book while its rows are read, one at a time.
-use Rattle.std.specs.Prelude.{◌≡◌, ◌⊎◌, ℤ, ◌≤◌, ◌<◌, true, false, Bool, cond, List, length}
-use Rattle.std.specs.Prelude.{⊤}
-use Rattle.std.specs.List.{list_any}
-use Rattle.std.specs.Ordering.{int_cmp}
-use Rattle.std.specs.BTreeMap.{is_at}
+use Rattle.std.specs.Prelude.{◌≡◌, ◌⊎◌, ℤ, ◌≤◌, ◌<◌, true, false, Bool, cond, List, length, ⊤}
+use Rattle.std.specs.{List.list_any, Ordering.int_cmp, BTreeMap.is_at}
 use Rattle.std.specs.FinMap as fin
-use Rattle.sqlite.specs.declared.types.Value.TheVariants.{Int}
-use Rattle.sqlite.specs.Order.{Row, column}
+use Rattle.sqlite.specs.{declared.types.Value.TheVariants.Int, Order.Row, Order.column}
 use Rattle.sqlite_trees.specs.View.{is_int}
 use Rattle.cred_book.specs.Accounts.{Accounts, register_capacity}
 use Rattle.cred_file.specs.declared.fault.OpenFault.{OpenFault}
 use Rattle.cred_file.specs.declared.fault.OpenFault.TheVariants as fault
-use Rattle.cred_file.specs.Table.{Line, Says, StandsFor, has_id}
-use Rattle.cred_file.specs.Opening.{corrupt, is_no_name, is_no_record}
+use Rattle.cred_file.specs.{Table.Line, Table.Says, Table.StandsFor, Table.has_id, Opening.corrupt, Opening.is_no_name, Opening.is_no_record}
 
 -- whether an id is among these, as a set of them has it
 abbrev pub knows : List ℤ → ℤ → Bool

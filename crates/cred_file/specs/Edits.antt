@@ -1,10 +1,8 @@
 -- What a change makes of a book, and what the calls answer that make one.
-use Rattle.std.specs.Prelude.{◌≡◌, ℕ, ◌+◌, ◌≤◌, ◌<◌, ◌||◌, Bool, List, ◌++◌, nat_lt, Option, None}
-use Rattle.std.specs.Prelude.{unwrap_or, Result, Ok, Err, true, false}
+use Rattle.std.specs.Prelude.{◌≡◌, ℕ, ◌+◌, ◌≤◌, ◌<◌, ◌||◌, Bool, List, ◌++◌, nat_lt, Option, None, unwrap_or, Result, Ok, Err, true, false}
 use Rattle.std.specs.FinMap as fin
 use Rattle.cred_phc.specs.Values.{RecordValue}
-use Rattle.cred_book.specs.Accounts.{Accounts}
-use Rattle.cred_book.specs.declared.error.BookError.{BookError}
+use Rattle.cred_book.specs.{Accounts.Accounts, declared.error.BookError.BookError}
 use Rattle.cred_book.specs.declared.error.BookError.TheVariants as error
 use Rattle.cred_file.specs.declared.fault.Edit.{Edit}
 use Rattle.cred_file.specs.declared.fault.Edit.TheVariants as edit

@@ -1,22 +1,12 @@
 -- Why no book is begun, and what is said of a change that is lost.
-use Rattle.std.specs.Prelude.{◌≡◌, ◌≢◌, ℕ, Bool, if◌then◌else◌, List, [], ◌∷◌, Option, Some, None}
-use Rattle.std.specs.Prelude.{IfSome, OnOk, Result, Err}
-use Rattle.sqlite.specs.declared.error.Error.{Error}
-use Rattle.sqlite.specs.declared.types.Value.{Value}
-use Rattle.sqlite.specs.declared.types.Value.TheVariants.{Text}
-use Rattle.sqlite.specs.Held.{Held, state}
-use Rattle.sqlite.specs.Order.{Row}
-use Rattle.sqlite.specs.State.{Executes, HasCleanDisk}
-use Rattle.sqlite.specs.Store.{Ghosts}
+use Rattle.std.specs.Prelude.{◌≡◌, ◌≢◌, ℕ, Bool, if◌then◌else◌, List, [], ◌∷◌, Option, Some, None, IfSome, OnOk, Result, Err}
+use Rattle.sqlite.specs.{declared.error.Error.Error, declared.types.Value.Value, declared.types.Value.TheVariants.Text, Held.Held, Held.state, Order.Row}
+use Rattle.sqlite.specs.{State.Executes, State.HasCleanDisk, Store.Ghosts}
 use Rattle.cred_phc.specs.Values.{RecordValue}
 use Rattle.cred_book.specs.declared.error.BookError.{BookError}
-use Rattle.cred_file.specs.declared.fault.Edit.{Edit}
-use Rattle.cred_file.specs.declared.fault.Lost.{Lost}
-use Rattle.cred_file.specs.declared.fault.OpenFault.{OpenFault}
+use Rattle.cred_file.specs.{declared.fault.Edit.Edit, declared.fault.Lost.Lost, declared.fault.OpenFault.OpenFault}
 use Rattle.cred_file.specs.declared.fault.OpenFault.TheVariants as fault
-use Rattle.cred_file.specs.Kept.{Kept}
-use Rattle.cred_file.specs.Schema.{create_text, delete_text, insert_text, no_schema}
-use Rattle.cred_file.specs.Schema.{rename_text, update_text}
+use Rattle.cred_file.specs.{Kept.Kept, Schema.create_text, Schema.delete_text, Schema.insert_text, Schema.no_schema, Schema.rename_text, Schema.update_text}
 use Rattle.cred_file.specs.Table.{Tells}
 
 -- if the disk returns what was written, the statement was run and this was its error

@@ -1,17 +1,10 @@
 -- When a connection keeps a book, and what a crash leaves of it.
 use Rattle.std.specs.Prelude.{◌≡◌, ◌⊎◌, ℕ, ◌≤◌, List, true, false, Option, Some, None}
 use Rattle.std.specs.FinMap as fin
-use Rattle.sqlite.specs.Schema.{Schema}
-use Rattle.sqlite.specs.Tree.{Trees}
-use Rattle.sqlite.specs.State.{State, HasCleanDisk}
-use Rattle.sqlite.specs.Held.{Held, state}
-use Rattle.sqlite.specs.Store.{Ghosts}
+use Rattle.sqlite.specs.{Schema.Schema, Tree.Trees, State.State, State.HasCleanDisk, Held.Held, Held.state, Store.Ghosts}
 use Rattle.sqlite_catalog.specs.Listing.{IsSound}
 use Rattle.cred_book.specs.Accounts.{Accounts, register_capacity}
-use Rattle.cred_file.specs.declared.fault.Lost.{Lost}
-use Rattle.cred_file.specs.Edits.{after_edit}
-use Rattle.cred_file.specs.Schema.{IsBookSchema}
-use Rattle.cred_file.specs.Table.{StandsFor}
+use Rattle.cred_file.specs.{declared.fault.Lost.Lost, Edits.after_edit, Schema.IsBookSchema, Table.StandsFor}
 
 -- a database with the one table, whose rows stand for the book
 pub record HoldsBook (db : Trees) (book : Accounts) : Type 0 where

@@ -1,6 +1,5 @@
 -- What contracts see of a kept book.
-use Rattle.std.specs.Prelude.{Option, refl}
-use Rattle.std.specs.Coded.{Coded, code_by, coded×, coded_option}
+use Rattle.std.specs.{Prelude.Option, Prelude.refl, Coded.Coded, Coded.code_by, Coded.coded×, Coded.coded_option}
 use Rattle.sqlite.specs.Held.{Held, held_code}
 use Rattle.cred_book.specs.Accounts.{Accounts}
 use Rattle.cred_book.specs.contracts.register.Register as accounts

@@ -1,27 +1,16 @@
 -- When a database is opened as a book, and why it isn't.
-use Rattle.std.specs.Prelude.{◌≡◌, ◌⊎◌, ℕ, ℤ, ◌<◌, ◌≤◌, ◌==◌, Bool, true, false, not, ◌&&◌, List}
-use Rattle.std.specs.Prelude.{[], length, codes, Option, Some, None, Result, Ok, Err, ⊤}
-use Rattle.std.specs.List.{filter, list_any}
-use Rattle.std.specs.Ordering.{is_eq}
+use Rattle.std.specs.Prelude.{◌≡◌, ◌⊎◌, ℕ, ℤ, ◌<◌, ◌≤◌, ◌==◌, Bool, true, false, not, ◌&&◌, List, [], length, codes, Option, Some, None, Result, Ok, Err, ⊤}
+use Rattle.std.specs.{List.filter, List.list_any, Ordering.is_eq}
 use Rattle.sqlite.specs.declared.types.Value.{Value}
 use Rattle.sqlite.specs.declared.types.Value.TheVariants.{Null, Int, Real, Text, Blob}
-use Rattle.sqlite.specs.declared.error.Error.{Error}
-use Rattle.sqlite.specs.declared.error.Error.TheVariants.{SqliteFailure}
-use Rattle.sqlite.specs.declared.error.ErrorCode.TheVariants.{DatabaseCorrupt}
-use Rattle.sqlite.specs.Order.{Row, column, value_cmp}
-use Rattle.sqlite.specs.State.{State, FailsToQuery}
-use Rattle.sqlite_trees.specs.Tree.{has_rowid}
-use Rattle.sqlite_trees.specs.View.{is_int}
-use Rattle.cred_phc.specs.Errors.{error_number}
-use Rattle.cred_phc.specs.Reading.{read_record}
-use Rattle.cred_phc.specs.Values.{RecordValue}
-use Rattle.cred_phc.specs.declared.error.PhcError.{PhcError}
-use Rattle.cred_book.specs.Accounts.{Accounts, register_capacity}
-use Rattle.cred_book.specs.Names.{is_name}
+use Rattle.sqlite.specs.{declared.error.Error.Error, declared.error.Error.TheVariants.SqliteFailure, declared.error.ErrorCode.TheVariants.DatabaseCorrupt}
+use Rattle.sqlite.specs.{Order.Row, Order.column, Order.value_cmp, State.State, State.FailsToQuery}
+use Rattle.sqlite_trees.specs.{Tree.has_rowid, View.is_int}
+use Rattle.cred_phc.specs.{Errors.error_number, Reading.read_record, Values.RecordValue, declared.error.PhcError.PhcError}
+use Rattle.cred_book.specs.{Accounts.Accounts, Accounts.register_capacity, Names.is_name}
 use Rattle.cred_file.specs.declared.fault.OpenFault.{OpenFault}
 use Rattle.cred_file.specs.declared.fault.OpenFault.TheVariants as fault
-use Rattle.cred_file.specs.Schema.{IsBookSchema}
-use Rattle.cred_file.specs.Table.{StandsFor}
+use Rattle.cred_file.specs.{Schema.IsBookSchema, Table.StandsFor}
 
 abbrev pub rows_text : List ℕ
 rows_text = codes "SELECT rowid, name, record FROM account"

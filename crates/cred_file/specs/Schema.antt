@@ -1,12 +1,8 @@
 -- The one table of a kept book, and what may stand beside it.
 use Rattle.std.specs.Prelude.{◌≡◌, ◌⊎◌, ℕ, List, [], ◌∷◌, None, codes, true, false}
-use Rattle.sqlite.specs.Collation.TheVariants.{Binary}
-use Rattle.sqlite.specs.declared.types.Value.TheVariants.{Null}
-use Rattle.sqlite.specs.Table.{Table}
-use Rattle.sqlite.specs.Schema.{Schema}
+use Rattle.sqlite.specs.{Collation.TheVariants.Binary, declared.types.Value.TheVariants.Null, Table.Table, Schema.Schema}
 use Rattle.sqlite.specs.Kind.TheVariants.{Any, Text}
-use Rattle.sqlite_schema.specs.declared.schema.Column.{Column}
-use Rattle.sqlite_schema.specs.declared.schema.Index.{Index}
+use Rattle.sqlite_schema.specs.{declared.schema.Column.Column, declared.schema.Index.Index}
 
 abbrev pub create_text : List ℕ
 create_text = codes "CREATE TABLE account (name TEXT NOT NULL PRIMARY KEY, record TEXT) STRICT"

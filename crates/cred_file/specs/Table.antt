@@ -1,16 +1,12 @@
 -- When the rows of the table stand for a book.
-use Rattle.std.specs.Prelude.{◌≡◌, ℕ, ℤ, Bool, false, List, [], ◌∷◌, map, Option, Some, None, Ok}
-use Rattle.std.specs.Prelude.{IsTrue, ⊤}
-use Rattle.std.specs.List.{AllZip, list_any}
-use Rattle.std.specs.Ordering.{is_eq, eq_by_cmp}
+use Rattle.std.specs.Prelude.{◌≡◌, ℕ, ℤ, Bool, false, List, [], ◌∷◌, map, Option, Some, None, Ok, IsTrue, ⊤}
+use Rattle.std.specs.{List.AllZip, List.list_any, Ordering.is_eq, Ordering.eq_by_cmp}
 use Rattle.std.specs.FinMap as fin
 use Rattle.sqlite.specs.declared.types.Value.{Value}
 use Rattle.sqlite.specs.declared.types.Value.TheVariants.{Null, Int, Text}
 use Rattle.sqlite.specs.Order.{Row, column, value_cmp}
-use Rattle.cred_phc.specs.Values.{RecordValue}
-use Rattle.cred_phc.specs.Reading.{read_record}
-use Rattle.cred_book.specs.Accounts.{Accounts}
-use Rattle.cred_book.specs.Names.{is_name, name_cmp}
+use Rattle.cred_phc.specs.{Values.RecordValue, Reading.read_record}
+use Rattle.cred_book.specs.{Accounts.Accounts, Names.is_name, Names.name_cmp}
 
 -- what a row says: its rowid, a name, and the record that stands there, if one does
 pub record Line : Type 0 where

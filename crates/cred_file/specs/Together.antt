@@ -5,9 +5,7 @@ use Rattle.sqlite.specs.State.{State}
 use Rattle.sqlite_catalog.specs.Listing.{IsSound}
 use Rattle.cred_phc.specs.Values.{RecordValue}
 use Rattle.cred_book.specs.Accounts.{Accounts}
-use Rattle.cred_file.specs.Schema.{IsBookSchema}
-use Rattle.cred_file.specs.Table.{StandsFor}
-use Rattle.cred_file.specs.Keeps.{LeavesOnly}
+use Rattle.cred_file.specs.{Schema.IsBookSchema, Table.StandsFor, Keeps.LeavesOnly}
 
 -- within a transaction the table stands for this book, and a crash leaves the first one
 pub record IsUnderWay (s : State) (first book : Accounts) : Type 0 where

@@ -1,10 +1,7 @@
 //! Whether a database has the one table of a book, alone or beside the statistics of ANALYZE.
 
 ghost use Rattle.std.specs.Prelude.{◌≡◌, ◌≢◌, [], ◌∷◌, IfOk, MatchBool};
-ghost use Rattle.cred_file.specs.Schema.{AreBookTables, HasAccountKey, HasNoKey, HasNoRules};
-ghost use Rattle.cred_file.specs.Schema.{IsBookSchema, IsPlainText, IsUntyped, account, key_index};
-ghost use Rattle.cred_file.specs.Schema.{name_column, record_column, statistics};
-ghost use Rattle.cred_file.specs.Schema.{statistics_column};
+ghost use Rattle.cred_file.specs.Schema.{AreBookTables, HasAccountKey, HasNoKey, HasNoRules, IsBookSchema, IsPlainText, IsUntyped, account, key_index, name_column, record_column, statistics, statistics_column};
 
 use sqlite_schema::code::Terms;
 use sqlite_schema::schema::{Column, Index, Kind, Schema, Table};

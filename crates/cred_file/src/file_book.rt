@@ -5,16 +5,10 @@ mod edits;
 mod entering;
 
 ghost use Rattle.sqlite.specs.Held.{state};
-ghost use Rattle.cred_file.specs.Schema.{no_schema};
-ghost use Rattle.cred_file.specs.Failures.{IsUnbegun};
-ghost use Rattle.cred_file.specs.Keeps.{Keeps, MayBegin};
-ghost use Rattle.cred_file.specs.Opening.{IsFound, IsUnopened};
-ghost use Rattle.std.specs.Prelude.{◌≡◌, true, false, IfErr, IfOk, IfSome, MatchBool, None, OnOk};
-ghost use Rattle.std.specs.Prelude.{Some, option_map};
+ghost use Rattle.cred_file.specs.{Schema.no_schema, Failures.IsUnbegun, Keeps.Keeps, Keeps.MayBegin, Opening.IsFound, Opening.IsUnopened};
+ghost use Rattle.std.specs.Prelude.{◌≡◌, true, false, IfErr, IfOk, IfSome, MatchBool, None, OnOk, Some, option_map};
 ghost use Rattle.std.specs.FinMap as fin;
-ghost use Rattle.cred_book.specs.Accounts.{register_capacity};
-ghost use Rattle.cred_book.specs.Calls.{AdmitsWithin, Loads, Shows};
-ghost use Rattle.cred_book.specs.Commits.{Begins, Commits};
+ghost use Rattle.cred_book.specs.{Accounts.register_capacity, Calls.AdmitsWithin, Calls.Loads, Calls.Shows, Commits.Begins, Commits.Commits};
 ghost use Rattle.cred_book.specs.Works.{is_for_current, makes_change};
 ghost use Rattle.sqlite.specs.State.{HasCleanDisk, Survives};
 

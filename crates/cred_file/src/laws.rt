@@ -4,14 +4,8 @@
 ghost use Rattle.std.specs.Prelude.{◌≡◌, false, List, true, ℕ};
 ghost use Rattle.std.specs.FinMap as fin;
 ghost use Rattle.cred_book.specs.Accounts.{Accounts};
-ghost use Rattle.cred_file.specs.Edits.{renamed};
-ghost use Rattle.cred_file.specs.Keeps.{HoldsBook};
-ghost use Rattle.cred_file.specs.Opening.{IsFound};
-ghost use Rattle.sqlite.specs.Files.{HoldsDatabase};
-ghost use Rattle.sqlite.specs.Held.{Held, state};
-ghost use Rattle.sqlite.specs.Start.{FindsIn};
-ghost use Rattle.sqlite.specs.State.{IsLive, Opens};
-ghost use Rattle.sqlite.specs.Tree.{Trees};
+ghost use Rattle.cred_file.specs.{Edits.renamed, Keeps.HoldsBook, Opening.IsFound};
+ghost use Rattle.sqlite.specs.{Files.HoldsDatabase, Held.Held, Held.state, Start.FindsIn, State.IsLive, State.Opens, Tree.Trees};
 
 use sqlite::Alter;
 

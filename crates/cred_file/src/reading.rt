@@ -1,14 +1,10 @@
 //! The book that the rows of a table hold.
 
-ghost use Rattle.std.specs.Prelude.{◌≡◌, ◌≤◌, [], true, IfErr, IfOk, IsTrue, MatchOption};
-ghost use Rattle.std.specs.Prelude.{MatchResult};
-ghost use Rattle.cred_book.specs.Accounts.{register_capacity};
-ghost use Rattle.cred_book.specs.Names.{is_name};
+ghost use Rattle.std.specs.Prelude.{◌≡◌, ◌≤◌, [], true, IfErr, IfOk, IsTrue, MatchOption, MatchResult};
+ghost use Rattle.cred_book.specs.{Accounts.register_capacity, Names.is_name};
 ghost use Rattle.cred_file.specs.Drafts.{IsAdded, IsNotAdded, IsUnread};
-ghost use Rattle.cred_file.specs.Opening.{AreAtFault, corrupt, is_no_name, is_no_record};
-ghost use Rattle.cred_file.specs.Table.{Says, StandsFor, Tells};
-ghost use Rattle.sqlite.specs.declared.types.Value.TheVariants.{Text};
-ghost use Rattle.sqlite.specs.Order.{column};
+ghost use Rattle.cred_file.specs.{Opening.AreAtFault, Opening.corrupt, Opening.is_no_name, Opening.is_no_record, Table.Says, Table.StandsFor, Table.Tells};
+ghost use Rattle.sqlite.specs.{declared.types.Value.TheVariants.Text, Order.column};
 ghost use Rattle.sqlite_value.specs.Value.{owned};
 ghost use Rattle.std.specs.FinMap as fin;
 

@@ -1,10 +1,8 @@
 //! What a run kept is what the next one opens, also after a crash.
 
 ghost use Rattle.std.specs.Prelude.{IfErr, IfOk, IfSome};
-ghost use Rattle.cred_file.specs.Keeps.{IsOrWith};
-ghost use Rattle.cred_file.specs.Opening.{IsForWant};
-ghost use Rattle.sqlite.specs.Held.{state};
-ghost use Rattle.sqlite.specs.State.{HasCleanDisk};
+ghost use Rattle.cred_file.specs.{Keeps.IsOrWith, Opening.IsForWant};
+ghost use Rattle.sqlite.specs.{Held.state, State.HasCleanDisk};
 
 use crate::fault::OpenFault;
 use crate::file_book::FileBook;

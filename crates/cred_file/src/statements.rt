@@ -4,15 +4,11 @@ ghost use Rattle.std.specs.Prelude.{◌≡◌, ◌≤◌, [], true, false, Optio
 ghost use Rattle.std.specs.FinMap as fin;
 ghost use Rattle.cred_phc.specs.Values.{RecordValue};
 ghost use Rattle.cred_book.specs.Accounts.{register_capacity};
-ghost use Rattle.cred_file.specs.Edits.{renamed};
-ghost use Rattle.cred_file.specs.Failures.{FailsToDelete, FailsToPut, FailsToRename, Refuses};
+ghost use Rattle.cred_file.specs.{Edits.renamed, Failures.FailsToDelete, Failures.FailsToPut, Failures.FailsToRename, Failures.Refuses};
 ghost use Rattle.cred_file.specs.Schema.{IsBookSchema, create_text, no_schema};
-ghost use Rattle.cred_file.specs.Keeps.{Has, IsRenamable, IsTableOf, Lacks, Makes, MayBegin};
-ghost use Rattle.cred_file.specs.Keeps.{MayMake};
-ghost use Rattle.cred_file.specs.Table.{StandsFor, Tells};
-ghost use Rattle.cred_file.specs.Opening.{IsFound, IsUnopened};
-ghost use Rattle.sqlite.specs.State.{HasCleanDisk, IsUnchanged, Survives};
-ghost use Rattle.sqlite.specs.Held.{state};
+ghost use Rattle.cred_file.specs.Keeps.{Has, IsRenamable, IsTableOf, Lacks, Makes, MayBegin, MayMake};
+ghost use Rattle.cred_file.specs.{Table.StandsFor, Table.Tells, Opening.IsFound, Opening.IsUnopened};
+ghost use Rattle.sqlite.specs.{State.HasCleanDisk, State.IsUnchanged, State.Survives, Held.state};
 ghost use Rattle.sqlite_value.specs.Value.{owned};
 ghost use Rattle.sqlite_trees.specs.View.{doubt};
 

@@ -1,15 +1,11 @@
 //! Accounts that are added, and others whose records are replaced, in one transaction.
 
-ghost use Rattle.std.specs.Prelude.{◌≡◌, ◌⊎◌, ◌≤◌, ◌+◌, cond, false, List, None, ℕ, OnErr};
-ghost use Rattle.std.specs.Prelude.{OnOk, Option};
+ghost use Rattle.std.specs.Prelude.{◌≡◌, ◌⊎◌, ◌≤◌, ◌+◌, cond, false, List, None, ℕ, OnErr, OnOk, Option};
 ghost use Rattle.std.specs.FinMap as fin;
 ghost use Rattle.cred_phc.specs.Values.{RecordValue};
-ghost use Rattle.cred_file.specs.Edits.{AreThere, joined, taken_in};
-ghost use Rattle.cred_file.specs.Keeps.{Has, IsTableOf, Lacks, LeavesOnly};
-ghost use Rattle.cred_file.specs.Table.{Tells};
+ghost use Rattle.cred_file.specs.{Edits.AreThere, Edits.joined, Edits.taken_in, Keeps.Has, Keeps.IsTableOf, Keeps.Lacks, Keeps.LeavesOnly, Table.Tells};
 ghost use Rattle.cred_file.specs.Together.{IsPartOf, MakesWithin};
-ghost use Rattle.sqlite.specs.State.{HasCleanDisk, Shows, Survives};
-ghost use Rattle.sqlite.specs.Held.{state};
+ghost use Rattle.sqlite.specs.{State.HasCleanDisk, State.Shows, State.Survives, Held.state};
 ghost use Rattle.sqlite_value.specs.Value.{owned};
 ghost use Rattle.sqlite_trees.specs.View.{doubt};
 

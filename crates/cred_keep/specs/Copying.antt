@@ -1,13 +1,9 @@
 -- Why a book isn't written into another database.
 use Rattle.std.specs.Prelude.{◌≡◌}
-use Rattle.sqlite.specs.Held.{Held, state}
-use Rattle.sqlite.specs.State.{HasCleanDisk}
-use Rattle.sqlite.specs.Store.{Ghosts}
+use Rattle.sqlite.specs.{Held.Held, Held.state, State.HasCleanDisk, Store.Ghosts}
 use Rattle.cred_book.specs.Accounts.{Accounts}
-use Rattle.cred_file.specs.Copies.{IsUncopied as IsUnmade, MayCopy}
-use Rattle.cred_file.specs.Opening.{IsFound, IsUnopened}
-use Rattle.cred_keep.specs.declared.copying.CopyFault.{CopyFault}
-use Rattle.cred_keep.specs.declared.copying.CopyFault.TheVariants.{Source, Target}
+use Rattle.cred_file.specs.{Copies.IsUncopied as IsUnmade, Copies.MayCopy, Opening.IsFound, Opening.IsUnopened}
+use Rattle.cred_keep.specs.{declared.copying.CopyFault.CopyFault, declared.copying.CopyFault.TheVariants.Source, declared.copying.CopyFault.TheVariants.Target}
 
 -- The other database has a table already, and is as it was; or it failed, and a crash leaves what
 -- it could leave before, an empty book, or this one.

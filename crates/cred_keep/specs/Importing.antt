@@ -1,20 +1,15 @@
 -- What an import makes of a kept book.
-use Rattle.std.specs.Prelude.{◌≡◌, ℕ, ◌+◌, ◌≤◌, ◌<◌, true, false, List, [], ◌++◌, length, codes}
-use Rattle.std.specs.Prelude.{decimal, IfSome, Result, Ok, Err}
+use Rattle.std.specs.Prelude.{◌≡◌, ℕ, ◌+◌, ◌≤◌, ◌<◌, true, false, List, [], ◌++◌, length, codes, decimal, IfSome, Result, Ok, Err}
 use Rattle.std.specs.FinMap as map
 use Rattle.cred_book.specs.Accounts.{Accounts, register_capacity}
-use Rattle.cred_admin.specs.Import.{Tally, tally}
-use Rattle.cred_admin.specs.declared.gathering.ImportFault.{ImportFault}
+use Rattle.cred_admin.specs.{Import.Tally, Import.tally, declared.gathering.ImportFault.ImportFault}
 use Rattle.cred_admin.specs.declared.gathering.ImportFault.TheVariants as fault
 use Rattle.cred_cli.specs.Watched.{Reading}
 use Rattle.cred_file.specs.Edits.{taken_in}
-use Rattle.cred_keep.specs.declared.importing.BadLines.TheVariants.{Refused}
-use Rattle.cred_keep.specs.declared.importing.Counts.{Counts}
+use Rattle.cred_keep.specs.{declared.importing.BadLines.TheVariants.Refused, declared.importing.Counts.Counts}
 use Rattle.cred_keep.specs.declared.importing.Counts.TheVariants.{Hidden, Plain, Json}
-use Rattle.cred_keep.specs.declared.importing.Effect.{Effect}
-use Rattle.cred_keep.specs.declared.importing.Effect.TheVariants.{Made, Foretold}
-use Rattle.cred_keep.specs.declared.importing.Imported.{Imported}
-use Rattle.cred_keep.specs.declared.importing.Importing.{Importing}
+use Rattle.cred_keep.specs.{declared.importing.Effect.Effect, declared.importing.Effect.TheVariants.Made, declared.importing.Effect.TheVariants.Foretold}
+use Rattle.cred_keep.specs.{declared.importing.Imported.Imported, declared.importing.Importing.Importing}
 
 -- the book with these accounts, and with these records at others; a dry run changes nothing
 abbrev pub book_after : Effect → Accounts → Accounts → Accounts → Accounts

@@ -1,51 +1,33 @@
 -- What an order makes of a kept book.
-use Rattle.std.specs.Prelude.{◌≡◌, ℕ, ◌≤◌, Bool, true, false, List, length, Option, Some, None}
-use Rattle.std.specs.Prelude.{IfErr, IfSome, Result, Ok, Err}
+use Rattle.std.specs.Prelude.{◌≡◌, ℕ, ◌≤◌, Bool, true, false, List, length, Option, Some, None, IfErr, IfSome, Result, Ok, Err}
 use Rattle.std.specs.FinMap as map
 use Rattle.std.specs.Io.KnownBytes.{Appends, Keeps}
 use Rattle.cred_book.specs.Accounts.{register_capacity}
 use Rattle.cred_book.specs.declared.request.Request.TheVariants as request
-use Rattle.cred_admin.specs.Commands.{Adds, Asks, AsksTwice, Resets}
-use Rattle.cred_admin.specs.Edits.{DisablesShown, Edits}
-use Rattle.cred_admin.specs.Listing.{Prints, Tells, json_at, line_text, shown_at}
-use Rattle.cred_admin.specs.Seen.{Seen}
-use Rattle.cred_admin.specs.Statuses.{status_of_fault}
+use Rattle.cred_admin.specs.{Commands.Adds, Commands.Asks, Commands.AsksTwice, Commands.Resets, Edits.DisablesShown, Edits.Edits}
+use Rattle.cred_admin.specs.{Listing.Prints, Listing.Tells, Listing.json_at, Listing.line_text, Listing.shown_at, Seen.Seen, Statuses.status_of_fault}
 use Rattle.cred_admin.specs.declared.fault.Fault.{Fault}
 use Rattle.cred_admin.specs.declared.fault.Fault.TheVariants as fault
 use Rattle.cred_admin.specs.declared.gathering.ImportFault.{ImportFault}
 use Rattle.cred_admin.specs.declared.gathering.ImportFault.TheVariants as import
 use Rattle.cred_admin.specs.declared.status.Status.{Status}
 use Rattle.cred_admin.specs.declared.status.Status.TheVariants.{Done, Io, Memory, Database, Data}
-use Rattle.cred_cli.specs.Outcome.{FailsAs, FrontWritten, HasCause, IsAnswered, longest_script}
-use Rattle.cred_cli.specs.Prompt.{IsPrompt}
-use Rattle.cred_cli.specs.Script.{script_start}
-use Rattle.cred_cli.specs.Starving.{Serves}
-use Rattle.cred_cli.specs.declared.costs.CostBounds.{CostBounds}
-use Rattle.cred_cli.specs.declared.fault.ScriptFault.{ScriptFault}
+use Rattle.cred_cli.specs.{Outcome.FailsAs, Outcome.FrontWritten, Outcome.HasCause, Outcome.IsAnswered, Outcome.longest_script, Prompt.IsPrompt}
+use Rattle.cred_cli.specs.{Script.script_start, Starving.Serves, declared.costs.CostBounds.CostBounds, declared.fault.ScriptFault.ScriptFault}
 use Rattle.cred_cli.specs.declared.fault.ScriptFault.TheVariants as script
-use Rattle.cred_cli.specs.Watched.{Writing}
-use Rattle.cred_cli.specs.declared.script.End.{End}
-use Rattle.cred_file.specs.Keeps.{Keeps as IsKept}
-use Rattle.cred_file.specs.Kept.{Kept}
-use Rattle.cred_file.specs.declared.fault.Lost.{Lost}
-use Rattle.cred_file.specs.declared.fault.OpenFault.{OpenFault}
+use Rattle.cred_cli.specs.{Watched.Writing, declared.script.End.End}
+use Rattle.cred_file.specs.{Keeps.Keeps as IsKept, Kept.Kept, declared.fault.Lost.Lost, declared.fault.OpenFault.OpenFault}
 use Rattle.cred_file.specs.declared.fault.OpenFault.TheVariants as open_fault
-use Rattle.sqlite.specs.Store.{Ghosts}
-use Rattle.sqlite.specs.declared.error.Error.{Error}
+use Rattle.sqlite.specs.{Store.Ghosts, declared.error.Error.Error}
 use Rattle.sqlite.specs.declared.error.Error.TheVariants as sqlite
 use Rattle.sqlite.specs.declared.error.ErrorCode.{ErrorCode}
 use Rattle.sqlite.specs.declared.error.ErrorCode.TheVariants as code
-use Rattle.cred_keep.specs.Importing.{Imports}
-use Rattle.cred_keep.specs.declared.ending.Ending.{Ending}
+use Rattle.cred_keep.specs.{Importing.Imports, declared.ending.Ending.Ending}
 use Rattle.cred_keep.specs.declared.ending.Ending.TheVariants as ending
-use Rattle.cred_keep.specs.declared.importing.Imported.{Imported}
-use Rattle.cred_keep.specs.declared.failure.Failure.{Failure}
+use Rattle.cred_keep.specs.{declared.importing.Imported.Imported, declared.failure.Failure.Failure}
 use Rattle.cred_keep.specs.declared.failure.Failure.TheVariants as failure
 use Rattle.cred_keep.specs.declared.order.Order.{Order}
-use Rattle.cred_keep.specs.declared.order.Order.TheVariants.{Run, Serve, Add, Check, Change}
-use Rattle.cred_keep.specs.declared.order.Order.TheVariants.{Upgrade, Reset, Remove, Edit}
-use Rattle.cred_keep.specs.declared.order.Order.TheVariants.{DisableShown, Show, ShowJson}
-use Rattle.cred_keep.specs.declared.order.Order.TheVariants.{List as Lines, Import}
+use Rattle.cred_keep.specs.declared.order.Order.TheVariants.{Run, Serve, Add, Check, Change, Upgrade, Reset, Remove, Edit, DisableShown, Show, ShowJson, List as Lines, Import}
 
 -- ---- how it ends
 

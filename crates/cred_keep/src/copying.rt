@@ -3,11 +3,9 @@
 ghost use Rattle.std.specs.Prelude.{◌≡◌, false, IfErr, IfOk};
 ghost use Rattle.std.specs.FinMap as map;
 ghost use Rattle.cred_book.specs.Accounts.{Accounts};
-ghost use Rattle.cred_file.specs.Keeps.{IsTableOf};
-ghost use Rattle.cred_file.specs.Opening.{IsFound, IsUnopened};
+ghost use Rattle.cred_file.specs.{Keeps.IsTableOf, Opening.IsFound, Opening.IsUnopened};
 ghost use Rattle.cred_keep.specs.Copying.{IsUncopied, IsUnwritten};
-ghost use Rattle.sqlite.specs.State.{HasCleanDisk, Survives};
-ghost use Rattle.sqlite.specs.Held.{state};
+ghost use Rattle.sqlite.specs.{State.HasCleanDisk, State.Survives, Held.state};
 
 use cred_file::{FileBook, OpenFault};
 use sqlite::{Alter, Connection};

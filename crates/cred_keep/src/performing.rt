@@ -1,13 +1,11 @@
 //! Doing what is asked of a kept book.
 
 ghost use Rattle.std.specs.Prelude.{◌≡◌, ℕ, List, OnOk, true};
-ghost use Rattle.cred_cli.specs.Watched.{Basis, IsNew, MayFollow, reading, reading_on};
-ghost use Rattle.cred_cli.specs.Watched.{transcript_reading, transcript_writing, writing, writing_on};
+ghost use Rattle.cred_cli.specs.Watched.{Basis, IsNew, MayFollow, reading, reading_on, transcript_reading, transcript_writing, writing, writing_on};
 ghost use Rattle.cred_admin.specs.Seen.{FitsSince, seen};
 ghost use Rattle.cred_file.specs.Keeps.{IsTableOf};
 ghost use Rattle.cred_keep.specs.Orders.{Leaves, Performs, is_unread, status_of_end};
-ghost use Rattle.sqlite.specs.State.{HasCleanDisk};
-ghost use Rattle.sqlite.specs.Held.{state};
+ghost use Rattle.sqlite.specs.{State.HasCleanDisk, Held.state};
 
 use crate::ending::Ending;
 use crate::failure::{Failure, command_end, import_end, run_end};

@@ -3,9 +3,7 @@
 ghost use Rattle.std.specs.Prelude.{◌≡◌, ◌+◌, ◌≤◌, ℕ, List, IfSome, OnOk, length, true};
 ghost use Rattle.cred_admin.specs.Seen.{seen};
 ghost use Rattle.cred_cli.specs.Outcome.{longest_script, most_calls};
-ghost use Rattle.cred_cli.specs.Watched.{GivesAsContracted, IsNew, MayFollow, TakesAsContracted};
-ghost use Rattle.cred_cli.specs.Watched.{calls_of, ended_of, given_of, inner_of, reading};
-ghost use Rattle.cred_cli.specs.Watched.{transcript_reading, transcript_writing, writing};
+ghost use Rattle.cred_cli.specs.Watched.{GivesAsContracted, IsNew, MayFollow, TakesAsContracted, calls_of, ended_of, given_of, inner_of, reading, transcript_reading, transcript_writing, writing};
 ghost use Rattle.cred_file.specs.Keeps.{Keeps};
 ghost use Rattle.cred_keep.specs.Orders.{RunsWithin, ServesLines};
 

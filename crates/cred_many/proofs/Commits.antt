@@ -2,21 +2,17 @@
 use Rattle.std.proofs.Common.{◌≡◌, ℕ, List, [], ◌∷◌, ◌++◌, Option, Some, None, Ok, Err, Bool, true, false, not, if◌then◌else◌, refl, sym, ap, ◌∙◌}
 use Rattle.std.specs.FinMap as map
 use Rattle.cred_phc.specs.Values.{RecordValue, SettingValue, record_of}
-use Rattle.cred_book.specs.Accounts.{Accounts}
-use Rattle.cred_book.specs.Commits.{Commits, commit_outcome, commit_outcome_if}
+use Rattle.cred_book.specs.{Accounts.Accounts, Commits.Commits, Commits.commit_outcome, Commits.commit_outcome_if}
 use Rattle.cred_book.specs.Works.{Task, is_for_current, makes_change, name_of, new_record, right, same, same_scheme, seq, seq_at, whole}
 use Rattle.cred_book.specs.declared.error.BookError.{BookError}
 use Rattle.cred_book.specs.declared.error.BookError.TheVariants as error
-use Rattle.cred_book.specs.declared.reply.Reply.{Reply}
-use Rattle.cred_book.specs.declared.request.Request.{Request}
+use Rattle.cred_book.specs.{declared.reply.Reply.Reply, declared.request.Request.Request}
 use Rattle.cred_book.specs.declared.request.Request.TheVariants as request
 use Rattle.cred_book.proofs.Commitments.{committed_found}
-use Rattle.cred_cli.specs.History.{Replied}
-use Rattle.cred_cli.specs.Texts.{reply_line}
+use Rattle.cred_cli.specs.{History.Replied, Texts.reply_line}
 use Rattle.cred_many.specs.declared.ask.Ask.{Ask}
 use Rattle.cred_many.specs.declared.ask.Ask.TheVariants.{Account, Load, Show, Edit, List as Names, Whole, Login, Reset, Bad}
-use Rattle.cred_many.specs.Asks.{Entry, IsJobOf, IsResetOf, IsSound}
-use Rattle.cred_many.specs.Scribe.{IsChange}
+use Rattle.cred_many.specs.{Asks.Entry, Asks.IsJobOf, Asks.IsResetOf, Asks.IsSound, Scribe.IsChange}
 use Rattle.cred_many.specs.Served.{NeedsMemory, Script, done, login_reply, name_asked, reset_at, told_line, told_reply}
 use Rattle.cred_many.specs.Steps.{is_changed}
 use Rattle.cred_many.proofs.Serving.{IsDone, done_at}

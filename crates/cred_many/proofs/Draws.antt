@@ -1,8 +1,7 @@
 -- Settings as they are drawn.
 use Rattle.std.proofs.Common.{◌≡◌, ℕ, suc, ◌+◌, List, ap, ◌∙◌, arith}
 use Rattle.rand_core.specs.Stream.{Stream, fill_bytes}
-use Rattle.cred_phc.specs.declared.scheme.Scheme.{Scheme}
-use Rattle.cred_phc.specs.Values.{SettingValue, setting_of}
+use Rattle.cred_phc.specs.{declared.scheme.Scheme.Scheme, Values.SettingValue, Values.setting_of}
 use Rattle.cred_many.specs.Service.{Service, drawn_setting, salts_after}
 
 module _ (s : Service) (n : ℕ) (salt : List ℕ) (old new : Stream) (at : old ≡ salts_after s.salts n) (drawn : (salt, new) ≡ fill_bytes 16 old) where

@@ -1,20 +1,14 @@
 -- The lines that a reader comes to are lines of its input.
 use Rattle.std.proofs.Common.{◌≡◌, ◌≢◌, ℕ, zero, suc, ◌+◌, ◌<◌, ◌≤◌, List, [], ◌∷◌, ◌++◌, length, take, drop, get_or, Option, Some, None, IfSome, true, false, if◌then◌else◌, nat_lt, option_map, slice_get, refl, sym, ap, ◌∙◌, arith, append_assoc, append-nil, inl, inr, codes, subst, take-append-drop}
-use Rattle.std.proofs.lemmas.Bool.Decides.{eqb_tells, nat_tests}
-use Rattle.std.proofs.lemmas.Bool.{cases_lt}
-use Rattle.std.proofs.lemmas.List.{length-append, length-take, take_all, take_more}
-use Rattle.std.proofs.Math.Seq.{drop-cons}
-use Rattle.cred_phc.specs.Pieces.{pieces}
-use Rattle.cred_phc.specs.Values.{SettingValue}
+use Rattle.std.proofs.{lemmas.Bool.Decides.eqb_tells, lemmas.Bool.Decides.nat_tests, lemmas.Bool.cases_lt}
+use Rattle.std.proofs.{lemmas.List.length-append, lemmas.List.length-take, lemmas.List.take_all, lemmas.List.take_more, Math.Seq.drop-cons}
+use Rattle.cred_phc.specs.{Pieces.pieces, Values.SettingValue}
 use Rattle.cred_cli.specs.declared.costs.CostBounds.{CostBounds}
 use Rattle.cred_cli.specs.declared.refusal.Refusal.TheVariants as refusal
-use Rattle.cred_cli.specs.Events.{longest_line, most_kept, most_pieces}
-use Rattle.cred_cli.specs.Feeding.{unfinished_from}
-use Rattle.cred_cli.specs.Script.{line_ends, lines_of}
+use Rattle.cred_cli.specs.{Events.longest_line, Events.most_kept, Events.most_pieces, Feeding.unfinished_from, Script.line_ends, Script.lines_of}
 use Rattle.cred_cli.proofs.Feeds.{none_kept, some_kept, take-kept}
 use Rattle.cred_cli.proofs.Lines.{length-whole_from, lines_of-ended, lines_of-line_end, lines_of-unfinished, unfinished_from-end, unfinished_from-more, whole_from}
-use Rattle.cred_cli.proofs.Readings.{if_known}
-use Rattle.cred_cli.proofs.Unended.{ends_sooner, unended_at, unended_last}
+use Rattle.cred_cli.proofs.{Readings.if_known, Unended.ends_sooner, Unended.unended_at, Unended.unended_last}
 use Rattle.cred_many.specs.declared.ask.Ask.TheVariants.{Bad}
 use Rattle.cred_many.specs.Asks.{Tagged, entry_of, tag_of, tagged, tagged_by, tagged_of, untagged, within}
 use Rattle.cred_many.specs.Reading.{ComesNext, IsCutLine, IsWholeLine, MovesOver, NothingIsLeft, Place, Splits}

@@ -1,7 +1,6 @@
 -- Names that are written one after another.
 use Rattle.std.proofs.Common.{◌≡◌, ◌≢◌, ℕ, zero, suc, ◌-◌, List, [], ◌∷◌, ◌++◌, map, take, Bool, true, false, not, cond, refl, sym, ap, ◌∙◌, append_assoc, append-nil, Option, arith}
-use Rattle.std.specs.List.{filter}
-use Rattle.std.specs.Ordering.{is_lt}
+use Rattle.std.specs.{List.filter, Ordering.is_lt}
 use Rattle.cred_phc.specs.Values.{RecordValue}
 use Rattle.cred_book.specs.Names.{name_cmp}
 use Rattle.cred_many.specs.Edits.{page, spaced}

@@ -1,17 +1,12 @@
 -- How often a record was seen to change.
 use Rattle.std.proofs.Common.{◌≡◌, ℕ, zero, suc, ◌+◌, ◌≤◌, List, [], ◌∷◌, ◌++◌, Option, Some, None, IfSome, subst, Bool, true, false, if◌then◌else◌, refl, sym, ap, ◌∙◌, append_assoc, append-nil, arith, take, drop, set, slice_get}
-use Rattle.std.specs.List.{All}
-use Rattle.std.specs.Str.{bytes_eq}
 use Rattle.std.proofs.lemmas.Slice.Eq.{bytes_eq-Decides}
 use Rattle.std.proofs.lemmas.List.Elements.{All-append, All-drop, All-head, All-same, All-set, All-tail, All-take, All-weaker}
+use Rattle.std.specs.{List.All, Str.bytes_eq}
 use Rattle.cred_phc.specs.Values.{RecordValue}
-use Rattle.cred_book.specs.Accounts.{Accounts}
-use Rattle.cred_book.specs.Works.{same}
+use Rattle.cred_book.specs.{Accounts.Accounts, Works.same}
 use Rattle.cred_book.proofs.Equality.{same-Decides}
-use Rattle.cred_many.specs.declared.ask.Ask.{Ask}
-use Rattle.cred_many.specs.declared.open.Open.{Open}
-use Rattle.cred_many.specs.declared.open.Sight.{Sight}
-use Rattle.cred_many.specs.Asks.{Entry}
+use Rattle.cred_many.specs.{declared.ask.Ask.Ask, declared.open.Open.Open, declared.open.Sight.Sight, Asks.Entry}
 use Rattle.cred_many.specs.Scribe.{AreClosed, IsBusy, Notes, SightHolds, WasThere, counted, numbers, unseen}
 use Rattle.cred_many.specs.Served.{book_after, change_from, changes, done, name_asked, record_at, tries}
 

@@ -1,27 +1,21 @@
 -- A history that goes on by one line.
 use Rattle.std.proofs.Common.{◌≡◌, ◌⊎◌, inl, inr, ℕ, zero, suc, ◌+◌, List, [], ◌∷◌, ◌++◌, Option, Some, None, IfSome, subst, ◌≤◌, false, refl, sym, ap, ◌∙◌, append_assoc, append-nil, arith, take, drop, slice_get, length}
-use Rattle.std.specs.List.{All, range_with_len}
-use Rattle.std.specs.List.Sorted.{IsPermutation}
-use Rattle.std.proofs.Math.Logic.{∥∥₁_map}
-use Rattle.std.proofs.lemmas.List.{length-append}
+use Rattle.std.proofs.{Math.Logic.∥∥₁_map, lemmas.List.length-append}
 use Rattle.std.proofs.lemmas.List.Elements.{All-head, All-nil, All-push, All-same, All-tail}
 use Rattle.std.proofs.lemmas.List.Sorted.{IsPermutation-append_left, IsPermutation-append_right, IsPermutation-cons, IsPermutation-middle, IsPermutation-refl, IsPermutation-trans}
-use Rattle.std.specs.Io.KnownBytes.{Appends}
 use Rattle.std.proofs.KnownBytes.{Appends-nil, Appends-trans}
+use Rattle.std.specs.{List.All, List.range_with_len, List.Sorted.IsPermutation, Io.KnownBytes.Appends}
 use Rattle.cred_phc.specs.Values.{RecordValue}
 use Rattle.cred_book.specs.Accounts.{Accounts}
 use Rattle.cred_book.specs.declared.error.BookError.TheVariants as error
 use Rattle.cred_cli.specs.Outcome.{FrontWritten}
 use Rattle.cred_cli.specs.declared.refusal.Refusal.TheVariants as refusal
-use Rattle.cred_many.specs.declared.ask.Ask.TheVariants.{Bad}
-use Rattle.cred_many.specs.declared.fault.ServiceFault.{ServiceFault}
+use Rattle.cred_many.specs.{declared.ask.Ask.TheVariants.Bad, declared.fault.ServiceFault.ServiceFault}
 use Rattle.cred_many.specs.declared.fault.ServiceFault.TheVariants as fault
-use Rattle.cred_many.specs.declared.open.Open.{Open}
-use Rattle.cred_many.specs.Asks.{Entry, entry}
+use Rattle.cred_many.specs.{declared.open.Open.Open, Asks.Entry, Asks.entry}
 use Rattle.cred_many.specs.Scribe.{AreClosed, History, IsBusy, IsOneGroup, Notes, SightHolds, is_torn, numbers, unseen}
 use Rattle.cred_many.specs.Served.{AreFor, IsFor, NeedsMemory, answers, book_after, changes, done, entry_numbers, line_at, name_asked, record_at, told_line, tries}
-use Rattle.cred_many.specs.Service.{IsLine, Service, asked}
-use Rattle.cred_many.specs.Steps.{IsConcluded}
+use Rattle.cred_many.specs.{Service.IsLine, Service.Service, Service.asked, Steps.IsConcluded}
 use Rattle.cred_many.proofs.Seen.{book_after-append, looked_numbers, numbers-snoc, watched_looked, watched_on, watched_rest, worn}
 
 -- ---- the list grows

@@ -1,21 +1,16 @@
 -- What is told of a history.
 use Rattle.std.proofs.Common.{◌≡◌, ◌≢◌, ℕ, ◌+◌, ◌-◌, ◌≤◌, List, [], ◌∷◌, ◌++◌, Bool, true, Option, Some, None, MatchBool, IfSome, refl, sym, ap, subst, ◌∙◌, arith, take, drop, take-append-drop, length, suc}
-use Rattle.std.proofs.lemmas.List.{length-append, take_all, take-append-le}
-use Rattle.std.proofs.lemmas.Option.{slice_get_within}
+use Rattle.std.proofs.{lemmas.List.length-append, lemmas.List.take_all, lemmas.List.take-append-le, lemmas.Option.slice_get_within}
 use Rattle.std.specs.Io.KnownBytes.{Appends}
 use Rattle.cred_book.specs.Accounts.{Accounts}
 use Rattle.cred_cli.specs.Script.{lines_of}
 use Rattle.cred_many.specs.declared.fault.ServiceFault.{ServiceFault}
 use Rattle.cred_many.specs.declared.fault.ServiceFault.TheVariants as fault
-use Rattle.cred_many.specs.declared.open.Open.{Open}
-use Rattle.cred_many.specs.Asks.{Entry}
-use Rattle.cred_many.specs.Scribe.{History, IsCut, is_torn, numbers}
+use Rattle.cred_many.specs.{declared.open.Open.Open, Asks.Entry, Scribe.History, Scribe.IsCut, Scribe.is_torn, Scribe.numbers}
 use Rattle.cred_many.specs.Served.{HasCause, IsWritten, Moment, Stands, answers, book_after, most_together}
-use Rattle.cred_many.specs.Service.{IsLine, Service, asked, asked_from, cut_line}
-use Rattle.cred_many.specs.Steps.{IsConcluded}
+use Rattle.cred_many.specs.{Service.IsLine, Service.Service, Service.asked, Service.asked_from, Service.cut_line, Steps.IsConcluded}
 use Rattle.cred_cli.proofs.Unended.{length-unended}
-use Rattle.cred_many.proofs.Serving.{answers-append}
-use Rattle.cred_many.proofs.Writes.{take-behind}
+use Rattle.cred_many.proofs.{Serving.answers-append, Writes.take-behind}
 
 -- ---- what is written
 

@@ -1,35 +1,21 @@
 -- Changes of different accounts that are made together.
 use Rattle.std.proofs.Common.{◌≡◌, ◌≢◌, inl, inr, ℕ, suc, ◌<◌, List, [], ◌∷◌, ◌++◌, length, Option, Some, None, IfSome, Result, Ok, Err, OnErr, OnOk, Bool, true, false, cond, is_some, refl, sym, ap, subst, ◌∙◌, append_assoc, append-nil, arith}
 use Rattle.std.proofs.Math.Logic.{∥∥₁_map}
-use Rattle.std.specs.List.{All}
-use Rattle.std.specs.Option.{option_or}
-use Rattle.std.specs.Ordering.{eq_by_cmp}
+use Rattle.std.specs.{List.All, Option.option_or, Ordering.eq_by_cmp}
 use Rattle.std.specs.FinMap as fin
-use Rattle.std.specs.FinMap.{get-empty, get-insert, same_map}
-use Rattle.std.specs.Cmp.{eq_by_cmp_equiv}
-use Rattle.std.specs.Cmp.Lexicographic.{nat_list_cmp_total}
-use Rattle.std.proofs.lemmas.List.Elements.{All-nil, All-push, All-weaker}
-use Rattle.std.proofs.lemmas.List.{length-append}
+use Rattle.std.specs.{FinMap.get-empty, FinMap.get-insert, FinMap.same_map, Cmp.eq_by_cmp_equiv, Cmp.Lexicographic.nat_list_cmp_total}
+use Rattle.std.proofs.{lemmas.List.Elements.All-nil, lemmas.List.Elements.All-push, lemmas.List.Elements.All-weaker, lemmas.List.length-append}
 use Rattle.cred_phc.specs.Values.{RecordValue}
-use Rattle.cred_book.specs.Accounts.{Accounts}
-use Rattle.cred_book.specs.Changes.{judged_book}
-use Rattle.cred_book.specs.Commits.{Commits, judgement, judgement_at, judgement_if}
-use Rattle.cred_book.specs.Names.{name_cmp}
-use Rattle.cred_book.specs.Works.{Task, makes_change, name_of, same, seq, seq_at, whole}
+use Rattle.cred_book.specs.{Accounts.Accounts, Changes.judged_book, Commits.Commits, Commits.judgement, Commits.judgement_at, Commits.judgement_if}
+use Rattle.cred_book.specs.{Names.name_cmp, Works.Task, Works.makes_change, Works.name_of, Works.same, Works.seq, Works.seq_at, Works.whole}
 use Rattle.cred_book.specs.declared.reply.Reply.{Reply}
 use Rattle.cred_book.proofs.Changes.{committed_as_judged}
 use Rattle.cred_cli.specs.Texts.{reply_line}
-use Rattle.cred_many.specs.declared.fault.ServiceFault.{ServiceFault}
-use Rattle.cred_many.specs.declared.open.Open.{Open}
-use Rattle.cred_many.specs.Asks.{Entry, IsJobOf}
-use Rattle.cred_many.specs.Edits.{AreReplaced}
-use Rattle.cred_many.specs.Groups.{IsGroup, entries_of}
-use Rattle.cred_many.specs.Scribe.{AreApart, AreClosed, AreTogether, History, IsChange}
+use Rattle.cred_many.specs.{declared.fault.ServiceFault.ServiceFault, declared.open.Open.Open, Asks.Entry, Asks.IsJobOf, Edits.AreReplaced}
+use Rattle.cred_many.specs.{Groups.IsGroup, Groups.entries_of, Scribe.AreApart, Scribe.AreClosed, Scribe.AreTogether, Scribe.History, Scribe.IsChange}
 use Rattle.cred_many.specs.Served.{answers, book_after, line_at, most_together, name_asked, told_reply}
-use Rattle.cred_many.specs.Service.{IsLine, Service}
-use Rattle.cred_many.specs.Steps.{IsConcluded, is_changed}
-use Rattle.cred_many.proofs.Commits.{done_whole, job_change, job_name, whole_unchanged}
-use Rattle.cred_many.proofs.Seen.{book_after-append}
+use Rattle.cred_many.specs.{Service.IsLine, Service.Service, Steps.IsConcluded, Steps.is_changed}
+use Rattle.cred_many.proofs.{Commits.done_whole, Commits.job_change, Commits.job_name, Commits.whole_unchanged, Seen.book_after-append}
 use Rattle.cred_many.proofs.Serving.{IsDone, answers-append, owed_each, served_on, snoc_cut}
 
 -- ---- what is judged at a name depends on its record alone

@@ -1,11 +1,8 @@
 -- A text that is written in parts.
 use Rattle.std.proofs.Common.{◌≡◌, ℕ, zero, suc, ◌+◌, List, [], ◌∷◌, ◌++◌, length, take, Option, Bool, Result, Ok, Err, OnErr, OnOk, IfErr, ap, arith, refl}
-use Rattle.std.proofs.lemmas.List.{length-append, take-append-le}
+use Rattle.std.proofs.{lemmas.List.length-append, lemmas.List.take-append-le, KnownBytes.Appends-trans}
 use Rattle.std.specs.Io.KnownBytes.{Appends}
-use Rattle.std.proofs.KnownBytes.{Appends-trans}
-use Rattle.cred_cli.specs.Outcome.{FrontWritten}
-use Rattle.cred_cli.specs.Steps.{WriteFails}
-use Rattle.cred_cli.specs.declared.fault.ScriptFault.{ScriptFault}
+use Rattle.cred_cli.specs.{Outcome.FrontWritten, Steps.WriteFails, declared.fault.ScriptFault.ScriptFault}
 
 -- a front of the first part is one of the whole
 pub front_more : (a b : Option (List ℕ)) (xs ys : List ℕ) → FrontWritten a b xs → FrontWritten a b (xs ++ ys)

@@ -1,28 +1,18 @@
 -- What a tagged line asks for.
-use Rattle.std.specs.Prelude.{◌≡◌, ℕ, List, [], ◌∷◌, Bool, ◌&&◌, ◌||◌, if◌then◌else◌, length, nat_le}
-use Rattle.std.specs.Prelude.{nat_lt, codes, Option, Some, None, Result, Ok, Err, true, false}
-use Rattle.std.specs.List.{list_all}
-use Rattle.std.specs.Str.{bytes_eq}
-use Rattle.std.specs.Option.{ok_or}
-use Rattle.cred_phc.specs.Number.{number_of}
-use Rattle.cred_phc.specs.Pieces.{pieces}
-use Rattle.cred_phc.specs.Ranges.{between, is_current}
-use Rattle.cred_phc.specs.Reading.{◌>>=◌}
-use Rattle.cred_phc.specs.Values.{SettingValue}
+use Rattle.std.specs.Prelude.{◌≡◌, ℕ, List, [], ◌∷◌, Bool, ◌&&◌, ◌||◌, if◌then◌else◌, length, nat_le, nat_lt, codes, Option, Some, None, Result, Ok, Err, true, false}
+use Rattle.std.specs.{List.list_all, Str.bytes_eq, Option.ok_or}
+use Rattle.cred_phc.specs.{Number.number_of, Pieces.pieces, Ranges.between, Ranges.is_current, Reading.◌>>=◌, Values.SettingValue}
 use Rattle.cred_phc.specs.declared.error.PhcError.TheVariants.{Range}
 use Rattle.cred_book.specs.Works.{Task, is_for_current}
 use Rattle.cred_book.specs.declared.request.Request.TheVariants as request
 use Rattle.cred_cli.specs.Costs.{exceeds, request_exceeds}
-use Rattle.cred_cli.specs.Events.{longest_line, name_field, password_field, record_field}
-use Rattle.cred_cli.specs.Events.{setting_field}
-use Rattle.cred_cli.specs.declared.costs.CostBounds.{CostBounds}
-use Rattle.cred_cli.specs.declared.refusal.Refusal.{Refusal}
+use Rattle.cred_cli.specs.Events.{longest_line, name_field, password_field, record_field, setting_field}
+use Rattle.cred_cli.specs.{declared.costs.CostBounds.CostBounds, declared.refusal.Refusal.Refusal}
 use Rattle.cred_cli.specs.declared.refusal.Refusal.TheVariants as refusal
 use Rattle.cred_many.specs.declared.ask.Ask.{Ask}
-use Rattle.cred_many.specs.declared.ask.Ask.TheVariants.{Account, Load, Show, Whole, Login, Reset}
-use Rattle.cred_many.specs.declared.ask.Ask.TheVariants.{Bad, Edit, List as Names}
-use Rattle.cred_admin.specs.declared.edits.Edit.TheVariants.{Disable, Delete, Rename}
+use Rattle.cred_many.specs.declared.ask.Ask.TheVariants.{Account, Load, Show, Whole, Login, Reset, Bad, Edit, List as Names}
 use Rattle.cred_many.specs.declared.grammar.Making.{Making}
+use Rattle.cred_admin.specs.declared.edits.Edit.TheVariants.{Disable, Delete, Rename}
 use Rattle.cred_many.specs.declared.grammar.Making.TheVariants as making
 use Rattle.cred_many.specs.declared.grammar.Checking.{Checking}
 use Rattle.cred_many.specs.declared.grammar.Checking.TheVariants as checking

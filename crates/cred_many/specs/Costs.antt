@@ -1,7 +1,6 @@
 -- The costs of new records.
 use Rattle.std.specs.Prelude.{◌≡◌, IsTrue, true}
-use Rattle.cred_phc.specs.Ranges.{is_current, scheme_fits}
-use Rattle.cred_phc.specs.declared.scheme.Scheme.{Scheme}
+use Rattle.cred_phc.specs.{Ranges.is_current, Ranges.scheme_fits, declared.scheme.Scheme.Scheme}
 
 -- its numbers are in their ranges, and it isn't of the version of old records
 pub record IsForNew (scheme : Scheme) : Type 0 where

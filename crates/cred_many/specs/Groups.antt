@@ -1,12 +1,8 @@
 -- Changes that are made together.
 use Rattle.std.specs.Prelude.{◌≡◌, ℕ, ◌≤◌, List, All, IfSome, length, map, true}
 use Rattle.std.specs.FinMap as fin
-use Rattle.cred_book.specs.Accounts.{Accounts}
-use Rattle.cred_book.specs.Works.{Task}
-use Rattle.cred_many.specs.Asks.{Entry}
-use Rattle.cred_many.specs.Edits.{AreReplaced}
-use Rattle.cred_many.specs.Scribe.{AreTogether}
-use Rattle.cred_many.specs.Served.{answers, book_after, most_together, name_asked}
+use Rattle.cred_book.specs.{Accounts.Accounts, Works.Task}
+use Rattle.cred_many.specs.{Asks.Entry, Edits.AreReplaced, Scribe.AreTogether, Served.answers, Served.book_after, Served.most_together, Served.name_asked}
 use Rattle.cred_many.specs.Service.{IsLine, Service}
 
 -- the lines of what is hashed

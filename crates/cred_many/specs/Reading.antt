@@ -1,8 +1,6 @@
 -- Where the thread that reads is in its input. No public clause speaks of it.
 use Rattle.std.specs.Prelude.{◌≡◌, ℕ, ◌<◌, List, [], ◌++◌, Option, Some, None, take, slice_get}
-use Rattle.cred_cli.specs.Events.{most_kept}
-use Rattle.cred_cli.specs.Feeding.{unfinished_from}
-use Rattle.cred_cli.specs.Script.{line_ends, lines_of}
+use Rattle.cred_cli.specs.{Events.most_kept, Feeding.unfinished_from, Script.line_ends, Script.lines_of}
 
 -- the start of the line that has no end yet, and how many lines came before it
 pub record Place : Type 0 where

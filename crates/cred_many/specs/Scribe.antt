@@ -1,25 +1,15 @@
 -- What stands behind it in a scribe: what each open line has seen, and lines that are done together.
 -- No public clause speaks of it.
-use Rattle.std.specs.Prelude.{◌≡◌, ◌≢◌, ℕ, ◌<◌, ◌≤◌, ◌+◌, List, [], ◌∷◌, ◌++◌, Bool, true, false}
-use Rattle.std.specs.Prelude.{All, if◌then◌else◌, IfSome, MatchBool, Option, Some, None}
-use Rattle.std.specs.Prelude.{drop, length, map, set, slice_get, take}
-use Rattle.std.specs.List.{range_with_len}
-use Rattle.std.specs.List.Sorted.{IsPermutation}
-use Rattle.std.specs.Str.{bytes_eq}
-use Rattle.std.specs.Io.KnownBytes.{Appends}
+use Rattle.std.specs.Prelude.{◌≡◌, ◌≢◌, ℕ, ◌<◌, ◌≤◌, ◌+◌, List, [], ◌∷◌, ◌++◌, Bool, true, false, All, if◌then◌else◌, IfSome, MatchBool, Option, Some, None, drop, length, map, set, slice_get, take}
+use Rattle.std.specs.{List.range_with_len, List.Sorted.IsPermutation, Str.bytes_eq, Io.KnownBytes.Appends}
 use Rattle.cred_phc.specs.Values.{RecordValue}
-use Rattle.cred_book.specs.Accounts.{Accounts}
-use Rattle.cred_book.specs.Works.{makes_change, seq}
+use Rattle.cred_book.specs.{Accounts.Accounts, Works.makes_change, Works.seq}
 use Rattle.cred_book.specs.declared.request.Request.TheVariants as request
-use Rattle.cred_many.specs.declared.ask.Ask.{Ask}
-use Rattle.cred_many.specs.declared.ask.Ask.TheVariants.{Whole, Login}
+use Rattle.cred_many.specs.{declared.ask.Ask.Ask, declared.ask.Ask.TheVariants.Whole, declared.ask.Ask.TheVariants.Login}
 use Rattle.cred_many.specs.declared.fault.ServiceFault.{ServiceFault}
 use Rattle.cred_many.specs.declared.fault.ServiceFault.TheVariants as fault
-use Rattle.cred_many.specs.declared.open.Open.{Open}
-use Rattle.cred_many.specs.declared.open.Sight.{Sight}
-use Rattle.cred_many.specs.Asks.{Entry}
-use Rattle.cred_many.specs.Served.{AreFor, answers, book_after, change_from, changes, entry_numbers}
-use Rattle.cred_many.specs.Served.{most_together, name_asked, record_at, tries}
+use Rattle.cred_many.specs.{declared.open.Open.Open, declared.open.Sight.Sight, Asks.Entry}
+use Rattle.cred_many.specs.Served.{AreFor, answers, book_after, change_from, changes, entry_numbers, most_together, name_asked, record_at, tries}
 use Rattle.cred_many.specs.Service.{Service, asked}
 
 -- ---- what an open line has seen

@@ -1,36 +1,25 @@
 -- What a service stands for at every moment: one list of lines, each done whole, one after another.
-use Rattle.std.specs.Prelude.{◌≡◌, ◌≢◌, ◌⊎◌, ℕ, ◌<◌, ◌≤◌, ◌+◌, ◌-◌, ◌^◌, List, [], ◌∷◌, ◌++◌, Bool}
-use Rattle.std.specs.Prelude.{true, false, if◌then◌else◌, IfSome, nat_lt, Option, Some, None}
-use Rattle.std.specs.Prelude.{length, map, take, slice_get, unwrap_or}
-use Rattle.std.specs.List.{range_with_len}
-use Rattle.std.specs.List.Sorted.{IsPermutation}
+use Rattle.std.specs.Prelude.{◌≡◌, ◌≢◌, ◌⊎◌, ℕ, ◌<◌, ◌≤◌, ◌+◌, ◌-◌, ◌^◌, List, [], ◌∷◌, ◌++◌, Bool, true, false, if◌then◌else◌, IfSome, nat_lt, Option, Some, None, length, map, take, slice_get, unwrap_or}
+use Rattle.std.specs.{List.range_with_len, List.Sorted.IsPermutation}
 use Rattle.std.specs.FinMap as fin
 use Rattle.std.specs.Io.KnownBytes.{Appends}
 use Rattle.cred_phc.specs.Values.{RecordValue}
-use Rattle.cred_book.specs.Accounts.{Accounts}
-use Rattle.cred_book.specs.Works.{name_of, new_record, same, seq}
+use Rattle.cred_book.specs.{Accounts.Accounts, Works.name_of, Works.new_record, Works.same, Works.seq}
 use Rattle.cred_book.specs.declared.error.BookError.TheVariants as error
 use Rattle.cred_book.specs.declared.reply.Reply.{Reply}
 use Rattle.cred_book.specs.declared.reply.Reply.TheVariants as reply
 use Rattle.cred_book.specs.declared.request.Request.TheVariants as request
-use Rattle.cred_cli.specs.History.{Answer, Done, Replied, Refused, show_answer}
-use Rattle.cred_cli.specs.Script.{lines_of}
-use Rattle.cred_cli.specs.Texts.{text_of}
+use Rattle.cred_cli.specs.{History.Answer, History.Done, History.Replied, History.Refused, History.show_answer, Script.lines_of, Texts.text_of}
 use Rattle.cred_cli.specs.Watched.{failed_of, inner_of}
-use Rattle.cred_admin.specs.Edits.{edit_status, edit_word, edited, lacks_room}
-use Rattle.cred_admin.specs.declared.edit_reply.EditReply.{EditReply}
+use Rattle.cred_admin.specs.{Edits.edit_status, Edits.edit_word, Edits.edited, Edits.lacks_room, declared.edit_reply.EditReply.EditReply}
 use Rattle.cred_admin.specs.declared.status.Status.TheVariants as status
 use Rattle.cred_cli.specs.declared.refusal.Refusal.TheVariants as refusal
 use Rattle.cred_many.specs.declared.ask.Ask.{Ask}
-use Rattle.cred_many.specs.declared.ask.Ask.TheVariants.{Account, Load, Show, Whole, Login, Reset}
-use Rattle.cred_many.specs.declared.ask.Ask.TheVariants.{Bad, Edit as Change, List as Names}
-use Rattle.cred_admin.specs.declared.edits.Edit.{Edit}
+use Rattle.cred_many.specs.declared.ask.Ask.TheVariants.{Account, Load, Show, Whole, Login, Reset, Bad, Edit as Change, List as Names}
 use Rattle.cred_many.specs.declared.fault.ServiceFault.{ServiceFault}
+use Rattle.cred_admin.specs.declared.edits.Edit.{Edit}
 use Rattle.cred_many.specs.declared.fault.ServiceFault.TheVariants as fault
-use Rattle.cred_many.specs.declared.served.Served.{Served}
-use Rattle.cred_many.specs.Asks.{Entry}
-use Rattle.cred_many.specs.Edits.{names_text, page}
-use Rattle.cred_many.specs.Service.{Service, asked}
+use Rattle.cred_many.specs.{declared.served.Served.Served, Asks.Entry, Edits.names_text, Edits.page, Service.Service, Service.asked}
 
 -- ---- what is answered
 

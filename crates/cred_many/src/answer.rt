@@ -3,10 +3,8 @@
 ghost use Rattle.std.specs.Prelude.{◌≡◌, IfOk, OnErr, OnOk, true};
 ghost use Rattle.cred_book.specs.declared.error.BookError.{BookError};
 ghost use Rattle.std.specs.FinMap as map;
-ghost use Rattle.cred_cli.specs.Answers.{line_bytes};
-ghost use Rattle.cred_cli.specs.History.{Replied};
-ghost use Rattle.cred_many.specs.Asks.{NeedsNoHash};
-ghost use Rattle.cred_many.specs.Served.{NeedsMemory, Script, done, reset_at, told_line};
+ghost use Rattle.cred_cli.specs.{Answers.line_bytes, History.Replied};
+ghost use Rattle.cred_many.specs.{Asks.NeedsNoHash, Served.NeedsMemory, Served.Script, Served.done, Served.reset_at, Served.told_line};
 
 use crate::ask::Ask;
 use crate::host::Host;

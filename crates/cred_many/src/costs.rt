@@ -1,8 +1,7 @@
 //! The costs of new records.
 
 ghost use Rattle.std.specs.Prelude.{◌≡◌, false, IfNone, IfSome, true};
-ghost use Rattle.cred_phc.specs.Ranges.{is_current};
-ghost use Rattle.cred_phc.specs.Values.{setting_of};
+ghost use Rattle.cred_phc.specs.{Ranges.is_current, Values.setting_of};
 ghost use Rattle.cred_cli.specs.Costs.{memory_alone};
 
 use cred_cli::memory_alone;

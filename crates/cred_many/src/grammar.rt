@@ -2,10 +2,7 @@
 
 ghost use Rattle.std.specs.Prelude.{◌≡◌, IfOk, map, true};
 ghost use Rattle.cred_phc.specs.Ranges.{is_current};
-ghost use Rattle.cred_many.specs.Asks.{IsSound, account_ask, ask_of, change_ask, changed_by};
-ghost use Rattle.cred_many.specs.Asks.{checked, checked_ask, hashed_ask, load_ask, login_ask};
-ghost use Rattle.cred_many.specs.Asks.{count_field, count_of, list_ask, made, made_ask, made_by};
-ghost use Rattle.cred_many.specs.Asks.{only_name, rename_ask, show_ask};
+ghost use Rattle.cred_many.specs.Asks.{IsSound, account_ask, ask_of, change_ask, changed_by, checked, checked_ask, hashed_ask, load_ask, login_ask, count_field, count_of, list_ask, made, made_ask, made_by, only_name, rename_ask, show_ask};
 
 use crate::ask::Ask;
 use cred_admin::Edit;

@@ -1,8 +1,7 @@
 //! A kept book that answers tagged lines.
 
 ghost use Rattle.std.specs.Prelude.{◌≡◌};
-ghost use Rattle.cred_many.specs.Edits.{ReplacesAll};
-ghost use Rattle.cred_many.specs.Service.{service};
+ghost use Rattle.cred_many.specs.{Edits.ReplacesAll, Service.service};
 
 use crate::host::Host;
 use crate::message::Ending;

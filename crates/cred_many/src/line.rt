@@ -1,10 +1,8 @@
 //! A line that came, read.
 
-ghost use Rattle.std.specs.Prelude.{◌≡◌, IfSome, codes, map, true};
-ghost use Rattle.std.specs.List.{list_all};
+ghost use Rattle.std.specs.{Prelude.◌≡◌, Prelude.IfSome, Prelude.codes, Prelude.map, Prelude.true, List.list_all};
 ghost use Rattle.cred_phc.specs.Ranges.{is_current};
-ghost use Rattle.cred_many.specs.Asks.{IsSound, entry_of, is_tag_byte, tag_of, tagged, tagged_of};
-ghost use Rattle.cred_many.specs.Service.{IsLine, cut_line};
+ghost use Rattle.cred_many.specs.{Asks.IsSound, Asks.entry_of, Asks.is_tag_byte, Asks.tag_of, Asks.tagged, Asks.tagged_of, Service.IsLine, Service.cut_line};
 
 use crate::ask::Ask;
 use crate::grammar::ask_of;

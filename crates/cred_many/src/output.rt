@@ -2,8 +2,7 @@
 
 ghost use Rattle.std.specs.Prelude.{◌≡◌, ◌∷◌, ◌++◌, OnErr, OnOk, None, Some, true};
 ghost use Rattle.std.specs.Io.KnownBytes.{Appends};
-ghost use Rattle.cred_cli.specs.Outcome.{FrontWritten};
-ghost use Rattle.cred_cli.specs.Watched.{failed_of, inner_of};
+ghost use Rattle.cred_cli.specs.{Outcome.FrontWritten, Watched.failed_of, Watched.inner_of};
 ghost use Rattle.cred_many.specs.Steps.{IsConcluded};
 
 use crate::fault::ServiceFault;

@@ -1,16 +1,11 @@
 //! The book that is served, the lines that are open, and the writer of their answers.
 
-ghost use Rattle.std.specs.Prelude.{◌≡◌, ◌≢◌, ◌<◌, [], IfSome, length, None, OnSome, Option, slice_get};
-ghost use Rattle.std.specs.Prelude.{Some, true};
-ghost use Rattle.cred_cli.specs.Script.{lines_of};
-ghost use Rattle.cred_cli.specs.Watched.{failed_of, inner_of};
+ghost use Rattle.std.specs.Prelude.{◌≡◌, ◌≢◌, ◌<◌, [], IfSome, length, None, OnSome, Option, slice_get, Some, true};
+ghost use Rattle.cred_cli.specs.{Script.lines_of, Watched.failed_of, Watched.inner_of};
 ghost use Rattle.cred_book.specs.Works.{is_for_current, name_of};
 ghost use Rattle.cred_phc.specs.Values.{RecordValue};
-ghost use Rattle.cred_many.specs.Asks.{IsJobOf, IsResetOf, NeedsNoHash};
-ghost use Rattle.cred_many.specs.Scribe.{History, numbers};
-ghost use Rattle.cred_many.specs.Served.{HasCause, Stands, StandsAtEnd, left_of};
-ghost use Rattle.cred_many.specs.Served.{record_at, told_reply};
-ghost use Rattle.cred_many.specs.Steps.{is_changed};
+ghost use Rattle.cred_many.specs.{Asks.IsJobOf, Asks.IsResetOf, Asks.NeedsNoHash, Scribe.History, Scribe.numbers};
+ghost use Rattle.cred_many.specs.{Served.HasCause, Served.Stands, Served.StandsAtEnd, Served.left_of, Served.record_at, Served.told_reply, Steps.is_changed};
 
 mod groups;
 mod refusals;

@@ -2,19 +2,13 @@
 -- encoding.
 use Rattle.std.proofs.Common.{◌≡◌, ◌∙◌, ℕ, zero, suc, ◌+◌, ◌*◌, ◌/◌, ◌%◌, ◌<◌, ◌≤◌, ◌==◌, not, true, if◌then◌else◌, List, [], ◌∷◌, length, get_or, Some, None, Result, Ok, Err, arith, refl, ap, append-nil}
 use Rattle.std.proofs.lemmas.Bool.Decides.{nat_tests}
-use Rattle.base64.specs.declared.decode.DecodeError.{DecodeError}
-use Rattle.base64.specs.Engines.{standard_no_pad}
-use Rattle.base64.specs.GeneralPurpose.{IsBytes, decode_of, decoded_of, engine_symbols}
-use Rattle.base64.proofs.EngineFacts.{decode_of_strict, decode_of-encode_of}
-use Rattle.base64.specs.Rfc4648.{encode_symbols}
-use Rattle.base64.proofs.RoundTrip.{length-encode_symbols}
-use Rattle.std.specs.Cmp.{first_so, second_so}
-use Rattle.std.specs.Result.{result_ok}
+use Rattle.base64.specs.{declared.decode.DecodeError.DecodeError, Engines.standard_no_pad}
+use Rattle.base64.specs.{GeneralPurpose.IsBytes, GeneralPurpose.decode_of, GeneralPurpose.decoded_of, GeneralPurpose.engine_symbols, Rfc4648.encode_symbols}
+use Rattle.base64.proofs.{EngineFacts.decode_of_strict, EngineFacts.decode_of-encode_of, RoundTrip.length-encode_symbols}
+use Rattle.std.specs.{Cmp.first_so, Cmp.second_so, Result.result_ok}
 use Rattle.cred_base64.specs.Letters.{bytes_with}
-use Rattle.cred_phc.proofs.CaseLaws.{if_some}
-use Rattle.cred_phc.proofs.PieceLaws.{lacks}
-use Rattle.cred_phc.specs.Ranges.{between}
-use Rattle.cred_phc.specs.Base64.{base64, unbase64, bytes_within, bytes_of}
+use Rattle.cred_phc.proofs.{CaseLaws.if_some, PieceLaws.lacks}
+use Rattle.cred_phc.specs.{Ranges.between, Base64.base64, Base64.unbase64, Base64.bytes_within, Base64.bytes_of}
 
 pub length-base64 : (bytes : List ℕ) → length (base64 bytes) ≡ (4 * length bytes + 2) / 3
 unfolding base64

@@ -1,8 +1,6 @@
 -- Bytes with zeros behind them, and bytes compared one by one.
 use Rattle.std.proofs.Common.{◌≡◌, ℕ, suc, zero, ◌<◌, ◌≤◌, ◌&&◌, nat_eq, List, [], ◌∷◌, ◌++◌, length, take, drop, replicate, get_or, arith, ap}
-use Rattle.std.proofs.Math.Bool.{and_assoc, and-true}
-use Rattle.std.proofs.lemmas.Grind.{common_steps}
-use Rattle.std.proofs.lemmas.List.{drop-replicate, drop_at}
+use Rattle.std.proofs.{Math.Bool.and_assoc, Math.Bool.and-true, lemmas.Grind.common_steps, lemmas.List.drop-replicate, lemmas.List.drop_at}
 use Rattle.std.specs.Str.{bytes_eq}
 use Rattle.base64.specs.GeneralPurpose.{IsBytes}
 use Rattle.cred_phc.specs.Padded.{IsPadded}

@@ -1,23 +1,16 @@
 -- Reading fails with the fault of the table.
 use Rattle.std.proofs.Common.{◌≡◌, ◌∙◌, ℕ, ◌==◌, nat_lt, Bool, true, false, not, List, [], ◌∷◌, ◌++◌, length, take, Option, Some, None, is_some, Result, Ok, Err, IfErr, OnOk, codes, refl, sym, ap, if◌then◌else◌}
-use Rattle.std.specs.Str.{bytes_eq}
-use Rattle.std.specs.Option.{ok_or}
+use Rattle.std.specs.{Str.bytes_eq, Option.ok_or}
 use Rattle.cred_phc.specs.declared.error.PhcError.{PhcError}
 use Rattle.cred_phc.specs.declared.error.PhcError.TheVariants.{Shape, Version as WrongVersion, Params, Range, Salt, Tag, TooLong, Scheme as NoScheme}
-use Rattle.cred_phc.specs.declared.scheme.Scheme.{Scheme}
-use Rattle.cred_phc.specs.declared.scheme.Scheme.TheVariants.{Argon2, Scrypt}
-use Rattle.cred_argon.specs.declared.kind.Version.{Version}
-use Rattle.cred_argon.specs.declared.kind.Version.TheVariants.{V10, V13}
-use Rattle.cred_phc.specs.declared.scheme.Variant.{Variant}
-use Rattle.cred_phc.specs.declared.scheme.Name.{Name}
-use Rattle.cred_phc.specs.declared.scheme.Name.TheVariants.{Argon2 as NamesArgon2, Scrypt as NamesScrypt}
-use Rattle.cred_phc.specs.Base64.{bytes_of}
+use Rattle.cred_phc.specs.{declared.scheme.Scheme.Scheme, declared.scheme.Scheme.TheVariants.Argon2, declared.scheme.Scheme.TheVariants.Scrypt}
+use Rattle.cred_phc.specs.{declared.scheme.Variant.Variant, declared.scheme.Name.Name}
+use Rattle.cred_phc.specs.{declared.scheme.Name.TheVariants.Argon2 as NamesArgon2, declared.scheme.Name.TheVariants.Scrypt as NamesScrypt, Base64.bytes_of}
 use Rattle.cred_phc.specs.Faults.{Judge, unless, numbers_fault, bytes_fault, judges_of, first, judgement, version_fault, named_fault, fields_fault, setting_fault, record_fault}
-use Rattle.cred_phc.specs.Fields.{name_of, numbers_of}
-use Rattle.cred_phc.specs.Pieces.{pieces}
-use Rattle.cred_phc.specs.Ranges.{argon_fits, scrypt_fits, salt_low}
+use Rattle.cred_phc.specs.{Fields.name_of, Fields.numbers_of, Pieces.pieces, Ranges.argon_fits, Ranges.scrypt_fits, Ranges.salt_low}
 use Rattle.cred_phc.specs.Reading.{◌>>=◌, guard, next, end, argon_of, version_at, numbers_at, argon_at, scrypt_at, named_at, scheme_at, setting_at, tag_at, fields_of, read_setting, read_record}
 use Rattle.cred_phc.specs.Values.{SettingValue, setting_of, record_of}
+use Rattle.cred_argon.specs.{declared.kind.Version.Version, declared.kind.Version.TheVariants.V10, declared.kind.Version.TheVariants.V13}
 
 abbrev pub fault_in : {A : Type 0} → Result A PhcError → Option PhcError
 fault_in (Ok x) = None

@@ -1,16 +1,10 @@
 -- What one field stands for, and the one text that stands for it.
 use Rattle.std.proofs.Common.{◌≡◌, ◌∙◌, ℕ, ◌^◌, ◌<◌, true, false, List, [], ◌∷◌, ◌++◌, length, take, drop, Option, Some, None, decimal, refl, sym, ap}
-use Rattle.std.proofs.lemmas.List.{take-append-drop}
-use Rattle.std.proofs.lemmas.Slice.Eq.{bytes_eq-Decides}
-use Rattle.std.proofs.Math.Seq.{take-append_seam, drop-append_seam}
-use Rattle.std.specs.Char.{is_ascii_digit}
-use Rattle.std.specs.Str.{bytes_eq}
-use Rattle.cred_phc.specs.Fields.{labelled_number, labelled_numbers, triple, numbers_of}
-use Rattle.cred_phc.specs.Number.{number_of}
-use Rattle.cred_phc.specs.Pieces.{pieces}
+use Rattle.std.proofs.{lemmas.List.take-append-drop, lemmas.Slice.Eq.bytes_eq-Decides, Math.Seq.take-append_seam, Math.Seq.drop-append_seam}
+use Rattle.std.specs.{Char.is_ascii_digit, Str.bytes_eq}
+use Rattle.cred_phc.specs.{Fields.labelled_number, Fields.labelled_numbers, Fields.triple, Fields.numbers_of, Number.number_of, Pieces.pieces}
 use Rattle.cred_phc.specs.Text.{label, numbers_text}
-use Rattle.cred_phc.proofs.CaseLaws.{if_read}
-use Rattle.cred_phc.proofs.NumberLaws.{number_of-decimal, number_is, lacks-decimal}
+use Rattle.cred_phc.proofs.{CaseLaws.if_read, NumberLaws.number_of-decimal, NumberLaws.number_is, NumberLaws.lacks-decimal}
 use Rattle.cred_phc.proofs.PieceLaws.{lacks, lacks-append, pieces-join, join-pieces}
 
 pub same_bytes : (xs ys : List ℕ) → bytes_eq xs ys ≡ true → xs ≡ ys

@@ -1,10 +1,6 @@
 -- What the functions that make tags are asked for.
-use Rattle.std.proofs.Common.{◌≤◌, ℕ, IsTrue, arith}
-use Rattle.std.proofs.lemmas.Bool.Decides.{nat_tests}
-use Rattle.cred_argon.specs.Parameters.{parameters}
-use Rattle.cred_argon.specs.Faults.{IsFirstFault}
-use Rattle.cred_argon.specs.declared.kind.Kind.{Kind}
-use Rattle.cred_argon.specs.declared.kind.Version.{Version}
+use Rattle.std.proofs.{Common.◌≤◌, Common.ℕ, Common.IsTrue, Common.arith, lemmas.Bool.Decides.nat_tests}
+use Rattle.cred_argon.specs.{Parameters.parameters, Faults.IsFirstFault, declared.kind.Kind.Kind, declared.kind.Version.Version}
 use Rattle.cred_argon.specs.declared.error.ArgonError.{ArgonError}
 use Rattle.cred_argon.specs.declared.error.ArgonError.TheVariants.{Lanes, Cost, Passes, TagLen, InputLen, Memory}
 use Rattle.cred_phc.specs.Ranges.{argon_fits}

@@ -1,17 +1,12 @@
 -- Decimal numbers, digit by digit.
 use Rattle.std.proofs.Common.{◌≡◌, ℕ, suc, zero, ◌+◌, ◌-◌, ◌*◌, ◌^◌, ◌<◌, ◌==◌, ◌&&◌, ◌||◌, not, nat_lt, min, if◌then◌else◌, lit<, Bool, true, false, List, [], ◌∷◌, length, take, get_or, Some, None, decimal, arith, refl, sym, ap, ◌∙◌, rules}
-use Rattle.std.proofs.lemmas.Bool.Decides.{nat_tests}
-use Rattle.std.proofs.lemmas.Int.Digits.{digits_value_more}
+use Rattle.std.proofs.{lemmas.Bool.Decides.nat_tests, lemmas.Int.Digits.digits_value_more}
 use borrow.Author.Tests.{ltb-true}
-use Rattle.std.specs.Char.{is_ascii_digit, digit_value}
-use Rattle.std.specs.Cmp.{first_so, second_so}
-use Rattle.std.specs.List.{list_all}
-use Rattle.std.specs.Str.Parse.{digits_value}
+use Rattle.std.specs.{Char.is_ascii_digit, Char.digit_value, Cmp.first_so, Cmp.second_so, List.list_all, Str.Parse.digits_value}
 use Rattle.std.proofs.lemmas.Str.Parse.{IsNumeralModel, numerals_by_value}
 use Rattle.std.proofs.lemmas.Fmt.{digits_decimal, digits_value-decimal, decimal-digits_value, decimal_nonempty, first_decimal, decimal_digit}
 use Rattle.cred_phc.specs.Number.{saturation, is_numeral, number_of}
-use Rattle.cred_phc.proofs.CaseLaws.{both_true, if_some}
-use Rattle.cred_phc.proofs.PieceLaws.{lacks}
+use Rattle.cred_phc.proofs.{CaseLaws.both_true, CaseLaws.if_some, PieceLaws.lacks}
 
 digit_at : (ds : List ℕ) (i : ℕ) → list_all is_ascii_digit ds ≡ true → i < length ds → is_ascii_digit (get_or ds i 0) ≡ true
 digit_at [] i all within = absurd (omega arith)

@@ -1,14 +1,10 @@
 -- Numbers are in their ranges where the types that keep them take them.
 use Rattle.std.proofs.Common.{◌≡◌, ◌↔◌, inl, inr, ℕ, ◌≤◌, ◌<◌, ◌*◌, ◌^◌, Bool, true, false, Result, Ok, Err, IfOk, refl, sym, arith}
+use Rattle.std.proofs.{lemmas.Bool.cases_lt, lemmas.Bool.Decides.nat_tests}
 use Rattle.std.specs.Result.{is_ok}
-use Rattle.std.proofs.lemmas.Bool.{cases_lt}
-use Rattle.std.proofs.lemmas.Bool.Decides.{nat_tests}
-use Rattle.cred_argon.specs.Parameters.{Parameters, parameters, IsParameters}
-use Rattle.cred_argon.specs.Faults.{IsFirstFault}
-use Rattle.cred_argon.specs.declared.params.TheConstants.{MAX_PASSES, MIN_TAG}
-use Rattle.cred_argon.specs.declared.kind.Kind.TheVariants.{Id}
-use Rattle.cred_argon.specs.declared.kind.Version.TheVariants.{V13}
-use Rattle.cred_argon.specs.declared.error.ArgonError.{ArgonError}
+use Rattle.cred_argon.specs.{Parameters.Parameters, Parameters.parameters, Parameters.IsParameters, Faults.IsFirstFault}
+use Rattle.cred_argon.specs.{declared.params.TheConstants.MAX_PASSES, declared.params.TheConstants.MIN_TAG, declared.kind.Kind.TheVariants.Id}
+use Rattle.cred_argon.specs.{declared.kind.Version.TheVariants.V13, declared.error.ArgonError.ArgonError}
 use Rattle.cred_scrypt.specs.Params.{IsBadLen, IsCostly}
 use Rattle.cred_scrypt.specs.declared.params.TheConstants.{MAX_BLOCK_SIZE, MAX_BLOCKS, MAX_LN, MAX_ROWS, MIN_LEN}
 use Rattle.cred_scrypt.specs.declared.error.ScryptError.{ScryptError}

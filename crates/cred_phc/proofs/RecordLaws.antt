@@ -1,22 +1,17 @@
 -- The laws of reading: a text is read as a value exactly where it is the value's text.
 use Rattle.std.proofs.Common.{◌≡◌, ◌∙◌, ℕ, Bool, ◌≤◌, nat_lt, not, true, false, List, [], ◌∷◌, ◌++◌, length, Some, Result, Ok, Err, IfOk, inl, inr, arith, refl, sym, ap, subst, append_assoc, length-append, lit≤, nat_le}
 use borrow.Author.Tests.{leb-true, le-ltb, not-true}
-use Rattle.std.specs.Cmp.{second_so}
-use Rattle.std.specs.List.{join_with_byte}
+use Rattle.std.specs.{Cmp.second_so, List.join_with_byte, Option.ok_or}
 use Rattle.base64.specs.GeneralPurpose.{IsBytes}
-use Rattle.std.specs.Option.{ok_or}
 use Rattle.cred_phc.specs.declared.error.PhcError.{PhcError}
 use Rattle.cred_phc.specs.declared.error.PhcError.TheVariants.{Salt, Tag, TooLong, Version as WrongVersion}
-use Rattle.cred_phc.specs.declared.scheme.Scheme.{Scheme}
-use Rattle.cred_phc.specs.declared.scheme.Scheme.TheVariants.{Argon2, Scrypt}
-use Rattle.cred_argon.specs.declared.kind.Version.TheVariants.{V10, V13}
-use Rattle.cred_phc.specs.Names.{variant_name, version_text}
-use Rattle.cred_phc.specs.Base64.{base64, bytes_of}
-use Rattle.cred_phc.specs.Pieces.{pieces}
+use Rattle.cred_phc.specs.{declared.scheme.Scheme.Scheme, declared.scheme.Scheme.TheVariants.Argon2, declared.scheme.Scheme.TheVariants.Scrypt}
+use Rattle.cred_phc.specs.{Names.variant_name, Names.version_text, Base64.base64, Base64.bytes_of, Pieces.pieces}
 use Rattle.cred_phc.specs.Ranges.{between, is_current, salt_low}
 use Rattle.cred_phc.specs.Reading.{next, end, scheme_at, setting_at, tag_at, fields_of, read_setting, read_record}
 use Rattle.cred_phc.specs.Text.{argon_numbers, scheme_fields, bare_fields, setting_text, record_text, bare_text, IsSettingText, IsRecordText}
 use Rattle.cred_phc.specs.Values.{SettingValue, setting_of, RecordValue, record_of, IsSetting, IsTag, IsRecord}
+use Rattle.cred_argon.specs.declared.kind.Version.TheVariants.{V10, V13}
 use Rattle.cred_phc.proofs.Base64Laws.{bytes_of_is, bytes_of-base64, lacks-base64, length-base64}
 use Rattle.cred_phc.proofs.PieceLaws.{AllLack, pieces-join_front, join-pieces}
 use Rattle.cred_phc.proofs.SchemeLaws.{IsFront, scheme_is, scheme_at-front, old_scheme_refused}

@@ -1,22 +1,17 @@
 -- The fields of a scheme, read and written.
 use Rattle.std.proofs.Common.{◌≡◌, ◌∙◌, ℕ, ◌*◌, ◌^◌, ◌<◌, ◌≤◌, ◌==◌, nat_le, nat_lt, Bool, true, false, ◌&&◌, ◌||◌, not, List, [], ◌∷◌, ◌++◌, length, take, Option, Some, Ok, Err, ◌⊎◌, inl, inr, codes, arith, refl, sym, ap}
 use borrow.Author.Tests.{leb-true, eqb-true, not-false}
-use Rattle.std.specs.Cmp.{first_so, second_so}
-use Rattle.std.specs.Str.{bytes_eq}
-use Rattle.std.specs.Option.{ok_or}
+use Rattle.std.specs.{Cmp.first_so, Cmp.second_so, Str.bytes_eq, Option.ok_or}
 use Rattle.cred_argon.specs.declared.params.TheConstants.{MAX_LANES, MAX_MEMORY, MAX_PASSES}
+use Rattle.cred_argon.specs.{declared.kind.Version.Version, declared.kind.Version.TheVariants.V10, declared.kind.Version.TheVariants.V13}
 use Rattle.cred_scrypt.specs.declared.params.TheConstants.{MAX_BLOCK_SIZE, MAX_BLOCKS, MAX_LN, MAX_ROWS}
 use Rattle.cred_phc.specs.declared.error.PhcError.TheVariants.{Shape, Version as WrongVersion, Params, Range, Scheme as NoScheme}
-use Rattle.cred_phc.specs.declared.scheme.Scheme.{Scheme}
-use Rattle.cred_phc.specs.declared.scheme.Scheme.TheVariants.{Argon2, Scrypt}
-use Rattle.cred_argon.specs.declared.kind.Version.{Version}
-use Rattle.cred_argon.specs.declared.kind.Version.TheVariants.{V10, V13}
+use Rattle.cred_phc.specs.{declared.scheme.Scheme.Scheme, declared.scheme.Scheme.TheVariants.Argon2, declared.scheme.Scheme.TheVariants.Scrypt}
 use Rattle.cred_phc.specs.declared.scheme.Variant.{Variant}
 use Rattle.cred_phc.specs.declared.scheme.Variant.TheVariants.{D, I, Id}
 use Rattle.cred_phc.specs.declared.scheme.Name.{Name}
 use Rattle.cred_phc.specs.declared.scheme.Name.TheVariants.{Argon2 as NamesArgon2, Scrypt as NamesScrypt}
-use Rattle.cred_phc.specs.Fields.{name_of, numbers_of}
-use Rattle.cred_phc.specs.Names.{variant_name}
+use Rattle.cred_phc.specs.{Fields.name_of, Fields.numbers_of, Names.variant_name}
 use Rattle.cred_phc.specs.Ranges.{between, argon_fits, scrypt_fits, scheme_fits, is_current}
 use Rattle.cred_phc.specs.Reading.{guard, next, argon_of, scrypt_of, version_of, version_at, numbers_at, argon_at, scrypt_at, named_at, scheme_at}
 use Rattle.cred_phc.specs.Text.{argon_numbers, scrypt_numbers, scheme_fields, bare_fields}

@@ -1,8 +1,7 @@
 -- What each step of reading found, where it came out well.
 use Rattle.std.proofs.Common.{◌≡◌, ℕ, Bool, true, false, List, [], ◌∷◌, Option, Some, None, Result, Ok, Err, ◌⊎◌, inl, inr, refl, ap, if◌then◌else◌}
 use Rattle.std.specs.Option.{ok_or}
-use Rattle.cred_phc.specs.declared.error.PhcError.{PhcError}
-use Rattle.cred_phc.specs.Reading.{◌>>=◌, guard, next, end}
+use Rattle.cred_phc.specs.{declared.error.PhcError.PhcError, Reading.◌>>=◌, Reading.guard, Reading.next, Reading.end}
 
 pub bind_ok : {A B : Type 0} (r : Result A PhcError) (f : A → Result B PhcError) (y : B) → (r >>= f) ≡ Ok y → (x : A) × (r ≡ Ok x) × (f x ≡ Ok y)
 bind_ok (Ok x) f y e = (x, refl, e)

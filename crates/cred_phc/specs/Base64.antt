@@ -1,9 +1,7 @@
 -- Bytes in base64 with no padding (RFC 4648, section 4): `=` never stands, and the bits after the
 -- last byte are zero.
 use Rattle.std.specs.Prelude.{ℕ, if◌then◌else◌, List, length, Option, Some, None, Result, Ok, Err}
-use Rattle.base64.specs.declared.decode.DecodeError.{DecodeError}
-use Rattle.base64.specs.Engines.{standard_no_pad}
-use Rattle.base64.specs.GeneralPurpose.{encode_of, decode_of}
+use Rattle.base64.specs.{declared.decode.DecodeError.DecodeError, Engines.standard_no_pad, GeneralPurpose.encode_of, GeneralPurpose.decode_of}
 use Rattle.cred_phc.specs.Ranges.{between}
 
 -- the letters of the bytes

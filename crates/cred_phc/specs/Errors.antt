@@ -1,8 +1,7 @@
 -- The numbers and words of the errors.
 use Rattle.std.specs.Prelude.{ℕ, List, codes}
 use Rattle.cred_phc.specs.declared.error.PhcError.{PhcError}
-use Rattle.cred_phc.specs.declared.error.PhcError.TheVariants.{Shape, Scheme, Version, Params}
-use Rattle.cred_phc.specs.declared.error.PhcError.TheVariants.{Range, Salt, Tag, Memory, TooLong}
+use Rattle.cred_phc.specs.declared.error.PhcError.TheVariants.{Shape, Scheme, Version, Params, Range, Salt, Tag, Memory, TooLong}
 
 abbrev pub error_number : PhcError → ℕ
 error_number Shape = 1

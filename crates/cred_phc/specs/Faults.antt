@@ -1,21 +1,13 @@
 -- The fault of a text: its fields are judged from left to right, and the first fault is the answer.
-use Rattle.std.specs.Prelude.{ℕ, List, [], ◌∷◌, ◌++◌, length, take, not, Option, Some, None}
-use Rattle.std.specs.Prelude.{is_some, Bool, true, false, nat_lt, ◌==◌, if◌then◌else◌}
+use Rattle.std.specs.Prelude.{ℕ, List, [], ◌∷◌, ◌++◌, length, take, not, Option, Some, None, is_some, Bool, true, false, nat_lt, ◌==◌, if◌then◌else◌}
 use Rattle.std.specs.Str.{bytes_eq}
 use Rattle.cred_phc.specs.declared.error.PhcError.{PhcError}
-use Rattle.cred_phc.specs.declared.error.PhcError.TheVariants.{Shape, Version as WrongVersion}
-use Rattle.cred_phc.specs.declared.error.PhcError.TheVariants.{Params, Range, Salt, Tag, TooLong}
-use Rattle.cred_phc.specs.declared.error.PhcError.TheVariants.{Scheme as NoScheme}
-use Rattle.cred_phc.specs.declared.scheme.Name.{Name}
-use Rattle.cred_phc.specs.declared.scheme.Name.TheVariants.{Argon2, Scrypt}
-use Rattle.cred_phc.specs.Ranges.{argon_fits, scrypt_fits, MIN_ARGON2_SALT, MIN_SCRYPT_SALT}
-use Rattle.cred_phc.specs.Ranges.{MAX_SALT, MIN_TAG, MAX_TAG, MAX_TEXT}
+use Rattle.cred_phc.specs.declared.error.PhcError.TheVariants.{Shape, Version as WrongVersion, Params, Range, Salt, Tag, TooLong, Scheme as NoScheme}
+use Rattle.cred_phc.specs.{declared.scheme.Name.Name, declared.scheme.Name.TheVariants.Argon2, declared.scheme.Name.TheVariants.Scrypt}
+use Rattle.cred_phc.specs.Ranges.{argon_fits, scrypt_fits, MIN_ARGON2_SALT, MIN_SCRYPT_SALT, MAX_SALT, MIN_TAG, MAX_TAG, MAX_TEXT}
+use Rattle.cred_phc.specs.Names.{version_text, version_label, memory_label, passes_label, cost_label, block_size_label, parallelism_label}
+use Rattle.cred_phc.specs.{Pieces.pieces, Base64.bytes_of, Fields.name_of, Fields.numbers_of}
 use Rattle.cred_argon.specs.declared.kind.Version.TheVariants.{V10, V13}
-use Rattle.cred_phc.specs.Names.{version_text, version_label, memory_label, passes_label}
-use Rattle.cred_phc.specs.Names.{cost_label, block_size_label, parallelism_label}
-use Rattle.cred_phc.specs.Pieces.{pieces}
-use Rattle.cred_phc.specs.Base64.{bytes_of}
-use Rattle.cred_phc.specs.Fields.{name_of, numbers_of}
 
 -- what is wrong with a field, if anything is
 abbrev pub Judge : Type 0

@@ -1,13 +1,9 @@
 -- What one field of a text stands for.
-use Rattle.std.specs.Prelude.{ℕ, List, [], ◌∷◌, length, drop, take, Option, Some, None}
-use Rattle.std.specs.Prelude.{if◌then◌else◌}
+use Rattle.std.specs.Prelude.{ℕ, List, [], ◌∷◌, length, drop, take, Option, Some, None, if◌then◌else◌}
 use Rattle.std.specs.Str.{bytes_eq}
 use Rattle.cred_phc.specs.declared.scheme.Variant.TheVariants.{D, I, Id}
-use Rattle.cred_phc.specs.declared.scheme.Name.{Name}
-use Rattle.cred_phc.specs.declared.scheme.Name.TheVariants.{Argon2, Scrypt}
-use Rattle.cred_phc.specs.Names.{variant_name, scrypt_name}
-use Rattle.cred_phc.specs.Pieces.{pieces}
-use Rattle.cred_phc.specs.Number.{number_of}
+use Rattle.cred_phc.specs.{declared.scheme.Name.Name, declared.scheme.Name.TheVariants.Argon2, declared.scheme.Name.TheVariants.Scrypt}
+use Rattle.cred_phc.specs.{Names.variant_name, Names.scrypt_name, Pieces.pieces, Number.number_of}
 
 abbrev pub name_of : List ℕ → Option Name
 name_of field =

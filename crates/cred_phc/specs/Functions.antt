@@ -2,8 +2,7 @@
 use Rattle.std.specs.Prelude.{ℕ, List, []}
 use Rattle.cred_argon.specs.Argon.{argon}
 use Rattle.cred_scrypt.specs.Scrypt.{scrypt}
-use Rattle.cred_phc.specs.declared.hashing.Function.{Function}
-use Rattle.cred_phc.specs.declared.hashing.Function.TheVariants.{Argon2, Scrypt}
+use Rattle.cred_phc.specs.{declared.hashing.Function.Function, declared.hashing.Function.TheVariants.Argon2, declared.hashing.Function.TheVariants.Scrypt}
 
 -- Argon2 with no secret and no associated data (RFC 9106, section 3.1), or scrypt (RFC 7914,
 -- section 6)

@@ -1,32 +1,19 @@
 -- Reading as a function: the value that a text stands for, or its fault. Contracts say of the
 -- readers that they compute it, and that it agrees with the texts of values and with the table of
 -- faults.
-use Rattle.std.specs.Prelude.{◌≡◌, ℕ, List, [], ◌∷◌, length, take, Option, Some, None, Result, Ok}
-use Rattle.std.specs.Prelude.{Err, Bool, true, false, nat_lt, ◌==◌, not, if◌then◌else◌}
-use Rattle.std.specs.Option.{ok_or}
-use Rattle.std.specs.Str.{bytes_eq}
+use Rattle.std.specs.Prelude.{◌≡◌, ℕ, List, [], ◌∷◌, length, take, Option, Some, None, Result, Ok, Err, Bool, true, false, nat_lt, ◌==◌, not, if◌then◌else◌}
+use Rattle.std.specs.{Option.ok_or, Str.bytes_eq}
 use Rattle.cred_phc.specs.declared.error.PhcError.{PhcError}
-use Rattle.cred_phc.specs.declared.error.PhcError.TheVariants.{Shape, Version as WrongVersion}
-use Rattle.cred_phc.specs.declared.error.PhcError.TheVariants.{Params, Range, Salt, Tag, TooLong}
-use Rattle.cred_phc.specs.declared.error.PhcError.TheVariants.{Scheme as NoScheme}
-use Rattle.cred_phc.specs.declared.scheme.Scheme.{Scheme}
-use Rattle.cred_phc.specs.declared.scheme.Scheme.TheVariants.{Argon2, Scrypt}
-use Rattle.cred_argon.specs.declared.kind.Version.{Version}
-use Rattle.cred_argon.specs.declared.kind.Version.TheVariants.{V10, V13}
-use Rattle.cred_phc.specs.declared.scheme.Variant.{Variant}
-use Rattle.cred_phc.specs.declared.parse.Form.{Form}
-use Rattle.cred_phc.specs.declared.parse.Form.TheVariants.{Setting, Record}
-use Rattle.cred_phc.specs.declared.scheme.Name.{Name}
-use Rattle.cred_phc.specs.declared.scheme.Name.TheVariants.{Argon2 as NamesArgon2}
-use Rattle.cred_phc.specs.declared.scheme.Name.TheVariants.{Scrypt as NamesScrypt}
-use Rattle.cred_phc.specs.Ranges.{argon_fits, scrypt_fits, salt_low, MAX_SALT, MIN_TAG, MAX_TAG}
-use Rattle.cred_phc.specs.Ranges.{MAX_TEXT}
+use Rattle.cred_phc.specs.declared.error.PhcError.TheVariants.{Shape, Version as WrongVersion, Params, Range, Salt, Tag, TooLong, Scheme as NoScheme}
+use Rattle.cred_phc.specs.{declared.scheme.Scheme.Scheme, declared.scheme.Scheme.TheVariants.Argon2, declared.scheme.Scheme.TheVariants.Scrypt}
+use Rattle.cred_phc.specs.{declared.scheme.Variant.Variant, declared.parse.Form.Form}
+use Rattle.cred_phc.specs.{declared.parse.Form.TheVariants.Setting, declared.parse.Form.TheVariants.Record, declared.scheme.Name.Name}
+use Rattle.cred_phc.specs.declared.scheme.Name.TheVariants.{Argon2 as NamesArgon2, Scrypt as NamesScrypt}
+use Rattle.cred_phc.specs.Ranges.{argon_fits, scrypt_fits, salt_low, MAX_SALT, MIN_TAG, MAX_TAG, MAX_TEXT}
 use Rattle.cred_phc.specs.Values.{SettingValue, setting_of, RecordValue, record_of}
-use Rattle.cred_phc.specs.Names.{version_text, version_label, memory_label, passes_label}
-use Rattle.cred_phc.specs.Names.{cost_label, block_size_label, parallelism_label}
-use Rattle.cred_phc.specs.Pieces.{pieces}
-use Rattle.cred_phc.specs.Base64.{bytes_of}
-use Rattle.cred_phc.specs.Fields.{name_of, numbers_of}
+use Rattle.cred_phc.specs.Names.{version_text, version_label, memory_label, passes_label, cost_label, block_size_label, parallelism_label}
+use Rattle.cred_phc.specs.{Pieces.pieces, Base64.bytes_of, Fields.name_of, Fields.numbers_of}
+use Rattle.cred_argon.specs.{declared.kind.Version.Version, declared.kind.Version.TheVariants.V10, declared.kind.Version.TheVariants.V13}
 
 -- whether the version of a text may be 0x10, or be left out: records alone may be old
 abbrev pub may_be_old : Form → Bool

@@ -2,13 +2,11 @@
 use Rattle.std.specs.Prelude.{ℕ, List, [], Option, Some, None}
 use Rattle.cred_argon.specs.declared.kind.Kind.{Kind}
 use Rattle.cred_argon.specs.declared.kind.Kind.TheVariants.{D as ArgonD, I as ArgonI, Id as ArgonId}
-use Rattle.cred_argon.specs.Parameters.{Parameters, parameters}
-use Rattle.cred_argon.specs.Argon.{argon}
+use Rattle.cred_argon.specs.{Parameters.Parameters, Parameters.parameters, Argon.argon}
 use Rattle.cred_scrypt.specs.Scrypt.{scrypt}
 use Rattle.cred_phc.specs.declared.scheme.Variant.{Variant}
 use Rattle.cred_phc.specs.declared.scheme.Variant.TheVariants.{D, I, Id}
-use Rattle.cred_phc.specs.declared.scheme.Scheme.{Scheme}
-use Rattle.cred_phc.specs.declared.scheme.Scheme.TheVariants.{Argon2, Scrypt}
+use Rattle.cred_phc.specs.{declared.scheme.Scheme.Scheme, declared.scheme.Scheme.TheVariants.Argon2, declared.scheme.Scheme.TheVariants.Scrypt}
 use Rattle.cred_phc.specs.Values.{SettingValue}
 
 -- RFC 9106, section 3.1, type y

@@ -1,12 +1,9 @@
 -- What contracts see of a setting, a tag, a record and a password, and their ranges.
-use Rattle.std.specs.Prelude.{ℕ, List, length, Bool, if◌then◌else◌, not, Result, Ok, Err, Option}
-use Rattle.std.specs.Prelude.{Some, None, IsTrue}
+use Rattle.std.specs.Prelude.{ℕ, List, length, Bool, if◌then◌else◌, not, Result, Ok, Err, Option, Some, None, IsTrue}
 use Rattle.base64.specs.GeneralPurpose.{IsBytes}
-use Rattle.cred_phc.specs.declared.scheme.Scheme.{Scheme}
-use Rattle.cred_phc.specs.declared.error.PhcError.{PhcError}
+use Rattle.cred_phc.specs.{declared.scheme.Scheme.Scheme, declared.error.PhcError.PhcError}
 use Rattle.cred_phc.specs.declared.error.PhcError.TheVariants.{Range, Salt, Tag}
-use Rattle.cred_phc.specs.Ranges.{between, scheme_fits, salt_low, MAX_SALT, MIN_TAG, MAX_TAG}
-use Rattle.cred_phc.specs.Ranges.{MAX_PASSWORD}
+use Rattle.cred_phc.specs.Ranges.{between, scheme_fits, salt_low, MAX_SALT, MIN_TAG, MAX_TAG, MAX_PASSWORD}
 
 -- a scheme with its numbers, and a salt
 pub record SettingValue : Type 0 where

@@ -1,8 +1,7 @@
 //! Why a text is no setting or record, and why one can't be made or written.
 
 ghost use Rattle.std.specs.Prelude.{◌≡◌};
-ghost use Rattle.cred_phc.specs.Errors.{error_number, error_word};
-ghost use Rattle.cred_phc.specs.declared.error.PhcError.TheVariants.{Memory as OutOfMemory};
+ghost use Rattle.cred_phc.specs.{Errors.error_number, Errors.error_word, declared.error.PhcError.TheVariants.Memory as OutOfMemory};
 
 use std::alloc::AllocError;
 use thiserror::Error;

@@ -1,11 +1,8 @@
 //! The tag of a password under a setting.
 
-ghost use Rattle.std.specs.Prelude.{◌≡◌, ◌<◌, ◌≤◌, ◌^◌, List, ℕ, codes, length, IfOk};
-ghost use Rattle.std.specs.Prelude.{IfSome, IsTrue};
+ghost use Rattle.std.specs.Prelude.{◌≡◌, ◌<◌, ◌≤◌, ◌^◌, List, ℕ, codes, length, IfOk, IfSome, IsTrue};
 ghost use Rattle.cred_argon.specs.Parameters.{IsRaw, parameters};
-ghost use Rattle.cred_phc.specs.Functions.{key, key_len};
-ghost use Rattle.cred_phc.specs.Ranges.{argon_fits, scrypt_fits};
-ghost use Rattle.cred_phc.specs.Tags.{argon_kind, argon_parameters, tag};
+ghost use Rattle.cred_phc.specs.{Functions.key, Functions.key_len, Ranges.argon_fits, Ranges.scrypt_fits, Tags.argon_kind, Tags.argon_parameters, Tags.tag};
 ghost use Rattle.cred_phc.specs.Values.{IsTag};
 
 use crate::password::Password;

@@ -4,13 +4,10 @@
 ghost use Rattle.std.specs.Prelude.{◌≡◌, ◌↔◌, codes, false, replicate, true, IsTrue, List, ℕ};
 ghost use Rattle.base64.specs.GeneralPurpose.{IsBytes};
 ghost use Rattle.cred_phc.specs.Faults.{record_fault, setting_fault};
-ghost use Rattle.cred_phc.specs.Ranges.{MAX_PASSWORD, MAX_SALT, MAX_TAG, MAX_TEXT, MIN_ARGON2_SALT};
-ghost use Rattle.cred_phc.specs.Ranges.{MIN_SCRYPT_SALT, MIN_TAG, is_current};
+ghost use Rattle.cred_phc.specs.Ranges.{MAX_PASSWORD, MAX_SALT, MAX_TAG, MAX_TEXT, MIN_ARGON2_SALT, MIN_SCRYPT_SALT, MIN_TAG, is_current};
 ghost use Rattle.cred_phc.specs.Reading.{read_record, read_setting};
-ghost use Rattle.cred_phc.specs.Text.{IsRecordText, IsSettingText, bare_text, record_text};
-ghost use Rattle.cred_phc.specs.Text.{setting_text};
-ghost use Rattle.cred_phc.specs.Vectors.{argon2d_record, argon2id_record, old_argon2i_record};
-ghost use Rattle.cred_phc.specs.Vectors.{scrypt_record};
+ghost use Rattle.cred_phc.specs.Text.{IsRecordText, IsSettingText, bare_text, record_text, setting_text};
+ghost use Rattle.cred_phc.specs.Vectors.{argon2d_record, argon2id_record, old_argon2i_record, scrypt_record};
 ghost use Rattle.cred_phc.specs.Values.{IsRecord, IsSetting, RecordValue, SettingValue};
 
 use crate::error::PhcError;

@@ -1,11 +1,7 @@
 //! Decimal numbers, and three of them after their labels.
 
-ghost use Rattle.std.specs.Prelude.{◌≡◌};
-ghost use Rattle.std.specs.Char.{is_ascii_digit};
-ghost use Rattle.std.specs.List.{list_all};
-ghost use Rattle.std.specs.Option.{option_map};
-ghost use Rattle.cred_phc.specs.Fields.{labelled_number, numbers_of};
-ghost use Rattle.cred_phc.specs.Number.{saturation, saturation_each, is_numeral, number_of};
+ghost use Rattle.std.specs.{Prelude.◌≡◌, Char.is_ascii_digit, List.list_all, Option.option_map};
+ghost use Rattle.cred_phc.specs.{Fields.labelled_number, Fields.numbers_of, Number.saturation, Number.saturation_each, Number.is_numeral, Number.number_of};
 
 use crate::pieces::Pieces;
 

@@ -1,14 +1,9 @@
 //! From text to settings and records.
 
 ghost use Rattle.std.specs.Prelude.{◌≡◌, IfOk, IfErr, OnOk, IsTrue};
-ghost use Rattle.cred_phc.specs.Faults.{record_fault, setting_fault};
-ghost use Rattle.cred_phc.specs.Fields.{name_of};
-ghost use Rattle.cred_phc.specs.Ranges.{scheme_fits};
-ghost use Rattle.cred_phc.specs.Reading.{Gives, argon_at, end, fields_of, may_be_old, next};
-ghost use Rattle.cred_phc.specs.Reading.{read_record, read_setting, scheme_at, scrypt_at};
-ghost use Rattle.cred_phc.specs.Reading.{setting_at, tag_at, version_at};
-ghost use Rattle.cred_phc.specs.Text.{IsRecordText, IsSettingText};
-ghost use Rattle.cred_phc.specs.Values.{IsRecord, IsSetting, RecordValue, SettingValue};
+ghost use Rattle.cred_phc.specs.{Faults.record_fault, Faults.setting_fault, Fields.name_of, Ranges.scheme_fits};
+ghost use Rattle.cred_phc.specs.Reading.{Gives, argon_at, end, fields_of, may_be_old, next, read_record, read_setting, scheme_at, scrypt_at, setting_at, tag_at, version_at};
+ghost use Rattle.cred_phc.specs.{Text.IsRecordText, Text.IsSettingText, Values.IsRecord, Values.IsSetting, Values.RecordValue, Values.SettingValue};
 
 use crate::error::PhcError;
 use crate::number::numbers;

@@ -1,9 +1,7 @@
 //! The password that is hashed.
 
 ghost use Rattle.std.specs.Prelude.{◌≡◌};
-ghost use Rattle.cred_phc.specs.Base64.{bytes_of};
-ghost use Rattle.cred_phc.specs.Ranges.{MAX_PASSWORD};
-ghost use Rattle.cred_phc.specs.Values.{IsPassword, made_password};
+ghost use Rattle.cred_phc.specs.{Base64.bytes_of, Ranges.MAX_PASSWORD, Values.IsPassword, Values.made_password};
 
 use crate::short_bytes::ShortBytes;
 use std::fmt;

@@ -1,8 +1,7 @@
 //! Which function makes a record's tag, and with which numbers.
 
 ghost use Rattle.std.specs.Prelude.{◌≡◌, IfSome, IsTrue};
-ghost use Rattle.cred_phc.specs.Names.{variant_name, version_text};
-ghost use Rattle.cred_phc.specs.Reading.{argon_of, scrypt_of};
+ghost use Rattle.cred_phc.specs.{Names.variant_name, Names.version_text, Reading.argon_of, Reading.scrypt_of};
 ghost use Rattle.cred_phc.specs.Ranges.{argon_fits, is_current, salt_low, scheme_fits, scrypt_fits};
 
 use cred_argon::{Kind, MIN_TAG, Params, Version};

@@ -1,9 +1,7 @@
 //! How a password is to be hashed.
 
-ghost use Rattle.std.specs.Prelude.{◌≡◌, IfOk, IsTrue};
-ghost use Rattle.std.specs.Option.{option_map};
-ghost use Rattle.cred_phc.specs.Base64.{bytes_of};
-ghost use Rattle.cred_phc.specs.Ranges.{MAX_SALT, is_current, salt_low, scheme_fits};
+ghost use Rattle.std.specs.{Prelude.◌≡◌, Prelude.IfOk, Prelude.IsTrue, Option.option_map};
+ghost use Rattle.cred_phc.specs.{Base64.bytes_of, Ranges.MAX_SALT, Ranges.is_current, Ranges.salt_low, Ranges.scheme_fits};
 ghost use Rattle.cred_phc.specs.Values.{IsSetting, made_setting, setting_of};
 
 use crate::error::PhcError;

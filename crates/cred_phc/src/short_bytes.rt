@@ -2,8 +2,7 @@
 
 ghost use Rattle.std.specs.Prelude.{◌≡◌, ◌≤◌, length, if◌then◌else◌};
 ghost use Rattle.base64.specs.GeneralPurpose.{IsBytes};
-ghost use Rattle.cred_phc.specs.Base64.{bytes_of};
-ghost use Rattle.cred_phc.specs.Ranges.{between};
+ghost use Rattle.cred_phc.specs.{Base64.bytes_of, Ranges.between};
 
 use cred_base64::{decode, decoded_len};
 use std::marker::Model;

@@ -1,9 +1,7 @@
 //! The tag of a record.
 
 ghost use Rattle.std.specs.Prelude.{◌≡◌, if◌then◌else◌};
-ghost use Rattle.cred_phc.specs.Base64.{bytes_of};
-ghost use Rattle.cred_phc.specs.Ranges.{MIN_TAG, MAX_TAG};
-ghost use Rattle.cred_phc.specs.Values.{IsTag, tag_fits};
+ghost use Rattle.cred_phc.specs.{Base64.bytes_of, Ranges.MIN_TAG, Ranges.MAX_TAG, Values.IsTag, Values.tag_fits};
 
 use crate::short_bytes::ShortBytes;
 use std::marker::Model;

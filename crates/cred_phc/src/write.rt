@@ -2,8 +2,7 @@
 
 ghost use Rattle.std.specs.Prelude.{◌≡◌, ◌≤◌, ◌∷◌, ◌++◌, length, IfErr, IfOk, OnOk};
 ghost use Rattle.std.specs.String.{string_bytes};
-ghost use Rattle.cred_phc.specs.Base64.{base64};
-ghost use Rattle.cred_phc.specs.Text.{label, numbers_text, record_text, scheme_text, setting_text};
+ghost use Rattle.cred_phc.specs.{Base64.base64, Text.label, Text.numbers_text, Text.record_text, Text.scheme_text, Text.setting_text};
 ghost use Rattle.cred_phc.specs.Values.{IsRecord, IsSetting};
 
 use crate::error::PhcError;

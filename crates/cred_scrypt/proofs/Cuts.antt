@@ -1,9 +1,6 @@
 -- Bytes cut into pieces of words.
 use Rattle.std.proofs.Common.{◌≡◌, ◌<◌, ◌≤◌, ℕ, zero, suc, ◌+◌, ◌*◌, ◌/◌, List, [], ◌∷◌, ◌++◌, length, take, drop, get_or, refl, ◌∙◌, ap, arith, below_more, length-append, length-drop}
-use Rattle.std.proofs.lemmas.List.{length-take-le}
-use Rattle.std.proofs.Math.Nat.{mul-le-mul_left}
-use Rattle.std.proofs.Math.ListN.{get_or-append}
-use Rattle.std.proofs.Math.Seq.{get_or-append_seam, take-append_seam}
+use Rattle.std.proofs.{lemmas.List.length-take-le, Math.Nat.mul-le-mul_left, Math.ListN.get_or-append, Math.Seq.get_or-append_seam, Math.Seq.take-append_seam}
 use Rattle.cred_scrypt.specs.Scrypt.{words_of, piece}
 
 -- what holds of each element, and of one that is pushed, holds of each afterwards

@@ -1,9 +1,7 @@
 -- The definition of PBKDF2, one step on, as the loops' counters say it.
 use Rattle.std.proofs.Common.{◌≡◌, ◌≤◌, ℕ, suc, ◌+◌, ◌-◌, List, ◌++◌, length, take, min, refl, sym, ◌∙◌, ap, ap₂, add-one, arith}
-use Rattle.std.proofs.lemmas.List.{take_all, take_min}
-use Rattle.std.proofs.Math.Seq.{take-append-add}
-use Rattle.cred_scrypt.specs.Xor.{xor_all}
-use Rattle.cred_scrypt.specs.Pbkdf2.{iteration, xor_of_iterations, derived_blocks}
+use Rattle.std.proofs.{lemmas.List.take_all, lemmas.List.take_min, Math.Seq.take-append-add}
+use Rattle.cred_scrypt.specs.{Xor.xor_all, Pbkdf2.iteration, Pbkdf2.xor_of_iterations, Pbkdf2.derived_blocks}
 
 -- from n turns to k = n + 1
 pub iterations_next : (pw salt all last : List ℕ) (i n k : ℕ) → all ≡ xor_of_iterations pw salt i n → last ≡ iteration pw salt i k

@@ -3,8 +3,7 @@
 use Rattle.std.proofs.Common.{◌≡◌, [], ◌∷◌, refl, replicate, codes}
 use Rattle.std.specs.List.{range_with_len}
 use Rattle.sha2.specs.Sha256.{sha256, digest_bytes, hash_after, compress, rounds, schedule, first_words}
-use Rattle.cred_scrypt.specs.Hmac.{hmac, key_block}
-use Rattle.cred_scrypt.specs.Pbkdf2.{pbkdf2, derived_blocks, xor_of_iterations, iteration}
+use Rattle.cred_scrypt.specs.{Hmac.hmac, Hmac.key_block, Pbkdf2.pbkdf2, Pbkdf2.derived_blocks, Pbkdf2.xor_of_iterations, Pbkdf2.iteration}
 
 pub short_key_vector : hmac (replicate 20 0x0b) (codes "Hi There") ≡
     0xb0 ∷ 0x34 ∷ 0x4c ∷ 0x61 ∷ 0xd8 ∷ 0xdb ∷ 0x38 ∷ 0x53 ∷ 0x5c ∷ 0xa8 ∷ 0xaf ∷ 0xce ∷

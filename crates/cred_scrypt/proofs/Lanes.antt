@@ -1,10 +1,8 @@
 -- What holds of each word of four vectors.
 use Rattle.std.proofs.Common.{◌≡◌, ℕ, zero, suc, ◌<◌, ◌+◌, ◌-◌, ◌*◌, ◌/◌, ◌%◌, ◌^◌, List, [], ◌∷◌, length, slice_index, bit_or, arith, refl, subst}
 use Rattle.std.proofs.lemmas.Grind.{same_number_lists}
-use Rattle.std.specs.Simd.Lanes.{zip2}
-use Rattle.std.specs.Int.{w32, rotate_left}
-use Rattle.cred_scrypt.specs.Diagonals.{lane_at, block_of, transposed}
-use Rattle.cred_scrypt.specs.Salsa.{column_round, row_round}
+use Rattle.std.specs.{Simd.Lanes.zip2, Int.w32, Int.rotate_left}
+use Rattle.cred_scrypt.specs.{Diagonals.lane_at, Diagonals.block_of, Diagonals.transposed, Salsa.column_round, Salsa.row_round}
 
 pub below_four : (P : ℕ → Type 0) → P 0 → P 1 → P 2 → P 3 → (j : ℕ) → j < 4 → P j
 below_four P p0 p1 p2 p3 zero h = p0

@@ -1,9 +1,7 @@
 -- A loop that takes the elements of one list into those of another, one after another, makes their
 -- zip.
 use Rattle.std.proofs.Common.{◌≡◌, ◌≢◌, ◌<◌, ◌≤◌, ℕ, ◌+◌, List, length, get_or, set, refl, arith, below_more, get_or-set_other, get_or-set_same, sym, ◌∙◌, ap}
-use Rattle.std.proofs.Math.ListN.{length-set}
-use Rattle.std.proofs.lemmas.Grind.{same_number_lists}
-use Rattle.std.proofs.lemmas.Simd.{length-zip2, get_or-zip2}
+use Rattle.std.proofs.{Math.ListN.length-set, lemmas.Grind.same_number_lists, lemmas.Simd.length-zip2, lemmas.Simd.get_or-zip2}
 use Rattle.std.specs.Simd.Lanes.{zip2}
 
 -- zs is xs with f taken of its first i elements and those of ys

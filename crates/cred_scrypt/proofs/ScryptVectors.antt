@@ -2,8 +2,7 @@
 -- made with two pieces of four blocks.
 use Rattle.std.proofs.Common.{◌≡◌, [], ◌∷◌, refl, codes}
 use Rattle.sha2.specs.Sha256.{sha256, digest_bytes, hash_after, compress, rounds, schedule, first_words}
-use Rattle.cred_scrypt.specs.Hmac.{hmac, key_block}
-use Rattle.cred_scrypt.specs.Pbkdf2.{pbkdf2, derived_blocks, xor_of_iterations, iteration}
+use Rattle.cred_scrypt.specs.{Hmac.hmac, Hmac.key_block, Pbkdf2.pbkdf2, Pbkdf2.derived_blocks, Pbkdf2.xor_of_iterations, Pbkdf2.iteration}
 use Rattle.cred_scrypt.specs.Salsa.{salsa20_8, double_rounds, row_round, column_round, quarter_round}
 use Rattle.cred_scrypt.specs.Mixing.{block_mix, chain, every_second, integerify, little_endian, mixes, ro_mix, second_loop}
 use Rattle.cred_scrypt.specs.Scrypt.{scrypt, mixed_pieces, piece, words_of, bytes_of}

@@ -1,8 +1,6 @@
 -- The definition of BlockMix, one step on, as the loop's counter says it.
 use Rattle.std.proofs.Common.{◌≡◌, ℕ, ◌+◌, ◌*◌, suc, List, ◌++◌, refl, ◌∙◌, ap, add-one, arith}
-use Rattle.cred_scrypt.specs.Xor.{xor_all}
-use Rattle.cred_scrypt.specs.Salsa.{salsa20_8}
-use Rattle.cred_scrypt.specs.Mixing.{block_at, chain, every_second}
+use Rattle.cred_scrypt.specs.{Xor.xor_all, Salsa.salsa20_8, Mixing.block_at, Mixing.chain, Mixing.every_second}
 
 -- from X after i blocks, X after k = i + 1 blocks
 pub chain_next : (r : ℕ) (b x : List ℕ) (i k : ℕ) → x ≡ chain r b i → k ≡ i + 1

@@ -1,9 +1,7 @@
 -- The table of ROMix row by row, and the row that Integerify names.
 use Rattle.std.proofs.Common.{◌≡◌, ◌<◌, ◌≤◌, ℕ, ◌+◌, ◌*◌, ◌-◌, ◌%◌, ◌^◌, List, [], ◌∷◌, ◌++◌, length, take, drop, get_or, refl, sym, ◌∙◌, ap, add-one, arith, below_more, length-append}
 use Rattle.std.proofs.lemmas.List.{drop-append-le, take-append-le, take_all, get_or-take, get_or-drop, length-drop}
-use Rattle.std.proofs.lemmas.Nat.{pow-add}
-use Rattle.std.proofs.Math.Nat.{add-mul-mod_self_left}
-use Rattle.std.proofs.Math.Seq.{drop-append_seam}
+use Rattle.std.proofs.{lemmas.Nat.pow-add, Math.Nat.add-mul-mod_self_left, Math.Seq.drop-append_seam}
 use Rattle.cred_scrypt.proofs.Cuts.{part_inside}
 use Rattle.cred_scrypt.specs.Xor.{xor_all}
 use Rattle.cred_scrypt.specs.Mixing.{block_at, block_mix, mixes, little_endian, integerify, second_loop, ro_mix}

@@ -1,8 +1,7 @@
 -- The numbers and words of the errors.
 use Rattle.std.specs.Prelude.{ℕ, List, codes}
 use Rattle.cred_scrypt.specs.declared.error.ScryptError.{ScryptError}
-use Rattle.cred_scrypt.specs.declared.error.ScryptError.TheVariants.{Cost, BlockSize, Blocks, Len}
-use Rattle.cred_scrypt.specs.declared.error.ScryptError.TheVariants.{Memory}
+use Rattle.cred_scrypt.specs.declared.error.ScryptError.TheVariants.{Cost, BlockSize, Blocks, Len, Memory}
 
 abbrev pub error_number : ScryptError → ℕ
 error_number Cost = 1

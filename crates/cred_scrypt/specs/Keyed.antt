@@ -1,8 +1,7 @@
 -- What a key leaves in the two hashers of its HMAC. No public contract speaks of it.
 use Rattle.std.specs.Prelude.{List, ℕ}
 use Rattle.sha2.specs.Hashers.{Holds256}
-use Rattle.cred_scrypt.specs.declared.hmac.Hmac.{Hmac}
-use Rattle.cred_scrypt.specs.Hmac.{inner_pad, outer_pad}
+use Rattle.cred_scrypt.specs.{declared.hmac.Hmac.Hmac, Hmac.inner_pad, Hmac.outer_pad}
 
 -- the hashers hold the key under the inner and the outer padding
 abbrev pub IsKeyed : List ℕ → Hmac → Type 0

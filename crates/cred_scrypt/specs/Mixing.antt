@@ -1,10 +1,8 @@
 -- BlockMix and ROMix (RFC 7914, sections 4 and 5) as functions on lists of words. A block has 64
 -- bytes, which are sixteen little-endian words. There is no table here: row i of the RFC's V is i
 -- BlockMixes of the input.
-use Rattle.std.specs.Prelude.{ℕ, zero, suc, ◌+◌, ◌-◌, ◌*◌, ◌%◌, ◌^◌, List, [], ◌∷◌, ◌++◌, take}
-use Rattle.std.specs.Prelude.{drop}
-use Rattle.cred_scrypt.specs.Salsa.{salsa20_8}
-use Rattle.cred_scrypt.specs.Xor.{xor_all}
+use Rattle.std.specs.Prelude.{ℕ, zero, suc, ◌+◌, ◌-◌, ◌*◌, ◌%◌, ◌^◌, List, [], ◌∷◌, ◌++◌, take, drop}
+use Rattle.cred_scrypt.specs.{Salsa.salsa20_8, Xor.xor_all}
 
 -- block i of a list of words
 abbrev pub block_at : List ℕ → ℕ → List ℕ

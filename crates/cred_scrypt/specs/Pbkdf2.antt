@@ -1,8 +1,7 @@
 -- PBKDF2 with HMAC-SHA-256 (RFC 8018, section 5.2) as a function on lists of bytes.
 use Rattle.std.specs.Prelude.{ℕ, zero, suc, ◌+◌, ◌-◌, ◌/◌, List, [], ◌++◌, take}
 use Rattle.std.specs.Int.{w32, to_be_bytes}
-use Rattle.cred_scrypt.specs.Hmac.{hmac}
-use Rattle.cred_scrypt.specs.Xor.{xor_all}
+use Rattle.cred_scrypt.specs.{Hmac.hmac, Xor.xor_all}
 
 -- U_(n + 1) of block i
 unfoldable pub iteration : List ℕ → List ℕ → ℕ → ℕ → List ℕ

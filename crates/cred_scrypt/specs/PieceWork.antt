@@ -1,8 +1,6 @@
 -- What the work on a piece needs, and what it does.
 use Rattle.std.specs.Prelude.{◌≡◌, ◌*◌, ◌^◌, false, length}
-use Rattle.cred_scrypt.specs.declared.pieces.Mixing.{Mixing}
-use Rattle.cred_scrypt.specs.declared.pieces.Piece.{Piece}
-use Rattle.cred_scrypt.specs.Mixing.{ro_mix}
+use Rattle.cred_scrypt.specs.{declared.pieces.Mixing.Mixing, declared.pieces.Piece.Piece, Mixing.ro_mix}
 
 -- it has the words of a piece
 abbrev pub CanWork : Mixing → Piece → Type 0

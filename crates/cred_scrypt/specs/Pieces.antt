@@ -1,8 +1,6 @@
 -- The pieces that the body of scrypt hands to its workers. No public contract speaks of them.
 use Rattle.std.specs.Prelude.{◌≡◌, ℕ, ◌*◌, ◌^◌, ◌<◌, List, false, length, slice_index_or}
-use Rattle.cred_scrypt.specs.declared.pieces.Piece.{Piece}
-use Rattle.cred_scrypt.specs.Mixing.{ro_mix}
-use Rattle.cred_scrypt.specs.Scrypt.{piece}
+use Rattle.cred_scrypt.specs.{declared.pieces.Piece.Piece, Mixing.ro_mix, Scrypt.piece}
 
 -- the pieces are those of the bytes b
 abbrev pub AreCut : ℕ → List ℕ → List Piece → Type 0

@@ -1,8 +1,7 @@
 -- scrypt (RFC 7914, section 6) as a function on numbers and lists of bytes.
 use Rattle.std.specs.Prelude.{ℕ, zero, suc, ◌*◌, ◌^◌, List, [], ◌∷◌, ◌++◌, take, drop, flat_map}
 use Rattle.std.specs.Int.{w32, to_le_bytes, from_le_bytes}
-use Rattle.cred_scrypt.specs.Mixing.{ro_mix}
-use Rattle.cred_scrypt.specs.Pbkdf2.{pbkdf2}
+use Rattle.cred_scrypt.specs.{Mixing.ro_mix, Pbkdf2.pbkdf2}
 
 -- the first n words that bytes stand for, the low byte of a word first
 unfoldable pub words_of : List ℕ → ℕ → List ℕ

@@ -1,6 +1,5 @@
 -- Exclusive or of two lists.
-use Rattle.std.specs.Prelude.{ℕ, List, bit_xor}
-use Rattle.std.specs.Simd.Lanes.{zip2}
+use Rattle.std.specs.{Prelude.ℕ, Prelude.List, Prelude.bit_xor, Simd.Lanes.zip2}
 
 -- of two lists of bytes, or of two lists of words, element by element
 abbrev pub xor_all : List ℕ → List ℕ → List ℕ

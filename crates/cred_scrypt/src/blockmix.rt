@@ -1,9 +1,6 @@
 //! BlockMix, which mixes 2r blocks by a chain of Salsa20/8 (RFC 7914, section 4).
 ghost use Rattle.std.specs.Prelude.{◌≡◌, ◌+◌, ◌*◌, ◌/◌, ◌%◌, ◌<◌, ◌≤◌, ◌++◌, length, take};
-ghost use Rattle.cred_scrypt.specs.Diagonals.{block_of};
-ghost use Rattle.cred_scrypt.specs.Mixing.{block_at, block_mix};
-ghost use Rattle.cred_scrypt.specs.Salsa.{salsa20_8};
-ghost use Rattle.cred_scrypt.specs.Xor.{xor_all};
+ghost use Rattle.cred_scrypt.specs.{Diagonals.block_of, Mixing.block_at, Mixing.block_mix, Salsa.salsa20_8, Xor.xor_all};
 
 use crate::diagonals::{block_of, diagonals_of, xored};
 use crate::salsa::mixed;

@@ -1,10 +1,7 @@
 //! A block of sixteen words in four vectors, each of a diagonal of the square of four rows of four
 //! words, so that Salsa20/8 works on four quarter rounds at once.
-ghost use Rattle.std.specs.Prelude.{◌≡◌, ℕ, ◌<◌, [], ◌∷◌, bit_xor, slice_index};
-ghost use Rattle.cred_scrypt.specs.Diagonals.{block_of, transposed};
-ghost use Rattle.cred_scrypt.specs.Salsa.{add32};
-ghost use Rattle.cred_scrypt.specs.Xor.{xor_all};
-ghost use Rattle.std.specs.Simd.Lanes.{zip2};
+ghost use Rattle.std.specs.{Prelude.◌≡◌, Prelude.ℕ, Prelude.◌<◌, Prelude.[], Prelude.◌∷◌, Prelude.bit_xor, Prelude.slice_index, Simd.Lanes.zip2};
+ghost use Rattle.cred_scrypt.specs.{Diagonals.block_of, Diagonals.transposed, Salsa.add32, Xor.xor_all};
 
 use std::simd::u32x4;
 

@@ -1,8 +1,7 @@
 //! Why a call of this crate was refused.
 
 ghost use Rattle.std.specs.Prelude.{◌≡◌};
-ghost use Rattle.cred_scrypt.specs.Errors.{error_number, error_word};
-ghost use Rattle.cred_scrypt.specs.declared.error.ScryptError.TheVariants.{Memory as OutOfMemory};
+ghost use Rattle.cred_scrypt.specs.{Errors.error_number, Errors.error_word, declared.error.ScryptError.TheVariants.Memory as OutOfMemory};
 
 use std::alloc::{AllocError, AllocFailed};
 use thiserror::Error;

@@ -1,10 +1,7 @@
 //! scrypt itself: PBKDF2, ROMix on each piece, and PBKDF2 again (RFC 7914, section 6).
 ghost use Rattle.std.specs.Prelude.{◌≡◌, ◌<◌, ◌*◌, ℕ, List, IfOk, length, slice_index_or};
-ghost use Rattle.cred_scrypt.specs.Pbkdf2.{pbkdf2};
-ghost use Rattle.cred_scrypt.specs.PieceWork.{CanWork, Works};
-ghost use Rattle.cred_scrypt.specs.Pieces.{AreCut, AreMixed, AreWhole};
-ghost use Rattle.cred_scrypt.specs.Scrypt.{mixed_pieces, scrypt};
-ghost use Rattle.cred_scrypt.specs.declared.pieces.Piece.{Piece};
+ghost use Rattle.cred_scrypt.specs.{Pbkdf2.pbkdf2, PieceWork.CanWork, PieceWork.Works, Pieces.AreCut, Pieces.AreMixed, Pieces.AreWhole};
+ghost use Rattle.cred_scrypt.specs.{Scrypt.mixed_pieces, Scrypt.scrypt, declared.pieces.Piece.Piece};
 ghost use denote.Param.Send.{IsSync};
 
 use crate::error::ScryptError;

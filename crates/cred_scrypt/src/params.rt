@@ -1,7 +1,6 @@
 //! scrypt's parameters, each in its range (RFC 7914, section 2).
 ghost use Rattle.std.specs.Prelude.{◌≡◌, ◌<◌, ◌≤◌, ◌*◌, ◌^◌, ◌↔◌, IsTrue, IfOk};
-ghost use Rattle.cred_scrypt.specs.declared.params.TheConstants.{MAX_BLOCK_SIZE, MAX_BLOCKS};
-ghost use Rattle.cred_scrypt.specs.declared.params.TheConstants.{MAX_LEN, MAX_LN, MAX_ROWS, MIN_LEN};
+ghost use Rattle.cred_scrypt.specs.declared.params.TheConstants.{MAX_BLOCK_SIZE, MAX_BLOCKS, MAX_LEN, MAX_LN, MAX_ROWS, MIN_LEN};
 ghost use Rattle.cred_scrypt.specs.Params.{IsBadLen, IsCostly};
 
 use crate::error::ScryptError;

@@ -1,7 +1,6 @@
 //! PBKDF2 with HMAC-SHA-256 (RFC 8018, section 5.2).
 ghost use Rattle.std.specs.Prelude.{◌≡◌, ℕ, ◌+◌, ◌-◌, ◌≤◌, List, IfOk, length};
-ghost use Rattle.cred_scrypt.specs.Pbkdf2.{pbkdf2, iteration, xor_of_iterations};
-ghost use Rattle.cred_scrypt.specs.Keyed.{IsKeyed};
+ghost use Rattle.cred_scrypt.specs.{Pbkdf2.pbkdf2, Pbkdf2.iteration, Pbkdf2.xor_of_iterations, Keyed.IsKeyed};
 
 use crate::error::ScryptError;
 use crate::hmac::Hmac;

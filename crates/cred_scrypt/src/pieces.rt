@@ -1,9 +1,7 @@
 //! The pieces that scrypt mixes independently, as the parts of a run of workers (RFC 7914, section
 //! 6, step 2).
 ghost use Rattle.std.specs.Prelude.{◌≡◌, ℕ, ◌*◌, ◌^◌, ◌<◌, List, IfOk, false, length};
-ghost use Rattle.cred_scrypt.specs.PieceWork.{CanWork, Works};
-ghost use Rattle.cred_scrypt.specs.Mixing.{ro_mix};
-ghost use Rattle.cred_scrypt.specs.Scrypt.{mixed_pieces};
+ghost use Rattle.cred_scrypt.specs.{PieceWork.CanWork, PieceWork.Works, Mixing.ro_mix, Scrypt.mixed_pieces};
 
 use crate::error::ScryptError;
 use crate::params::ScryptParams;

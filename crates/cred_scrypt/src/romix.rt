@@ -1,10 +1,7 @@
 //! ROMix, with its table of rows (RFC 7914, section 5).
-ghost use Rattle.std.specs.Prelude.{◌≡◌, ℕ, ◌+◌, ◌*◌, ◌^◌, ◌%◌, ◌<◌, ◌≤◌, List, [], length, OnOk};
-ghost use Rattle.std.specs.Prelude.{OnErr, vec_capacity};
+ghost use Rattle.std.specs.Prelude.{◌≡◌, ℕ, ◌+◌, ◌*◌, ◌^◌, ◌%◌, ◌<◌, ◌≤◌, List, [], length, OnOk, OnErr, vec_capacity};
 ghost use Rattle.cred_scrypt.specs.declared.params.TheConstants.{MAX_LN, MAX_ROWS};
-ghost use Rattle.cred_scrypt.specs.Mixing.{block_mix, integerify, mixes, ro_mix};
-ghost use Rattle.cred_scrypt.specs.Table.{IsTable, row_at};
-ghost use Rattle.cred_scrypt.specs.Xor.{xor_all};
+ghost use Rattle.cred_scrypt.specs.{Mixing.block_mix, Mixing.integerify, Mixing.mixes, Mixing.ro_mix, Table.IsTable, Table.row_at, Xor.xor_all};
 
 use crate::blockmix::block_mix;
 use crate::error::ScryptError;

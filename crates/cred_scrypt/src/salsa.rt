@@ -1,9 +1,7 @@
 //! The Salsa20/8 core, from which BlockMix is built (RFC 7914, section 3).
-ghost use Rattle.std.specs.Prelude.{◌≡◌, ℕ, ◌<◌, slice_index};
-ghost use Rattle.std.specs.Int.{w32, rotate_left};
+ghost use Rattle.std.specs.{Prelude.◌≡◌, Prelude.ℕ, Prelude.◌<◌, Prelude.slice_index, Int.w32, Int.rotate_left};
 ghost use Rattle.cred_scrypt.specs.Diagonals.{block_of};
-ghost use Rattle.cred_scrypt.specs.Salsa.{quarter_step, quarter_round, column_round, row_round};
-ghost use Rattle.cred_scrypt.specs.Salsa.{double_rounds, salsa20_8};
+ghost use Rattle.cred_scrypt.specs.Salsa.{quarter_step, quarter_round, column_round, row_round, double_rounds, salsa20_8};
 
 use crate::diagonals::{added, block_of, diagonals_of, sum, transposed, xor};
 use std::simd::u32x4;

@@ -3,8 +3,7 @@
 ghost use Rattle.std.specs.Prelude.{◌≡◌, false, IfSome, is_some, length, None};
 ghost use Rattle.cred_book.specs.Accounts.{register_capacity};
 ghost use Rattle.cred_cli.specs.Script.{lines_of};
-ghost use Rattle.cred_many.specs.Served.{StandsAtEnd, left_of};
-ghost use Rattle.cred_many.specs.Service.{service};
+ghost use Rattle.cred_many.specs.{Served.StandsAtEnd, Served.left_of, Service.service};
 
 use crate::files::{Access, DamagedLog, look_at, open_file};
 use crate::program::close;

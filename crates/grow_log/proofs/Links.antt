@@ -1,8 +1,7 @@
 -- Links, and the entries of them.
 use Rattle.std.proofs.Common.{◌≡◌, ℕ, List, [], ◌∷◌, ◌++◌, Option, Some, None, refl, ap, sym, ◌∙◌}
 use mathlib.Core.List.{IsPrefix}
-use Rattle.grow_log.specs.declared.link.Link.{Link}
-use Rattle.grow_log.specs.Links.{entries_of, link, place_after, with_entries}
+use Rattle.grow_log.specs.{declared.link.Link.Link, Links.entries_of, Links.link, Links.place_after, Links.with_entries}
 
 with_append : {T : Type 0} (entry : Option T) (xs ys : List T) → with_entries entry (xs ++ ys) ≡ with_entries entry xs ++ ys
 with_append None xs ys = refl

@@ -1,7 +1,6 @@
 -- Beginnings of one list.
 use Rattle.std.proofs.Common.{◌≡◌, ◌<◌, ◌≤◌, List, [], ◌∷◌, ◌++◌, length, Bool, true, false, MatchBool, refl, ap, sym, arith, length-append, ◌∙◌}
-use Rattle.std.proofs.lemmas.Bool.Decides.{nat_tests}
-use Rattle.std.proofs.lemmas.List.{append_assoc}
+use Rattle.std.proofs.{lemmas.Bool.Decides.nat_tests, lemmas.List.append_assoc}
 use lib.Dec.{leb}
 use mathlib.Core.List.{IsPrefix}
 use Rattle.grow_log.specs.Beginnings.{IsLonger}

@@ -2,8 +2,7 @@
 --
 -- A log is kept as links: each names the place, a word with a key, where the next link goes. Only
 -- the holder of the last place's pen can add a link, by bringing its word home.
-use Rattle.std.specs.Prelude.{ℕ, ◌≡◌, ◌==◌, ◌<◌, Bool, true, List, [], ◌∷◌, ◌++◌, length}
-use Rattle.std.specs.Prelude.{MatchBool, Option, Some, None}
+use Rattle.std.specs.Prelude.{ℕ, ◌≡◌, ◌==◌, ◌<◌, Bool, true, List, [], ◌∷◌, ◌++◌, length, MatchBool, Option, Some, None}
 use mathlib.Core.List.{IsPrefix}
 use Rattle.logbook.specs.Pages.{Cell, Step, View, Book, Nib, Named, cell, may_make, may_write}
 use Rattle.grow_log.specs.declared.link.Link.{Link}

@@ -2,8 +2,7 @@
 
 ghost use Rattle.std.specs.Prelude.{◌≡◌, [], length, MatchBool};
 ghost use mathlib.Core.List.{IsPrefix};
-ghost use Rattle.grow_log.specs.Beginnings.{IsLonger};
-ghost use Rattle.grow_log.specs.Links.{entries_of};
+ghost use Rattle.grow_log.specs.{Beginnings.IsLonger, Links.entries_of};
 
 use crate::naming::LogName;
 use crate::rule::Links;

@@ -4,8 +4,7 @@ ghost use Rattle.std.specs.Prelude.{◌≡◌, ◌+◌, ◌++◌, ◌∷◌, [],
 ghost use mathlib.Core.List.{IsPrefix};
 ghost use Rattle.cred_book.specs.declared.error.BookError.TheVariants.{Memory as memory};
 ghost use Rattle.cred_desk.specs.Changes.{Adds, refusal_of};
-ghost use Rattle.cred_desk.specs.Histories.{IsAllowed, IsListed, after, deletion, entry};
-ghost use Rattle.cred_desk.specs.Standing.{IsUncounted};
+ghost use Rattle.cred_desk.specs.{Histories.IsAllowed, Histories.IsListed, Histories.after, Histories.deletion, Histories.entry, Standing.IsUncounted};
 
 use super::{Clerk, keep_and_show};
 use crate::entry::{AccountState, Entry};

@@ -1,10 +1,8 @@
 //! A kept book that begins as the copy of another.
 
 ghost use Rattle.std.specs.Prelude.{◌≡◌, false, IfErr, IfOk, None};
-ghost use Rattle.cred_file.specs.Copies.{IsUncopied, MayCopy};
-ghost use Rattle.cred_file.specs.Schema.{no_schema};
-ghost use Rattle.sqlite.specs.State.{HasCleanDisk};
-ghost use Rattle.sqlite.specs.Held.{state};
+ghost use Rattle.cred_file.specs.{Copies.IsUncopied, Copies.MayCopy, Schema.no_schema};
+ghost use Rattle.sqlite.specs.{State.HasCleanDisk, Held.state};
 
 use super::{FileBook, is_empty};
 use crate::fault::OpenFault;

@@ -3,14 +3,10 @@
 
 ghost use Rattle.std.specs.Prelude.{◌≡◌, true, false, IfErr, IfSome, None, OnOk, Some, is_ok, not};
 ghost use Rattle.std.specs.FinMap as fin;
-ghost use Rattle.cred_book.specs.Accounts.{register_capacity};
-ghost use Rattle.cred_book.specs.Calls.{AdmitsWithin, EntersWithin, Loads};
-ghost use Rattle.cred_book.specs.Commits.{Commits, judgement};
+ghost use Rattle.cred_book.specs.{Accounts.register_capacity, Calls.AdmitsWithin, Calls.EntersWithin, Calls.Loads, Commits.Commits, Commits.judgement};
 ghost use Rattle.cred_book.specs.Works.{name_of};
 ghost use Rattle.cred_file.specs.Edits.{Deletes, PutsEntry, Renames};
-ghost use Rattle.cred_file.specs.Failures.{FailsToDelete, FailsToPut, FailsToRename, Loses};
-ghost use Rattle.cred_file.specs.Failures.{Remembers};
-ghost use Rattle.cred_file.specs.Table.{Tells};
+ghost use Rattle.cred_file.specs.{Failures.FailsToDelete, Failures.FailsToPut, Failures.FailsToRename, Failures.Loses, Failures.Remembers, Table.Tells};
 ghost use Rattle.cred_file.specs.declared.fault.Edit.TheVariants as Edit;
 ghost use Rattle.sqlite_value.specs.Value.{owned};
 

@@ -3,8 +3,7 @@
 ghost use Rattle.std.specs.Prelude.{◌+◌, ◌≤◌, ◌<◌, MatchBool, ⊤};
 ghost use Rattle.std.specs.FinMap as fin;
 ghost use Rattle.cred_book.specs.Accounts.{register_capacity};
-ghost use Rattle.cred_file.specs.Edits.{AreApart, AreThere, Meet, Misses, TakesIn};
-ghost use Rattle.cred_file.specs.Failures.{Remembers};
+ghost use Rattle.cred_file.specs.{Edits.AreApart, Edits.AreThere, Edits.Meet, Edits.Misses, Edits.TakesIn, Failures.Remembers};
 ghost use Rattle.cred_file.specs.declared.fault.Edit.TheVariants as Edit;
 
 use super::FileBook;

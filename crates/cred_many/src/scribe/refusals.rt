@@ -1,8 +1,7 @@
 //! Lines that are given up, with nothing done.
 
 ghost use Rattle.std.specs.Prelude.{◌≡◌, ◌<◌, None, Some, length, slice_get};
-ghost use Rattle.cred_many.specs.Scribe.{IsBusy, numbers};
-ghost use Rattle.cred_many.specs.Served.{NeedsMemory};
+ghost use Rattle.cred_many.specs.{Scribe.IsBusy, Scribe.numbers, Served.NeedsMemory};
 
 use super::Scribe;
 use crate::fault::ServiceFault;

@@ -1,12 +1,8 @@
-use Rattle.std.proofs.Common.{rules, Err, ap, refl, sym, ◌∙◌}
-use Rattle.std.proofs.KnownBytes.{Keeps-refl}
-use Rattle.cred_admin.proofs.Fits.{came, fits_first, fits_then, still_open}
-use Rattle.std.proofs.lemmas.Result.{err_from_is_err_and}
+use Rattle.std.proofs.{Common.rules, Common.Err, Common.ap, Common.refl, Common.sym, Common.◌∙◌, KnownBytes.Keeps-refl, lemmas.Result.err_from_is_err_and}
+use Rattle.cred_admin.proofs.{Fits.came, Fits.fits_first, Fits.fits_then, Fits.still_open, Reading.no_second, Twice.second_fails}
 use Rattle.cred_book.specs.declared.request.Request.TheVariants.{Change}
 use Rattle.cred_cli.specs.Watched.{left_on, reading_on, writing_on}
 use Rattle.cred_admin.specs.Seen.{seen}
-use Rattle.cred_admin.proofs.Reading.{no_second}
-use Rattle.cred_admin.proofs.Twice.{second_fails}
 use Rattle.cred_admin.proofs.account.change.Goals as goal
 
 pub returns-then-came_to_end : goal.returns-then-came_to_end

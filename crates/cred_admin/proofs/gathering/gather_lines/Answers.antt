@@ -1,5 +1,4 @@
-use Rattle.std.proofs.Common.{ap, arith}
-use Rattle.std.proofs.lemmas.Result.{err_from_is_err_and}
+use Rattle.std.proofs.{Common.ap, Common.arith, lemmas.Result.err_from_is_err_and}
 use Rattle.cred_admin.specs.Import.{Tally, said_of, tally_from, tally_of}
 use Rattle.cred_admin.proofs.Tallies.{fault_of_line, grows, tally_end, tally_more}
 use Rattle.cred_admin.proofs.gathering.gather_lines.Goals as goal

@@ -1,5 +1,4 @@
-use Rattle.std.proofs.Common.{refl, rules}
-use Rattle.std.proofs.lemmas.Result.{err_from_is_err_and}
+use Rattle.std.proofs.{Common.refl, Common.rules, lemmas.Result.err_from_is_err_and}
 use Rattle.cred_admin.proofs.Printed.{begun, broken, ended, no_room, piece, pushed}
 use Rattle.cred_admin.proofs.listing.list.Goals as goal
 

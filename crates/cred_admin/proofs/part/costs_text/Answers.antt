@@ -1,6 +1,5 @@
 use Rattle.std.proofs.Common.{◌++◌, ◌∷◌, ap, sym, ◌∙◌}
-use Rattle.cred_phc.specs.Base64.{base64}
-use Rattle.cred_phc.specs.Text.{scheme_text}
+use Rattle.cred_phc.specs.{Base64.base64, Text.scheme_text}
 use Rattle.cred_admin.proofs.BeforeSalt.{setting_cut}
 use Rattle.cred_admin.proofs.part.costs_text.Goals as goal
 

@@ -1,7 +1,6 @@
 use Rattle.std.proofs.Common.{arith}
 use Rattle.cred_cli.proofs.Basis.{gave_on}
-use Rattle.cred_admin.proofs.Fits.{fits_now}
-use Rattle.cred_admin.proofs.Reading.{takes_one}
+use Rattle.cred_admin.proofs.{Fits.fits_now, Reading.takes_one}
 use Rattle.cred_admin.proofs.password.next_byte.Goals as goal
 
 pub returns-in-Ok-clause-byte : goal.returns-in-Ok-clause-byte

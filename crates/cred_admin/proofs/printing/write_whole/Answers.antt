@@ -1,6 +1,5 @@
 use Rattle.std.proofs.Common.{ℕ, List, Option, Some}
-use Rattle.cred_cli.specs.Outcome.{FrontWritten}
-use Rattle.cred_cli.specs.Watched.{Basis, Contract, Transcript, held_on, inner_of, taken_of}
+use Rattle.cred_cli.specs.{Outcome.FrontWritten, Watched.Basis, Watched.Contract, Watched.Transcript, Watched.held_on, Watched.inner_of, Watched.taken_of}
 use Rattle.cred_cli.specs.declared.watched.Watched.{Watched}
 use Rattle.cred_admin.proofs.printing.write_whole.Goals as goal
 

@@ -1,6 +1,5 @@
 use Rattle.std.proofs.Common.{◌≡◌, ◌∙◌, arith, rules}
-use Rattle.cred_argon.specs.Slices.{MemoryHolds}
-use Rattle.cred_argon.specs.Argon.{first_hash}
+use Rattle.cred_argon.specs.{Slices.MemoryHolds, Argon.first_hash}
 use Rattle.cred_argon.proofs.argon.argon2_with.Goals as goal
 
 pub returns-clause-made : goal.returns-clause-made

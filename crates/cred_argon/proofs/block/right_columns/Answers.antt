@@ -1,6 +1,5 @@
 use Rattle.std.proofs.Common.{[], ◌∷◌, slice_index_or, arith}
-use Rattle.cred_argon.proofs.QuadLemmas.{below_sixteen}
-use Rattle.cred_argon.proofs.Whole.{columns_words}
+use Rattle.cred_argon.proofs.{QuadLemmas.below_sixteen, Whole.columns_words}
 use Rattle.cred_argon.proofs.block.right_columns.Goals as goal
 
 pub returns : goal.returns

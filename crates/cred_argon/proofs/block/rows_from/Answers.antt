@@ -1,7 +1,6 @@
 use Rattle.std.proofs.Common.{[], ◌∷◌, ◌+◌, ◌*◌, ◌∙◌, arith}
 use Rattle.cred_argon.specs.Compress.{xor_words}
-use Rattle.cred_argon.proofs.QuadLemmas.{below_sixteen}
-use Rattle.cred_argon.proofs.Whole.{both_words, rows_words}
+use Rattle.cred_argon.proofs.{QuadLemmas.below_sixteen, Whole.both_words, Whole.rows_words}
 use Rattle.cred_argon.proofs.block.rows_from.Goals as goal
 
 pub returns : goal.returns

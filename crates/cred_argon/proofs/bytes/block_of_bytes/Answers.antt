@@ -1,5 +1,4 @@
-use Rattle.std.proofs.Common.{ℕ, ◌*◌, ◌∙◌, sym, arith}
-use Rattle.std.proofs.lemmas.List.FromFn.{fill_by_all}
+use Rattle.std.proofs.{Common.ℕ, Common.◌*◌, Common.◌∙◌, Common.sym, Common.arith, lemmas.List.FromFn.fill_by_all}
 use Rattle.cred_blake.specs.Words.{word_at}
 use Rattle.cred_argon.proofs.FirstCells.{words_of_is}
 use Rattle.cred_argon.proofs.bytes.block_of_bytes.Goals as goal

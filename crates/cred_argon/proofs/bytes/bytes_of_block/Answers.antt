@@ -1,6 +1,4 @@
-use Rattle.std.proofs.Common.{rules, ◌≡◌, ◌∙◌, arith, sym}
-use Rattle.std.proofs.lemmas.List.{take_all}
-use Rattle.std.proofs.lemmas.Slice.{overwrites}
+use Rattle.std.proofs.{Common.rules, Common.◌≡◌, Common.◌∙◌, Common.arith, Common.sym, lemmas.List.take_all, lemmas.Slice.overwrites}
 use Rattle.cred_blake.specs.Words.{bytes_of}
 use Rattle.cred_blake.proofs.WordBytes.{bytes_of_more}
 use Rattle.cred_argon.proofs.bytes.bytes_of_block.Goals as goal

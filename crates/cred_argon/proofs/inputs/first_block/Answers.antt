@@ -1,9 +1,7 @@
 use Rattle.std.proofs.Common.{◌≡◌, ℕ, ◌+◌, List, ◌++◌, length, take, ap, sym, ◌∙◌, arith}
 use Rattle.std.proofs.lemmas.List.{take_all}
-use Rattle.cred_blake.specs.HashPrime.{hash_prime}
-use Rattle.cred_blake.specs.Words.{words_of}
-use Rattle.cred_argon.specs.Cells.{first_cell}
-use Rattle.cred_argon.specs.Argon.{le32}
+use Rattle.cred_blake.specs.{HashPrime.hash_prime, Words.words_of}
+use Rattle.cred_argon.specs.{Cells.first_cell, Argon.le32}
 use Rattle.cred_argon.proofs.inputs.first_block.Goals as goal
 
 pub returns : goal.returns

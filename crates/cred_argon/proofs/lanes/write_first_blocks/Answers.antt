@@ -1,7 +1,6 @@
 use Rattle.std.proofs.Common.{◌<◌, ◌≤◌, ◌+◌, ◌*◌, length, sym, ◌∙◌, arith}
 use Rattle.cred_argon.specs.Parameters.{segment_len}
-use Rattle.cred_argon.proofs.FirstBlocks.{first_blocks_more}
-use Rattle.cred_argon.proofs.FirstCells.{first_is}
+use Rattle.cred_argon.proofs.{FirstBlocks.first_blocks_more, FirstCells.first_is}
 use Rattle.cred_argon.proofs.lanes.write_first_blocks.Goals as goal
 
 pub lanes-preserved : goal.lanes-preserved

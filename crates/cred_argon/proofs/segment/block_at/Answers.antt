@@ -1,6 +1,5 @@
 use Rattle.std.proofs.Common.{◌≡◌, ◌+◌, ◌-◌, ◌/◌, ◌%◌, ◌∙◌, [], length, ap, arith}
-use Rattle.cred_argon.specs.Parameters.{segment_len}
-use Rattle.cred_argon.specs.Cells.{cell}
+use Rattle.cred_argon.specs.{Parameters.segment_len, Cells.cell}
 use Rattle.cred_argon.proofs.Distances.{distance_of, distance_own, distance_place}
 use Rattle.cred_argon.proofs.segment.block_at.Goals as goal
 

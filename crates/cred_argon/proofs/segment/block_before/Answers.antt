@@ -1,8 +1,6 @@
 use Rattle.std.proofs.Common.{◌≡◌, ◌<◌, ◌≤◌, ◌-◌, ◌∙◌, ◌==◌, true, length, ap, sym, arith}
 use Rattle.std.proofs.lemmas.Bool.Decides.{nat_tests}
-use Rattle.cred_argon.specs.Parameters.{segment_len}
-use Rattle.cred_argon.specs.Turns.{number}
-use Rattle.cred_argon.specs.Cells.{cell}
+use Rattle.cred_argon.specs.{Parameters.segment_len, Turns.number, Cells.cell}
 use Rattle.cred_argon.proofs.Distances.{before_first, begun_later}
 use Rattle.cred_argon.proofs.segment.block_before.Goals as goal
 

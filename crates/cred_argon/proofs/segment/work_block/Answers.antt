@@ -1,12 +1,7 @@
 use Rattle.std.proofs.Common.{◌≡◌, ◌/◌, ◌%◌, ◌^◌, ◌∙◌, length, ap, sym, subst}
-use Rattle.cred_argon.specs.Parameters.{segment_len}
-use Rattle.cred_argon.specs.Compress.{compress}
-use Rattle.cred_argon.specs.Places.{IsComputed, place_of, reference_place}
-use Rattle.cred_argon.specs.Turns.{place_in}
+use Rattle.cred_argon.specs.{Parameters.segment_len, Compress.compress, Places.IsComputed, Places.place_of, Places.reference_place, Turns.place_in}
 use Rattle.cred_argon.specs.declared.position.Position.{Position}
-use Rattle.cred_argon.proofs.Picks.{reference_before}
-use Rattle.cred_argon.proofs.Distances.{place_computed}
-use Rattle.cred_argon.proofs.Steps.{offset_mixed_is, replaced_is, added_is}
+use Rattle.cred_argon.proofs.{Picks.reference_before, Distances.place_computed, Steps.offset_mixed_is, Steps.replaced_is, Steps.added_is}
 use Rattle.cred_argon.proofs.segment.work_block.Goals as goal
 
 pub reference_from-reference-requires-clause-computed :

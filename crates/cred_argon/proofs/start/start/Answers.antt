@@ -1,5 +1,4 @@
-use Rattle.std.proofs.Common.{◌≡◌, ◌≤◌, ◌∙◌, length, vec_len, sym, arith}
-use Rattle.std.proofs.lemmas.List.{with_items_is}
+use Rattle.std.proofs.{Common.◌≡◌, Common.◌≤◌, Common.◌∙◌, Common.length, Common.vec_len, Common.sym, Common.arith, lemmas.List.with_items_is}
 use Rattle.cred_argon.specs.Parameters.{segment_len}
 use Rattle.cred_argon.proofs.FirstCells.{first_is}
 use Rattle.cred_argon.proofs.start.start.Goals as goal

@@ -1,8 +1,5 @@
 use Rattle.std.proofs.Common.{ℕ, ◌≤◌, ◌-◌, ◌*◌, ◌∙◌, refl, ap, ap₂, arith}
-use Rattle.cred_argon.specs.Parameters.{segment_len}
-use Rattle.cred_argon.specs.Compress.{xor_words}
-use Rattle.cred_argon.specs.Cells.{cell}
-use Rattle.cred_argon.specs.Argon.{last_blocks}
+use Rattle.cred_argon.specs.{Parameters.segment_len, Compress.xor_words, Cells.cell, Argon.last_blocks}
 use Rattle.cred_argon.proofs.LastBlocks.{last_blocks_next, last_place}
 use Rattle.cred_argon.proofs.tag.last_blocks.Goals as goal
 

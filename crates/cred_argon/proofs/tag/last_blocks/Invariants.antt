@@ -1,6 +1,5 @@
 use Rattle.std.proofs.Common.{◌≡◌, ℕ, ◌-◌, ◌*◌, List}
-use Rattle.cred_argon.specs.Parameters.{segment_len}
-use Rattle.cred_argon.specs.Argon.{last_blocks}
+use Rattle.cred_argon.specs.{Parameters.segment_len, Argon.last_blocks}
 use Rattle.cred_argon.proofs.tag.last_blocks.Given as goal
 
 abbrev pub invariant-lanes : goal.invariant-lanes

@@ -1,6 +1,5 @@
 use Rattle.std.proofs.Common.{◌∙◌, ap, ap₂}
-use Rattle.cred_blake.specs.HashPrime.{hash_prime}
-use Rattle.cred_blake.specs.Words.{bytes_of}
+use Rattle.cred_blake.specs.{HashPrime.hash_prime, Words.bytes_of}
 use Rattle.cred_argon.specs.Argon.{first_hash, argon}
 use Rattle.cred_argon.proofs.tag.tag_of.Goals as goal
 

@@ -1,5 +1,4 @@
-use Rattle.std.proofs.Common.{length, ap, sym, arith}
-use Rattle.std.proofs.lemmas.List.{length-take-le}
+use Rattle.std.proofs.{Common.length, Common.ap, Common.sym, Common.arith, lemmas.List.length-take-le}
 use Rattle.cred_blake.proofs.variable_length.first_half.Goals as goal
 
 pub returns-clause-len : goal.returns-clause-len

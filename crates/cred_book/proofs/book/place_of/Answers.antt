@@ -1,6 +1,5 @@
-use Rattle.std.proofs.Common.{rules}
+use Rattle.std.proofs.{Common.rules, lemmas.List.Sorted.answers_always}
 use Rattle.std.specs.Cmp.Lexicographic.{nat_list_cmp_total}
-use Rattle.std.proofs.lemmas.List.Sorted.{answers_always}
 use Rattle.cred_book.specs.Names.{name_cmp}
 use Rattle.cred_book.proofs.Entries.{searched}
 use Rattle.cred_book.proofs.book.place_of.Goals as goal

@@ -1,6 +1,5 @@
 use Rattle.std.proofs.Common.{ap, Some}
-use Rattle.cred_book.proofs.Changes.{whole_stays}
-use Rattle.cred_book.proofs.Updating.{committed, request_whole}
+use Rattle.cred_book.proofs.{Changes.whole_stays, Updating.committed, Updating.request_whole}
 use Rattle.cred_book.proofs.laws.requests_are_operations.Goals as goal
 
 pub returns-clause-whole : goal.returns-clause-whole

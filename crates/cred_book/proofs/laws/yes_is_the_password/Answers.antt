@@ -1,6 +1,5 @@
 use Rattle.std.proofs.Common.{ap, sym, ◌∙◌}
-use Rattle.cred_book.proofs.Changes.{committed_as_judged}
-use Rattle.cred_book.proofs.Passwords.{yes_at_copy, yes_at_judgement}
+use Rattle.cred_book.proofs.{Changes.committed_as_judged, Passwords.yes_at_copy, Passwords.yes_at_judgement}
 use Rattle.cred_book.proofs.laws.yes_is_the_password.Goals as goal
 
 pub returns-clause-at_copy : goal.returns-clause-at_copy

@@ -1,9 +1,7 @@
 use Rattle.std.proofs.Common.{◌≡◌, Err, ap, refl, sym}
 use Rattle.cred_argon.specs.Parameters.{parameters}
-use Rattle.cred_c.specs.Lanes.{ranged}
-use Rattle.cred_c.specs.declared.part_fault.PartFault.TheVariants.{Argon}
-use Rattle.cred_c.proofs.RawFaults.{no_raw_fault}
-use Rattle.cred_c.proofs.PartFaults.{is_kind, is_version, same_fault, fault_is}
+use Rattle.cred_c.specs.{Lanes.ranged, declared.part_fault.PartFault.TheVariants.Argon}
+use Rattle.cred_c.proofs.{RawFaults.no_raw_fault, PartFaults.is_kind, PartFaults.is_version, PartFaults.same_fault, PartFaults.fault_is}
 use Rattle.cred_c.proofs.tag_numbers.params_of.Goals as goal
 
 pub returns-in-Err-clause-ok : goal.returns-in-Err-clause-ok

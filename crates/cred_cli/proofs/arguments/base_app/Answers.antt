@@ -1,7 +1,6 @@
 -- Written out, since a search for these takes long.
 use Rattle.std.proofs.Common.{◌∙◌, ap, true}
-use Rattle.clap.specs.Simple.{app_of_fields}
-use Rattle.clap.specs.Words.{App}
+use Rattle.clap.specs.{Simple.app_of_fields, Words.App}
 use Rattle.cred_cli.proofs.Building.{subcommand_app, subcommand_local}
 use Rattle.cred_cli.proofs.arguments.base_app.Goals as goal
 

@@ -1,7 +1,6 @@
 -- Written out, since a search for these takes long.
 use Rattle.std.proofs.Common.{◌∙◌, ap, ap₂}
-use Rattle.clap.specs.Simple.{app_of_fields}
-use Rattle.clap.specs.Words.{App, rule_of, with_rule}
+use Rattle.clap.specs.{Simple.app_of_fields, Words.App, Words.rule_of, Words.with_rule}
 use Rattle.cred_cli.proofs.Building.{app_then}
 use Rattle.cred_cli.proofs.arguments.of_one.Goals as goal
 

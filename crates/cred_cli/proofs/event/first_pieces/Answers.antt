@@ -1,5 +1,4 @@
-use Rattle.std.proofs.Common.{arith, ◌∙◌}
-use Rattle.std.proofs.lemmas.List.{length-map}
+use Rattle.std.proofs.{Common.arith, Common.◌∙◌, lemmas.List.length-map}
 use Rattle.cred_cli.proofs.Events.{first_taken}
 use Rattle.cred_cli.proofs.event.first_pieces.Goals as goal
 

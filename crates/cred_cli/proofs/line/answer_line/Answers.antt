@@ -1,8 +1,6 @@
-use Rattle.std.proofs.Common.{inl, refl}
-use Rattle.std.proofs.lemmas.Result.{err_from_is_err_and}
+use Rattle.std.proofs.{Common.inl, Common.refl, lemmas.Result.err_from_is_err_and}
 use Rattle.cred_cli.specs.Watched.{Contract}
-use Rattle.cred_cli.proofs.Starvings.{line_taken}
-use Rattle.cred_cli.proofs.Basis.{write_cause}
+use Rattle.cred_cli.proofs.{Starvings.line_taken, Basis.write_cause}
 use Rattle.cred_cli.proofs.line.answer_line.Goals as goal
 
 -- memory was refused, and not to a hash that may be

@@ -1,8 +1,6 @@
 use Rattle.std.proofs.Common.{◌++◌, ap, refl}
-use Rattle.cred_cli.specs.Statuses.{status_number}
-use Rattle.cred_cli.specs.Watched.{Transcript, transcript_reading, given_of, transcript_writing}
-use Rattle.cred_cli.proofs.Programs.{no_memory, run_fails, runs_whole}
-use Rattle.cred_cli.proofs.Basis.{none_logged}
+use Rattle.cred_cli.specs.{Statuses.status_number, Watched.Transcript, Watched.transcript_reading, Watched.given_of, Watched.transcript_writing}
+use Rattle.cred_cli.proofs.{Programs.no_memory, Programs.run_fails, Programs.runs_whole, Basis.none_logged}
 use Rattle.cred_cli.proofs.program.run.Goals as goal
 
 pub returns-in_default-clause-runs : goal.returns-in_default-clause-runs

@@ -1,9 +1,6 @@
 use Rattle.std.proofs.lemmas.Result.{err_from_is_err_and}
-use Rattle.cred_cli.specs.Script.{start_as}
-use Rattle.cred_cli.specs.Starving.{events_by}
-use Rattle.cred_cli.proofs.Programs.{unbegun}
-use Rattle.cred_cli.proofs.Readings.{if_known, opening}
-use Rattle.cred_cli.proofs.Basis.{none_logged}
+use Rattle.cred_cli.specs.{Script.start_as, Starving.events_by}
+use Rattle.cred_cli.proofs.{Programs.unbegun, Readings.if_known, Readings.opening, Basis.none_logged}
 use Rattle.cred_cli.proofs.run.answer_all.Goals as goal
 
 -- there was no memory for the tickets, and so no call

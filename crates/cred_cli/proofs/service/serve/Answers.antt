@@ -1,9 +1,6 @@
 use Rattle.std.proofs.Common.{◌+◌, ◌≤◌, ◌++◌, List, [], length, refl, sym, append-nil}
-use Rattle.cred_cli.specs.Outcome.{longest_service}
-use Rattle.cred_cli.specs.Script.{start_as}
-use Rattle.cred_cli.specs.Starving.{EndsAs, IsServed, events_by}
-use Rattle.cred_cli.specs.declared.mode.Mode.TheVariants.{Service}
-use Rattle.cred_cli.specs.declared.event.Event.{Event}
+use Rattle.cred_cli.specs.{Outcome.longest_service, Script.start_as, Starving.EndsAs, Starving.IsServed, Starving.events_by}
+use Rattle.cred_cli.specs.{declared.mode.Mode.TheVariants.Service, declared.event.Event.Event}
 use Rattle.cred_cli.specs.Watched.{Contract, Transcript, given_of, transcript_writing}
 use Rattle.cred_cli.proofs.Basis.{alone, as_passed}
 use Rattle.cred_cli.proofs.service.serve.Goals as goal

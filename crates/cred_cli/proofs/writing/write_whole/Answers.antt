@@ -1,7 +1,5 @@
 use Rattle.std.proofs.Common.{rules, Some, refl, arith, ◌∙◌, ◌<◌, length, take, ◌++◌}
-use Rattle.std.proofs.lemmas.Bool.Decides.{nat_tests}
-use Rattle.std.proofs.lemmas.List.{take_rest}
-use Rattle.std.proofs.KnownBytes.{Appends-trans, Appends-kept}
+use Rattle.std.proofs.{lemmas.Bool.Decides.nat_tests, lemmas.List.take_rest, KnownBytes.Appends-trans, KnownBytes.Appends-kept}
 use Rattle.cred_cli.proofs.Writes.{front_written, cut_later, none_more, none_taken, taken_later}
 use Rattle.cred_cli.proofs.writing.write_whole.Goals as goal
 

@@ -1,7 +1,6 @@
 use Rattle.std.proofs.Common.{ℕ, ◌<◌, List, get_or, subst, sym, ◌∙◌}
 use mathlib.Core.List.{IsPrefix}
-use Rattle.cred_desk.specs.declared.entry.Entry.{Entry}
-use Rattle.cred_desk.specs.Standing.{Standing}
+use Rattle.cred_desk.specs.{declared.entry.Entry.Entry, Standing.Standing}
 use Rattle.cred_desk.proofs.Lists.{all_more}
 use Rattle.cred_desk.proofs.clerk.cover_all.Goals as goal
 

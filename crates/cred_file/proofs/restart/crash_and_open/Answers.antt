@@ -1,13 +1,8 @@
 use Rattle.std.proofs.Common.{arith, sym, subst, ◌∙◌}
-use Rattle.sqlite.specs.Held.{state}
-use Rattle.sqlite.specs.State.{HasCleanDisk, Survives}
-use Rattle.sqlite.specs.Tree.{Trees}
+use Rattle.sqlite.specs.{Held.state, State.HasCleanDisk, State.Survives, Tree.Trees}
 use Rattle.sqlite_trees.specs.View.{IsClean}
-use Rattle.cred_file.specs.Table.{StandsFor}
-use Rattle.cred_file.specs.Keeps.{HoldsBook}
-use Rattle.cred_file.specs.Opening.{IsFound, IsUnopened}
-use Rattle.cred_file.proofs.FoundAgain.{found_again, of_ok, of_err}
-use Rattle.cred_file.proofs.NoFault.{for_want}
+use Rattle.cred_file.specs.{Table.StandsFor, Keeps.HoldsBook, Opening.IsFound, Opening.IsUnopened}
+use Rattle.cred_file.proofs.{FoundAgain.found_again, FoundAgain.of_ok, FoundAgain.of_err, NoFault.for_want}
 use Rattle.cred_file.proofs.restart.crash_and_open.Goals as goal
 
 pub returns-clause-kept : goal.returns-clause-kept

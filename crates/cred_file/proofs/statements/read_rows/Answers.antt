@@ -1,14 +1,9 @@
 use Rattle.std.proofs.Common.{rules, ◌≡◌, [], inl, inr, refl, sym, subst, ◌∙◌, arith}
-use Rattle.sqlite.specs.Held.{state}
-use Rattle.sqlite.specs.State.{CommitsShowing, HasCleanDisk, Survives}
-use Rattle.sqlite.proofs.Callers.{begun_plain, unchanged_then}
-use Rattle.sqlite.proofs.StateLemmas.{survives_then}
-use Rattle.cred_file.specs.Opening.{IsUnopened, rows_text}
-use Rattle.cred_file.specs.Table.{StandsFor}
-use Rattle.cred_file.proofs.Pushed.{draft_push, no_rows}
-use Rattle.cred_file.proofs.Selected.{as_before, survived}
-use Rattle.cred_file.proofs.Streamed.{fails_from_first, fault_first, stands_last}
-use Rattle.cred_file.proofs.Texts.{rows_plain}
+use Rattle.sqlite.specs.{Held.state, State.CommitsShowing, State.HasCleanDisk, State.Survives}
+use Rattle.sqlite.proofs.{Callers.begun_plain, Callers.unchanged_then, StateLemmas.survives_then}
+use Rattle.cred_file.specs.{Opening.IsUnopened, Opening.rows_text, Table.StandsFor}
+use Rattle.cred_file.proofs.{Pushed.draft_push, Pushed.no_rows, Selected.as_before, Selected.survived}
+use Rattle.cred_file.proofs.{Streamed.fails_from_first, Streamed.fault_first, Streamed.stands_last, Texts.rows_plain}
 use Rattle.cred_file.proofs.statements.read_rows.Goals as goal
 
 pub returns-in-Err-clause-left : goal.returns-in-Err-clause-left

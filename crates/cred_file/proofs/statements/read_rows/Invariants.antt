@@ -1,10 +1,6 @@
 use Rattle.std.proofs.Common.{◌≡◌, [], List}
-use Rattle.sqlite.specs.Order.{Row}
-use Rattle.sqlite.specs.State.{HasCleanDisk, IsUnchanged, Survives}
-use Rattle.sqlite.specs.Held.{state}
-use Rattle.sqlite.specs.Given.{HasGiven}
-use Rattle.cred_file.specs.Drafts.{IsDraftOf}
-use Rattle.cred_file.specs.Opening.{rows_text}
+use Rattle.sqlite.specs.{Order.Row, State.HasCleanDisk, State.IsUnchanged, State.Survives, Held.state, Given.HasGiven}
+use Rattle.cred_file.specs.{Drafts.IsDraftOf, Opening.rows_text}
 use Rattle.cred_file.proofs.statements.read_rows.Given as goal
 
 abbrev pub invariant-rows : goal.invariant-rows

@@ -1,8 +1,6 @@
 use Rattle.std.proofs.Common.{◌≡◌, IsTrue, false, not, refl, sym, ap, subst, ◌∙◌}
-use Rattle.sqlite.specs.Effect.{Database}
-use Rattle.sqlite.specs.Held.{state}
-use Rattle.cred_file.specs.Schema.{IsBookSchema}
-use Rattle.cred_file.specs.Table.{StandsFor}
+use Rattle.sqlite.specs.{Effect.Database, Held.state}
+use Rattle.cred_file.specs.{Schema.IsBookSchema, Table.StandsFor}
 use Rattle.cred_file.proofs.Selected.{as_before, is_table}
 use Rattle.cred_file.proofs.statements.read_table.Goals as goal
 

@@ -1,9 +1,7 @@
 use Rattle.std.proofs.Common.{◌∙◌, ap, arith, length, rules, subst, sym}
-use Rattle.sqlite.specs.Held.{state}
-use Rattle.sqlite.specs.State.{HasCleanDisk}
+use Rattle.sqlite.specs.{Held.state, State.HasCleanDisk}
 use Rattle.sqlite.proofs.StateLemmas.{survives_then}
-use Rattle.cred_file.specs.Edits.{joined}
-use Rattle.cred_file.specs.Together.{IsUnderWay}
+use Rattle.cred_file.specs.{Edits.joined, Together.IsUnderWay}
 use Rattle.cred_file.proofs.Joined.{AreEntered, all_entered, none_entered, one_entered}
 use Rattle.cred_file.proofs.together.enter_each.Goals as goal
 

@@ -1,7 +1,6 @@
 use Rattle.std.proofs.Common.{◌≡◌}
 use Rattle.cred_book.specs.Accounts.{Accounts}
-use Rattle.sqlite.specs.State.{HasCleanDisk, Survives}
-use Rattle.sqlite.specs.Held.{state}
+use Rattle.sqlite.specs.{State.HasCleanDisk, State.Survives, Held.state}
 use Rattle.cred_file.specs.Together.{IsUnderWay}
 use Rattle.cred_file.proofs.Joined.{AreEntered}
 use Rattle.cred_file.proofs.together.enter_each.Given as goal

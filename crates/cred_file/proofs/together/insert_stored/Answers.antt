@@ -1,8 +1,7 @@
 use Rattle.std.proofs.Common.{sym, subst, ◌∙◌, None}
 use Rattle.sqlite.specs.declared.types.Value.TheVariants.{Text}
 use Rattle.cred_file.specs.Table.{Tells}
-use Rattle.cred_file.proofs.Keeping.{record_told}
-use Rattle.cred_file.proofs.Within.{on_ok}
+use Rattle.cred_file.proofs.{Keeping.record_told, Within.on_ok}
 use Rattle.cred_file.proofs.together.insert_stored.Goals as goal
 
 pub returns-in-None-clause-entered : goal.returns-in-None-clause-entered

@@ -1,6 +1,5 @@
 use Rattle.sqlite.specs.Held.{state}
-use Rattle.cred_file.proofs.Keeping.{bound_told}
-use Rattle.cred_file.proofs.Within.{inserted_within}
+use Rattle.cred_file.proofs.{Keeping.bound_told, Within.inserted_within}
 use Rattle.cred_file.proofs.together.insert_within.Goals as goal
 
 pub returns-clause-entered : goal.returns-clause-entered

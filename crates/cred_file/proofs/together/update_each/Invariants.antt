@@ -1,6 +1,5 @@
 use Rattle.std.proofs.Common.{◌≡◌}
-use Rattle.sqlite.specs.State.{Survives}
-use Rattle.sqlite.specs.Held.{state}
+use Rattle.sqlite.specs.{State.Survives, Held.state}
 use Rattle.cred_file.proofs.Joined.{AreUpdated}
 use Rattle.cred_file.proofs.together.update_each.Given as goal
 

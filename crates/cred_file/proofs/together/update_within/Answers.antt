@@ -1,6 +1,5 @@
 use Rattle.sqlite.specs.Held.{state}
-use Rattle.cred_file.proofs.Keeping.{bound_told}
-use Rattle.cred_file.proofs.Within.{updated_within}
+use Rattle.cred_file.proofs.{Keeping.bound_told, Within.updated_within}
 use Rattle.cred_file.proofs.together.update_within.Goals as goal
 
 pub returns-clause-updated : goal.returns-clause-updated

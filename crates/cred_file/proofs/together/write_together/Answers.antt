@@ -1,9 +1,6 @@
 use Rattle.std.proofs.Common.{◌≡◌, ◌⊎◌, sym, subst, refl, arith, rules}
-use Rattle.sqlite.specs.Held.{state}
-use Rattle.sqlite.specs.State.{HasCleanDisk}
-use Rattle.cred_file.specs.Keeps.{IsTableOf, LeavesOnly}
-use Rattle.cred_file.specs.Together.{IsPartOf, IsUnderWay}
-use Rattle.cred_file.specs.Edits.{joined, taken_in}
+use Rattle.sqlite.specs.{Held.state, State.HasCleanDisk}
+use Rattle.cred_file.specs.{Keeps.IsTableOf, Keeps.LeavesOnly, Together.IsPartOf, Together.IsUnderWay, Edits.joined, Edits.taken_in}
 use Rattle.cred_file.proofs.Joined.{all_part, there_still}
 use Rattle.cred_file.proofs.Within.{begun, still, committed, commit_left, on_any, on_ok, or_other}
 use Rattle.cred_file.proofs.together.write_together.Goals as goal

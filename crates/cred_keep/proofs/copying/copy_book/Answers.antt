@@ -1,7 +1,6 @@
 use Rattle.std.proofs.Common.{subst, sym}
 use Rattle.cred_file.specs.Opening.{IsFound}
-use Rattle.sqlite.specs.Held.{state}
-use Rattle.sqlite.specs.State.{HasCleanDisk}
+use Rattle.sqlite.specs.{Held.state, State.HasCleanDisk}
 use Rattle.cred_keep.proofs.Copied.{if_ok, if_err, uncopied}
 use Rattle.cred_keep.proofs.copying.copy_book.Goals as goal
 

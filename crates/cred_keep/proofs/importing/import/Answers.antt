@@ -1,5 +1,4 @@
-use Rattle.std.proofs.Common.{ap, ◌∙◌}
-use Rattle.std.proofs.lemmas.Result.{err_from_is_err_and}
+use Rattle.std.proofs.{Common.ap, Common.◌∙◌, lemmas.Result.err_from_is_err_and}
 use Rattle.cred_admin.specs.Import.{Tally, tally}
 use Rattle.cred_cli.specs.Watched.{reading_on}
 use Rattle.cred_keep.proofs.NotTaken.{not_taken}

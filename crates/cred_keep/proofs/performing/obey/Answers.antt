@@ -1,6 +1,5 @@
 use Rattle.std.proofs.Common.{rules}
-use Rattle.cred_cli.specs.Outcome.{longest_script}
-use Rattle.cred_cli.specs.Watched.{reading_on, writing_on}
+use Rattle.cred_cli.specs.{Outcome.longest_script, Watched.reading_on, Watched.writing_on}
 use Rattle.cred_admin.specs.Seen.{seen}
 use Rattle.cred_keep.specs.Orders.{RunsWithin, ServesLines}
 use Rattle.cred_keep.proofs.OnBasis.{on_each}

@@ -1,10 +1,6 @@
 use Rattle.std.proofs.Common.{refl}
 use Rattle.base64.specs.Decode.{groups_error, groups_bytes, scan_steps}
-use Rattle.cred_phc.specs.Base64.{unbase64}
-use Rattle.cred_phc.specs.Faults.{record_fault, setting_fault}
-use Rattle.cred_phc.specs.Fields.{numbers_of}
-use Rattle.cred_phc.specs.Number.{number_of}
-use Rattle.cred_phc.specs.Pieces.{pieces}
+use Rattle.cred_phc.specs.{Base64.unbase64, Faults.record_fault, Faults.setting_fault, Fields.numbers_of, Number.number_of, Pieces.pieces}
 use Rattle.cred_phc.proofs.laws.known_faults.Goals as goal
 
 pub returns-clause-only_a_dollar : goal.returns-clause-only_a_dollar

@@ -1,8 +1,7 @@
 use Rattle.std.proofs.Common.{refl}
 use Rattle.std.specs.Fmt.{digits}
 use Rattle.base64.specs.Rfc4648.{encode_symbols}
-use Rattle.cred_phc.specs.Base64.{base64}
-use Rattle.cred_phc.specs.Text.{bare_text, record_text, setting_text}
+use Rattle.cred_phc.specs.{Base64.base64, Text.bare_text, Text.record_text, Text.setting_text}
 use Rattle.cred_phc.specs.Vectors.{argon2d_record, argon2id_record, old_argon2i_record, scrypt_record}
 use Rattle.cred_phc.proofs.laws.known_texts.Goals as goal
 

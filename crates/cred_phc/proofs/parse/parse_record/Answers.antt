@@ -1,6 +1,5 @@
 use Rattle.std.proofs.Common.{◌∙◌, arith}
-use Rattle.cred_phc.specs.Text.{IsRecordText}
-use Rattle.cred_phc.specs.Values.{IsRecord}
+use Rattle.cred_phc.specs.{Text.IsRecordText, Values.IsRecord}
 use Rattle.cred_phc.proofs.RecordLaws.{both_of, found_record, only_record}
 use Rattle.cred_phc.proofs.FaultLaws.{record_fault_law, refused_with, no_fault}
 use Rattle.cred_phc.proofs.parse.parse_record.Goals as goal

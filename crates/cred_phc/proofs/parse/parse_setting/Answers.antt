@@ -1,6 +1,5 @@
 use Rattle.std.proofs.Common.{◌∙◌, arith}
-use Rattle.cred_phc.specs.Text.{IsSettingText}
-use Rattle.cred_phc.specs.Values.{IsSetting}
+use Rattle.cred_phc.specs.{Text.IsSettingText, Values.IsSetting}
 use Rattle.cred_phc.proofs.RecordLaws.{both_of, found_setting, only_setting}
 use Rattle.cred_phc.proofs.FaultLaws.{setting_fault_law, refused_with, no_fault}
 use Rattle.cred_phc.proofs.parse.parse_setting.Goals as goal

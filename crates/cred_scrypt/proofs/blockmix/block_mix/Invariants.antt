@@ -1,6 +1,5 @@
 use Rattle.std.proofs.Common.{◌≡◌, ◌*◌, take}
-use Rattle.cred_scrypt.specs.Diagonals.{block_of}
-use Rattle.cred_scrypt.specs.Mixing.{chain, every_second}
+use Rattle.cred_scrypt.specs.{Diagonals.block_of, Mixing.chain, Mixing.every_second}
 use Rattle.cred_scrypt.proofs.blockmix.block_mix.Given as goal
 
 abbrev pub invariant-pairs : goal.invariant-pairs

@@ -1,7 +1,5 @@
 use Rattle.std.proofs.Common.{◌∙◌, ap}
-use Rattle.cred_scrypt.specs.Xor.{xor_all}
-use Rattle.cred_scrypt.specs.Salsa.{salsa20_8}
-use Rattle.cred_scrypt.specs.Diagonals.{block_of}
+use Rattle.cred_scrypt.specs.{Xor.xor_all, Salsa.salsa20_8, Diagonals.block_of}
 use Rattle.cred_scrypt.proofs.blockmix.chain.Goals as goal
 
 pub returns : goal.returns

@@ -1,5 +1,4 @@
-use Rattle.std.proofs.Common.{◌-◌, ◌+◌, ◌*◌, arith}
-use Rattle.std.proofs.lemmas.Slice.{take-put_mid}
+use Rattle.std.proofs.{Common.◌-◌, Common.◌+◌, Common.◌*◌, Common.arith, lemmas.Slice.take-put_mid}
 use Rattle.cred_scrypt.specs.Diagonals.{block_of}
 use Rattle.cred_scrypt.proofs.blockmix.put.Goals as goal
 

@@ -1,7 +1,5 @@
-use Rattle.std.proofs.Common.{◌≡◌, ◌++◌, ◌∙◌, false, nat_lt, length, ap, arith}
-use Rattle.std.proofs.lemmas.Bool.{lt-ltb}
-use Rattle.std.proofs.lemmas.Bool.Decides.{nat_tests}
-use Rattle.std.proofs.lemmas.List.{drop-replicate}
+use Rattle.std.proofs.{Common.◌≡◌, Common.◌++◌, Common.◌∙◌, Common.false, Common.nat_lt, Common.length, Common.ap, Common.arith, lemmas.Bool.lt-ltb}
+use Rattle.std.proofs.{lemmas.Bool.Decides.nat_tests, lemmas.List.drop-replicate}
 use Rattle.cred_scrypt.specs.Hmac.{key_block}
 use Rattle.cred_scrypt.proofs.hmac.key_block.Goals as goal
 

@@ -1,7 +1,5 @@
 use Rattle.std.proofs.Common.{◌≡◌, ◌*◌, ◌∙◌, arith}
-use Rattle.cred_scrypt.specs.Pbkdf2.{pbkdf2}
-use Rattle.cred_scrypt.specs.Pieces.{AreCut, AreMixed}
-use Rattle.cred_scrypt.specs.Scrypt.{scrypt}
+use Rattle.cred_scrypt.specs.{Pbkdf2.pbkdf2, Pieces.AreCut, Pieces.AreMixed, Scrypt.scrypt}
 use Rattle.cred_scrypt.proofs.Cuts.{written_whole}
 use Rattle.cred_scrypt.proofs.key_derivation.scrypt_in.Goals as goal
 

@@ -1,6 +1,5 @@
 use Rattle.std.proofs.Common.{◌≡◌, ◌-◌, ℕ, List}
-use Rattle.cred_scrypt.specs.Pbkdf2.{iteration, xor_of_iterations}
-use Rattle.cred_scrypt.specs.Keyed.{IsKeyed}
+use Rattle.cred_scrypt.specs.{Pbkdf2.iteration, Pbkdf2.xor_of_iterations, Keyed.IsKeyed}
 use Rattle.cred_scrypt.proofs.pbkdf.derived_block.Given as goal
 
 abbrev pub invariant-iterations : goal.invariant-iterations

@@ -1,6 +1,5 @@
 use Rattle.std.proofs.Common.{ap, ◌∙◌, add-one}
-use Rattle.cred_scrypt.specs.Hmac.{hmac}
-use Rattle.cred_scrypt.specs.Pbkdf2.{iteration}
+use Rattle.cred_scrypt.specs.{Hmac.hmac, Pbkdf2.iteration}
 use Rattle.cred_scrypt.proofs.pbkdf.next_iteration.Goals as goal
 
 pub returns : goal.returns

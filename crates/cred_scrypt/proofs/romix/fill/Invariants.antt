@@ -1,6 +1,5 @@
 use Rattle.std.proofs.Common.{◌≡◌, ◌≤◌, ◌*◌, length, vec_capacity}
-use Rattle.cred_scrypt.specs.Mixing.{mixes}
-use Rattle.cred_scrypt.specs.Table.{IsTable}
+use Rattle.cred_scrypt.specs.{Mixing.mixes, Table.IsTable}
 use Rattle.cred_scrypt.proofs.romix.fill.Given as goal
 
 abbrev pub invariant-rows : goal.invariant-rows

@@ -1,5 +1,4 @@
-use Rattle.std.proofs.Common.{◌≤◌, ◌^◌, arith}
-use Rattle.std.proofs.Math.Pow.{pow_mono}
+use Rattle.std.proofs.{Common.◌≤◌, Common.◌^◌, Common.arith, Math.Pow.pow_mono}
 use Rattle.cred_scrypt.proofs.romix.rows_of.Goals as goal
 
 pub returns-clause-below : goal.returns-clause-below

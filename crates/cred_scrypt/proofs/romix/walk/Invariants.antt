@@ -1,6 +1,5 @@
 use Rattle.std.proofs.Common.{◌≡◌, ◌*◌, ◌^◌, length, List, ℕ}
-use Rattle.cred_scrypt.specs.Mixing.{mixes, second_loop}
-use Rattle.cred_scrypt.specs.Table.{IsTable}
+use Rattle.cred_scrypt.specs.{Mixing.mixes, Mixing.second_loop, Table.IsTable}
 use Rattle.cred_scrypt.proofs.romix.walk.Given as goal
 
 abbrev pub invariant-steps : goal.invariant-steps

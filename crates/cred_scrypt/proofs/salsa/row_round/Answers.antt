@@ -1,6 +1,5 @@
 use Rattle.std.proofs.Common.{◌∙◌, ap}
-use Rattle.cred_scrypt.specs.Diagonals.{transposed}
-use Rattle.cred_scrypt.specs.Salsa.{column_round}
+use Rattle.cred_scrypt.specs.{Diagonals.transposed, Salsa.column_round}
 use Rattle.cred_scrypt.proofs.Lanes.{row_round_is}
 use Rattle.cred_scrypt.proofs.salsa.row_round.Goals as goal
 

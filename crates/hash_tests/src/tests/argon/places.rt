@@ -1,6 +1,5 @@
 //! References that were worked out by hand.
-ghost use Rattle.cred_argon.specs.Parameters.{segment_len};
-ghost use Rattle.cred_argon.specs.Places.{IsComputed, place};
+ghost use Rattle.cred_argon.specs.{Parameters.segment_len, Places.IsComputed, Places.place};
 
 use cred_argon::{ArgonError, Kind, Params, Place, reference};
 

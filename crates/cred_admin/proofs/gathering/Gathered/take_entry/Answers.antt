@@ -1,6 +1,5 @@
 use Rattle.std.proofs.Common.{Err, inr, refl, subst, sym}
-use Rattle.cred_book.specs.Accounts.{register_capacity}
-use Rattle.cred_book.specs.Calls.{EntersWithin}
+use Rattle.cred_book.specs.{Accounts.register_capacity, Calls.EntersWithin}
 use Rattle.cred_admin.proofs.Tallies.{one_too_many}
 use Rattle.cred_admin.proofs.gathering.Gathered.take_entry.Goals as goal
 

@@ -1,5 +1,4 @@
-use Rattle.std.proofs.Common.{◌≡◌, ◌<◌, length, slice_index_or, vec_len, arith}
-use Rattle.std.proofs.lemmas.List.{with_items_is}
+use Rattle.std.proofs.{Common.◌≡◌, Common.◌<◌, Common.length, Common.slice_index_or, Common.vec_len, Common.arith, lemmas.List.with_items_is}
 use Rattle.cred_argon.proofs.SliceWork.{shared_begins, own_begins, segment_worked}
 use Rattle.cred_argon.proofs.memory.Memory.work_current.Goals as goal
 

@@ -1,5 +1,4 @@
-use Rattle.std.proofs.Common.{◌≡◌, length, vec_len, arith}
-use Rattle.std.proofs.lemmas.List.{with_items_is}
+use Rattle.std.proofs.{Common.◌≡◌, Common.length, Common.vec_len, Common.arith, lemmas.List.with_items_is}
 use Rattle.cred_argon.proofs.Working.{own_extended}
 use Rattle.cred_argon.proofs.segment.SegmentPartSharedVecSegment.work.Goals as goal
 

@@ -1,5 +1,4 @@
-use Rattle.std.proofs.Common.{rules, ◌≡◌, ℕ, List, ◌∙◌, take, arith, ap, sym}
-use Rattle.std.proofs.lemmas.List.{take_all}
+use Rattle.std.proofs.{Common.rules, Common.◌≡◌, Common.ℕ, Common.List, Common.◌∙◌, Common.take, Common.arith, Common.ap, Common.sym, lemmas.List.take_all}
 use Rattle.std.proofs.lemmas.Slice.{overwrites}
 use Rattle.cred_blake.specs.Words.{bytes_of}
 use Rattle.cred_blake.proofs.WordBytes.{bytes_of_more}

@@ -1,7 +1,6 @@
 use Rattle.std.proofs.Common.{◌++◌, length, refl, ap, ◌∙◌, arith}
 use Rattle.cred_blake.specs.Blake2b.{blake, initial_state, key_block}
-use Rattle.cred_blake.proofs.Feeding.{Fed_last, Holds_fed, Holds_out_len}
-use Rattle.cred_blake.proofs.Lengths.{length-blake}
+use Rattle.cred_blake.proofs.{Feeding.Fed_last, Feeding.Holds_fed, Feeding.Holds_out_len, Lengths.length-blake}
 use Rattle.cred_blake.proofs.hasher.Blake2b.finalize.Goals as goal
 
 pub returns-clause-value : goal.returns-clause-value

@@ -1,6 +1,5 @@
 use Rattle.std.proofs.Common.{◌≡◌, ℕ, List, ◌++◌, ◌+◌, ◌-◌, ◌/◌, length}
-use Rattle.cred_blake.specs.Blake2b.{key_block, initial_state}
-use Rattle.cred_blake.specs.Hasher.{Holds, IsTaken}
+use Rattle.cred_blake.specs.{Blake2b.key_block, Blake2b.initial_state, Hasher.Holds, Hasher.IsTaken}
 use Rattle.cred_blake.proofs.hasher.Blake2b.update.Given as goal
 
 abbrev pub invariant-whole : goal.invariant-whole

@@ -1,7 +1,6 @@
 use Rattle.std.proofs.Common.{ap, sym, ◌∙◌, Some}
 use Rattle.cred_book.specs.Works.{name_of}
-use Rattle.cred_book.proofs.Commitments.{commits_nothing, commits_judged}
-use Rattle.cred_book.proofs.Kept.{get_there, get_absent, kept_set, set_there}
+use Rattle.cred_book.proofs.{Commitments.commits_nothing, Commitments.commits_judged, Kept.get_there, Kept.get_absent, Kept.kept_set, Kept.set_there}
 use Rattle.cred_book.proofs.book.Book.commit.Goals as goal
 
 pub invariant_of-self : goal.invariant_of-self

@@ -1,5 +1,4 @@
-use Rattle.std.proofs.Common.{sym, ap, ◌∙◌}
-use Rattle.std.proofs.Common.{Some}
+use Rattle.std.proofs.Common.{sym, ap, ◌∙◌, Some}
 use Rattle.cred_book.proofs.Kept.{get_there, get_absent}
 use Rattle.cred_book.proofs.book.Book.show.Goals as goal
 

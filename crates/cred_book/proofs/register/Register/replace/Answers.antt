@@ -1,7 +1,6 @@
 use Rattle.std.proofs.Common.{◌∙◌, ◌≤◌, ap, sym, subst}
 use Rattle.std.specs.FinMap as map
-use Rattle.cred_book.specs.Accounts.{register_capacity}
-use Rattle.cred_book.specs.Names.{name_cmp}
+use Rattle.cred_book.specs.{Accounts.register_capacity, Names.name_cmp}
 use Rattle.cred_book.proofs.Registered.{sorted_of, insert_of, has_of, not_there}
 use Rattle.cred_book.proofs.register.Register.replace.Goals as goal
 

@@ -1,6 +1,5 @@
 -- The struct has no bytes, so the walk makes nothing at run time; it says what the log gains: the call that the clause names. Assumes `Logic`.
-use Rattle.std.proofs.Common.{[], ◌∷◌, refl}
-use Rattle.std.proofs.raw_atomic.Walks.{proved}
+use Rattle.std.proofs.{Common.[], Common.◌∷◌, Common.refl, raw_atomic.Walks.proved}
 use mir.Syntax.{Args, Dict, a_type, dcons, dnil, named}
 use mir.Val.{vstruct, vnil}
 use mir.MapTy.{inst_fn}
@@ -17,8 +16,7 @@ use denote.Signature.{plain, types_at}
 use denote.Triple.Clauses.{Ended}
 use denote.Triple.Entry.{alive}
 use denote.Triple.Walked.{says, Stays, stay_none_ref, walk_of, ends_at, Goes-none_ref}
-use Rattle.std.specs.declared.io.traits.Read.{Ghosts as Reads}
-use Rattle.std.specs.declared.io.traits.Write.{Ghosts as Writes}
+use Rattle.std.specs.{declared.io.traits.Read.Ghosts as Reads, declared.io.traits.Write.Ghosts as Writes}
 use Rattle.cred_book.specs.declared.keeper.Keeper.{Ghosts as Keeps}
 use Rattle.cred_cli.specs.contracts.call_log.CallLog as log
 use Rattle.cred_cli.specs.contracts.call_log.CallLog.and as f

@@ -1,6 +1,5 @@
 -- The struct has no bytes, so the walk makes nothing at run time; it says that the log is empty. The name is free: no clause speaks of it.
-use Rattle.std.proofs.Common.{[], ◌∷◌, refl}
-use Rattle.std.proofs.raw_atomic.Walks.{proved}
+use Rattle.std.proofs.{Common.[], Common.◌∷◌, Common.refl, raw_atomic.Walks.proved}
 use mir.Val.{vstruct, vnil}
 use types.Kit.{‵, raw, ◌⊛◌, ◌$◌, ◌∵◌, !, qed, keep, split, move, suffices, done}
 use types.Part.{agg}

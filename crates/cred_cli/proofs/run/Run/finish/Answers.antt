@@ -1,11 +1,7 @@
 use Rattle.std.proofs.Common.{◌≡◌, ◌<◌, arith, refl, sym, ◌∙◌, length, suc, add-one, Some, slice_get}
-use Rattle.std.proofs.lemmas.Bool.Decides.{nat_tests}
-use Rattle.std.proofs.lemmas.Option.{slice_get_within}
-use Rattle.std.proofs.lemmas.Result.{err_from_is_err_and}
-use Rattle.cred_cli.specs.Script.{with_events}
-use Rattle.cred_cli.specs.Starving.{events_by}
-use Rattle.cred_cli.proofs.Feeds.{count-ended, has_last, none_kept, some_kept}
-use Rattle.cred_cli.proofs.Runs.{fails_at}
+use Rattle.std.proofs.{lemmas.Bool.Decides.nat_tests, lemmas.Option.slice_get_within, lemmas.Result.err_from_is_err_and}
+use Rattle.cred_cli.specs.{Script.with_events, Starving.events_by}
+use Rattle.cred_cli.proofs.{Feeds.count-ended, Feeds.has_last, Feeds.none_kept, Feeds.some_kept, Runs.fails_at}
 use Rattle.cred_cli.proofs.Starvings.{goes_nowhere, grows, history-size}
 use Rattle.cred_cli.proofs.run.Run.finish.Goals as goal
 

@@ -1,9 +1,6 @@
 use Rattle.std.proofs.Common.{rules, ◌≡◌, arith, sym, refl, ap, ◌∙◌, append-nil, [], ◌≤◌, ◌<◌, ◌+◌, ◌-◌, ◌^◌, length, length-take-le, take}
-use Rattle.std.proofs.Math.Nat.{min-eq_left}
-use Rattle.std.proofs.lemmas.List.{length-append}
-use Rattle.std.proofs.lemmas.Result.{err_from_is_err_and}
-use Rattle.cred_cli.specs.Script.{line_ends, with_events}
-use Rattle.cred_cli.specs.Starving.{IsSameBefore}
+use Rattle.std.proofs.{Math.Nat.min-eq_left, lemmas.List.length-append, lemmas.Result.err_from_is_err_and}
+use Rattle.cred_cli.specs.{Script.line_ends, Script.with_events, Starving.IsSameBefore}
 use Rattle.cred_cli.proofs.Prompts.{prompt_call, read_on, read_to_start}
 use Rattle.cred_cli.proofs.Readings.{came, came_to_end, cut_behind, kept_left}
 use Rattle.cred_cli.proofs.Basis.{fits_before, found_on, gave_on, gives_more, gives_nothing, kept_on, none_logged, one_logged, unwritten, written_on}

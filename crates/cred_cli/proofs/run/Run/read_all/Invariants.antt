@@ -1,6 +1,5 @@
 use Rattle.std.proofs.Common.{◌≡◌, ◌≤◌, false, [], length, Some}
-use Rattle.cred_cli.specs.Feeding.{IsAt, standing}
-use Rattle.cred_cli.specs.Script.{ScriptStart}
+use Rattle.cred_cli.specs.{Feeding.IsAt, Feeding.standing, Script.ScriptStart}
 use Rattle.cred_cli.specs.Watched.{Basis, Fits, GivesAsContracted, IsWritten, held_on, left_on, log_on}
 use Rattle.cred_cli.proofs.Prompts.{IsReadTo}
 use Rattle.cred_cli.proofs.run.Run.read_all.Given as goal

@@ -1,13 +1,8 @@
 use Rattle.std.proofs.Common.{◌≡◌, ◌≤◌, ◌<◌, arith, append_assoc, sym, ap, ◌∙◌, length, ◌∷◌, [], add-one, Some, slice_get}
-use Rattle.std.proofs.lemmas.List.{length-append}
-use Rattle.std.proofs.lemmas.Option.{slice_get_within}
-use Rattle.std.proofs.lemmas.Result.{err_from_is_err_and}
-use Rattle.cred_cli.specs.Events.{most_kept}
-use Rattle.cred_cli.specs.Script.{with_events}
-use Rattle.cred_cli.specs.Starving.{events_by}
+use Rattle.std.proofs.{lemmas.List.length-append, lemmas.Option.slice_get_within, lemmas.Result.err_from_is_err_and}
+use Rattle.cred_cli.specs.{Events.most_kept, Script.with_events, Starving.events_by}
 use Rattle.cred_cli.proofs.Feeds.{ended_event, take-kept, take_front}
-use Rattle.cred_cli.proofs.Lines.{line_ends-end, line_ends-more, unfinished_from-end, unfinished_from-more}
-use Rattle.cred_cli.proofs.Runs.{fails_at}
+use Rattle.cred_cli.proofs.{Lines.line_ends-end, Lines.line_ends-more, Lines.unfinished_from-end, Lines.unfinished_from-more, Runs.fails_at}
 use Rattle.cred_cli.proofs.Starvings.{goes_nowhere, grows, history-size}
 use Rattle.cred_cli.proofs.run.Run.take_byte.Goals as goal
 

@@ -1,11 +1,7 @@
-use Rattle.std.proofs.Common.{arith, refl, sym, ◌∙◌, ◌++◌, append-nil, take}
-use Rattle.std.proofs.lemmas.List.{take_all}
+use Rattle.std.proofs.{Common.arith, Common.refl, Common.sym, Common.◌∙◌, Common.◌++◌, Common.append-nil, Common.take, lemmas.List.take_all}
 use Rattle.std.proofs.lemmas.Result.{err_from_is_err_and}
-use Rattle.cred_cli.specs.Script.{with_events}
-use Rattle.cred_cli.specs.Watched.{held_on}
-use Rattle.cred_cli.proofs.Basis.{unwritten, written_on}
-use Rattle.cred_cli.proofs.Feeds.{cut_at, front_more}
-use Rattle.cred_cli.proofs.Lines.{line_ends_longer}
+use Rattle.cred_cli.specs.{Script.with_events, Watched.held_on}
+use Rattle.cred_cli.proofs.{Basis.unwritten, Basis.written_on, Feeds.cut_at, Feeds.front_more, Lines.line_ends_longer}
 use Rattle.cred_cli.proofs.Starvings.{at_again, fails_within, goes_nowhere, goes_then}
 use Rattle.cred_cli.proofs.run.Run.take_bytes.Goals as goal
 

@@ -1,9 +1,6 @@
 use Rattle.std.proofs.Common.{◌≡◌, ◌+◌, ℕ, List, ◌++◌, take}
-use Rattle.cred_cli.specs.declared.event.Event.{Event}
-use Rattle.cred_cli.specs.Feeding.{IsAt, standing}
-use Rattle.cred_cli.specs.Script.{ScriptStart, line_ends, with_events}
-use Rattle.cred_cli.specs.Starving.{GoesOn}
-use Rattle.cred_cli.specs.Watched.{Basis, IsWritten, held_on}
+use Rattle.cred_cli.specs.{declared.event.Event.Event, Feeding.IsAt, Feeding.standing, Script.ScriptStart, Script.line_ends, Script.with_events}
+use Rattle.cred_cli.specs.{Starving.GoesOn, Watched.Basis, Watched.IsWritten, Watched.held_on}
 use Rattle.cred_cli.proofs.run.Run.take_bytes.Given as goal
 
 -- the first bytes are taken

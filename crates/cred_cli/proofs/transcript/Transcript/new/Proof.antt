@@ -1,6 +1,5 @@
 -- The struct has no bytes, so the walk makes nothing at run time; it says that no byte is on the transcript.
-use Rattle.std.proofs.Common.{[], ◌∷◌, refl}
-use Rattle.std.proofs.raw_atomic.Walks.{proved}
+use Rattle.std.proofs.{Common.[], Common.◌∷◌, Common.refl, raw_atomic.Walks.proved}
 use mir.Val.{vstruct, vnil}
 use types.Kit.{‵, raw, ◌⊛◌, ◌$◌, ◌∵◌, !, qed, keep, split, move, suffices, done}
 use types.Part.{agg}

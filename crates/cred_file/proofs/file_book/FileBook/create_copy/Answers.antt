@@ -1,11 +1,9 @@
 use Rattle.std.proofs.Common.{◌≤◌, arith, refl, sym, subst, ◌∙◌}
 use Rattle.std.specs.FinMap as fin
-use Rattle.sqlite.specs.Held.{state}
-use Rattle.sqlite.specs.State.{HasCleanDisk}
+use Rattle.sqlite.specs.{Held.state, State.HasCleanDisk}
 use Rattle.cred_book.specs.Accounts.{register_capacity}
 use Rattle.cred_file.specs.Keeps.{IsTableOf}
-use Rattle.cred_file.proofs.Copied.{keeps_copy, may_copy}
-use Rattle.cred_file.proofs.Joined.{taken_whole, there_same}
+use Rattle.cred_file.proofs.{Copied.keeps_copy, Copied.may_copy, Joined.taken_whole, Joined.there_same}
 use Rattle.cred_file.proofs.file_book.FileBook.create_copy.Goals as goal
 
 pub take_together-requires-clause-there : goal.take_together-requires-clause-there

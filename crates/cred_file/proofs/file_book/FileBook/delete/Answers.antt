@@ -1,9 +1,7 @@
 use Rattle.std.proofs.Common.{Some, sym, subst}
 use Rattle.std.specs.FinMap as fin
-use Rattle.cred_file.specs.declared.fault.Edit.TheVariants.{Delete}
-use Rattle.cred_file.specs.Keeps.{Keeps}
-use Rattle.cred_file.proofs.Keeping.{keeps_done, keeps_lost, fits, no_some, shown_there}
-use Rattle.cred_file.proofs.Removing.{len_less}
+use Rattle.cred_file.specs.{declared.fault.Edit.TheVariants.Delete, Keeps.Keeps}
+use Rattle.cred_file.proofs.{Keeping.keeps_done, Keeping.keeps_lost, Keeping.fits, Keeping.no_some, Keeping.shown_there, Removing.len_less}
 use Rattle.cred_file.proofs.file_book.FileBook.delete.Goals as goal
 
 pub invariant_of-self : goal.invariant_of-self

@@ -1,8 +1,7 @@
 use Rattle.cred_book.specs.Accounts.{register_capacity}
 use Rattle.cred_book.proofs.Registered.{remove_again}
 use Rattle.cred_file.proofs.Keeping.{keeps_done, keeps_lost, len_new}
-use Rattle.cred_file.specs.declared.fault.Edit.TheVariants.{Put}
-use Rattle.cred_file.specs.Keeps.{Keeps}
+use Rattle.cred_file.specs.{declared.fault.Edit.TheVariants.Put, Keeps.Keeps}
 use Rattle.std.proofs.Common.{◌≡◌, ◌<◌, Some, false, ap, sym, ◌∙◌, subst}
 use Rattle.std.specs.FinMap as fin
 use Rattle.cred_file.proofs.file_book.FileBook.enter_value.Goals as goal

@@ -1,6 +1,5 @@
 use Rattle.cred_file.proofs.Keeping.{keeps_done, keeps_lost, fits, len_old}
-use Rattle.cred_file.specs.declared.fault.Edit.TheVariants.{Put}
-use Rattle.cred_file.specs.Keeps.{Keeps}
+use Rattle.cred_file.specs.{declared.fault.Edit.TheVariants.Put, Keeps.Keeps}
 use Rattle.std.specs.FinMap as fin
 use Rattle.std.proofs.Common.{◌≡◌, Some, true, sym, ap, ◌∙◌, subst}
 use Rattle.cred_file.proofs.file_book.FileBook.replace_value.Goals as goal

@@ -1,7 +1,6 @@
 use Rattle.std.proofs.Common.{rules}
 use Rattle.cred_many.specs.Reading.{place}
-use Rattle.cred_many.proofs.Draws.{salts_on, setting_drawn}
-use Rattle.cred_many.proofs.Lines.{kept_came}
+use Rattle.cred_many.proofs.{Draws.salts_on, Draws.setting_drawn, Lines.kept_came}
 use Rattle.cred_many.proofs.decoder.LineDecoder.end_line.Goals as goal
 
 pub read-line-requires-clause-came : goal.read-line-requires-clause-came

@@ -1,5 +1,4 @@
-use Rattle.std.proofs.Common.{◌≡◌, ◌<◌, arith, length}
-use Rattle.std.proofs.lemmas.Bool.Decides.{nat_tests}
+use Rattle.std.proofs.{Common.◌≡◌, Common.◌<◌, Common.arith, Common.length, lemmas.Bool.Decides.nat_tests}
 use Rattle.cred_many.specs.Reading.{place}
 use Rattle.cred_many.proofs.Lines.{count_ended, count_with_last, cut_came, last_came}
 use Rattle.cred_many.proofs.decoder.LineDecoder.last.Goals as goal

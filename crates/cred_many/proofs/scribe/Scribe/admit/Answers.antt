@@ -1,6 +1,5 @@
 use Rattle.std.proofs.Common.{rules, refl, inr, arith}
-use Rattle.cred_many.proofs.Serving.{opened, still}
-use Rattle.cred_many.proofs.Standing.{line_missing, no_cause}
+use Rattle.cred_many.proofs.{Serving.opened, Serving.still, Standing.line_missing, Standing.no_cause}
 use Rattle.cred_many.proofs.scribe.Scribe.admit.Goals as goal
 
 pub invariant_of-self : goal.invariant_of-self

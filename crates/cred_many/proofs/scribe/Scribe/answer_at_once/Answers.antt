@@ -1,6 +1,5 @@
 use Rattle.std.proofs.Common.{◌∙◌}
-use Rattle.cred_many.proofs.Serving.{answered, done_at}
-use Rattle.cred_many.proofs.Standing.{cause_written}
+use Rattle.cred_many.proofs.{Serving.answered, Serving.done_at, Standing.cause_written}
 use Rattle.cred_many.proofs.scribe.Scribe.answer_at_once.Goals as goal
 
 pub invariant_of-self : goal.invariant_of-self

@@ -1,6 +1,5 @@
 use Rattle.std.proofs.Common.{rules}
-use Rattle.cred_many.proofs.Standing.{cause_written}
-use Rattle.cred_many.proofs.Together.{answered_together}
+use Rattle.cred_many.proofs.{Standing.cause_written, Together.answered_together}
 use Rattle.cred_many.proofs.scribe.Scribe.commit_group.Goals as goal
 
 pub invariant_of-self : goal.invariant_of-self

@@ -1,10 +1,8 @@
 use Rattle.std.proofs.Common.{refl, sym, ap, ◌∙◌}
 use Rattle.cred_cli.specs.Texts.{reply_line}
-use Rattle.cred_many.specs.Scribe.{is_torn}
-use Rattle.cred_many.specs.Served.{told_reply}
+use Rattle.cred_many.specs.{Scribe.is_torn, Served.told_reply}
 use Rattle.cred_book.specs.Works.{is_for_current}
-use Rattle.cred_many.proofs.Commits.{commits_still, done_whole, job_current, job_needs}
-use Rattle.cred_many.proofs.Serving.{answered, still}
+use Rattle.cred_many.proofs.{Commits.commits_still, Commits.done_whole, Commits.job_current, Commits.job_needs, Serving.answered, Serving.still}
 use Rattle.cred_many.proofs.Standing.{cause_written, no_cause}
 use Rattle.cred_many.proofs.scribe.Scribe.commit_whole.Goals as goal
 

@@ -1,10 +1,8 @@
 use Rattle.std.proofs.Common.{refl}
 use Rattle.cred_book.specs.declared.error.BookError.TheVariants as error
 use Rattle.cred_cli.specs.declared.refusal.Refusal.TheVariants as refusal
-use Rattle.cred_many.specs.declared.ask.Ask.TheVariants.{Bad}
-use Rattle.cred_many.specs.Asks.{entry}
-use Rattle.cred_many.proofs.Serving.{done_at, starved}
-use Rattle.cred_many.proofs.Standing.{cause_written}
+use Rattle.cred_many.specs.{declared.ask.Ask.TheVariants.Bad, Asks.entry}
+use Rattle.cred_many.proofs.{Serving.done_at, Serving.starved, Standing.cause_written}
 use Rattle.cred_many.proofs.scribe.Scribe.give_up.Goals as goal
 
 pub invariant_of-self : goal.invariant_of-self

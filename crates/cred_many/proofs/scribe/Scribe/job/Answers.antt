@@ -1,9 +1,6 @@
 use Rattle.std.proofs.Common.{arith, slice_get, sym, ap, ◌∙◌}
 use Rattle.cred_many.specs.Served.{record_at}
-use Rattle.cred_many.proofs.Commits.{job_name}
-use Rattle.cred_many.proofs.Seen.{looked_numbers, looked_worn}
-use Rattle.cred_many.proofs.Serving.{looked}
-use Rattle.cred_many.proofs.Standing.{no_cause}
+use Rattle.cred_many.proofs.{Commits.job_name, Seen.looked_numbers, Seen.looked_worn, Serving.looked, Standing.no_cause}
 use Rattle.cred_many.proofs.scribe.Scribe.job.Goals as goal
 
 pub invariant_of-self : goal.invariant_of-self

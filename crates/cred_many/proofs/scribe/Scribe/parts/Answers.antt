@@ -1,5 +1,4 @@
-use Rattle.std.proofs.Common.{refl}
-use Rattle.std.proofs.Math.Logic.{∥∥₁_map₂}
+use Rattle.std.proofs.{Common.refl, Math.Logic.∥∥₁_map₂}
 use Rattle.cred_many.specs.Scribe.{numbers}
 use Rattle.cred_many.proofs.Standing.{stands}
 use Rattle.cred_many.proofs.scribe.Scribe.parts.Goals as goal

@@ -1,6 +1,4 @@
-use Rattle.cred_many.proofs.Commits.{done_reset, reset_needs}
-use Rattle.cred_many.proofs.Serving.{answered}
-use Rattle.cred_many.proofs.Standing.{cause_written}
+use Rattle.cred_many.proofs.{Commits.done_reset, Commits.reset_needs, Serving.answered, Standing.cause_written}
 use Rattle.cred_many.proofs.scribe.Scribe.reset.Goals as goal
 
 pub invariant_of-self : goal.invariant_of-self

@@ -1,5 +1,4 @@
-use Rattle.std.proofs.Common.{arith}
-use Rattle.std.proofs.lemmas.List.{length-take}
+use Rattle.std.proofs.{Common.arith, lemmas.List.length-take}
 use Rattle.cred_many.proofs.source.LineReaderSource.read.Goals as goal
 
 pub overflow_add-self : goal.overflow_add-self

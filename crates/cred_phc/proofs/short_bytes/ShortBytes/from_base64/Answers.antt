@@ -1,5 +1,4 @@
-use Rattle.std.proofs.Common.{◌≡◌, ◌∙◌, length, sym, arith}
-use Rattle.std.proofs.lemmas.List.{take_at}
+use Rattle.std.proofs.{Common.◌≡◌, Common.◌∙◌, Common.length, Common.sym, Common.arith, lemmas.List.take_at}
 use Rattle.cred_phc.proofs.Base64Laws.{too_long, bytes_read, no_bytes_read}
 use Rattle.cred_phc.proofs.short_bytes.ShortBytes.from_base64.Goals as goal
 

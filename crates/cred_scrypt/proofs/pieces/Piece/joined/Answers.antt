@@ -1,6 +1,5 @@
 use Rattle.std.proofs.Common.{rules, ◌≡◌, ◌^◌, ◌++◌, ◌∙◌, ap, sym, add-one}
-use Rattle.cred_scrypt.specs.Mixing.{ro_mix}
-use Rattle.cred_scrypt.specs.Scrypt.{bytes_of, mixed_pieces, piece}
+use Rattle.cred_scrypt.specs.{Mixing.ro_mix, Scrypt.bytes_of, Scrypt.mixed_pieces, Scrypt.piece}
 use Rattle.cred_scrypt.proofs.pieces.Piece.joined.Goals as goal
 
 pub joins-init : goal.joins-init

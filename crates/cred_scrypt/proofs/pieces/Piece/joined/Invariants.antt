@@ -1,6 +1,5 @@
 use Rattle.std.proofs.Common.{◌≡◌, ℕ, List}
-use Rattle.cred_scrypt.specs.Scrypt.{mixed_pieces}
-use Rattle.cred_scrypt.specs.Pieces.{AreMixed}
+use Rattle.cred_scrypt.specs.{Scrypt.mixed_pieces, Pieces.AreMixed}
 use Rattle.cred_scrypt.proofs.pieces.Piece.joined.Given as goal
 
 abbrev pub invariant-joins : goal.invariant-joins

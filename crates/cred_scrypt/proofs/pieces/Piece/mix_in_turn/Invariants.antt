@@ -1,6 +1,5 @@
 use Rattle.std.proofs.Common.{◌≡◌, ◌<◌, ◌≤◌, ◌^◌, ℕ, length, slice_index_or, false}
-use Rattle.cred_scrypt.specs.declared.pieces.Piece.{Piece}
-use Rattle.cred_scrypt.specs.Mixing.{ro_mix}
+use Rattle.cred_scrypt.specs.{declared.pieces.Piece.Piece, Mixing.ro_mix}
 use Rattle.cred_scrypt.proofs.pieces.Piece.mix_in_turn.Given as goal
 
 -- the pieces before k are mixed, and the others are as they were

@@ -1,8 +1,7 @@
 use Rattle.std.proofs.Common.{ap, subst, refl}
 use mathlib.Core.List.{IsPrefix}
 use Rattle.grow_log.specs.Links.{entries_of}
-use Rattle.grow_log.proofs.Links.{entries_prefix}
-use Rattle.grow_log.proofs.Prefixes.{prefix_told}
+use Rattle.grow_log.proofs.{Links.entries_prefix, Prefixes.prefix_told}
 use Rattle.grow_log.proofs.beginning.Beginning.begins.Goals as goal
 
 pub returns-clause-which : goal.returns-clause-which

@@ -1,7 +1,6 @@
 use Rattle.std.proofs.Common.{◌≡◌, ◌∷◌, ◌++◌, [], length, Some, subst, sym, ◌∙◌, ap, arith, length-append}
 use Rattle.grow_log.specs.Links.{entries_of, first_place, link, place_after}
-use Rattle.grow_log.proofs.Adding.{fills_moves}
-use Rattle.grow_log.proofs.Links.{entries_snoc, place_snoc}
+use Rattle.grow_log.proofs.{Adding.fills_moves, Links.entries_snoc, Links.place_snoc}
 use Rattle.grow_log.proofs.log.GrowLog.add.Goals as goal
 
 pub compare_exchange-requires : goal.compare_exchange-requires

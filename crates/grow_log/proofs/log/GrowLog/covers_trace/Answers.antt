@@ -1,8 +1,7 @@
 use Rattle.std.proofs.Common.{◌≡◌, subst, sym, ◌∙◌, ap}
 use mathlib.Core.List.{IsPrefix}
 use Rattle.grow_log.specs.Links.{entries_of}
-use Rattle.grow_log.proofs.Adding.{looks_moves}
-use Rattle.grow_log.proofs.Links.{entries_prefix}
+use Rattle.grow_log.proofs.{Adding.looks_moves, Links.entries_prefix}
 use Rattle.grow_log.proofs.log.GrowLog.covers_trace.Goals as goal
 
 pub compare_exchange-requires : goal.compare_exchange-requires
