@@ -1,6 +1,6 @@
 //! The standards' vectors and the texts of other programs, through the exports.
 //!
-//! The tag of 100 bytes is from `vectors/argon/compress.py` of `hash_tests`, which makes the tags
+//! The tag of 100 bytes is from `vectors/compress.py` of `hash_tests`, which makes the tags
 //! of RFC 9106, and the key of 100 bytes is from Python's hashlib; its first 64 are those of RFC
 //! 7914.
 

@@ -1,5 +1,5 @@
-//! What no clause says: values from outside, that parts are worked side by side, which refusals
-//! come, and what running out of memory leaves.
+//! What no clause says: values from outside, that parts are worked side by side, printed texts,
+//! and what running out of memory leaves.
 //!
 //! A test mostly plays a table: one function tells of a row whether it is as it should be, and the
 //! test asserts once that no row is otherwise, since each place that may end early beside a value
@@ -7,24 +7,30 @@
 
 mod argon;
 mod blake;
+mod gates;
 mod pool;
+mod scratch;
 mod scrypt;
 mod strings;
 
+use cred_blake::BlakeError;
+use cred_phc::{Record, parse_record};
+use cred_scrypt::ScryptError;
 use std::alloc::Global;
 use std::fmt::Display;
+use std::process::Abort;
 
-/// The longest input of the tables that the scripts in vectors/ make.
+/// The longest input of the tables.
 const LONGEST: usize = 300;
 
-/// An input of the tables: its byte i is (7 * i + seed) mod 256, and its first bytes are an input
-/// that is shorter.
-fn counted(seed: u8) -> [u8; LONGEST] {
+/// An input of the tables: its byte i is (step * i + seed) mod 256, and its first bytes are an
+/// input that is shorter.
+fn counted(seed: u8, step: u8) -> [u8; LONGEST] {
     let mut bytes = [0; LONGEST];
     let mut next = seed;
     for byte in &mut bytes {
         *byte = next;
-        next = next.wrapping_add(7);
+        next = next.wrapping_add(step);
     }
     bytes
 }
@@ -51,10 +57,44 @@ fn is_made<E: Drop>(made: Result<Vec<u8>, E>, digits: &str) -> bool {
     }
 }
 
+fn stored(rt: &impl Abort, text: &str) -> Record {
+    parse_record(text.as_bytes()).expect(rt, "a record")
+}
+
 /// Whether the value is shown as this text.
 fn is_shown<T: Display>(alloc: Global, value: &T, text: &str) -> bool {
     match format!(in alloc; "{value}") {
         Ok(shown) => shown.as_str() == text,
         Err(_) => false,
+    }
+}
+
+#[test]
+fn messages_of_blake(rt: HostRuntime) {
+    for (error, want) in [
+        (
+            BlakeError::OutLen,
+            "the length of the digest is out of range",
+        ),
+        (BlakeError::KeyLen, "the key is longer than 64 bytes"),
+        (BlakeError::Memory, "out of memory"),
+    ] {
+        assert!(rt; is_shown(rt.alloc(), &error, want), "{want}");
+    }
+}
+
+#[test]
+fn messages_of_scrypt(rt: HostRuntime) {
+    for (error, want) in [
+        (
+            ScryptError::Cost,
+            "the cost is out of range, or too high for the block size or for a table of 2 GiB",
+        ),
+        (ScryptError::BlockSize, "the block size is 0"),
+        (ScryptError::Blocks, "the parallelization is 0"),
+        (ScryptError::Len, "the key is not 4 to 64 bytes long"),
+        (ScryptError::Memory, "out of memory"),
+    ] {
+        assert!(rt; is_shown(rt.alloc(), &error, want), "{want}");
     }
 }

@@ -1,104 +1,167 @@
-//! Of `cred_argon`: tags and blocks from outside, that the lanes are worked side by side, and which
-//! refusals come.
-mod gates;
-mod places;
-mod scratch;
-mod tags;
-mod vectors;
+//! Of `cred_argon`: tags from outside, and what running out of memory gives.
 
-use cred_argon::{ArgonError, Block, Kind, Params, Version, argon2, compress};
-use cred_pool::Gate;
+use super::{counted, first, is_hex, is_made};
+use cred_argon::Kind::{D, I, Id};
+use cred_argon::Version::{V10, V13};
+use cred_argon::{ArgonError, Kind, Params, Version, argon2};
+use cred_pool::NoGate;
 use std::alloc::Global;
 use std::thread::Threads;
 
-/// The tag of RFC 9106, sections 5.1 to 5.3, at a kind.
-fn standard_tag<R: Threads + Sync, G: Gate + Sync>(
+/// Kind, version, memory, passes and lanes; the lengths of password, salt, secret and associated
+/// data; their seed, which is 1 more from each to the next, and their step; and the tag.
+struct Row(Kind, Version, [u32; 3], [usize; 4], (u8, u8), &'static str);
+
+/// RFC 9106, sections 5.1 to 5.3.
+static STANDARD: [Row; 3] = [
+    Row(
+        D,
+        V13,
+        [32, 3, 4],
+        [32, 16, 8, 12],
+        (1, 0),
+        "512b391b6f1162975371d30919734294f868e3be3984f3c1a13a4db9fabe4acb",
+    ),
+    Row(
+        I,
+        V13,
+        [32, 3, 4],
+        [32, 16, 8, 12],
+        (1, 0),
+        "c814d9d1dc7f37aa13f0d77f2494bda1c8de6b016dd388d29952a4c4672b6ce8",
+    ),
+    Row(
+        Id,
+        V13,
+        [32, 3, 4],
+        [32, 16, 8, 12],
+        (1, 0),
+        "0d640df58d78766c08c037a34a8b53c9d01ef0452d75b65eb52520e96b01e659",
+    ),
+];
+
+/// Tags of the reference library (Debian's libargon2, through `argon2_ctx`): each kind of each
+/// version, memory that isn't a multiple of 4p, 1 to 8 lanes, 1 to 4 passes, and tags of 5 to 64
+/// bytes. c/tests/against_libargon2.py compares thousands.
+static LIBRARY: [Row; 8] = [
+    Row(
+        D,
+        V13,
+        [47, 1, 3],
+        [256, 41, 8, 1],
+        (48, 7),
+        "19987db1f929d492240bb8a1eb1eea1cb30cf79407c556804adca589297d74b1\
+            e26844d097c2f2081402d27469164744f7682a919a",
+    ),
+    Row(
+        D,
+        V13,
+        [120, 3, 8],
+        [129, 14, 0, 100],
+        (120, 7),
+        "fa157c275bd87d00518b64f8855d815bb8411120ef0937f55659e4748492c16b3a3c872b1a0c8088cb",
+    ),
+    Row(
+        Id,
+        V13,
+        [134, 3, 2],
+        [127, 24, 0, 1],
+        (150, 7),
+        "26f768823095c4af435e95a469120541470aeb13b3fd526752503438eea48712\
+            4285eeb73b73ff5f7319713d79f192301a110f9326d8a5cce04f18ede7525b6a",
+    ),
+    Row(
+        I,
+        V13,
+        [155, 4, 2],
+        [0, 34, 0, 300],
+        (148, 7),
+        "ed12f308890b69692b104755b8c7af3d600c517eff9b4139f7c601",
+    ),
+    Row(I, V13, [131, 2, 7], [8, 31, 200, 1], (109, 7), "ddc2d8b575"),
+    Row(
+        D,
+        V10,
+        [170, 4, 6],
+        [0, 18, 300, 0],
+        (46, 7),
+        "73fa13eb31c6dd3a071af4facdf3d497154f15f0b3c1c8cc7208ced77528b25a\
+            f668bef555947a55199960c82740a0bce26408a66a5d01",
+    ),
+    Row(
+        I,
+        V10,
+        [165, 3, 1],
+        [8, 42, 200, 100],
+        (65, 7),
+        "2fd5ea41ce6525ae0a8d35c0be0c3b63bd56298ea14515c9ebaeb02b260f308a20511607",
+    ),
+    Row(
+        Id,
+        V10,
+        [109, 2, 2],
+        [64, 12, 0, 1],
+        (15, 7),
+        "a88bf038cfeb030468369ca76e309ed234780f3929be95f69f5a593de8b7c56d\
+            4d929c3ceafb3597b5d96d0e96f31beda0b58e50054ad6a644",
+    ),
+];
+
+fn tag_of<R: Threads + Sync>(
     rt: &R,
     alloc: Global,
     workers: u8,
-    gate: &G,
-    kind: Kind,
+    row: &Row,
 ) -> Result<Vec<u8>, ArgonError> {
-    let params = Params::new(kind, 32, 3, 4, 32)?;
-    let (pw, salt, secret, assoc) = ([1; 32], [2; 16], [3; 8], [4; 12]);
+    let Row(kind, version, [memory, passes, lanes], [pw, salt, secret, assoc], (seed, step), tag) =
+        row;
+    let tag_len = (tag.len() / 2) as u32;
+    let params = Params::with_version(*version, *kind, *memory, *passes, *lanes, tag_len)?;
     argon2(
-        rt, alloc, workers, gate, &params, &pw, &salt, &secret, &assoc,
+        rt,
+        alloc,
+        workers,
+        &NoGate,
+        &params,
+        first(&counted(*seed, *step), *pw),
+        first(&counted(seed.wrapping_add(1), *step), *salt),
+        first(&counted(seed.wrapping_add(2), *step), *secret),
+        first(&counted(seed.wrapping_add(3), *step), *assoc),
     )
 }
 
-/// Memory, passes, lanes and the tag's length, and how they are refused.
-const REFUSED: [([u32; 4], Option<ArgonError>); 9] = [
-    ([0, 0, 0, 0], Some(ArgonError::Lanes)),
-    ([7, 1, 1, 32], Some(ArgonError::Cost)),
-    ([2_097_153, 1, 1, 32], Some(ArgonError::Cost)),
-    ([2039, 1, 255, 32], Some(ArgonError::Cost)),
-    ([8, 0, 1, 3], Some(ArgonError::Passes)),
-    ([8, 1, 1, 3], Some(ArgonError::TagLen)),
-    ([8, 1, 1, 65], Some(ArgonError::TagLen)),
-    ([2040, 1, 255, 4], None),
-    ([2_097_152, 4_294_967_295, 1, 64], None),
-];
-
-/// The first numbers that are answered otherwise, with the answer.
-fn other_refusal(
-    table: &[([u32; 4], Option<ArgonError>)],
-) -> Option<([u32; 4], Option<ArgonError>)> {
-    for (numbers, want) in table {
-        let [memory, passes, lanes, tag_len] = *numbers;
-        let answer = Params::new(Kind::Id, memory, passes, lanes, tag_len).err();
-        if answer != *want {
-            return Some((*numbers, answer));
+/// The first row with another tag, or none.
+fn other_row<R: Threads + Sync>(rt: &R, alloc: Global, workers: u8, rows: &[Row]) -> Option<usize> {
+    for (i, row) in rows.iter().enumerate() {
+        if !is_made(tag_of(rt, alloc, workers, row), row.5) {
+            return Some(i);
         }
     }
     None
 }
 
 #[test]
-fn params_refused(rt: HostRuntime) {
-    assert_eq!(rt; other_refusal(&REFUSED), None);
-}
-
-fn named(error: ArgonError) -> (u8, &'static str) {
-    (error.number(), error.word())
-}
-
-#[test]
-fn errors_named(rt: HostRuntime) {
-    let names = [
-        named(ArgonError::Lanes),
-        named(ArgonError::Cost),
-        named(ArgonError::Passes),
-        named(ArgonError::TagLen),
-        named(ArgonError::InputLen),
-        named(ArgonError::Memory),
-    ];
-    let wanted = [
-        (1, "lanes"),
-        (2, "cost"),
-        (3, "passes"),
-        (4, "taglen"),
-        (5, "inputlen"),
-        (6, "memory"),
-    ];
-    assert_eq!(rt; names, wanted);
-    assert_eq!(rt; (Kind::Id.number(), Version::V13.number()), (2, 19));
-}
-
-/// A block out of vectors/argon/compress.py.
-#[test]
-fn compressed_block(rt: HostRuntime) {
-    let mut counted = Block([0; 128]);
-    for i in 0..128 {
-        counted.0[i] = i as u64;
+fn rfc_vectors(rt: HostRuntime) {
+    for workers in [1, 2, 3, 4, 9] {
+        let other = other_row(&rt, rt.alloc(), workers, &STANDARD);
+        assert_eq!(rt; other, None, "{workers} workers");
     }
-    let words = compress(&counted, &Block([0; 128])).0;
-    assert_eq!(rt;
-        [words[0], words[1], words[64], words[127]],
-        [
-            13958177106866910612,
-            16930581549038633360,
-            234847263932286629,
-            3912917767389101959
-        ]
-    );
+}
+
+#[test]
+fn library_tags(rt: HostRuntime) {
+    assert_eq!(rt; other_row(&rt, rt.alloc(), 3, &LIBRARY), None);
+}
+
+fn is_standard<R: Threads + Sync>(rt: &R, alloc: Global) -> Result<bool, ArgonError> {
+    let tag = tag_of(rt, alloc, 2, &STANDARD[1])?;
+    Ok(is_hex(&tag, STANDARD[1].5))
+}
+
+/// With ample memory this is one more vector. By tools/refuse_memory.py it shows that each refused
+/// request ends in `Memory` or is not met.
+#[test]
+fn refused_memory(rt: HostRuntime) {
+    let answer = is_standard(&rt, rt.alloc());
+    assert!(rt; answer == Ok(true) || answer == Err(ArgonError::Memory));
 }

@@ -1,10 +1,195 @@
-//! Of `cred_scrypt`: outside vectors, keys that OpenSSL made, that two pieces are worked side by
-//! side, and what running out of memory leaves.
+//! Of `cred_scrypt`: vectors of the standards, keys that OpenSSL made, and what running out of
+//! memory gives.
+use super::{counted, first, is_hex, is_made};
+use cred_pool::NoGate;
+use cred_scrypt::{ScryptError, ScryptParams, hmac_sha256, pbkdf2, ro_mix, scrypt};
+use std::alloc::Global;
+use std::thread::Threads;
 
-mod keys;
-mod memory;
-mod params;
-mod scratch;
-mod standard;
-mod table;
-mod workers;
+/// RFC 7914, section 10: r = 1 and N = 16.
+const BLOCKS: [u32; 32] = [
+    0x650bcef7, 0xa4722d3d, 0xabf58c10, 0xddff12e9, 0xdb167677, 0x0ea727bb, 0xaef30482, 0xad6f0f2d,
+    0x488ff689, 0x7be8d111, 0x40d73bcc, 0x29fd9f0a, 0x84014f09, 0xf3749563, 0x31a1e59a, 0xd7bc1752,
+    0x44914989, 0x22bb1372, 0x4db5256c, 0xfb7063a8, 0x804398cd, 0xbb664637, 0xbfb5fc8f, 0xb054c240,
+    0x517cd267, 0xfed54ace, 0x0bc929d8, 0x1b575a50, 0xad1c4d7f, 0xda3c526a, 0xbc670e77, 0x897eafea,
+];
+
+const BLOCKS_WALKED: [u32; 32] = [
+    0x93c1cc79, 0xcaeb9d62, 0x700b7f04, 0xb6f64b60, 0x4adde32c, 0x55e32696, 0x9861fcfa, 0x462beae6,
+    0x671384d5, 0x29b0993b, 0x57c365d6, 0x26b41f60, 0xbbf4b2a0, 0x9fee00a2, 0x9bd1430a, 0x719c1a57,
+    0xe64211ef, 0x6f265a5d, 0x2c83cadd, 0x7caa9fe5, 0xf19c0bac, 0xcaff2bbe, 0xee010d30, 0xc4197638,
+    0x44fd12ae, 0xa003f238, 0x7ec4e1e4, 0x1f8614c3, 0xcb87904e, 0x686a3933, 0xd2f9e873, 0x8e4b9a53,
+];
+
+#[test]
+fn mixes(rt: HostRuntime) {
+    let mut block = BLOCKS;
+    let answer = ro_mix(rt.alloc(), 1, 4, &mut block);
+    assert_eq!(rt; (block, answer), (BLOCKS_WALKED, Ok(())));
+}
+
+/// RFC 4231, test cases 1, 2 and 6: key, message and digest.
+const DIGESTS: [(&[u8], &[u8], &str); 3] = [
+    (
+        &[0x0b; 20],
+        b"Hi There",
+        "b0344c61d8db38535ca8afceaf0bf12b881dc200c9833da726e9376c2e32cff7",
+    ),
+    (
+        b"Jefe",
+        b"what do ya want for nothing?",
+        "5bdcc146bf60754e6a042426089575c75a003f089d2739839dec58b964ec3843",
+    ),
+    (
+        &[0xaa; 131],
+        b"Test Using Larger Than Block-Size Key - Hash Key First",
+        "60e431591ee0b67f0d8a26aacbf5b77f8e0bc6213728c5140546040f0ee37f54",
+    ),
+];
+
+#[test]
+fn hmac_vectors(rt: HostRuntime) {
+    for (key, msg, wanted) in DIGESTS {
+        assert!(rt; is_hex(&hmac_sha256(key, msg), wanted));
+    }
+}
+
+/// RFC 7914, section 11.
+const DERIVED_ONCE: &str = "55ac046e56e3089fec1691c22544b605f94185216dde0465e68b9d57c20dacbc\
+    49ca9cccf179b645991664b39d77ef317c71b845b1e30bd509112041d3a19783";
+
+const DERIVED_OFTEN: &str = "4ddcd8f60b98be21830cee5ef22701f9641a4418d04c0414aeff08876b34ab56\
+    a1d425a1225833549adb841b51c9b3176a272bdebba1d078478f62b397f33c8d";
+
+#[test]
+fn pbkdf2_vectors(rt: HostRuntime) {
+    let once = is_made(pbkdf2(rt.alloc(), b"passwd", b"salt", 1, 64), DERIVED_ONCE);
+    let often = is_made(
+        pbkdf2(rt.alloc(), b"Password", b"NaCl", 80_000, 64),
+        DERIVED_OFTEN,
+    );
+    assert_eq!(rt; (once, often), (true, true));
+}
+
+/// The second vector of RFC 7914, section 12.
+const SECOND_KEY: &str = "fdbabe1c9d3472007856e7190d01e9fe7c6ad7cbc8237830e77376634b373162\
+    2eaf30d92e22a3886ff109279d9830dac727afb94a83ee6d8360cbdfa2cc0640";
+
+/// Ln, r and p, the workers, password and salt, and the key.
+const KEYS: [((u8, u8, u8), u8, &[u8], &[u8], &str); 4] = [
+    (
+        (4, 1, 1),
+        1,
+        b"",
+        b"",
+        "77d6576238657b203b19ca42c18a0497f16b4844e3074ae8dfdffa3fede21442\
+            fcd0069ded0948f8326a753a0fc81f17e8d3e0fb2e0d3628cf35e20c38d18906",
+    ),
+    ((10, 8, 16), 1, b"password", b"NaCl", SECOND_KEY),
+    ((10, 8, 16), 4, b"password", b"NaCl", SECOND_KEY),
+    (
+        (14, 8, 1),
+        1,
+        b"pleaseletmein",
+        b"SodiumChloride",
+        "7023bdcb3afd7348461c06cd81fd38ebfda8fbba904f8e3ea9b543f6545da1f2\
+            d5432955613f0fcf62d49705242a9af9e61e85dc0d651e40dfcf017b45575887",
+    ),
+];
+
+fn key_of<R: Threads + Sync>(
+    rt: &R,
+    alloc: Global,
+    (ln, r, p): (u8, u8, u8),
+    len: u32,
+    workers: u8,
+    (pw, salt): (&[u8], &[u8]),
+) -> Result<Vec<u8>, ScryptError> {
+    let params = ScryptParams::new(ln, r, p, len)?;
+    scrypt(rt, alloc, workers, &NoGate, &params, pw, salt)
+}
+
+#[test]
+fn scrypt_vectors(rt: HostRuntime) {
+    for (numbers, workers, pw, salt, wanted) in KEYS {
+        let key = key_of(&rt, rt.alloc(), numbers, 64, workers, (pw, salt));
+        assert!(rt; is_made(key, wanted), "{workers} workers");
+    }
+}
+
+/// Keys by Python's `hashlib`, which calls OpenSSL: ln, r and p, or the turns; the lengths of the
+/// password and of the salt and the seed, which is 128 more for the salt; and the key.
+const SCRYPT: [((u8, u8, u8), (usize, usize, u8), &str); 5] = [
+    ((1, 1, 1), (0, 0, 1), "fa76e020"),
+    (
+        (1, 9, 5),
+        (300, 300, 3),
+        "71523aa7d1687acb1c9a342d2f70ebdb247668d764611edfbd2ec7bfcea80a94\
+            a9f799a1c04bc18d1500e1143d751e2336143cf69f552ad5f4b0f32b00fac801",
+    ),
+    (
+        (3, 4, 1),
+        (65, 48, 7),
+        "37a0192e42dd426e4573fdeb6607f50c4f94698d78d29b6f93461d334a41dfa3\
+            d17c473bf7f44a9cc05a4b44fc32e67ea2fed63db95e6bf6db856a02a733b3",
+    ),
+    ((3, 7, 2), (119, 51, 8), "8f31fed06594c84765ee7574f6265440"),
+    ((8, 8, 2), (31, 15, 14), "673174150d48918071a8e969d0e65fd9"),
+];
+
+const PBKDF2: [(u32, (usize, usize, u8), &str); 3] = [
+    (1, (0, 0, 1), "f7"),
+    (
+        10,
+        (1, 0, 7),
+        "4082cb87cacacc9df65b8e8900833b012aae266bd29cdb451a65f27036b7d7b3\
+            2c82eab0718954c8b5916fb669cb925f26115daf310094f170d2cc8ac95981c2\
+            d7",
+    ),
+    (
+        1000,
+        (65, 300, 10),
+        "2eca3952c4eb06bf53c3638b2691e2d07d7c33c82f172ab33c1fe3882a522d50\
+            e3bef43f84c4621e3e0b97a8d143a8db3202c1087253c54bde86509b49632c09\
+            c326a2ec315550ae63e96b4a54a405044bfa70cffa65b17bb2417c8a1575a064\
+            3fb57e80",
+    ),
+];
+
+#[test]
+fn scrypt_keys(rt: HostRuntime) {
+    for (numbers, (pw_len, salt_len, seed), wanted) in SCRYPT {
+        let (pw, salt) = (counted(seed, 7), counted(seed.wrapping_add(128), 7));
+        let inputs = (first(&pw, pw_len), first(&salt, salt_len));
+        let len = (wanted.len() / 2) as u32;
+        let key = key_of(&rt, rt.alloc(), numbers, len, numbers.2, inputs);
+        assert!(rt; is_made(key, wanted), "seed {seed}");
+    }
+}
+
+#[test]
+fn pbkdf2_keys(rt: HostRuntime) {
+    for (turns, (pw_len, salt_len, seed), wanted) in PBKDF2 {
+        let (pw, salt) = (counted(seed, 7), counted(seed.wrapping_add(128), 7));
+        let (pw, salt) = (first(&pw, pw_len), first(&salt, salt_len));
+        let len = (wanted.len() / 2) as u32;
+        let key = pbkdf2(rt.alloc(), pw, salt, turns.max(1), len);
+        assert!(rt; is_made(key, wanted), "seed {seed}");
+    }
+}
+
+/// Whether a key or its want of memory is answered. tools/refuse_memory.py refuses each request.
+fn is_made_or_refused(key: Result<Vec<u8>, ScryptError>, wanted: &str) -> bool {
+    match key {
+        Ok(key) => is_hex(&key, wanted),
+        Err(error) => error == ScryptError::Memory,
+    }
+}
+
+#[test]
+fn refused_memory(rt: HostRuntime) {
+    let key = key_of(&rt, rt.alloc(), (4, 1, 1), 64, 2, (b"", b""));
+    assert!(rt; is_made_or_refused(key, KEYS[0].4));
+    let key = pbkdf2(rt.alloc(), b"passwd", b"salt", 1, 64);
+    assert!(rt; is_made_or_refused(key, DERIVED_ONCE));
+}

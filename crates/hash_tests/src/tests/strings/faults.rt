@@ -1,9 +1,95 @@
-//! What is answered to the texts of records that were damaged.
+//! What is answered to the texts of records that were damaged, worked out by hand from the rules
+//! of the strings.
 
 use cred_phc::parse_record;
 use std::alloc::{AllocError, Global};
-use std::process::Abort;
-use test_samples::{A, Answer, CUTS_OF_A, Change, DAMAGED_A, DAMAGED_SCRYPT, OTHER_TEXTS, SCRYPT};
+use test_samples::{A, SCRYPT};
+
+/// The number and the word of a text's fault, or none if the text is a record.
+type Answer = Option<(u8, &'static str)>;
+
+const READ: Answer = None;
+
+const SHAPE: Answer = Some((1, "shape"));
+
+const SCHEME: Answer = Some((2, "scheme"));
+
+const VERSION: Answer = Some((3, "version"));
+
+const PARAMS: Answer = Some((4, "params"));
+
+const RANGE: Answer = Some((5, "range"));
+
+const SALT: Answer = Some((6, "salt"));
+
+const TAG: Answer = Some((7, "tag"));
+
+const TOO_LONG: Answer = Some((9, "toolong"));
+
+/// The tag of `A`, alone and with what comes before it.
+const A_TAG: &str = "nf65EOgLrQMR/uIPnA4rEsF5h7TKyQwu9U1bMCHGi/4";
+
+const WITH_TAG: &str = "$nf65EOgLrQMR/uIPnA4rEsF5h7TKyQwu9U1bMCHGi/4";
+
+/// A text, a part of it, its replacement, how often the replacement is repeated, and the fault.
+/// Under another version the tag of `A` is wrong, but its form is right.
+static DAMAGED: [(&str, &str, &str, usize, Answer); 32] = [
+    (A, "m=256", "m=0256", 1, PARAMS),
+    (A, "Gi/4", "Gi/5", 1, TAG),
+    (A, "p=1", "p=0", 1, RANGE),
+    (A, "m=256", "m=7", 1, RANGE),
+    (A, "m=256", "m=99999999999999999999", 1, RANGE),
+    (A, "t=2", "t=4294967296", 1, RANGE),
+    (A, "t=2", "t=4294967295", 1, READ),
+    (A, WITH_TAG, "", 1, SHAPE),
+    (A, "Gi/4", "Gi/4$", 1, SHAPE),
+    (A, "m=256,t=2,p=1", "t=2,m=256,p=1", 1, PARAMS),
+    (A, "argon2id", "argon2x", 1, SCHEME),
+    (A, "c29tZXNhbHQ", "c29tZXNhbA", 1, SALT),
+    (A, "c29tZXNhbHQ", "A", 66, SALT),
+    (A, "c29tZXNhbHQ", "A", 64, READ),
+    (A, "Gi/4", "Gi/4=", 1, TAG),
+    (A, A_TAG, "A", 4, TAG),
+    (A, A_TAG, "A", 87, TAG),
+    (A, A_TAG, "A", 6, READ),
+    (A, A_TAG, "A", 86, READ),
+    (A, "v=19", "v=17", 1, VERSION),
+    (A, "v=19", "v=16", 1, READ),
+    (A, "$v=19", "", 1, READ),
+    (SCRYPT, "ln=10", "ln=0", 1, RANGE),
+    (SCRYPT, "p=16", "p=256", 1, RANGE),
+    (SCRYPT, "ln=10", "ln=010", 1, PARAMS),
+    (SCRYPT, "TmFDbA", "", 1, SALT),
+    (SCRYPT, "ln=10,r=8,p=16", "r=8,ln=10,p=16", 1, PARAMS),
+    (A, "256", "9", 400, RANGE),
+    ("$", "$", "$", 1, SCHEME),
+    ("x", "x", "x", 512, SHAPE),
+    ("x", "x", "x", 513, TOO_LONG),
+    ("$argon2id$v=19$m=0256,t=2,p=1", "0", "0", 1, PARAMS),
+];
+
+/// The fault of the first n bytes of `A`, for each n from the first number to the second. The tag
+/// may be cut where the unused bits of its last letter are zero.
+static CUTS_OF_A: [(usize, usize, Answer); 18] = [
+    (0, 0, SHAPE),
+    (1, 7, SCHEME),
+    (8, 9, SHAPE),
+    (10, 11, PARAMS),
+    (12, 13, VERSION),
+    (14, 14, SHAPE),
+    (15, 27, PARAMS),
+    (28, 28, SHAPE),
+    (29, 39, SALT),
+    (40, 40, SHAPE),
+    (41, 47, TAG),
+    (48, 49, READ),
+    (50, 50, TAG),
+    (51, 53, READ),
+    (54, 55, TAG),
+    (56, 57, READ),
+    (82, 83, TAG),
+    (84, 84, READ),
+];
 
 fn answer_to(text: &[u8]) -> Answer {
     let fault = parse_record(text).err()?;
@@ -23,32 +109,11 @@ fn answer_changed(
     Ok(answer_to(made.as_bytes()))
 }
 
-fn judge_change(rt: &impl Abort, alloc: Global, text: &str, change: &Change) {
-    let (part, other, times, want) = *change;
-    let found = answer_changed(alloc, text, part, other, times);
-    assert_eq!(rt; found, Ok(want), "{part} made {other}, {times} times");
-}
-
-fn judge_changes(rt: &impl Abort, alloc: Global, text: &str, changes: &[Change]) {
-    for change in changes {
-        judge_change(rt, alloc, text, change);
-    }
-}
-
 #[test]
-fn damaged_argon2(rt: HostRuntime) {
-    judge_changes(&rt, rt.alloc(), A, &DAMAGED_A);
-}
-
-#[test]
-fn damaged_scrypt(rt: HostRuntime) {
-    judge_changes(&rt, rt.alloc(), SCRYPT, &DAMAGED_SCRYPT);
-}
-
-#[test]
-fn other_texts(rt: HostRuntime) {
-    for (text, change) in &OTHER_TEXTS {
-        judge_change(&rt, rt.alloc(), text, change);
+fn damaged_texts(rt: HostRuntime) {
+    for (text, part, other, times, want) in &DAMAGED {
+        let found = answer_changed(rt.alloc(), text, part, other, *times);
+        assert_eq!(rt; found, Ok(*want), "{part} made {other}, {times} times");
     }
 }
 

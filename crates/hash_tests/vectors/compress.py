@@ -1,10 +1,10 @@
 #!/usr/bin/env python3
 """Argon2 in plain Python, from the text of RFC 9106. It makes the standard's three tags, and then prints the vectors of
-the compression function that proofs/Vectors.antt of cred_argon and the tests hold: four words mixed, the permutation of
+the compression function that proofs/Vectors.antt of cred_argon holds: four words mixed, the permutation of
 sixteen words, and G of two blocks; and, at the parameters of section 5.3, the first
 word of an address block.
 
-    python3 vectors/argon/compress.py
+    python3 vectors/compress.py
 """
 import hashlib
 import struct

@@ -1,0 +1,140 @@
+//! Tags that are made one after another in memory that is kept.
+
+use super::strings::LARGE;
+use cred_phc::{Record, Scratch, TagError, parse_record, tag_in};
+use cred_pool::NoGate;
+use std::alloc::Global;
+use test_samples::{A, B, OLD, SCRYPT};
+
+/// A record, its password, and how many KiB are kept after its tag.
+#[derive(Clone, Copy)]
+struct Row(&'static str, &'static [u8], usize);
+
+/// A record of `password`.
+fn of_password(text: &'static str, kept: usize) -> Row {
+    Row(text, b"password", kept)
+}
+
+/// A record by OpenSSL, whose table has 2 KiB.
+fn small_table(kept: usize) -> Row {
+    of_password(
+        "$scrypt$ln=4,r=1,p=1$TmFDbA$rsa3SD7SbgiAK0H0AyCGoOiGvnrEj8/ZL/DO+BCXUvQ",
+        kept,
+    )
+}
+
+/// The third vector of RFC 7914, section 12, whose table has 16 MiB.
+fn large_table(kept: usize) -> Row {
+    Row(
+        "$scrypt$ln=14,r=8,p=1$U29kaXVtQ2hsb3JpZGU$\
+            cCO9yzr9c0hGHAbNgf046/2o+7qQT44+qbVD9lRdofLVQylVYT8Pz2LUlwUkKpr55h6F3A1lHkDfzwF7RVdYhw",
+        b"pleaseletmein",
+        kept,
+    )
+}
+
+/// The record with the tag that is made anew.
+fn made_again(
+    scratch: &mut Scratch,
+    alloc: Global,
+    stored: &Record,
+    pw: &[u8],
+) -> Result<Record, TagError> {
+    let setting = stored.setting();
+    let length = stored.tag().bytes().len() as u8;
+    let made = tag_in(scratch, alloc, &NoGate, &setting, length, pw)?;
+    Ok(Record::with_tag(setting, made))
+}
+
+/// Whether the tag of the row found memory; none if it is another, or other memory is kept after
+/// it.
+fn is_made(scratch: &mut Scratch, alloc: Global, row: &Row) -> Option<bool> {
+    let stored = parse_record(row.0.as_bytes()).ok()?;
+    match made_again(scratch, alloc, &stored, row.1) {
+        Ok(made) if made == stored && scratch.kept() == row.2 => Some(true),
+        Err(TagError::Memory) => Some(false),
+        Ok(_) => None,
+    }
+}
+
+/// How many rows found no memory in a scratch that keeps at most so many KiB; none if a row is
+/// otherwise.
+fn refused(alloc: Global, most: u32, rows: &[Row]) -> Option<u32> {
+    let mut scratch = Scratch::new(alloc, most);
+    let mut count: u32 = 0;
+    for row in rows {
+        if !is_made(&mut scratch, alloc, row)? {
+            count = count.saturating_add(1);
+        }
+    }
+    Some(count)
+}
+
+/// Argon2 on one lane and on two and scrypt, in turn. What one function took is given back before
+/// the other begins.
+fn in_turn() -> [Row; 6] {
+    [
+        of_password(A, 256),
+        of_password(B, 384),
+        of_password(SCRYPT, 1024),
+        of_password(OLD, 256),
+        of_password(SCRYPT, 1024),
+        of_password(A, 256),
+    ]
+}
+
+#[test]
+fn tags_in_one_scratch(rt: HostRuntime) {
+    assert_eq!(rt; refused(rt.alloc(), 1024, &in_turn()), Some(0));
+}
+
+/// What fits is kept; a hash that takes more gives all back.
+#[test]
+fn small_large_small(rt: HostRuntime) {
+    let lanes = [
+        of_password(A, 256),
+        of_password(LARGE, 0),
+        of_password(A, 256),
+        of_password(B, 288),
+        of_password(A, 256),
+    ];
+    let fits = [small_table(2), large_table(16384), small_table(16384)];
+    let is_too_large = [small_table(2), large_table(0), small_table(2)];
+    let counts = [
+        refused(rt.alloc(), 300, &lanes),
+        refused(rt.alloc(), 16384, &fits),
+        refused(rt.alloc(), 16383, &is_too_large),
+        refused(
+            rt.alloc(),
+            0,
+            &[of_password(B, 0), of_password(A, 0), small_table(0)],
+        ),
+    ];
+    assert_eq!(rt; counts, [Some(0); 4]);
+}
+
+/// tools/peak_memory.py looks that memory is asked for once.
+#[test]
+fn memory_taken_once(rt: HostRuntime) {
+    assert_eq!(rt;
+        refused(rt.alloc(), 256, &[of_password(A, 256); 4]),
+        Some(0)
+    );
+}
+
+/// The same of a table.
+#[test]
+fn table_taken_once(rt: HostRuntime) {
+    assert_eq!(rt;
+        refused(rt.alloc(), 16384, &[large_table(16384); 3]),
+        Some(0)
+    );
+}
+
+/// Holds whichever request is refused: tools/refuse_memory.py refuses each in turn. A refusal
+/// leaves the scratch good for the tags after it.
+#[test]
+fn refused_memory_leaves_the_scratch(rt: HostRuntime) {
+    let count = refused(rt.alloc(), 1024, &in_turn());
+    assert!(rt; count == Some(0) || count == Some(1), "{count:?}");
+}
