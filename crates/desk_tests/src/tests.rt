@@ -7,11 +7,9 @@ mod floor;
 mod kept;
 mod lasting;
 mod log;
-mod lost;
 mod numbers;
 mod refused;
 mod scene;
-mod settling;
 mod soak;
 mod threads;
 mod under_lock;
@@ -57,11 +55,6 @@ fn password<R: Abort>(rt: &R) -> Password {
     Password::new(b"password").expect(rt, "a password")
 }
 
-/// Another password.
-fn other_password<R: Abort>(rt: &R) -> Password {
-    Password::new(b"drowssap").expect(rt, "a password")
-}
-
 fn enrol<R: Abort>(rt: &R, account: &str, new: &str) -> Request {
     Request::Enrol {
         name: name(rt, account),
@@ -77,20 +70,12 @@ fn verify<R: Abort>(rt: &R, account: &str) -> Request {
     }
 }
 
-/// A verify of the other password.
-fn verify_other<R: Abort>(rt: &R, account: &str) -> Request {
-    Request::Verify {
-        name: name(rt, account),
-        pw: other_password(rt),
-    }
-}
-
 /// A change of the password to the other one.
 fn change<R: Abort>(rt: &R, account: &str, new: &str) -> Request {
     Request::Change {
         name: name(rt, account),
         pw: password(rt),
-        new_pw: other_password(rt),
+        new_pw: Password::new(b"drowssap").expect(rt, "a password"),
         setting: setting(rt, new),
     }
 }

@@ -4,7 +4,7 @@ use super::replay;
 use super::writer::Log;
 use cred_book::Book;
 use cred_desk::{
-    Closed, DeskError, Entry, Finished, Handed, Kept, KeptDesk, Naming, Remains, Session, Unclosed,
+    Closed, Entry, Finished, Handed, Kept, KeptDesk, Naming, Remains, Session, Unclosed,
 };
 use std::alloc::Global;
 use std::sync::Wait;
@@ -14,8 +14,6 @@ use std::sync::Wait;
 pub(super) enum Ending {
     /// With all sessions, in their order.
     Close,
-    /// The last one is missing at first, which is refused, and then it stands in front.
-    CloseLate,
     /// So many of the last sessions are lost.
     Finish { lost: usize },
     /// Without counts.
@@ -96,7 +94,6 @@ pub(super) fn end<J: Naming, R: Wait>(
     let mut handed = handed;
     match ending {
         Ending::Close => closed(journal, close(rt, desk, handed, sessions)?),
-        Ending::CloseLate => closed(journal, close_late(rt, desk, handed, sessions)?),
         Ending::Finish { lost } => {
             let mut sessions = sessions;
             sessions.truncate(sessions.len().saturating_sub(lost));
@@ -147,33 +144,6 @@ fn close<J: Naming, R: Wait>(
             let _log = desk.end(rt, handed);
             None
         }
-    }
-}
-
-fn close_late<J: Naming, R: Wait>(
-    rt: &R,
-    desk: KeptDesk<J, Log>,
-    handed: Handed<J>,
-    sessions: Vec<Session<J>>,
-) -> Option<Kept<Log>> {
-    let mut sessions = sessions;
-    let last = sessions.pop();
-    match desk.close(rt, handed, sessions) {
-        Err(
-            Unclosed {
-                desk,
-                handed,
-                sessions,
-                error,
-            },
-        ) => {
-            let mut sessions = sessions;
-            if let (Some(last), DeskError::Session) = (last, error) {
-                let _placed = sessions.insert(0, last);
-            }
-            close(rt, desk, handed, sessions)
-        }
-        Ok(_) => None,
     }
 }
 

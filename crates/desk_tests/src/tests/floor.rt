@@ -16,6 +16,8 @@ pub(super) enum Step {
     Admit(Name),
     Load(Name, Record),
     Delete(Name),
+    /// Begins a request, works its ticket and settles it.
+    Operate(Request),
     /// Begins a request, and holds the ticket.
     Begin(Request),
     /// Reads the record that the ticket copied.
@@ -24,8 +26,6 @@ pub(super) enum Step {
     Settle,
     /// Works the ticket and closes it, as a verify.
     Close,
-    /// Works the ticket and never settles it.
-    Leave,
     /// Learns the first of what other sessions handed on.
     Learn,
     /// Is told by the desk what the session at this place knows.
@@ -140,8 +140,12 @@ impl<'a, J: Naming, R: Threads + Wait + Sync> Floor<'a, J, R> {
             Step::Load(name, record) => added(self.desk.load(self.rt, session, name, record)),
             Step::Delete(name) => added(self.desk.delete(self.rt, session, name)),
             Step::Begin(request) => Ok((begin(session, open, request), None)),
+            Step::Operate(request) => match work_of(self.rt, self.alloc, session, request) {
+                Some(work) => self.finish(session, work, Step::Settle),
+                None => Ok((Answer::Failed, None)),
+            },
             Step::Read => Ok((read(open), None)),
-            Step::Settle | Step::Close | Step::Leave => match worked(self.rt, self.alloc, open) {
+            Step::Settle | Step::Close => match worked(self.rt, self.alloc, open) {
                 Some(work) => self.finish(session, work, step),
                 None => Ok((Answer::Failed, None)),
             },

@@ -1,18 +1,16 @@
 //! A kept desk with one session, at which people sign up, records are loaded and names are taken
-//! away beside all other kinds of change, and the desk that is opened on what it kept.
+//! away beside all other kinds of change; a log that is full, and a book that is.
 
 use super::ending::Left;
 use super::floor::{Answer, Step};
 use super::scene::{
-    DONE, EXISTS, FULL, LOG_FULL, Line, NO_ACCOUNT, Scene, judge, judge_record, left_of,
-    left_of_act, replied,
+    DONE, EXISTS, FULL, LOG_FULL, Line, NO_ACCOUNT, Scene, judge, left_of, left_of_act, replied,
 };
 use super::{
-    NONE_STANDS, ONE_STANDS, book_of, change, deletion, enrol, entry, is_same, judge_replayed,
-    name, remove, replay, stored, upgrade, verify,
+    NONE_STANDS, book_of, change, deletion, enrol, entry, judge_replayed, name, remove, stored,
+    upgrade, verify,
 };
 use cred_book::{Book, Reply};
-use cred_desk::DeskError;
 use std::alloc::Global;
 use std::process::Abort;
 use std::sync::Wait;
@@ -43,53 +41,33 @@ fn serve<R: Threads + Wait + Abort + Sync>(
     left_of(rt, alloc, book, &scene)
 }
 
-/// The log has room for an admission and an enrolment.
+/// Each kind of change is refused once the log has no room, and then nothing has happened.
 #[test]
-fn sign_up_is_kept(rt: HostRuntime) {
+fn nothing_is_kept_in_a_full_log(rt: HostRuntime) {
     let book = book_of(&rt, rt.alloc(), NONE_STANDS).expect(&rt, "a book");
     let (c, d) = (name(&rt, "c"), name(&rt, "d"));
     let lines = [
+        (0, Step::Load(c, stored(&rt, A)), NO_ACCOUNT),
         (0, Step::Admit(c), DONE),
         (0, Step::Admit(c), EXISTS),
-        (0, Step::Begin(enrol(&rt, "c", A_SETTING)), DONE),
-        (0, Step::Settle, replied(Reply::Enrolled)),
-        (0, Step::Begin(verify(&rt, "c")), DONE),
-        (0, Step::Close, replied(Reply::Yes)),
+        (
+            0,
+            Step::Operate(enrol(&rt, "c", A_SETTING)),
+            replied(Reply::Enrolled),
+        ),
         (0, Step::Admit(d), LOG_FULL),
-        (0, Step::Begin(remove(&rt, "c")), DONE),
-        (0, Step::Settle, LOG_FULL),
+        (0, Step::Load(c, stored(&rt, B)), LOG_FULL),
+        (0, Step::Delete(c), LOG_FULL),
+        (0, Step::Delete(d), NO_ACCOUNT),
+        (0, Step::Operate(remove(&rt, "c")), LOG_FULL),
         (0, Step::Begin(verify(&rt, "c")), DONE),
+        (0, Step::Read, Ok(Answer::Copied(Some(stored(&rt, A))))),
         (0, Step::Close, replied(Reply::Yes)),
     ];
     let left = serve(&rt, rt.alloc(), &book, 2, &lines);
     let journal = [entry(&rt, "c", None), entry(&rt, "c", Some(A))];
     judge(&rt, &left, &journal, &[1], &[1]);
-}
-
-/// The log has room for an admission and two loads.
-#[test]
-fn loads_are_kept(rt: HostRuntime) {
-    let book = book_of(&rt, rt.alloc(), NONE_STANDS).expect(&rt, "a book");
-    let c = name(&rt, "c");
-    let (first, second) = (stored(&rt, B), stored(&rt, A));
-    let lines = [
-        (0, Step::Load(c, first), NO_ACCOUNT),
-        (0, Step::Admit(c), DONE),
-        (0, Step::Load(c, first), DONE),
-        (0, Step::Load(c, second), DONE),
-        (0, Step::Load(c, first), LOG_FULL),
-        (0, Step::Begin(verify(&rt, "c")), DONE),
-        (0, Step::Read, Ok(Answer::Copied(Some(second)))),
-        (0, Step::Close, replied(Reply::Yes)),
-    ];
-    let left = serve(&rt, rt.alloc(), &book, 3, &lines);
-    let journal = [
-        entry(&rt, "c", None),
-        entry(&rt, "c", Some(B)),
-        entry(&rt, "c", Some(A)),
-    ];
-    judge(&rt, &left, &journal, &[0], &[3]);
-    judge_record(&rt, &left, "c", Some(A));
+    judge_replayed(&rt, &left);
 }
 
 /// Every kind of change.
@@ -99,15 +77,23 @@ fn deletions_are_kept(rt: HostRuntime) {
     let (a, c) = (name(&rt, "a"), name(&rt, "c"));
     let lines = [
         (0, Step::Admit(c), DONE),
-        (0, Step::Begin(enrol(&rt, "c", A_SETTING)), DONE),
-        (0, Step::Settle, replied(Reply::Enrolled)),
-        (0, Step::Begin(change(&rt, "c", A_SETTING)), DONE),
-        (0, Step::Settle, replied(Reply::Replaced)),
+        (
+            0,
+            Step::Operate(enrol(&rt, "c", A_SETTING)),
+            replied(Reply::Enrolled),
+        ),
+        (
+            0,
+            Step::Operate(change(&rt, "c", A_SETTING)),
+            replied(Reply::Replaced),
+        ),
         (0, Step::Load(a, stored(&rt, A)), DONE),
-        (0, Step::Begin(upgrade(&rt, "a", B_SETTING)), DONE),
-        (0, Step::Settle, replied(Reply::Upgraded)),
-        (0, Step::Begin(remove(&rt, "a")), DONE),
-        (0, Step::Settle, replied(Reply::Removed)),
+        (
+            0,
+            Step::Operate(upgrade(&rt, "a", B_SETTING)),
+            replied(Reply::Upgraded),
+        ),
+        (0, Step::Operate(remove(&rt, "a")), replied(Reply::Removed)),
         (0, Step::Delete(a), DONE),
         (0, Step::Delete(a), NO_ACCOUNT),
         (0, Step::Delete(c), DONE),
@@ -127,87 +113,6 @@ fn deletions_are_kept(rt: HostRuntime) {
     judge(&rt, &left, &journal, &[4], &[4]);
     assert_eq!(rt; left.book.len(), 1);
     judge_replayed(&rt, &left);
-}
-
-/// On the book that the log kept, a deleted name is new again.
-#[test]
-fn deleted_names_come_back(rt: HostRuntime) {
-    let book = book_of(&rt, rt.alloc(), ONE_STANDS).expect(&rt, "a book");
-    let (a, b) = (name(&rt, "a"), name(&rt, "b"));
-    let first = [(0, Step::Delete(a), DONE), (0, Step::Delete(b), DONE)];
-    let left = serve(&rt, rt.alloc(), &book, 2, &first);
-    judge(
-        &rt,
-        &left,
-        &[deletion(&rt, "a"), deletion(&rt, "b")],
-        &[0],
-        &[2],
-    );
-    let mut restored = book.copy().expect(&rt, "a book");
-    replay(&mut restored, &left.log.entries);
-    assert_eq!(rt; restored.len(), 0);
-    let second = [
-        (
-            0,
-            Step::Begin(verify(&rt, "a")),
-            Ok(Answer::Refused(DeskError::NoAccount)),
-        ),
-        (0, Step::Admit(a), DONE),
-        (0, Step::Begin(enrol(&rt, "a", B_SETTING)), DONE),
-        (0, Step::Settle, replied(Reply::Enrolled)),
-        (0, Step::Begin(verify(&rt, "a")), DONE),
-        (0, Step::Close, replied(Reply::Yes)),
-    ];
-    let left = serve(&rt, rt.alloc(), &restored, 2, &second);
-    judge(
-        &rt,
-        &left,
-        &[entry(&rt, "a", None), entry(&rt, "a", Some(B))],
-        &[1],
-        &[1],
-    );
-}
-
-/// Tickets of a name that is deleted before they are settled or closed. If it is admitted again,
-/// its record isn't the copy.
-#[test]
-fn tickets_of_a_deleted_name(rt: HostRuntime) {
-    let book = book_of(&rt, rt.alloc(), ONE_STANDS).expect(&rt, "a book");
-    let a = name(&rt, "a");
-    let lines = [
-        (0, Step::Begin(upgrade(&rt, "a", B_SETTING)), DONE),
-        (0, Step::Delete(a), DONE),
-        (0, Step::Settle, replied(Reply::NoAccount)),
-        (0, Step::Admit(a), DONE),
-        (0, Step::Load(a, stored(&rt, A)), DONE),
-        (0, Step::Begin(verify(&rt, "a")), DONE),
-        (0, Step::Delete(a), DONE),
-        (0, Step::Close, replied(Reply::NoAccount)),
-        (0, Step::Admit(a), DONE),
-        (0, Step::Load(a, stored(&rt, A)), DONE),
-        (0, Step::Begin(remove(&rt, "a")), DONE),
-        (0, Step::Delete(a), DONE),
-        (0, Step::Admit(a), DONE),
-        (0, Step::Settle, replied(Reply::Changed { now: None })),
-    ];
-    let left = serve(&rt, rt.alloc(), &book, 8, &lines);
-    assert_eq!(rt; left.counts.as_slice(), [0].as_slice());
-    assert_eq!(rt; left.additions.as_slice(), [8].as_slice());
-}
-
-/// The log has no room.
-#[test]
-fn deletion_in_a_full_log(rt: HostRuntime) {
-    let book = book_of(&rt, rt.alloc(), ONE_STANDS).expect(&rt, "a book");
-    let lines = [
-        (0, Step::Delete(name(&rt, "a")), LOG_FULL),
-        (0, Step::Delete(name(&rt, "c")), NO_ACCOUNT),
-        (0, Step::Begin(verify(&rt, "a")), DONE),
-        (0, Step::Close, replied(Reply::Yes)),
-    ];
-    let left = serve(&rt, rt.alloc(), &book, 0, &lines);
-    judge(&rt, &left, &[], &[0], &[0]);
-    assert!(rt; is_same(&left.book, &book));
 }
 
 /// A book with as many names as it has room for, all of 32 bytes, of which `LAST` is the last one.
@@ -234,8 +139,7 @@ fn full_book_of_long_names(rt: HostRuntime) {
         (0, Step::Load(last, stored(&rt, A)), DONE),
         (1, Step::Hear(0), Ok(Answer::Told(2))),
         (1, Step::Begin(verify(&rt, LAST)), DONE),
-        (0, Step::Begin(remove(&rt, LAST)), DONE),
-        (0, Step::Settle, replied(Reply::Removed)),
+        (0, Step::Operate(remove(&rt, LAST)), replied(Reply::Removed)),
         (1, Step::Hear(0), Ok(Answer::Told(3))),
         (1, Step::Close, replied(Reply::Changed { now: None })),
         (0, Step::Delete(last), DONE),

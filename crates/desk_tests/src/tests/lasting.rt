@@ -4,43 +4,13 @@ use super::ending::Ending;
 use super::floor::{Answer, Step};
 use super::scene::{DONE, Line, Scene, judge, judge_record, left_of, replied};
 use super::{
-    CHEAP_SETTINGS, NONE_STANDS, ONE_STANDS, book_of, enrol, entry, judge_replayed, name, stored,
-    upgrade, verify,
+    CHEAP_SETTINGS, NONE_STANDS, ONE_STANDS, book_of, entry, judge_replayed, name, stored, upgrade,
+    verify,
 };
 use cred_book::Reply;
 use std::alloc::{AllocError, Global};
 use std::process::Abort;
-use test_samples::{A, A_SETTING, B, B_SETTING};
-
-/// Session 0 enrols a and tells session 1, which verifies and upgrades twice; session 2 never
-/// settles what it worked.
-#[test]
-fn closing(rt: HostRuntime) {
-    let book = book_of(&rt, rt.alloc(), NONE_STANDS).expect(&rt, "a book");
-    let lines = [
-        (0, Step::Begin(enrol(&rt, "a", A_SETTING)), DONE),
-        (0, Step::Settle, replied(Reply::Enrolled)),
-        (1, Step::Learn, DONE),
-        (1, Step::Begin(verify(&rt, "a")), DONE),
-        (1, Step::Settle, replied(Reply::Yes)),
-        (1, Step::Begin(upgrade(&rt, "a", B_SETTING)), DONE),
-        (1, Step::Settle, replied(Reply::Upgraded)),
-        (1, Step::Begin(upgrade(&rt, "a", B_SETTING)), DONE),
-        (1, Step::Settle, replied(Reply::Kept)),
-        (2, Step::Begin(enrol(&rt, "b", A_SETTING)), DONE),
-        (2, Step::Leave, DONE),
-    ];
-    let acts = [lines.as_slice()];
-    let scene = Scene {
-        ending: Ending::CloseLate,
-        ..Scene::new(3, &acts)
-    };
-    let left = left_of(&rt, rt.alloc(), &book, &scene);
-    let journal = [entry(&rt, "a", Some(A)), entry(&rt, "a", Some(B))];
-    judge(&rt, &left, &journal, &[0, 1, 1], &[0, 0, 0]);
-    judge_record(&rt, &left, "a", Some(B));
-    judge_record(&rt, &left, "b", None);
-}
+use test_samples::{A, B};
 
 /// The last session made two of four entries, the one before it one, and is told of those before.
 #[test]
@@ -98,8 +68,11 @@ fn thousands<R: Abort>(rt: &R, alloc: Global) -> Result<Vec<Line>, AllocError> {
     load(rt, &mut lines, 0, 4_997)?;
     for turn in 0..300usize {
         let new = CHEAP_SETTINGS[turn % 2];
-        lines.push((0, Step::Begin(upgrade(rt, "a", new)), DONE))?;
-        lines.push((0, Step::Settle, replied(Reply::Upgraded)))?;
+        lines.push((
+            0,
+            Step::Operate(upgrade(rt, "a", new)),
+            replied(Reply::Upgraded),
+        ))?;
         let text = format!(in alloc; "n{turn}")?;
         lines.push((0, Step::Admit(name(rt, text.as_str())), DONE))?;
     }

@@ -1,4 +1,4 @@
-use Rattle.std.proofs.Common.{false, true}
+use Rattle.std.proofs.Common.{false}
 use Rattle.desk_tests.proofs.tests.numbers.numbers_of_sessions.Given as goal
 
 -- the list that was just opened, from this book
@@ -7,9 +7,3 @@ ghosts-make_desk-J-Naming g a = record { list = a.opened.list; handouts = a.open
 
 abbrev pub ghosts-make_desk-J-Ledger : goal.ghosts-make_desk-J-Ledger
 ghosts-make_desk-J-Ledger g a = record { name = a.opened.ledger; parts = a.opened.sessions }
-
-abbrev pub ghosts-make_committer-J-Naming : goal.ghosts-make_committer-J-Naming
-ghosts-make_committer-J-Naming g a = record { list = a.opened.list; handouts = a.opened.handouts; opening = a.book.now; loads = true }
-
-abbrev pub ghosts-make_committer-J-Ledger : goal.ghosts-make_committer-J-Ledger
-ghosts-make_committer-J-Ledger g a = record { name = a.opened.ledger; parts = a.opened.sessions }
