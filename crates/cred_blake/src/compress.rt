@@ -36,6 +36,7 @@ const SIGMA: [[usize; 16]; 10] = [
 
 /// The mixing function G on four words (RFC 7693, section 3.1).
 #[inline(always)]
+#[tactic(auto, unfolding(crate::specs::Blake2b::mixing))]
 fn mixing(a: u64, b: u64, c: u64, d: u64, x: u64, y: u64) -> (u64, u64, u64, u64)
     ensures { result ≡ mixing a b c d x y }
 {
@@ -52,6 +53,7 @@ fn mixing(a: u64, b: u64, c: u64, d: u64, x: u64, y: u64) -> (u64, u64, u64, u64
 
 /// G at the places i, j, k, l of the work vector.
 #[inline(always)]
+#[tactic(auto, unfolding(crate::specs::Blake2b::mix))]
 fn mix(v: &mut [u64; 16], i: usize, j: usize, k: usize, l: usize, x: u64, y: u64)
     requires { (i < 16) × (j < 16) × (k < 16) × (l < 16) }
     ensures { v.new ≡ mix v.old i j k l x y }
@@ -74,6 +76,7 @@ fn word(m: &[u64; 16], r: usize, i: usize) -> u64
 
 /// One round with row `r` of the schedule: the columns, then the diagonals.
 #[inline(always)]
+#[tactic(auto, unfolding(crate::specs::Blake2b::round))]
 fn round(v: &mut [u64; 16], m: &[u64; 16], r: usize)
     requires { r < 10 }
     ensures { v.new ≡ round v.old m.now (slice_index_or schedule r []) }
@@ -90,6 +93,7 @@ fn round(v: &mut [u64; 16], m: &[u64; 16], r: usize)
 
 /// The twelve rounds, unrolled so that the row of the schedule is a constant in each.
 #[inline(always)]
+#[tactic(auto, unfolding(crate::specs::Blake2b::rounds))]
 fn rounds(v: &mut [u64; 16], m: &[u64; 16])
     ensures { v.new ≡ rounds v.old m.now 12 }
 {
@@ -109,6 +113,7 @@ fn rounds(v: &mut [u64; 16], m: &[u64; 16])
 
 /// The word at byte `i` of a block.
 #[inline(always)]
+#[tactic(auto, unfolding(crate::specs::Words::word_at))]
 fn load(block: &[u8], i: usize) -> u64
     requires { i + 8 ≤ length block.now }
     ensures { result ≡ word_at block.now i }
@@ -127,6 +132,7 @@ fn load(block: &[u8], i: usize) -> u64
 
 /// The 16 words of a block.
 #[inline(always)]
+#[tactic(auto, unfolding(crate::specs::Words::words_of))]
 fn words(block: &[u8]) -> [u64; 16]
     requires { length block.now ≡ BLOCK_LEN }
     ensures { result ≡ words_of block.now 16 }
@@ -181,6 +187,7 @@ fn work_vector(h: &[u64; 8], counter: u128, last: bool) -> [u64; 16]
 
 /// Takes a block of 128 bytes into the state. `counter` is the number of bytes up to the end
 /// of the block, without padding, and `last` is the final block flag.
+#[tactic(auto, unfolding(crate::specs::Blake2b::compress))]
 pub(crate) fn compress(h: &mut [u64; 8], block: &[u8], counter: u128, last: bool)
     requires { length block.now ≡ BLOCK_LEN }
     ensures { h.new ≡ compress h.old block.now counter last }

@@ -18,6 +18,7 @@ pub(crate) struct State {
 
 impl State {
     /// The state before the first block, for a digest and a key of these lengths, in bytes.
+    #[tactic(auto, unfolding(crate::specs::Blake2b::initial_state))]
     pub(crate) fn new(out_len: usize, key_len: usize) -> State
         requires { key_len ≤ 64 }
         ensures h { result.h ≡ initial_state out_len key_len }

@@ -7,6 +7,7 @@ use std::simd::u32x4;
 
 /// The diagonals of a block.
 #[inline(always)]
+#[tactic(auto, using(crate::proofs::Lanes::sixteen))]
 pub(crate) fn diagonals_of(x: &[u32; 16]) -> [u32x4; 4]
     ensures { block_of result ≡ x.now }
 {
@@ -34,6 +35,7 @@ pub(crate) fn block_of(x: [u32x4; 4]) -> [u32; 16]
 
 /// The block with rows and columns exchanged.
 #[inline(always)]
+#[tactic(auto, unfolding(crate::specs::Diagonals::transposed))]
 pub(crate) fn transposed(x: [u32x4; 4]) -> [u32x4; 4]
     ensures { block_of result ≡ transposed (block_of x) }
 {

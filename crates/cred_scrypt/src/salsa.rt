@@ -8,6 +8,7 @@ use std::simd::u32x4;
 
 /// Each word rotated to the left by `by` bits.
 #[inline(always)]
+#[tactic(auto, using(crate::proofs::Lanes::lanes_rotate))]
 fn rotate(x: u32x4, by: u32) -> u32x4
     requires some { 0 < by }
     requires few { by < 32 }
@@ -29,6 +30,7 @@ fn quarter_step(x: u32x4, y: u32x4, z: u32x4, n: u32) -> u32x4
 
 /// Four quarter rounds side by side.
 #[inline(always)]
+#[tactic(auto, unfolding(crate::specs::Salsa::quarter_round))]
 fn quarter_round(a: u32x4, b: u32x4, c: u32x4, d: u32x4) -> (u32x4, u32x4, u32x4, u32x4)
     ensures { (j : ℕ) → j < 4
         → (
@@ -48,6 +50,7 @@ fn quarter_round(a: u32x4, b: u32x4, c: u32x4, d: u32x4) -> (u32x4, u32x4, u32x4
 
 /// Quarter rounds on the columns of the four by four words.
 #[inline(always)]
+#[tactic(auto, unfolding(crate::specs::Salsa::column_round))]
 fn column_round(x: [u32x4; 4]) -> [u32x4; 4]
     ensures { block_of result ≡ column_round (block_of x) }
 {
@@ -73,6 +76,7 @@ fn double_round(x: [u32x4; 4]) -> [u32x4; 4]
 
 /// Four double rounds.
 #[inline(always)]
+#[tactic(auto, unfolding(crate::specs::Salsa::double_rounds))]
 fn eight_rounds(x: [u32x4; 4]) -> [u32x4; 4]
     ensures { block_of result ≡ double_rounds 4 (block_of x) }
 {

@@ -4,6 +4,7 @@ ghost use Rattle.cred_scrypt.specs.Xor.{xor_all};
 
 /// XORs the words of `with` into those of `into`.
 #[inline(always)]
+#[tactic(auto, using(crate::proofs::Pointwise::zipped_all))]
 pub(crate) fn xor_words(into: &mut [u32], with: &[u32])
     requires { length into.old ≡ length with.now }
     ensures { into.new ≡ xor_all into.old with.now }
@@ -14,6 +15,7 @@ pub(crate) fn xor_words(into: &mut [u32], with: &[u32])
 }
 
 /// XORs the bytes of `with` into those of `into`.
+#[tactic(auto, using(crate::proofs::Pointwise::zipped_all))]
 pub(crate) fn xor_bytes(into: &mut [u8], with: &[u8])
     requires { length into.old ≡ length with.now }
     ensures { into.new ≡ xor_all into.old with.now }

@@ -1,4 +1,4 @@
-use Rattle.std.proofs.Common.{rules, ◌≡◌, ◌^◌, ◌++◌, ◌∙◌, ap, sym, add-one}
+use Rattle.std.proofs.Common.{◌≡◌, ◌^◌, ◌++◌, ◌∙◌, ap, sym, add-one}
 use Rattle.cred_scrypt.specs.{Mixing.ro_mix, Scrypt.bytes_of, Scrypt.mixed_pieces, Scrypt.piece}
 use Rattle.cred_scrypt.proofs.pieces.Piece.joined.Goals as goal
 
@@ -16,6 +16,3 @@ joins-preserved c = λ ln r b mixed.
     ap (λ p. p.words.items) c.piece-item.is ∙ mixed i here c.joins-test.true kept in
     rw (add-one, ← c.joins.invariant ln r b mixed, ← words)
     (c.in_ok-put_words.ensures ∙ ap (λ w. c.joins.bytes.items ++ bytes_of w) c.deref.ensures.value)
-
-pub returns-then-piece-clause-memory : goal.returns-then-piece-clause-memory
-returns-then-piece-clause-memory g c = search rules
