@@ -2,21 +2,10 @@
 use Rattle.std.proofs.Common.{◌≡◌, ℕ, zero, suc, ◌<◌, ◌≤◌, ◌+◌, ◌-◌, ◌*◌, ◌/◌, ◌%◌, List, false, ◌==◌, slice_index_or, refl, arith}
 use Rattle.std.proofs.lemmas.Bool.Decides.{nat_tests}
 use Rattle.cred_argon.specs.{declared.block.Block.Block, declared.segment.Segment.Segment, declared.turn.Turn.Turn, declared.memory.Memory.Memory}
-use Rattle.cred_argon.specs.{Parameters.Parameters, Parameters.segment_len, Places.place, Cells.cell}
-use Rattle.cred_argon.specs.{Turns.number, Turns.first_offset, Turns.place_in, Turns.OwnHolds, SegmentWork.VecIsFull, SegmentWork.VecHolds}
-use Rattle.cred_argon.specs.Segments.{IsSlice, IsFull, IsShaped, SharedHolds, HoldsSegment}
-use Rattle.cred_argon.specs.Slices.{IsMemory, MemoryHolds}
-
-slice_full : (a : Parameters) (g n start : ℕ) (segments : List Segment) → IsSlice a g n start segments → n ≤ g → IsFull a segments
-slice_full a g n start segments slice late = record { count = slice.count; full = slice.full late }
-
-pub shared_shaped : (m : Memory) → m.shared.turn.slice < 4 → IsMemory (number m.shared.turn) m → IsShaped VecIsFull m.shared
-shared_shaped m four shape = record {
-  slice = four;
-  oldest = λ late. slice_full m.shared.turn.params (number m.shared.turn) 3 0 m.shared.oldest.items shape.at_oldest late;
-  middle = λ late. slice_full m.shared.turn.params (number m.shared.turn) 2 0 m.shared.middle.items shape.at_middle late;
-  newest = λ late. slice_full m.shared.turn.params (number m.shared.turn) 1 0 m.shared.newest.items shape.at_newest late;
-}
+use Rattle.cred_argon.specs.{Parameters.segment_len, Places.place, Cells.cell}
+use Rattle.cred_argon.specs.{Turns.number, Turns.first_offset, Turns.place_in, Turns.OwnHolds, SegmentWork.VecHolds}
+use Rattle.cred_argon.specs.Segments.{SharedHolds, HoldsSegment}
+use Rattle.cred_argon.specs.Slices.{MemoryHolds}
 
 pub shared_begins : (h : List ℕ) (m : Memory) → MemoryHolds h (number m.shared.turn) m → SharedHolds VecHolds h m.shared
 shared_begins h m held = record { oldest = held.at_oldest; middle = held.at_middle; newest = held.at_newest }

@@ -1,5 +1,5 @@
 -- The definitions computed at vectors from outside. Those of the compression function and of the
--- address block are made by vectors/argon/compress.py of hash_tests: Argon2 in plain Python, which
+-- address block are made by vectors/compress.py of hash_tests: Argon2 in plain Python, which
 -- gives the tags of RFC 9106, section 5.
 use Rattle.std.proofs.Common.{◌≡◌, ℕ, List, [], ◌∷◌, refl, replicate}
 use Rattle.std.specs.{Prelude.slice_index, List.range_with_len}

@@ -18,6 +18,7 @@ pub(crate) struct AddressBlock {
 
 impl AddressBlock {
     /// The address block that a position's word stands in.
+    #[tactic(auto, unfolding(crate::specs::Cells::address_block))]
     pub(crate) fn at(params: &Params, position: &Position) -> Self
         ensures number { result.number ≡ position.now.offset / 128 + 1 }
         ensures block { result.block.0 ≡ address_block params.now position.now.pass

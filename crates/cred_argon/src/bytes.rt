@@ -27,6 +27,7 @@ pub(crate) fn bytes_of_block(block: &Block) -> [u8; 1024]
 }
 
 /// The word at a byte of a block.
+#[tactic(auto, unfolding(cred_blake::specs::Words::word_at))]
 fn word_at(bytes: &[u8; 1024], at: usize) -> u64
     requires { at + 8 ≤ 1024 }
     ensures { result ≡ word_at bytes.now at }

@@ -7,6 +7,7 @@ ghost use Rattle.cred_argon.specs.{Cells.cell, Cells.cell_by, declared.place.Pla
 /// section 3.2): those of the first two columns are hashes, and every other is made of the block
 /// before, a reference and, from the second pass on, the block that stood there. The call does
 /// nothing: its contract is the law.
+#[tactic(auto, using(crate::proofs::CellLaw::cell_is))]
 pub fn cells_meet_their_equation()
     ensures { (most : ℕ) (a : Parameters) (h : List ℕ) (p : Place)
         → IsUpTo most a → IsPlace (segment_len a) a.lanes p

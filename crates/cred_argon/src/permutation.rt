@@ -15,6 +15,7 @@ pub(crate) fn xor(x: u64x4, y: u64x4) -> u64x4
 
 /// The sum and twice the product of the low halves, word by word.
 #[inline(always)]
+#[tactic(auto, using(crate::proofs::QuadLemmas::slots_add))]
 fn add_product(x: u64x4, y: u64x4) -> u64x4
     ensures { (j : ℕ) → j < 4
         → slice_index result j ≡ add_product (slice_index x j) (slice_index y j) }
@@ -26,6 +27,7 @@ fn add_product(x: u64x4, y: u64x4) -> u64x4
 
 /// Each word rotated to the right by `by` bits.
 #[inline(always)]
+#[tactic(auto, using(crate::proofs::QuadLemmas::slots_rotate))]
 fn rotate(x: u64x4, by: u64) -> u64x4
     requires few { by < 64 }
     requires some { 0 < by }
@@ -36,6 +38,7 @@ fn rotate(x: u64x4, by: u64) -> u64x4
 
 /// Four words mixed (GB of RFC 9106, section 3.6), slot by slot.
 #[inline(always)]
+#[tactic(auto, unfolding(crate::specs::Compress::mixing))]
 fn mixing(a: u64x4, b: u64x4, c: u64x4, d: u64x4) -> (u64x4, u64x4, u64x4, u64x4)
     ensures { (j : ℕ) → j < 4
         → (
@@ -59,6 +62,7 @@ fn mixing(a: u64x4, b: u64x4, c: u64x4, d: u64x4) -> (u64x4, u64x4, u64x4, u64x4
 
 /// The four words of each column of a list, seen as four rows of four.
 #[inline(always)]
+#[tactic(auto, unfolding(crate::specs::Compress::column_step))]
 pub(crate) fn column_step(x: [u64x4; 16]) -> [u64x4; 16]
     ensures { (j : ℕ) → j < 4 → slot_list j result ≡ column_step (slot_list j x) }
 {
@@ -73,6 +77,7 @@ pub(crate) fn column_step(x: [u64x4; 16]) -> [u64x4; 16]
 
 /// The four words of each diagonal.
 #[inline(always)]
+#[tactic(auto, unfolding(crate::specs::Compress::diagonal_step))]
 pub(crate) fn diagonal_step(x: [u64x4; 16]) -> [u64x4; 16]
     ensures { (j : ℕ) → j < 4 → slot_list j result ≡ diagonal_step (slot_list j x) }
 {

@@ -1,4 +1,4 @@
-use Rattle.std.proofs.{Common.rules, Common.◌≡◌, Common.◌∙◌, Common.arith, Common.sym, lemmas.List.take_all, lemmas.Slice.overwrites}
+use Rattle.std.proofs.{Common.rules, Common.◌∙◌, Common.arith, lemmas.Slice.overwrites}
 use Rattle.cred_blake.specs.Words.{bytes_of}
 use Rattle.cred_blake.proofs.WordBytes.{bytes_of_more}
 use Rattle.cred_argon.proofs.bytes.bytes_of_block.Goals as goal
@@ -10,9 +10,3 @@ words-init c = search rules
 pub words-preserved : goal.words-preserved
 words-preserved c =
     (search (rules, overwrites), bytes_of_more c.words.bytes c.args.block.now.0 _ c.words.i _ c.words.invariant.1 (omega arith) (omega arith) (c.copy_from_slice.ensures.after ∙ c.to_le_bytes.ensures))
-
-pub returns : goal.returns
-returns c =
-    let done : c.words.i ≡ 128 = omega arith in
-    let words = rw (done, take_all 128 c.args.block.now.0 (omega arith)) at c.words.invariant.1 in
-    sym (take_all 1024 c.words.bytes (omega arith)) ∙ words

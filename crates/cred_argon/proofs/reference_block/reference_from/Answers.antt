@@ -1,6 +1,6 @@
-use Rattle.std.proofs.Common.{◌≤◌, arith}
+use Rattle.std.proofs.Common.{◌≤◌}
 use Rattle.cred_argon.specs.Parameters.{segment_len}
-use Rattle.cred_argon.proofs.Picks.{column_of, slice_below}
+use Rattle.cred_argon.proofs.Picks.{column_of}
 use Rattle.cred_argon.proofs.reference_block.reference_from.Goals as goal
 
 pub returns-clause-lane : goal.returns-clause-lane
@@ -24,15 +24,3 @@ returns-clause-column c =
       c.lanes.ensures.value,
       c.segment_len-segment_len.ensures.value,
     ) both.0
-
-pub count-count-requires-clause-slice : goal.count-count-requires-clause-slice
-count-count-requires-clause-slice c =
-    let a = c.args.params.now in
-    let some : 2 ≤ segment_len a = rw c.segment_len-segment_len.ensures.value at c.segment_len-segment_len.ensures.at_least in
-    slice_below (segment_len a) a.lanes c.args.position.now (omega (arith, some)) c.requires.computed c.requires.offset
-
-pub start-start-requires-clause-slice : goal.start-start-requires-clause-slice
-start-start-requires-clause-slice c =
-    let a = c.args.params.now in
-    let some : 2 ≤ segment_len a = rw c.segment_len-segment_len.ensures.value at c.segment_len-segment_len.ensures.at_least in
-    slice_below (segment_len a) a.lanes c.args.position.now (omega (arith, some)) c.requires.computed c.requires.offset

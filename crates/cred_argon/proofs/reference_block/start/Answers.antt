@@ -1,9 +1,6 @@
 use Rattle.std.proofs.Common.{arith}
-use Rattle.cred_argon.proofs.Picks.{start_first, start_later}
+use Rattle.cred_argon.proofs.Picks.{start_later}
 use Rattle.cred_argon.proofs.reference_block.start.Goals as goal
-
-pub returns-then-position-eq0-clause-value : goal.returns-then-position-eq0-clause-value
-returns-then-position-eq0-clause-value c = rw c.if-position-eq0.true (start_first c.args.position.now.slice c.args.segment_len c.requires.slice c.requires.some)
 
 pub returns-else-position-eq0-clause-value : goal.returns-else-position-eq0-clause-value
 returns-else-position-eq0-clause-value c = start_later c.args.position.now.pass c.args.position.now.slice c.args.segment_len (omega arith) c.requires.some

@@ -1,4 +1,4 @@
-use Rattle.std.proofs.Common.{◌≡◌, ◌+◌, ◌-◌, ◌/◌, ◌%◌, ◌∙◌, [], length, ap, arith}
+use Rattle.std.proofs.Common.{◌≡◌, ◌+◌, ◌-◌, ◌/◌, ◌%◌, ◌∙◌, [], length, ap}
 use Rattle.cred_argon.specs.{Parameters.segment_len, Cells.cell}
 use Rattle.cred_argon.proofs.Distances.{distance_of, distance_own, distance_place}
 use Rattle.cred_argon.proofs.segment.block_at.Goals as goal
@@ -12,15 +12,6 @@ bounds-done-offset g c =
     let distance = distance_of shared.pass shared.slice s shared.params.lanes c.args.lane (length c.args.done.now) there.0 c.requires.shaped.slice c.requires.offset there.1 in
     let none : (shared.slice + 4 - there.0.column / s) % 4 ≡ 0 = rw (there.3, ← value) c.if-back-eq0.true in
     rw value (rw there.3 at (distance.own none))
-
-pub earlier_block-requires-clause-worked : goal.earlier_block-requires-clause-worked
-earlier_block-requires-clause-worked g c =
-    let shared = c.args.shared.now.turn in
-    let s = segment_len shared.params in
-    let value = c.segment_len-segment_len.ensures.value in
-    let there = c.requires.readable in
-    let distance = distance_of shared.pass shared.slice s shared.params.lanes c.args.lane (length c.args.done.now) there.0 c.requires.shaped.slice c.requires.offset there.1 in
-    rw (value, ← there.3) (omega (arith, distance.number))
 
 pub returns-then-back-eq0 : goal.returns-then-back-eq0
 returns-then-back-eq0 g c p before lane column h held done =

@@ -1,18 +1,8 @@
-use Rattle.std.proofs.Common.{◌≡◌, ◌/◌, ◌%◌, ◌^◌, ◌∙◌, length, ap, sym, subst}
-use Rattle.cred_argon.specs.{Parameters.segment_len, Compress.compress, Places.IsComputed, Places.place_of, Places.reference_place, Turns.place_in}
+use Rattle.std.proofs.Common.{◌≡◌, ◌/◌, ◌%◌, ◌^◌, ◌∙◌, length, ap, sym}
+use Rattle.cred_argon.specs.{Parameters.segment_len, Compress.compress, Places.place_of, Places.reference_place, Turns.place_in}
 use Rattle.cred_argon.specs.declared.position.Position.{Position}
 use Rattle.cred_argon.proofs.{Picks.reference_before, Distances.place_computed, Steps.offset_mixed_is, Steps.replaced_is, Steps.added_is}
 use Rattle.cred_argon.proofs.segment.work_block.Goals as goal
-
-pub reference_from-reference-requires-clause-computed :
-    goal.reference_from-reference-requires-clause-computed
-reference_from-reference-requires-clause-computed g c =
-    let shared = c.args.shared.now.turn in
-    let s = segment_len shared.params in
-    let at = c.args.position.now in
-    let here : place_of s at ≡ place_in shared at.lane (length c.args.done.now) = ap (place_of s) c.requires.here in
-    subst (IsComputed s shared.params.lanes) (sym here)
-    (place_computed shared at.lane (length c.args.done.now) c.requires.shaped.slice c.requires.lane c.requires.offset c.requires.some c.requires.computed)
 
 pub block_at-other-requires-clause-readable : goal.block_at-other-requires-clause-readable
 block_at-other-requires-clause-readable g c =

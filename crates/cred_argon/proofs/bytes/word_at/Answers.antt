@@ -1,6 +1,0 @@
-use Rattle.cred_blake.specs.Words.{word_at}
-use Rattle.cred_argon.proofs.bytes.word_at.Goals as goal
-
-pub returns : goal.returns
-unfolding word_at
-returns c = c.from_le_bytes.ensures
