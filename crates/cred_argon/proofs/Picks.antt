@@ -1,7 +1,7 @@
 -- The place that two words name, in time.
-use Rattle.std.proofs.Common.{◌≡◌, ℕ, zero, suc, ◌<◌, ◌≤◌, ◌+◌, ◌-◌, ◌*◌, ◌/◌, ◌%◌, Bool, true, false, min, ◌==◌, ◌||◌, if◌then◌else◌, refl, sym, arith, zero-mul}
-use Rattle.std.proofs.Math.Nat.{div-add-mod, mod-add-mod, mod-lt, mul-le-mul_right, mul-lt-mul_of_pos_right, mod-eq_of_lt}
-use Rattle.std.proofs.{lemmas.Nat.div-mul-add, lemmas.Nat.mod-mul-add, lemmas.Nat.div_below, lemmas.Bool.Decides.nat_tests}
+use Rattle.std.proofs.Common.{◌≡◌, ℕ, zero, suc, ◌<◌, ◌≤◌, ◌+◌, ◌-◌, ◌*◌, ◌/◌, ◌%◌, Bool, true, false, min, ◌==◌, ◌||◌, if◌then◌else◌, refl, sym, arith}
+use Rattle.std.proofs.Math.Nat.{div-add-mod, mod-add-mod, mod-lt, mul-le-mul_right, mul-lt-mul_of_pos_right}
+use Rattle.std.proofs.{lemmas.Nat.div-mul-add, lemmas.Nat.mod-mul-add, lemmas.Bool.Decides.nat_tests}
 use Rattle.std.proofs.lemmas.List.FromFn.{length-map-range_with_len, get_or-map-range_with_len}
 use Rattle.cred_argon.specs.{declared.place.Place.Place, declared.position.Position.Position}
 use Rattle.cred_argon.specs.Places.{place_of, segment_of, IsComputed, reference_lane, pick, reference_place}
@@ -104,12 +104,6 @@ reference_before s lanes p j1 j2 some computed =
         before_other s lanes p l (pick (count_of s p false) j1) some computed (lane_inside s lanes p j2 computed.lane_inside)
         (pick_below (count_of s p false) j1 n)
 
--- the column at which the stretch starts
-pub start_first : (u s : ℕ) → u < 4 → 0 < s → 0 ≡ (4 * 0 + u - 3) * s % (4 * s)
-start_first u s h some =
-    let none : 4 * 0 + u - 3 ≡ 0 = omega arith in
-    rw (none, zero-mul s) (sym (mod-eq_of_lt {n = 0} {m = 4 * s} (omega arith)))
-
 spread : (a b s : ℕ) → (4 * a + b) * s ≡ a * (4 * s) + b * s
 spread a b s = omega arith
 
@@ -140,8 +134,3 @@ pub column_of : (s lanes : ℕ) (at : Position) (j1 j2 : ℕ) → 2 ≤ s → Is
 column_of s lanes at j1 j2 some computed inside =
     column_is s lanes (place_of s at) j1 j2 at.slice at.offset some computed (sym (div-mul-add at.slice s at.offset inside))
     (sym (mod-mul-add at.slice s at.offset inside))
-
--- the slice of a position in the memory
-pub slice_below : (s lanes : ℕ) (at : Position) → 0 < s → IsComputed s lanes (place_of s at) → at.offset < s → at.slice < 4
-slice_below s lanes at some computed inside =
-    rw (div-mul-add at.slice s at.offset inside) at (div_below (at.slice * s + at.offset) s 4 some computed.column_inside)

@@ -2,7 +2,7 @@
 use Rattle.std.proofs.Common.{◌≡◌, ℕ, zero, suc, ◌<◌, ◌+◌, ◌-◌, ◌*◌, ◌/◌, ◌%◌, ◌^◌, List, [], ◌∷◌, length, slice_index, bit_or, arith, refl, subst}
 use Rattle.std.proofs.lemmas.Grind.{same_number_lists}
 use Rattle.std.specs.{Simd.Lanes.zip2, Int.w32, Int.rotate_left}
-use Rattle.cred_scrypt.specs.{Diagonals.lane_at, Diagonals.block_of, Diagonals.transposed, Salsa.column_round, Salsa.row_round}
+use Rattle.cred_scrypt.specs.{Diagonals.lane_at, Diagonals.transposed, Salsa.column_round, Salsa.row_round}
 
 pub below_four : (P : ℕ → Type 0) → P 0 → P 1 → P 2 → P 3 → (j : ℕ) → j < 4 → P j
 below_four P p0 p1 p2 p3 zero h = p0
@@ -56,16 +56,6 @@ sixteen x size =
 -- what is worked word by word on the vectors is worked so on the blocks
 abbrev pub Each : (ℕ → ℕ → ℕ) → List (List ℕ) → List (List ℕ) → List (List ℕ) → ℕ → Type 0
 Each f x y z k = (j : ℕ) → j < 4 → lane_at z k j ≡ f (lane_at x k j) (lane_at y k j)
-
-pub block_zip : (f : ℕ → ℕ → ℕ) (x y z : List (List ℕ)) → Each f x y z 0 → Each f x y z 1 → Each f x y z 2 → Each f x y z 3
-    → block_of z ≡ zip2 f (block_of x) (block_of y)
-block_zip f x y z a b c d =
-    same_number_lists (block_of z) (zip2 f (block_of x) (block_of y)) refl
-    (below_sixteen _
-    (a 0 (omega arith)) (d 1 (omega arith)) (c 2 (omega arith)) (b 3 (omega arith))
-    (b 0 (omega arith)) (a 1 (omega arith)) (d 2 (omega arith)) (c 3 (omega arith))
-    (c 0 (omega arith)) (b 1 (omega arith)) (a 2 (omega arith)) (d 3 (omega arith))
-    (d 0 (omega arith)) (c 1 (omega arith)) (b 2 (omega arith)) (a 3 (omega arith)))
 
 -- a row round is a column round of the transposed square
 pub row_round_is : (x : List ℕ) → transposed (column_round (transposed x)) ≡ row_round x

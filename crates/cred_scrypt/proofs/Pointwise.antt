@@ -1,7 +1,7 @@
 -- A loop that takes the elements of one list into those of another, one after another, makes their
 -- zip.
-use Rattle.std.proofs.Common.{◌≡◌, ◌≢◌, ◌<◌, ◌≤◌, ℕ, ◌+◌, List, length, get_or, set, refl, arith, below_more, get_or-set_other, get_or-set_same, sym, ◌∙◌, ap}
-use Rattle.std.proofs.{Math.ListN.length-set, lemmas.Grind.same_number_lists, lemmas.Simd.length-zip2, lemmas.Simd.get_or-zip2}
+use Rattle.std.proofs.Common.{◌≡◌, ◌<◌, ◌≤◌, ℕ, List, length, get_or, arith, sym, ◌∙◌}
+use Rattle.std.proofs.{lemmas.Grind.same_number_lists, lemmas.Simd.length-zip2, lemmas.Simd.get_or-zip2}
 use Rattle.std.specs.Simd.Lanes.{zip2}
 
 -- zs is xs with f taken of its first i elements and those of ys
@@ -9,20 +9,6 @@ pub record IsZippedTo (f : ℕ → ℕ → ℕ) (xs ys zs : List ℕ) (i : ℕ) 
   pub size : length zs ≡ length xs
   pub done : (k : ℕ) → k < i → get_or zs k 0 ≡ f (get_or xs k 0) (get_or ys k 0)
   pub rest : (k : ℕ) → i ≤ k → get_or zs k 0 ≡ get_or xs k 0
-
-pub zipped_none : (f : ℕ → ℕ → ℕ) (xs ys : List ℕ) → IsZippedTo f xs ys xs 0
-zipped_none f xs ys = record { size = refl; done = λ k h. absurd (omega arith); rest = λ k h. refl }
-
-pub zipped_next : (f : ℕ → ℕ → ℕ) (xs ys zs : List ℕ) (i : ℕ) → i < length xs
-    → IsZippedTo f xs ys zs i → IsZippedTo f xs ys (set zs i (f (get_or zs i 0) (get_or ys i 0))) (i + 1)
-zipped_next f xs ys zs i h z = record {
-  size = length-set zs i _ ∙ z.size;
-  done = below_more _ _
-      (λ k below. let other : k ≢ i = omega arith in rw get_or-set_other (z.done k below))
-      (let inside : i < length zs = omega (arith, z.size) in
-      rw get_or-set_same (ap (λ v. f v (get_or ys i 0)) (z.rest i (omega arith))));
-  rest = λ k above. let other : k ≢ i = omega arith in rw get_or-set_other (z.rest k (omega arith));
-}
 
 pub zipped_all : (f : ℕ → ℕ → ℕ) (xs ys zs : List ℕ) (i : ℕ) → length ys ≡ length xs → length xs ≤ i
     → IsZippedTo f xs ys zs i → zs ≡ zip2 f xs ys
