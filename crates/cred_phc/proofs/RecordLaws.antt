@@ -186,9 +186,6 @@ one_record text v w hv hw tv tw = let same = sym (only_record text v hv tv) ∙ 
 pub read_back : (v : RecordValue) → IsRecord v → read_record (record_text v) ≡ Ok v
 read_back v h = only_record (record_text v) v h (inl refl)
 
-pub old_texts : (v : RecordValue) → is_current v.setting.scheme ≡ false → IsRecordText (record_text v) v × IsRecordText (bare_text v) v
-old_texts v old = (inl refl, inr (old, refl))
-
 -- the version takes five bytes more
 longer : (name version more : List ℕ) → name ++ (36 ∷ (version ++ (36 ∷ more))) ≡ name ++ (36 ∷ more) → ⊥
 longer name version more same =

@@ -75,6 +75,7 @@ pub fn read_as_written()
 {}
 
 /// A record of version 0x10 has two texts, with its version and without it, and they differ.
+#[tactic(auto, using(crate::proofs::RecordLaws::old_texts_differ))]
 pub fn two_old_texts()
     ensures texts { (v : RecordValue) → is_current v.setting.scheme ≡ false
         → IsRecordText (record_text v) v × IsRecordText (bare_text v) v }
@@ -109,6 +110,7 @@ pub fn one_value_each()
 {}
 
 /// A setting of version 0x10 that is written is not read again.
+#[tactic(auto, using(crate::proofs::RecordLaws::old_setting))]
 pub fn old_not_read()
     ensures { (v : SettingValue) → IsSetting v → is_current v.scheme ≡ false
         → read_setting (setting_text v) ≡ Err PhcError.Version }

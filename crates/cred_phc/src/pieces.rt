@@ -56,6 +56,7 @@ impl<'a> Pieces<'a> {
 }
 
 /// The piece before the first `byte`, and what comes after that byte, if the text has it.
+#[tactic(auto, using(crate::proofs::PieceLaws::cut_first, crate::proofs::PieceLaws::cut_none))]
 fn cut(text: &[u8], byte: u8) -> (&[u8], Option<&[u8]>)
     ensures { pieces byte text.now ≡ result.0.now ∷ pieces_left byte (option_copied result.1) }
 {
