@@ -1,5 +1,5 @@
 -- The test of two records is equality.
-use Rattle.std.proofs.Common.{◌≡◌, Bool, true, false, ◌&&◌, Option, Some, None, refl, ap, sym, ◌∙◌, ◌↔◌, IsTrue}
+use Rattle.std.proofs.Common.{◌≡◌, Bool, ◌&&◌, Option, Some, None, refl, ap, ◌∙◌}
 use Rattle.std.proofs.{lemmas.Bool.Decides.Decides-and, lemmas.Bool.Decides.Decides-like, lemmas.Bool.Decides.Decides-eqb, lemmas.Slice.Eq.bytes_eq-Decides}
 use Rattle.std.specs.Bool.{Decides}
 use Rattle.cred_phc.specs.{declared.scheme.Scheme.Scheme, declared.scheme.Scheme.TheVariants.Argon2, declared.scheme.Scheme.TheVariants.Scrypt}
@@ -54,16 +54,3 @@ same-Decides None None = (λ _. refl, λ _. refl)
 same-Decides None (Some b) = (λ h. cc, λ e. cc)
 same-Decides (Some a) None = (λ h. cc, λ e. cc)
 same-Decides (Some a) (Some b) = Decides-like (same_record a b) (λ e. ap Some e) (λ e. cc) (record_decides a b)
-
--- a test that tells equality is this one
-told : (r s : Bool) (P : Type 0) → (IsTrue r ↔ P) → Decides s P → r ≡ s
-told true true P h d = refl
-told false false P h d = refl
-told true false P h d = sym (d.1 (h.0 refl))
-told false true P h d = h.1 (d.0 refl)
-
-pub same-told : (r : Bool) (a b : Option RecordValue) → (IsTrue r ↔ (a ≡ b)) → r ≡ same a b
-same-told r a b h = told r (same a b) (a ≡ b) h (same-Decides a b)
-
-pub same_scheme-told : (r : Bool) (a b : Scheme) → (IsTrue r ↔ (a ≡ b)) → r ≡ same_scheme a b
-same_scheme-told r a b h = told r (same_scheme a b) (a ≡ b) h (scheme a b)

@@ -1,12 +1,6 @@
 use Rattle.std.proofs.Common.{ap, arith, length}
-use Rattle.cred_book.proofs.Registered.{entry_more, entries_end, kept_whole, view_whole}
+use Rattle.cred_book.proofs.Registered.{entries_end, kept_whole, view_whole}
 use Rattle.cred_book.proofs.book.Book.from_register.Goals as goal
-
-pub loop-name-preserved : goal.loop-name-preserved
-loop-name-preserved c = record {
-  all = entry_more _ _ _ _ _ _ _ _ c.loop-name.invariant.all c.in-Some.ensures.steps c.in-Ok.ensures.items c.stored.ensures;
-  room = omega (arith, c.loop-name.invariant.room, c.in-Ok.ensures.capacity);
-}
 
 pub invariant_of-result : goal.invariant_of-result
 invariant_of-result c =

@@ -1,10 +1,6 @@
-use Rattle.std.proofs.Common.{rules}
 use Rattle.cred_book.specs.Names.{name_cmp}
 use Rattle.cred_book.proofs.Entries.{from_sorted-none}
 use Rattle.cred_book.proofs.book.Book.new.Goals as goal
 
 pub returns-clause-empty : goal.returns-clause-empty
 returns-clause-empty c = rw c.in_ok-accounts.ensures.items (from_sorted-none name_cmp)
-
-pub invariant_of-result : goal.invariant_of-result
-invariant_of-result c = search rules
