@@ -8,13 +8,10 @@
 
 mod accounts;
 mod calls;
-mod copies;
 mod gates;
 mod limits;
-mod lists;
 mod names;
 mod operations;
-mod refusals;
 mod registers;
 mod scratch;
 mod secrets;

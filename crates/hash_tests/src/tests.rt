@@ -49,6 +49,11 @@ fn is_hex(bytes: &[u8], digits: &str) -> bool {
     hex::decode_to_slice(digits, read).is_ok() && &*read == bytes
 }
 
+/// How many bytes the digits tell, at most 1000.
+fn byte_len(digits: &str) -> u32 {
+    (digits.len() / 2).min(1000) as u32
+}
+
 /// Whether something was made, and has these digits in hexadecimal.
 fn is_made<E: Drop>(made: Result<Vec<u8>, E>, digits: &str) -> bool {
     match made {

@@ -1,10 +1,21 @@
-//! A book's calls, by themselves and by the one who keeps it.
-use super::calls::{Call, DONE, Entry, Line, Slip, enter, keep, play, play_on_new};
+//! The calls of each keeper, and a copy of a book.
+use super::calls::{Call, DONE, Entry, Line, Slip, book_with, keep, play};
 use super::{name, stored};
-use cred_book::{Book, BookError};
+use crate::small::SmallBook;
+use cred_book::{Book, BookError, Register};
 use std::alloc::Global;
 use std::sync::Wait;
 use test_samples::{A, B};
+
+/// The slip of each keeper that the lines are played on.
+fn kept<R: Wait>(rt: &R, alloc: Global, lines: &[Line]) -> Result<[Option<Slip>; 3], BookError> {
+    let mut book = Book::new(alloc)?;
+    Ok([
+        keep(rt, &mut book, lines),
+        keep(rt, &mut Register::new(alloc), lines),
+        keep(rt, &mut SmallBook::new(alloc), lines),
+    ])
+}
 
 #[test]
 fn an_account_is_admitted_loaded_and_shown(rt: HostRuntime) {
@@ -13,6 +24,7 @@ fn an_account_is_admitted_loaded_and_shown(rt: HostRuntime) {
     let lines = [
         (Call::Show(a), Err(BookError::NoAccount)),
         (Call::Load(a, one_lane), Err(BookError::NoAccount)),
+        (Call::Admit(b), DONE),
         (Call::Admit(a), DONE),
         (Call::Show(a), Ok(None)),
         (Call::Load(a, one_lane), DONE),
@@ -20,93 +32,38 @@ fn an_account_is_admitted_loaded_and_shown(rt: HostRuntime) {
         (Call::Load(a, two_lanes), DONE),
         (Call::Admit(a), Err(BookError::Exists)),
         (Call::Show(a), Ok(Some(two_lanes))),
-        (Call::Show(b), Err(BookError::NoAccount)),
-        (Call::Load(b, one_lane), Err(BookError::NoAccount)),
-    ];
-    assert_eq!(rt; play_on_new(rt.alloc(), &lines), Ok(None));
-}
-
-/// Orders in which five accounts are given, by their places.
-const ORDERS: [[usize; 5]; 4] = [
-    [0, 1, 2, 3, 4],
-    [4, 3, 2, 1, 0],
-    [2, 4, 0, 3, 1],
-    [3, 0, 4, 1, 2],
-];
-
-fn enter_in_order(book: &mut Book, entries: &[Entry], order: &[usize]) -> Result<(), BookError> {
-    for place in order {
-        enter(book, *entries.get(*place).ok_or(BookError::NoAccount)?)?;
-    }
-    Ok(())
-}
-
-/// Plays the lines on a book that was given the accounts in this order.
-fn play_after(
-    alloc: Global,
-    entries: &[Entry],
-    order: &[usize],
-    lines: &[Line],
-) -> Result<Option<Slip>, BookError> {
-    let mut book = Book::new(alloc)?;
-    match enter_in_order(&mut book, entries, order) {
-        Ok(()) => Ok(play(&mut book, lines)),
-        Err(refusal) => Err(refusal),
-    }
-}
-
-#[test]
-fn the_order_of_admission_is_forgotten(rt: HostRuntime) {
-    let (one_lane, two_lanes) = (stored(&rt, A), stored(&rt, B));
-    let (a, minus, aa) = (name(&rt, "a"), name(&rt, "a-"), name(&rt, "aa"));
-    let (ab, b, zed) = (name(&rt, "ab"), name(&rt, "b"), name(&rt, "zed"));
-    let entries = [
-        (a, Some(one_lane)),
-        (minus, None),
-        (aa, Some(two_lanes)),
-        (b, None),
-        (zed, None),
-    ];
-    let lines = [
-        (Call::Show(a), Ok(Some(one_lane))),
-        (Call::Show(minus), Ok(None)),
-        (Call::Show(aa), Ok(Some(two_lanes))),
-        (Call::Show(ab), Err(BookError::NoAccount)),
         (Call::Show(b), Ok(None)),
-        (Call::Show(zed), Ok(None)),
     ];
-    for order in ORDERS {
-        let slip = play_after(rt.alloc(), &entries, &order, &lines);
-        assert_eq!(rt; slip, Ok(None), "{order:?}");
-    }
+    assert_eq!(rt; kept(&rt, rt.alloc(), &lines), Ok([None; 3]));
 }
 
-/// Plays the lines by a keeper, and then the others on the book itself.
-fn keep_and_play<R: Wait>(
-    rt: &R,
+/// Plays the lines on a book with one account, and then those of the copy on one that was copied
+/// before.
+fn play_on_both(
     alloc: Global,
-    kept: &[Line],
-    after: &[Line],
+    account: Entry,
+    lines: &[Line],
+    of_copy: &[Line],
 ) -> Result<[Option<Slip>; 2], BookError> {
-    let mut book = Book::new(alloc)?;
-    Ok([keep(rt, &mut book, kept), play(&mut book, after)])
+    let mut book = book_with(alloc, &[account])?;
+    let mut copy = book.copy()?;
+    Ok([play(&mut book, lines), play(&mut copy, of_copy)])
 }
 
 #[test]
-fn a_book_keeps_itself(rt: HostRuntime) {
-    let (a, one_lane) = (name(&rt, "a"), stored(&rt, A));
-    let kept = [
-        (Call::Show(a), Err(BookError::NoAccount)),
-        (Call::Load(a, one_lane), Err(BookError::NoAccount)),
-        (Call::Admit(a), DONE),
-        (Call::Admit(a), Err(BookError::Exists)),
-        (Call::Show(a), Ok(None)),
-        (Call::Load(a, one_lane), DONE),
-        (Call::Show(a), Ok(Some(one_lane))),
+fn a_copy_shows_the_record(rt: HostRuntime) {
+    let (a, b) = (name(&rt, "a"), name(&rt, "b"));
+    let (one_lane, two_lanes) = (stored(&rt, A), stored(&rt, B));
+    let lines = [
+        (Call::Set(a, None), DONE),
+        (Call::Set(b, Some(two_lanes)), Err(BookError::NoAccount)),
+        (Call::Put(b, Some(two_lanes)), DONE),
+        (Call::Show(b), Ok(Some(two_lanes))),
     ];
-    let after = [(Call::Show(a), Ok(Some(one_lane)))];
-    assert_eq!(rt;
-        keep_and_play(&rt, rt.alloc(), &kept, &after),
-        Ok([None, None])
-    );
+    let of_copy = [
+        (Call::Show(a), Ok(Some(one_lane))),
+        (Call::Show(b), Err(BookError::NoAccount)),
+    ];
+    let slips = play_on_both(rt.alloc(), (a, Some(one_lane)), &lines, &of_copy);
+    assert_eq!(rt; slips, Ok([None, None]));
 }

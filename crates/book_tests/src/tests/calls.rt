@@ -86,7 +86,7 @@ pub(super) fn keep<R: Wait, K: Keeper>(rt: &R, keeper: &mut K, lines: &[Line]) -
 }
 
 /// Admits the name, and loads its record, if it is to have one.
-pub(super) fn enter(book: &mut Book, entry: Entry) -> Result<(), BookError> {
+fn enter(book: &mut Book, entry: Entry) -> Result<(), BookError> {
     let (name, there) = entry;
     book.admit(name)?;
     match there {

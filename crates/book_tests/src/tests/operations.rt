@@ -1,5 +1,5 @@
 //! Whole operations, each begun, worked and committed: what is answered, and which record stands
-//! then.
+//! then. `script_tests` has those of all kinds.
 use super::work::{Seen, operate};
 use super::{enrol, name, password, setting, stored, verify};
 use cred_book::{Reply, Request};
@@ -7,21 +7,9 @@ use cred_phc::Record;
 use std::alloc::Global;
 use std::process::Abort;
 use std::thread::Threads;
-use test_samples::{A, A_SETTING, B, B_SETTING, INDEPENDENT, OLD, SCRYPT};
+use test_samples::{A, A_SETTING, B, B_SETTING, OLD, SCRYPT};
 
 const PASSWORD: &str = "password";
-
-/// The scheme and numbers of `SCRYPT` with another salt.
-const SCRYPT_SETTING: &str = "$scrypt$ln=10,r=8,p=16$c29tZXNhbHQ";
-
-/// What `OLD` becomes in an upgrade.
-const RENEWED_SETTING: &str = "$argon2i$v=19$m=256,t=2,p=1$c29tZXNhbHQ";
-
-/// The record of `differentpassword` by the same program.
-const OTHER_SETTING: &str = "$argon2id$v=19$m=65536,t=2,p=1$c29tZXNhbHQ";
-
-const OTHER: &str =
-    "$argon2id$v=19$m=65536,t=2,p=1$c29tZXNhbHQ$C4TWUs9rDEvq7w3+J4umqA32aWKB1+DSiRuBfYxFj94";
 
 /// `A` with the first 8 bytes of its tag alone, and with the other version.
 const SHORT: &str = "$argon2id$v=19$m=256,t=2,p=1$c29tZXNhbHQ$nf65EOgLrQM";
@@ -102,79 +90,6 @@ fn enrols_and_verifies(rt: HostRuntime) {
         (Some(OLD), verify(&rt, ""), Reply::No, Some(OLD)),
         (Some(SHORT), verify(&rt, PASSWORD), Reply::No, Some(SHORT)),
         (Some(AS_OLD), verify(&rt, PASSWORD), Reply::No, Some(AS_OLD)),
-    ];
-    hold(&rt, rt.alloc(), &table);
-}
-
-#[test]
-fn changes(rt: HostRuntime) {
-    let table = [
-        (
-            None,
-            change(&rt, PASSWORD, "", A_SETTING),
-            Reply::Absent,
-            None,
-        ),
-        (
-            Some(A),
-            change(&rt, "bad", PASSWORD, B_SETTING),
-            Reply::Wrong,
-            Some(A),
-        ),
-        (
-            Some(A),
-            change(&rt, PASSWORD, "differentpassword", OTHER_SETTING),
-            Reply::Replaced,
-            Some(OTHER),
-        ),
-    ];
-    hold(&rt, rt.alloc(), &table);
-}
-
-#[test]
-fn upgrades(rt: HostRuntime) {
-    let table = [
-        (None, upgrade(&rt, PASSWORD, A_SETTING), Reply::Absent, None),
-        (
-            Some(A),
-            upgrade(&rt, PASSWORD, B_SETTING),
-            Reply::Upgraded,
-            Some(B),
-        ),
-        (
-            Some(B),
-            upgrade(&rt, PASSWORD, B_SETTING),
-            Reply::Kept,
-            Some(B),
-        ),
-        (
-            Some(B),
-            upgrade(&rt, "bad", B_SETTING),
-            Reply::Wrong,
-            Some(B),
-        ),
-        (
-            Some(SCRYPT),
-            upgrade(&rt, PASSWORD, SCRYPT_SETTING),
-            Reply::Kept,
-            Some(SCRYPT),
-        ),
-        (
-            Some(OLD),
-            upgrade(&rt, PASSWORD, RENEWED_SETTING),
-            Reply::Upgraded,
-            Some(INDEPENDENT),
-        ),
-    ];
-    hold(&rt, rt.alloc(), &table);
-}
-
-#[test]
-fn removals(rt: HostRuntime) {
-    let table = [
-        (None, remove(&rt, PASSWORD), Reply::Absent, None),
-        (Some(A), remove(&rt, "bad"), Reply::Wrong, Some(A)),
-        (Some(A), remove(&rt, PASSWORD), Reply::Removed, None),
     ];
     hold(&rt, rt.alloc(), &table);
 }

@@ -7,27 +7,7 @@ use crate::small::SmallBook;
 use cred_book::{Book, BookError, Name, Register};
 use cred_phc::Record;
 use std::alloc::Global;
-use test_samples::{A, B};
-
-#[test]
-fn a_register_keeps_itself(rt: HostRuntime) {
-    let (a, b) = (name(&rt, "a"), name(&rt, "b"));
-    let (one_lane, two_lanes) = (stored(&rt, A), stored(&rt, B));
-    let lines = [
-        (Call::Show(a), Err(BookError::NoAccount)),
-        (Call::Load(a, one_lane), Err(BookError::NoAccount)),
-        (Call::Admit(b), DONE),
-        (Call::Admit(a), DONE),
-        (Call::Admit(a), Err(BookError::Exists)),
-        (Call::Show(a), Ok(None)),
-        (Call::Load(a, one_lane), DONE),
-        (Call::Load(a, two_lanes), DONE),
-        (Call::Show(a), Ok(Some(two_lanes))),
-        (Call::Show(b), Ok(None)),
-    ];
-    let slip = keep(&rt, &mut Register::new(rt.alloc()), &lines);
-    assert_eq!(rt; slip, None);
-}
+use test_samples::A;
 
 #[test]
 fn full_at_the_capacity(rt: HostRuntime) {
@@ -129,36 +109,4 @@ fn a_register_becomes_a_book(rt: HostRuntime) {
     assert_eq!(rt; book_of(rt.alloc(), 4096, one_lane), Ok((4096, true)));
     let refused = book_of(rt.alloc(), 4097, one_lane);
     assert_eq!(rt; refused, Err(BookError::Full));
-}
-
-/// The names of a register, in the order in which they are listed.
-fn listed<'a>(alloc: Global, register: &'a Register) -> Result<Vec<&'a Name>, BookError> {
-    let mut names = Vec::with_capacity(alloc, register.len())?;
-    for (name, _) in register.iter() {
-        if names.push(name).is_err() {
-            return Err(BookError::Memory);
-        }
-    }
-    Ok(names)
-}
-
-fn are_in_order(names: &[&Name]) -> bool {
-    for i in 1..names.len() {
-        if names[i - 1].bytes() >= names[i].bytes() {
-            return false;
-        }
-    }
-    true
-}
-
-#[test]
-fn names_are_listed_in_order(rt: HostRuntime) {
-    let mut register = Register::new(rt.alloc());
-    let missing = fill(&mut register, stored(&rt, A));
-    let listed = listed(rt.alloc(), &register);
-    let (count, sorted) = match &listed {
-        Ok(names) => (names.len(), are_in_order(names)),
-        Err(_) => (0, false),
-    };
-    assert_eq!(rt; (missing, count, sorted), (Ok(None), 64, true));
 }

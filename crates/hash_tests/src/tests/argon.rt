@@ -1,6 +1,6 @@
 //! Of `cred_argon`: tags from outside, and what running out of memory gives.
 
-use super::{counted, first, is_hex, is_made};
+use super::{byte_len, counted, first, is_hex, is_made};
 use cred_argon::Kind::{D, I, Id};
 use cred_argon::Version::{V10, V13};
 use cred_argon::{ArgonError, Kind, Params, Version, argon2};
@@ -115,8 +115,8 @@ fn tag_of<R: Threads + Sync>(
 ) -> Result<Vec<u8>, ArgonError> {
     let Row(kind, version, [memory, passes, lanes], [pw, salt, secret, assoc], (seed, step), tag) =
         row;
-    let tag_len = (tag.len() / 2) as u32;
-    let params = Params::with_version(*version, *kind, *memory, *passes, *lanes, tag_len)?;
+    let len = byte_len(tag);
+    let params = Params::with_version(*version, *kind, *memory, *passes, *lanes, len)?;
     argon2(
         rt,
         alloc,

@@ -1,6 +1,6 @@
 //! Of `cred_scrypt`: vectors of the standards, keys that OpenSSL made, and what running out of
 //! memory gives.
-use super::{counted, first, is_hex, is_made};
+use super::{byte_len, counted, first, is_hex, is_made};
 use cred_pool::NoGate;
 use cred_scrypt::{ScryptError, ScryptParams, hmac_sha256, pbkdf2, ro_mix, scrypt};
 use std::alloc::Global;
@@ -161,8 +161,14 @@ fn scrypt_keys(rt: HostRuntime) {
     for (numbers, (pw_len, salt_len, seed), wanted) in SCRYPT {
         let (pw, salt) = (counted(seed, 7), counted(seed.wrapping_add(128), 7));
         let inputs = (first(&pw, pw_len), first(&salt, salt_len));
-        let len = (wanted.len() / 2) as u32;
-        let key = key_of(&rt, rt.alloc(), numbers, len, numbers.2, inputs);
+        let key = key_of(
+            &rt,
+            rt.alloc(),
+            numbers,
+            byte_len(wanted),
+            numbers.2,
+            inputs,
+        );
         assert!(rt; is_made(key, wanted), "seed {seed}");
     }
 }
@@ -172,8 +178,7 @@ fn pbkdf2_keys(rt: HostRuntime) {
     for (turns, (pw_len, salt_len, seed), wanted) in PBKDF2 {
         let (pw, salt) = (counted(seed, 7), counted(seed.wrapping_add(128), 7));
         let (pw, salt) = (first(&pw, pw_len), first(&salt, salt_len));
-        let len = (wanted.len() / 2) as u32;
-        let key = pbkdf2(rt.alloc(), pw, salt, turns.max(1), len);
+        let key = pbkdf2(rt.alloc(), pw, salt, turns.max(1), byte_len(wanted));
         assert!(rt; is_made(key, wanted), "seed {seed}");
     }
 }
