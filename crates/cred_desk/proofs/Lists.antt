@@ -1,13 +1,10 @@
 -- Beginnings of one list, and books after entries.
-use Rattle.std.proofs.Common.{◌≡◌, ℕ, ◌+◌, ◌<◌, List, [], ◌∷◌, ◌++◌, length, Bool, true, false, MatchBool, Option, Some, None, inl, inr, is_some, refl, ap, subst, arith, length-append, get_or, sym, ◌∙◌}
-use Rattle.std.proofs.{lemmas.Bool.cases_eq, lemmas.List.get_or_read, lemmas.List.append_assoc}
+use Rattle.std.proofs.Common.{◌≡◌, ℕ, ◌+◌, ◌<◌, List, [], ◌∷◌, ◌++◌, length, Bool, true, false, MatchBool, Option, Some, None, inl, inr, refl, ap, subst, arith, length-append, get_or, sym}
+use Rattle.std.proofs.{lemmas.Bool.cases_eq, lemmas.List.get_or_read}
 use mathlib.Core.List.{IsPrefix}
-use Rattle.std.specs.FinMap as map
-use Rattle.cred_phc.specs.Values.{RecordValue}
-use Rattle.cred_book.specs.Accounts.{Accounts, with_entry}
-use Rattle.cred_book.proofs.Kept.{with_known, with_new}
-use Rattle.cred_desk.specs.{declared.entry.AccountState.AccountState, declared.entry.Entry.Entry, Commits.list_after, Commits.weight}
-use Rattle.cred_desk.specs.Histories.{put, after, FollowsAt, IsAllowed, IsLegal, IsListed, IsMade}
+use Rattle.cred_book.specs.Accounts.{Accounts}
+use Rattle.cred_desk.specs.{declared.entry.Entry.Entry, Commits.list_after, Commits.weight}
+use Rattle.cred_desk.specs.Histories.{put, after, IsAllowed, IsLegal, IsListed, IsMade}
 use Rattle.grow_log.specs.Beginnings.{IsLonger}
 use Rattle.grow_log.proofs.Prefixes.{prefix_whole}
 
@@ -30,18 +27,6 @@ pub listed_snoc : (loads : Bool) (book : Accounts) (list : List Entry) (entry : 
 listed_snoc loads book [] entry listed allowed = (allowed, tt)
 listed_snoc loads book (e ∷ list) entry listed allowed = (listed.0, listed_snoc loads (put book e) list entry listed.1 allowed)
 
-there : (found : Option (Option RecordValue)) (now : AccountState) → FollowsAt found now → is_some found ≡ true
-there None now follows = absurd follows
-there (Some old) now follows = refl
-
--- where an entry may come next there is room for its name, if the name isn't there
-pub put_allowed : (loads : Bool) (book : Accounts) (entry : Entry) (stored : Option RecordValue) → IsAllowed loads book entry → with_entry book entry.name stored ≡ map.insert book entry.name stored
-put_allowed false book entry stored made = with_known book entry.name stored (there (map.get book entry.name) entry.now made)
-put_allowed true book entry stored (inl made) = with_known book entry.name stored (there (map.get book entry.name) entry.now made)
-put_allowed true book entry stored (inr (inl admitted)) = with_new book entry.name stored admitted.0 admitted.1
-put_allowed true book entry stored (inr (inr (inl loaded))) = with_known book entry.name stored loaded.0
-put_allowed true book entry stored (inr (inr (inr deleted))) = with_known book entry.name stored deleted.0
-
 -- what operations alone made goes on with what one of them makes
 pub legal_snoc : (book : Accounts) (list new : List Entry) (entry : Entry) → new ≡ list ++ entry ∷ [] → IsMade (after book list) entry → IsLegal book list → IsLegal book new
 legal_snoc book list new entry is made legal = subst (IsLegal book) (sym is) (listed_snoc false book list entry legal made)
@@ -54,11 +39,6 @@ legal_if loads book list none listed = subst (λ b. IsListed b book list) none l
 pub length_list_after : (list : List Entry) (change : Option Entry) → length (list_after list change) ≡ length list + weight change
 length_list_after list None = omega arith
 length_list_after list (Some entry) = length-append list (entry ∷ [])
-
--- and begins with what stood
-pub begins_list_after : (known list : List Entry) (change : Option Entry) → IsPrefix known list → IsPrefix known (list_after list change)
-begins_list_after known list None p = p
-begins_list_after known list (Some entry) p = (p.0 ++ entry ∷ [], sym (append_assoc known p.0 (entry ∷ [])) ∙ ap (λ l. l ++ entry ∷ []) p.1)
 
 -- what holds of the elements before a place, and of the one there
 pub all_more : {A : Type 0} (P : A → Type 0) (xs : List A) (i : ℕ) (x : A) → i < length xs → x ≡ get_or xs i x → P x → ((k : ℕ) (d : A) → k < i → P (get_or xs k d)) → (k : ℕ) (d : A) → k < i + 1 → P (get_or xs k d)

@@ -219,7 +219,3 @@ looks_moves v ask pen may cells links kept pre away = (
   kept.first,
   (keeps, [], None, tt, kept_same cells links kept, inl (refl, refl), (refl, looks_at_all cells links v pen.key kept pre (away may).1)),
 )
-
--- what a step tells where the number found is the one expected
-pub is_found : (P Q : Type 0) (found old : ℕ) → MatchBool (found == old) P Q → found ≡ old → P
-is_found P Q found old told is = let same : (found == old) ≡ true = grind (arith, nat_tests) in rw same at told
