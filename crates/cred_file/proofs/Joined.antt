@@ -13,6 +13,7 @@ use Rattle.cred_phc.specs.Values.{RecordValue}
 use Rattle.cred_book.specs.{Accounts.Accounts, Names.name_cmp}
 use Rattle.cred_file.specs.{Edits.AreApart, Edits.AreThere, Edits.joined, Edits.taken_in, Keeps.Has}
 use Rattle.cred_file.specs.Together.{IsPartOf, IsUnderWay, MakesWithin}
+use Rattle.cred_file.proofs.TableLemmas.{no_some, same_names}
 
 abbrev pub Entries : Type 0
 Entries = List (List ℕ × Option RecordValue)
@@ -22,9 +23,6 @@ find q es = fin.find name_cmp q es
 
 abbrev ties : List ℕ → List ℕ → Bool
 ties q name = eq_by_cmp name_cmp q name
-
-same_names : fin.IsAntisymmetric name_cmp
-same_names = fin.slice_cmp-IsAntisymmetric fin.nat_cmp-IsAntisymmetric
 
 -- ---- what is found in entries
 
@@ -64,10 +62,6 @@ no_left false b e = refl
 
 has_entries : (book : Accounts) (q : List ℕ) → is_some (find q (fin.entries book)) ≡ fin.contains_key book q
 has_entries book q = ap is_some (sym (get-entries book q))
-
-nothing : {X : Type 0} (o : Option X) → is_some o ≡ false → o ≡ None
-nothing None e = refl
-nothing (Some x) e = absurd cc
 
 or_true : (a b : Bool) → b ≡ true → (a || b) ≡ true
 or_true true b e = refl
@@ -154,9 +148,6 @@ whole front (e ∷ es) all cut none = absurd cc
 pub all_entered : (old more now : Accounts) (rest : Entries) → AreEntered old more now rest → length rest ≡ 0 → now ≡ joined old more
 all_entered old more now rest was none = was.now_is ∙ ap (λ es. fin.from_entries {R = name_cmp} (es ++ fin.entries old)) (whole was.front rest _ was.cut none)
 
-pub part_entered : (old more now : Accounts) (rest : Entries) → AreEntered old more now rest → IsPartOf old more now
-part_entered old more now rest was = record { front = was.front; rest = rest; cut = was.cut; now_is = was.now_is }
-
 -- a name that is there stays there
 pub still_there : (old more now : Accounts) (rest left : Entries) (k : List ℕ) (slot : Option RecordValue) → AreEntered old more now rest → rest ≡ (k, slot) ∷ left → AreThere old more → fin.contains_key now k ≡ true
 still_there old more now rest left k slot was is there =
@@ -206,9 +197,6 @@ pub record AreRemoved (old more now : Accounts) (rest : Entries) : Type 0 where
   pub cut : front ++ rest ≡ fin.entries more
   pub gone : (q : List ℕ) → fin.get now q ≡ cond (is_some (find q front)) None (fin.get old q)
 
-pub none_removed : (old more : Accounts) → AreRemoved old more old (fin.entries more)
-none_removed old more = record { front = []; cut = refl; gone = λ q. refl }
-
 twice : {X Y : Type 0} (a b c : Bool) (v : Y) (o : Option X) → c ≡ (a || is_some (cond b (Some v) None)) → cond b None (cond a None o) ≡ cond c None o
 twice true true c v o is = ap (λ c. cond c None o) (sym is)
 twice true false c v o is = ap (λ c. cond c None o) (sym is)
@@ -232,7 +220,7 @@ pub undone : (old more now after : Accounts) → AreApart old more → IsPartOf 
 undone old more now after apart part gone = same_map nat_list_cmp_total same_names _ _ (λ q. gone q ∙ at q (fin.contains_key more q) refl)
   where
     at : (q : List ℕ) (b : Bool) → fin.contains_key more q ≡ b → cond b None (fin.get now q) ≡ fin.get old q
-    at q true e = sym (nothing _ (apart q e))
+    at q true e = sym (no_some _ (apart q e))
     at q false e =
         let none = no_left _ _ (sym (has_append part.front part.rest q) ∙ ap (λ es. is_some (find q es)) part.cut ∙ has_entries more q ∙ e) in
         ap (λ (b : Accounts). fin.get b q) part.now_is ∙ get-from_entries nat_list_cmp_total (part.front ++ fin.entries old) q ∙ skip_front part.front (fin.entries old) q none ∙ sym (get-entries old q)

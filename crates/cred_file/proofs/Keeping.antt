@@ -5,7 +5,7 @@ use Rattle.std.specs.{FinMap.len-insert, Cmp.Lexicographic.nat_list_cmp_total}
 use Rattle.sqlite.specs.declared.types.Value.{Value}
 use Rattle.sqlite.specs.declared.types.Value.TheVariants.{Null, Int, Real, Text, Blob}
 use Rattle.sqlite.specs.{Values.bound_value, Order.Row, Tree.Trees, Schema.Schema}
-use Rattle.sqlite.specs.{Command.TheVariants.Insert, Command.TheVariants.Update, Command.TheVariants.Delete, Source.TheVariants.Values, Effect.Database}
+use Rattle.sqlite.specs.{Command.TheVariants.Insert, Command.TheVariants.Update, Command.TheVariants.Delete, Source.Source, Source.TheVariants.Values, Query.Query, Table.Table, Effect.Database}
 use Rattle.sqlite.specs.Listing.{understood}
 use Rattle.sqlite.specs.State.{State, HasCleanDisk, Survives, Executes, CommitsBy, MayCommit, MayWrite, Writes, Runs, mode_of}
 use Rattle.sqlite.specs.{declared.run.Mode.Mode, Does.Does, Does.Tally, Held.Held, Held.state, Store.Ghosts}
@@ -13,16 +13,16 @@ use Rattle.sqlite_schema.specs.declared.command.Command.{Command}
 use Rattle.sqlite.proofs.Callers.{IsPlain, command_of, statement_of, runs_as}
 use Rattle.cred_phc.specs.{Values.IsRecord, Values.RecordValue, Text.record_text, Reading.read_record}
 use Rattle.cred_phc.proofs.RecordLaws.{read_back}
-use Rattle.std.proofs.{Common.nat_lt, Common.◌<◌, Common.false, Common.◌||◌, Common.OnOk, Common.IfErr, lemmas.Bool.lt-ltb, lemmas.Bool.le-ltb}
+use Rattle.std.proofs.{Common.nat_lt, Common.◌<◌, Common.false, Common.◌||◌, Common.OnOk, Common.IfErr, Common.IfOk, lemmas.Bool.lt-ltb, lemmas.Bool.le-ltb}
 use Rattle.cred_book.specs.{Accounts.Accounts, Accounts.register_capacity, Calls.EntersWithin, Calls.Shows, Names.is_name, declared.error.BookError.BookError}
 use Rattle.sqlite_catalog.specs.Listing.{IsSound}
-use Rattle.cred_file.specs.Schema.{IsBookSchema, statistics, insert_text, update_text, delete_text, rename_text}
-use Rattle.cred_file.specs.{Table.StandsFor, Table.Tells, Edits.after_edit, Edits.renamed, Edits.PutsEntry}
+use Rattle.cred_file.specs.Schema.{IsBookSchema, book_schema, statistics, insert_text, update_text, delete_text, rename_text}
+use Rattle.cred_file.specs.{Table.StandsFor, Table.IsTextOf, Table.Tells, Edits.after_edit, Edits.renamed, Edits.PutsEntry}
 use Rattle.cred_file.specs.{Keeps.HoldsBook, Keeps.IsTableOf, Keeps.IsRenamable, Keeps.LeavesOnly, Keeps.Keeps, Keeps.IsOrWith, declared.fault.Lost.Lost}
 use Rattle.sqlite_trees.specs.View.{doubt}
 use Rattle.cred_book.specs.declared.error.BookError.TheVariants as error
 use Rattle.cred_file.proofs.Texts.{of_book, insert_is, update_is, delete_is, rename_is, insert_plain, update_plain, delete_plain, rename_plain, matched, deleting, renaming, terms}
-use Rattle.cred_file.proofs.Changes.{does_insert, does_update, does_delete, does_rename}
+use Rattle.cred_file.proofs.Changes.{AreQuiet, does_insert, does_update, does_delete, does_rename}
 
 -- while the store is open, a crash leaves the last commit
 abbrev pub IsSettled : State → Type 0
@@ -45,40 +45,47 @@ module _ (sql : List ℕ) (params : Row) (schema : Schema) (command : Command) (
       let bare = subst IsPlain (sym known) plain in
       subst₂ (λ k t. MayCommit s None k t params db) (ap command_of known ∙ is) (ap (statement_of sql) known) (rw (bare.0, bare.1, append-nil params) at h.2)
 
-  -- from what the statement does to a database
-  module _ (from to : Accounts)
-      (step : (limit : Option ℕ) (mode : Mode) (db after : Database) (text : List ℕ) (tally : Tally) → db.schema ≡ schema → StandsFor (db.trees 0) from → Does limit mode params db text None command (Ok (tally, after))
-      → (after.schema ≡ schema) × StandsFor (after.trees 0) to)
-      (run : (old new : State) (text : List ℕ) (count : ℕ) → Runs old new None command text params count → Writes old new None command text params count)
-      (may_write : (s : State) (text : List ℕ) (db : Trees) → MayCommit s None command text params db → MayWrite s None command text params db)
-      (is_book : IsBookSchema schema) where
-    pub done : (old new : State) (count : ℕ) → IsSettled new → old.now.schema ≡ schema → IsTableOf old from → Executes sql params old new (Ok count) → IsTableOf new to
-    done old new count settled has was h =
-        let kept : (s : Schema) → s ≡ schema → IsBookSchema s = λ s is. subst IsBookSchema (sym is) is_book in
-        let w = run old new _ count (runs_as sql params old new schema has command is plain count h) in
-        let made = step old.step_limit (mode_of old) old.now new.now (statement_of sql (understood schema sql)) w.tally has was.stands w.changed in
-        let committed : new.committed ≡ new.now = w.shown.committed_is ∙ ap (λ b. if b then old.committed else new.now) was.autocommit in
-        record {
-          schema = kept new.now.schema made.0;
-          stands = made.1;
-          sound = w.sound;
-          autocommit = w.shown.mode ∙ was.autocommit;
-          left = λ db may. (to, refl, holds db to new.now (kept new.now.schema made.0) w.sound made.1 (settled db w.shown.is_open may ∙ ap (λ (d : Database). d.trees) committed));
-        }
+-- a statement that makes one book of another
+pub record IsStep (sql : List ℕ) (params : Row) (command : Command) (from to : Accounts) : Type 1 where
+  pub is : (schema : Schema) → IsBookSchema schema → command_of (understood schema sql) ≡ command
+  pub plain : (schema : Schema) → IsBookSchema schema → IsPlain (understood schema sql)
+  pub does : (schema : Schema) → IsBookSchema schema → (limit : Option ℕ) (mode : Mode) (db after : Database) (text : List ℕ) (tally : Tally) → db.schema ≡ schema → StandsFor (db.trees 0) from
+      → Does limit mode params db text None command (Ok (tally, after)) → (after.schema ≡ schema) × StandsFor (after.trees 0) to
+  pub runs : (old new : State) (text : List ℕ) (count : ℕ) → Runs old new None command text params count → Writes old new None command text params count
+  pub writes : (s : State) (text : List ℕ) (db : Trees) → MayCommit s None command text params db → MayWrite s None command text params db
 
-    pub crash : (old new : State) → HasCleanDisk new → Survives old new (CommitsBy sql params old) → old.now.schema ≡ schema → IsTableOf old from → LeavesOnly new (λ b. (b ≡ from) ⊎ (b ≡ to))
-    crash old new clean s has was db may =
-        elim (s.crash clean db may) [
-          | inl before ↦ let l = was.left db before in (l.0, inl l.1, l.2)
-          | inr commits ↦
-              let m = may_write old _ db (commits_as old has db commits) in
-              let made = step old.step_limit (mode_of old) old.now m.2 (statement_of sql (understood schema sql)) m.1 has was.stands m.3 in
-              (to, inr refl, holds db to m.2 (subst IsBookSchema (sym made.0) is_book) m.4 made.1 m.5)
-        ]
+module _ {sql : List ℕ} {params : Row} {command : Command} {from to : Accounts} (it : IsStep sql params command from to) (old new : State) where
+  pub step_done : (count : ℕ) → IsSettled new → IsTableOf old from → Executes sql params old new (Ok count) → IsTableOf new to
+  step_done count settled was h =
+      let w = it.runs old new _ count (runs_as sql params old new old.now.schema refl command (it.is _ was.schema) (it.plain _ was.schema) count h) in
+      let made = it.does old.now.schema was.schema old.step_limit (mode_of old) old.now new.now (statement_of sql (understood old.now.schema sql)) w.tally refl was.stands w.changed in
+      let schema = subst IsBookSchema (sym made.0) was.schema in
+      let committed : new.committed ≡ new.now = w.shown.committed_is ∙ ap (λ b. if b then old.committed else new.now) was.autocommit in
+      record {
+        schema = schema;
+        stands = made.1;
+        sound = w.sound;
+        autocommit = w.shown.mode ∙ was.autocommit;
+        left = λ db may. (to, refl, holds db to new.now schema w.sound made.1 (settled db w.shown.is_open may ∙ ap (λ (d : Database). d.trees) committed));
+      }
+
+  pub step_left : HasCleanDisk new → Survives old new (CommitsBy sql params old) → IsTableOf old from → LeavesOnly new (λ b. (b ≡ from) ⊎ (b ≡ to))
+  step_left clean s was db may =
+      elim (s.crash clean db may) [
+        | inl before ↦ let l = was.left db before in (l.0, inl l.1, l.2)
+        | inr commits ↦
+            let m = it.writes old _ db (commits_as sql params old.now.schema command (it.is _ was.schema) (it.plain _ was.schema) old refl db commits) in
+            let made = it.does old.now.schema was.schema old.step_limit (mode_of old) old.now m.2 (statement_of sql (understood old.now.schema sql)) m.1 refl was.stands m.3 in
+            (to, inr refl, holds db to m.2 (subst IsBookSchema (sym made.0) was.schema) m.4 made.1 m.5)
+      ]
 
 -- a record that is written is told by its text
 pub record_told : (t : List ℕ) (v : RecordValue) → t ≡ record_text v → IsRecord v → Tells (Text t) (Some v)
 record_told t v is ranges = ap read_record is ∙ read_back v ranges
+
+pub text_told : {A E : Type 0} (r : Result A E) (items : A → List ℕ) (v : RecordValue) → IfOk r (λ t. items t ≡ record_text v) → OnOk r (IsRecord v) → IfOk r (λ t. IsTextOf (items t) (Some v))
+text_told (Ok t) items v is ranges = record_told (items t) v is ranges
+text_told (Err e) items v is ranges = tt
 
 -- what is bound for such a value is the value
 pub bound_told : (value : Value) (v : Option RecordValue) → Tells value v → bound_value value ≡ value
@@ -88,98 +95,68 @@ bound_told (Int n) v tells = absurd tells
 bound_told (Real x) v tells = absurd tells
 bound_told (Blob b) v tells = absurd tells
 
-module _ (book : Accounts) (name : List ℕ) (named : IsTrue (is_name name)) (value : Value) (v : Option RecordValue) (tells : Tells value v) (absent : fin.contains_key book name ≡ false) (old new : State) where
-  abbrev entry : Row
-  entry = Text name ∷ value ∷ []
+-- ---- the statements
 
-  abbrev inserting : Command
-  inserting = Insert 0 (Values terms 3)
+insert_may : (source : Source) (params : Row) (s : State) (text : List ℕ) (db : Trees) → MayCommit s None (Insert 0 source) text params db → MayWrite s None (Insert 0 source) text params db
+insert_may source params s text db (inl h) = absurd (elim h.0 [ inl e ↦ cc | inr e ↦ let e = e.2 in cc ])
+insert_may source params s text db (inr h) = h
 
-  insert_may : (s : State) (text : List ℕ) (db : Trees) → MayCommit s None inserting text entry db → MayWrite s None inserting text entry db
-  insert_may s text db (inl h) = absurd (elim h.0 [ inl e ↦ cc | inr e ↦ let e = e.2 in cc ])
-  insert_may s text db (inr h) = h
+update_may : (body : Query) (params : Row) (s : State) (text : List ℕ) (db : Trees) → MayCommit s None (Update 0 (record { lets = []; body = body })) text params db → MayWrite s None (Update 0 (record { lets = []; body = body })) text params db
+update_may body params s text db (inl h) = absurd (elim h.0 [ inl e ↦ cc | inr e ↦ let e = e.2 in cc ])
+update_may body params s text db (inr h) = h
 
-  pub insert_does : (schema : Schema) → IsBookSchema schema → (limit : Option ℕ) (mode : Mode) (db after : Database) (text : List ℕ) (tally : Tally) → db.schema ≡ schema → StandsFor (db.trees 0) book
-      → Does limit mode entry db text None inserting (Ok (tally, after)) → (after.schema ≡ schema) × StandsFor (after.trees 0) (fin.insert book name v)
-  insert_does schema is limit mode db after text tally has stands d =
-      of_book (λ s. db.schema ≡ s → (after.schema ≡ s) × StandsFor (after.trees 0) (fin.insert book name v))
-      (λ has. does_insert [] (λ k d e. refl) limit mode name named value v db after text tally book tells has stands absent d)
-      (λ has. does_insert (statistics ∷ []) (λ k d e. refl) limit mode name named value v db after text tally book tells has stands absent d) schema is has
+delete_may : (body : Query) (params : Row) (s : State) (text : List ℕ) (db : Trees) → MayCommit s None (Delete 0 (record { lets = []; body = body })) text params db → MayWrite s None (Delete 0 (record { lets = []; body = body })) text params db
+delete_may body params s text db (inl h) = absurd (elim h.0 [ inl e ↦ cc | inr e ↦ let e = e.2 in cc ])
+delete_may body params s text db (inr h) = h
 
-  pub inserted : (count : ℕ) → IsSettled new → IsTableOf old book → Executes insert_text entry old new (Ok count) → IsTableOf new (fin.insert book name v)
-  inserted count settled was = done insert_text entry old.now.schema inserting (insert_is _ was.schema) (insert_plain _ was.schema) book (fin.insert book name v) (insert_does _ was.schema) (λ o n t c h. h) insert_may was.schema old new count settled refl was
+-- with the statistics and without them
+by_tables : (P : Schema → Type 0) → ((beside : List Table) → AreQuiet beside → P (book_schema beside)) → (s : Schema) → IsBookSchema s → P s
+by_tables P each = of_book P (each [] (λ k d e. refl)) (each (statistics ∷ []) (λ k d e. refl))
 
-  pub insert_left : HasCleanDisk new → Survives old new (CommitsBy insert_text entry old) → IsTableOf old book → LeavesOnly new (λ b. (b ≡ book) ⊎ (b ≡ fin.insert book name v))
-  insert_left clean s was = crash insert_text entry old.now.schema inserting (insert_is _ was.schema) (insert_plain _ was.schema) book (fin.insert book name v) (insert_does _ was.schema) (λ o n t c h. h) insert_may was.schema old new clean s refl was
+module _ (book : Accounts) (name : List ℕ) where
+  pub insert_step : (value : Value) (v : Option RecordValue) → IsTrue (is_name name) → Tells value v → fin.contains_key book name ≡ false
+      → IsStep insert_text (Text name ∷ value ∷ []) (Insert 0 (Values terms 3)) book (fin.insert book name v)
+  insert_step value v named tells absent = record {
+    is = insert_is;
+    plain = insert_plain;
+    does = λ schema is limit mode db after text tally has stands d. by_tables (λ s. db.schema ≡ s → (after.schema ≡ s) × StandsFor (after.trees 0) (fin.insert book name v))
+        (λ beside quiet has. does_insert beside quiet limit mode name named value v db after text tally book tells has stands absent d) schema is has;
+    runs = λ o n t c h. h;
+    writes = insert_may (Values terms 3) (Text name ∷ value ∷ []);
+  }
 
-module _ (book : Accounts) (name : List ℕ) (value : Value) (v : Option RecordValue) (tells : Tells value v) (there : fin.contains_key book name ≡ true) (old new : State) where
-  abbrev given : Row
-  given = Text name ∷ value ∷ []
+  pub update_step : (value : Value) (v : Option RecordValue) → Tells value v → fin.contains_key book name ≡ true
+      → IsStep update_text (Text name ∷ value ∷ []) (Update 0 (record { lets = []; body = matched })) book (fin.insert book name v)
+  update_step value v tells there = record {
+    is = update_is;
+    plain = update_plain;
+    does = λ schema is limit mode db after text tally has stands d. by_tables (λ s. db.schema ≡ s → (after.schema ≡ s) × StandsFor (after.trees 0) (fin.insert book name v))
+        (λ beside quiet has. does_update beside quiet limit mode name value v db after text tally book tells has stands there d) schema is has;
+    runs = λ o n t c h. h;
+    writes = update_may matched (Text name ∷ value ∷ []);
+  }
 
-  abbrev command : Command
-  command = Update 0 (record { lets = []; body = matched })
+  pub delete_step : fin.contains_key book name ≡ true
+      → IsStep delete_text (Text name ∷ []) (Delete 0 (record { lets = []; body = deleting })) book (fin.remove book name)
+  delete_step there = record {
+    is = delete_is;
+    plain = delete_plain;
+    does = λ schema is limit mode db after text tally has stands d. by_tables (λ s. db.schema ≡ s → (after.schema ≡ s) × StandsFor (after.trees 0) (fin.remove book name))
+        (λ beside quiet has. does_delete beside quiet limit mode name db after text tally book has stands there d) schema is has;
+    runs = λ o n t c h. h;
+    writes = delete_may deleting (Text name ∷ []);
+  }
 
-  update_may : (s : State) (text : List ℕ) (db : Trees) → MayCommit s None command text given db → MayWrite s None command text given db
-  update_may s text db (inl h) = absurd (elim h.0 [ inl e ↦ cc | inr e ↦ let e = e.2 in cc ])
-  update_may s text db (inr h) = h
-
-  pub update_does : (schema : Schema) → IsBookSchema schema → (limit : Option ℕ) (mode : Mode) (db after : Database) (text : List ℕ) (tally : Tally) → db.schema ≡ schema → StandsFor (db.trees 0) book
-      → Does limit mode given db text None command (Ok (tally, after)) → (after.schema ≡ schema) × StandsFor (after.trees 0) (fin.insert book name v)
-  update_does schema is limit mode db after text tally has stands d =
-      of_book (λ s. db.schema ≡ s → (after.schema ≡ s) × StandsFor (after.trees 0) (fin.insert book name v))
-      (λ has. does_update [] (λ k d e. refl) limit mode name value v db after text tally book tells has stands there d)
-      (λ has. does_update (statistics ∷ []) (λ k d e. refl) limit mode name value v db after text tally book tells has stands there d) schema is has
-
-  pub updated : (count : ℕ) → IsSettled new → IsTableOf old book → Executes update_text given old new (Ok count) → IsTableOf new (fin.insert book name v)
-  updated count settled was = done update_text given old.now.schema command (update_is _ was.schema) (update_plain _ was.schema) book (fin.insert book name v) (update_does _ was.schema) (λ o n t c h. h) update_may was.schema old new count settled refl was
-
-  pub update_left : HasCleanDisk new → Survives old new (CommitsBy update_text given old) → IsTableOf old book → LeavesOnly new (λ b. (b ≡ book) ⊎ (b ≡ fin.insert book name v))
-  update_left clean s was = crash update_text given old.now.schema command (update_is _ was.schema) (update_plain _ was.schema) book (fin.insert book name v) (update_does _ was.schema) (λ o n t c h. h) update_may was.schema old new clean s refl was
-
-module _ (book : Accounts) (name : List ℕ) (there : fin.contains_key book name ≡ true) (old new : State) where
-  abbrev removing : Command
-  removing = Delete 0 (record { lets = []; body = deleting })
-
-  delete_may : (s : State) (text : List ℕ) (db : Trees) → MayCommit s None removing text (Text name ∷ []) db → MayWrite s None removing text (Text name ∷ []) db
-  delete_may s text db (inl h) = absurd (elim h.0 [ inl e ↦ cc | inr e ↦ let e = e.2 in cc ])
-  delete_may s text db (inr h) = h
-
-  delete_does : (schema : Schema) → IsBookSchema schema → (limit : Option ℕ) (mode : Mode) (db after : Database) (text : List ℕ) (tally : Tally) → db.schema ≡ schema → StandsFor (db.trees 0) book
-      → Does limit mode (Text name ∷ []) db text None removing (Ok (tally, after)) → (after.schema ≡ schema) × StandsFor (after.trees 0) (fin.remove book name)
-  delete_does schema is limit mode db after text tally has stands d =
-      of_book (λ s. db.schema ≡ s → (after.schema ≡ s) × StandsFor (after.trees 0) (fin.remove book name))
-      (λ has. does_delete [] (λ k d e. refl) limit mode name db after text tally book has stands there d)
-      (λ has. does_delete (statistics ∷ []) (λ k d e. refl) limit mode name db after text tally book has stands there d) schema is has
-
-  pub deleted : (count : ℕ) → IsSettled new → IsTableOf old book → Executes delete_text (Text name ∷ []) old new (Ok count) → IsTableOf new (fin.remove book name)
-  deleted count settled was = done delete_text (Text name ∷ []) old.now.schema removing (delete_is _ was.schema) (delete_plain _ was.schema) book (fin.remove book name) (delete_does _ was.schema) (λ o n t c h. h) delete_may was.schema old new count settled refl was
-
-  pub delete_left : HasCleanDisk new → Survives old new (CommitsBy delete_text (Text name ∷ []) old) → IsTableOf old book → LeavesOnly new (λ b. (b ≡ book) ⊎ (b ≡ fin.remove book name))
-  delete_left clean s was = crash delete_text (Text name ∷ []) old.now.schema removing (delete_is _ was.schema) (delete_plain _ was.schema) book (fin.remove book name) (delete_does _ was.schema) (λ o n t c h. h) delete_may was.schema old new clean s refl was
-
-module _ (book : Accounts) (name other : List ℕ) (named : IsTrue (is_name other)) (fits : IsRenamable name other book) (old new : State) where
-  abbrev params : Row
-  params = Text name ∷ Text other ∷ []
-
-  abbrev changing : Command
-  changing = Update 0 (record { lets = []; body = renaming })
-
-  rename_may : (s : State) (text : List ℕ) (db : Trees) → MayCommit s None changing text params db → MayWrite s None changing text params db
-  rename_may s text db (inl h) = absurd (elim h.0 [ inl e ↦ cc | inr e ↦ let e = e.2 in cc ])
-  rename_may s text db (inr h) = h
-
-  rename_does : (schema : Schema) → IsBookSchema schema → (limit : Option ℕ) (mode : Mode) (db after : Database) (text : List ℕ) (tally : Tally) → db.schema ≡ schema → StandsFor (db.trees 0) book
-      → Does limit mode params db text None changing (Ok (tally, after)) → (after.schema ≡ schema) × StandsFor (after.trees 0) (renamed book name other)
-  rename_does schema is limit mode db after text tally has stands d =
-      of_book (λ s. db.schema ≡ s → (after.schema ≡ s) × StandsFor (after.trees 0) (renamed book name other))
-      (λ has. does_rename [] (λ k d e. refl) limit mode name other named db after text tally book has stands fits.0 fits.1 d)
-      (λ has. does_rename (statistics ∷ []) (λ k d e. refl) limit mode name other named db after text tally book has stands fits.0 fits.1 d) schema is has
-
-  pub row_renamed : (count : ℕ) → IsSettled new → IsTableOf old book → Executes rename_text params old new (Ok count) → IsTableOf new (renamed book name other)
-  row_renamed count settled was = done rename_text params old.now.schema changing (rename_is _ was.schema) (rename_plain _ was.schema) book (renamed book name other) (rename_does _ was.schema) (λ o n t c h. h) rename_may was.schema old new count settled refl was
-
-  pub rename_left : HasCleanDisk new → Survives old new (CommitsBy rename_text params old) → IsTableOf old book → LeavesOnly new (λ b. (b ≡ book) ⊎ (b ≡ renamed book name other))
-  rename_left clean s was = crash rename_text params old.now.schema changing (rename_is _ was.schema) (rename_plain _ was.schema) book (renamed book name other) (rename_does _ was.schema) (λ o n t c h. h) rename_may was.schema old new clean s refl was
+  pub rename_step : (other : List ℕ) → IsTrue (is_name other) → IsRenamable name other book
+      → IsStep rename_text (Text name ∷ Text other ∷ []) (Update 0 (record { lets = []; body = renaming })) book (renamed book name other)
+  rename_step other named fits = record {
+    is = rename_is;
+    plain = rename_plain;
+    does = λ schema is limit mode db after text tally has stands d. by_tables (λ s. db.schema ≡ s → (after.schema ≡ s) × StandsFor (after.trees 0) (renamed book name other))
+        (λ beside quiet has. does_rename beside quiet limit mode name other named db after text tally book has stands fits.0 fits.1 d) schema is has;
+    runs = λ o n t c h. h;
+    writes = update_may renaming (Text name ∷ Text other ∷ []);
+  }
 
 -- ---- what a book in a database keeps true
 
@@ -205,10 +182,6 @@ module _ {S : Type 0} (g : Ghosts S) (old new : Held S) (book : Accounts) (lost 
     table = λ now e. absurd cc;
     left = λ now. does now (keeps.table (early now) none);
   }
-
-pub no_some : {X : Type 0} (o : Option X) → is_some o ≡ false → o ≡ None
-no_some None e = refl
-no_some (Some x) e = absurd cc
 
 pub shown_absent : (book : Accounts) (name : List ℕ) (r : Result (Option RecordValue) BookError) → Shows book name r → is_ok r ≡ false → fin.contains_key book name ≡ false
 shown_absent book name (Ok v) h e = absurd cc

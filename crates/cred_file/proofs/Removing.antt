@@ -1,17 +1,17 @@
 -- What is left of a book where a name is taken out of it or renamed.
 use Rattle.std.proofs.Common.{◌≡◌, ◌≤◌, ◌+◌, ◌-◌, ℕ, List, Bool, true, false, cond, Option, Some, None, is_some, unwrap_or, refl, sym, ap, ◌∙◌, arith}
-use Rattle.std.specs.{Ordering.eq_by_cmp, Ordering.is_eq, declared.cmp.Ordering.Ordering}
-use Rattle.std.specs.declared.cmp.Ordering.TheVariants.{Less, Equal, Greater}
+use Rattle.std.specs.Ordering.{eq_by_cmp}
 use Rattle.std.specs.Cmp.{eq_by_cmp_equiv}
 use Rattle.std.specs.FinMap as fin
 use Rattle.std.specs.{FinMap.len-insert, FinMap.len-remove, FinMap.get-remove, FinMap.get-insert, Cmp.Lexicographic.nat_list_cmp_total}
 use Rattle.cred_phc.specs.Values.{RecordValue}
 use Rattle.cred_book.specs.{Accounts.Accounts, Accounts.register_capacity, Names.name_cmp}
 use Rattle.cred_file.specs.Edits.{renamed}
+use Rattle.cred_file.proofs.TableLemmas.{is_equal, no_some, same_names}
 
--- only equal names tie
-same_names : fin.IsAntisymmetric name_cmp
-same_names = fin.slice_cmp-IsAntisymmetric fin.nat_cmp-IsAntisymmetric
+-- a book has one record at names that tie
+tied : (book : Accounts) (key q : List ℕ) → eq_by_cmp name_cmp q key ≡ true → fin.get book q ≡ fin.get book key
+tied book key q e = fin.get_tied nat_list_cmp_total book key q (is_equal _ (sym ((eq_by_cmp_equiv nat_list_cmp_total).symm q key) ∙ e))
 
 less : (b : Bool) (n m : ℕ) → m ≡ cond b (n - 1) n → n ≤ register_capacity → m ≤ register_capacity
 less true n m e low = omega (arith, e, low)
@@ -49,39 +49,19 @@ renamed_is book name other stored is absent = fin.same_map nat_list_cmp_total sa
     ties : List ℕ → List ℕ → Bool
     ties key q = eq_by_cmp name_cmp q key
 
-    nothing : (o : Option (Option RecordValue)) → is_some o ≡ false → o ≡ None
-    nothing None e = refl
-    nothing (Some v) e = absurd cc
-
-    equal : (r : Ordering) → is_eq r ≡ true → r ≡ Equal
-    equal Less e = absurd cc
-    equal Equal e = refl
-    equal Greater e = absurd cc
-
-    tied : (key q : List ℕ) → ties key q ≡ true → fin.get book q ≡ fin.get book key
-    tied key q e = fin.get_tied nat_list_cmp_total book key q (equal _ (sym ((eq_by_cmp_equiv nat_list_cmp_total).symm q key) ∙ e))
-
     swapped : (q : List ℕ) (a b : Bool) → ties name q ≡ a → ties other q ≡ b → cond a None (cond b (Some stored) (fin.get book q)) ≡ cond b (Some stored) (cond a None (fin.get book q))
     swapped q false b e f = refl
     swapped q true false e f = refl
-    swapped q true true e f = absurd (let both = sym is ∙ sym (tied name q e) ∙ tied other q f ∙ nothing _ absent in cc)
+    swapped q true true e f = absurd (let both = sym is ∙ sym (tied book name q e) ∙ tied book other q f ∙ no_some _ absent in cc)
 
 -- where the name was, there is none
 pub gone : (book : Accounts) (name other : List ℕ) → fin.contains_key book name ≡ true → fin.contains_key book other ≡ false → fin.contains_key (renamed book name other) name ≡ false
 gone book name other there absent =
     ap is_some (get-insert nat_list_cmp_total (fin.remove book name) other _ name ∙ by_tie (eq_by_cmp name_cmp name other) refl)
   where
-    equal : (r : Ordering) → is_eq r ≡ true → r ≡ Equal
-    equal Less e = absurd cc
-    equal Equal e = refl
-    equal Greater e = absurd cc
-
-    tied : eq_by_cmp name_cmp name other ≡ true → fin.get book name ≡ fin.get book other
-    tied e = fin.get_tied nat_list_cmp_total book other name (equal _ (sym ((eq_by_cmp_equiv nat_list_cmp_total).symm name other) ∙ e))
-
     none_there : fin.get (fin.remove book name) name ≡ None
     none_there = get-remove nat_list_cmp_total book name name ∙ ap (λ b. cond b None (fin.get book name)) ((eq_by_cmp_equiv nat_list_cmp_total).refl name)
 
     by_tie : (b : Bool) → eq_by_cmp name_cmp name other ≡ b → cond b (Some (unwrap_or (fin.get book name) None)) (fin.get (fin.remove book name) name) ≡ None
     by_tie false e = none_there
-    by_tie true e = absurd (let both = sym there ∙ ap is_some (tied e) ∙ absent in cc)
+    by_tie true e = absurd (let both = sym there ∙ ap is_some (tied book other name e) ∙ absent in cc)

@@ -58,9 +58,6 @@ as_before old new same = record { now = same.0.now_is; committed = same.0.commit
 pub nothing_yet : (s : State) → IsAsBefore s s
 nothing_yet s = record { now = refl; committed = refl; mode = refl; is_open = refl }
 
-pub survives_nothing : (s : State) → Survives s s (λ _. ⊥)
-survives_nothing s = record { clean = omega arith; shield = λ h. h; counts = omega arith; limit = refl; closes = λ clean h. inl h; crash = λ clean db may. inl may }
-
 -- a sound database at rest, whose table stands for the book
 pub is_table : (s : State) (book : Accounts) → IsSettled s → IsTrue s.is_open → s.in_transaction ≡ false → s.now ≡ s.committed → IsDatabase s.now → IsBookSchema s.now.schema
     → StandsFor (s.now.trees 0) book → IsTableOf s book

@@ -16,15 +16,20 @@ use Rattle.cred_file.specs.Table.{Line, Says, entry_of, has_id, has_name, AreApa
 
 -- ---- tests
 
+-- only equal names tie
+pub same_names : fin.IsAntisymmetric name_cmp
+same_names = slice_cmp-IsAntisymmetric nat_cmp-IsAntisymmetric
+
+pub no_some : {X : Type 0} (o : Option X) → is_some o ≡ false → o ≡ None
+no_some None e = refl
+no_some (Some x) e = absurd cc
+
 pub or_false : (a b : Bool) → (a || b) ≡ false → (a ≡ false) × (b ≡ false)
 or_false true b e = absurd cc
 or_false false b e = (refl, e)
 
 pub or_both : (a b : Bool) → a ≡ false → b ≡ false → (a || b) ≡ false
 or_both a b p q = rw (p, q)
-
-equal_eq : (o : Ordering) → is_eq o ≡ false → o ≡ Equal → ⊥
-equal_eq o e same = let e' = subst (λ o. is_eq o ≡ false) same e in cc
 
 pub id_symm : (a b : ℤ) → is_eq (value_cmp (Int a) (Int b)) ≡ is_eq (value_cmp (Int b) (Int a))
 id_symm a b = (eq_by_cmp_equiv value_cmp_total).symm (Int a) (Int b)
@@ -134,13 +139,13 @@ stands_put rows book row new says s free absent =
       lines = put_line new s.lines;
       each = each_put row new says rows s.lines s.each;
       apart = apart_put new s.lines ids names s.apart;
-      book_is = same_map nat_list_cmp_total (slice_cmp-IsAntisymmetric nat_cmp-IsAntisymmetric) _ _ (λ q. get-from_entries nat_list_cmp_total _ q ∙ find_put new s.lines q ids names
+      book_is = same_map nat_list_cmp_total same_names _ _ (λ q. get-from_entries nat_list_cmp_total _ q ∙ find_put new s.lines q ids names
           ∙ sym (get-insert nat_list_cmp_total book new.name new.stored q ∙ ap (λ b. cond (eq_by_cmp name_cmp q new.name) (Some new.stored) (fin.get b q)) (sym s.book_is) ∙ ap (cond (eq_by_cmp name_cmp q new.name) (Some new.stored)) (get-from_entries nat_list_cmp_total (map entry_of s.lines) q)));
     }
 
 -- ---- a line less
 
-is_equal : (o : Ordering) → is_eq o ≡ true → o ≡ Equal
+pub is_equal : (o : Ordering) → is_eq o ≡ true → o ≡ Equal
 is_equal Less e = absurd cc
 is_equal Equal e = refl
 is_equal Greater e = absurd cc
@@ -195,7 +200,7 @@ none_dropped id (r ∷ rows) (l ∷ ls) all e =
     ap (λ b. cond (not b) (r ∷ without_rowid id rows) (without_rowid id rows)) (ap (λ v. is_eq (value_cmp v (Int id))) all.0.id ∙ parts.0) ∙ ap (λ rs. r ∷ rs) (none_dropped id rows ls all.1 parts.1)
 
 pub same_name : (a b : List ℕ) → eq_by_cmp name_cmp a b ≡ true → a ≡ b
-same_name a b e = slice_cmp-IsAntisymmetric nat_cmp-IsAntisymmetric a b (is_equal (name_cmp a b) e)
+same_name a b e = same_names a b (is_equal (name_cmp a b) e)
 
 -- the row is the one that the test finds, and dropping its rowid drops the line with the name
 pub record IsRowOf (test : Row → Bool) (name : List ℕ) (rows : List Row) (ls : List Line) (r : Row) (l : Line) : Type 0 where
@@ -262,7 +267,7 @@ stands_without test rows book name s r l is = record {
   lines = without name s.lines;
   each = is.dropped;
   apart = apart_less name s.lines s.apart;
-  book_is = same_map nat_list_cmp_total (slice_cmp-IsAntisymmetric nat_cmp-IsAntisymmetric) _ _ (λ q. get-from_entries nat_list_cmp_total _ q ∙ ap (fin.find name_cmp q) (find_less name s.lines)
+  book_is = same_map nat_list_cmp_total same_names _ _ (λ q. get-from_entries nat_list_cmp_total _ q ∙ ap (fin.find name_cmp q) (find_less name s.lines)
       ∙ find-where_key name_cmp (λ x. not (eq_by_cmp name_cmp name x)) q (λ x t. ap not ((eq_by_cmp_equiv nat_list_cmp_total).symm name x ∙ tied q x name t ∙ (eq_by_cmp_equiv nat_list_cmp_total).symm q name)) (map entry_of s.lines)
       ∙ turned (eq_by_cmp name_cmp name q) _ _ ∙ ap (λ b. cond b None (fin.find name_cmp q (map entry_of s.lines))) (name_symm name q)
       ∙ sym (get-remove nat_list_cmp_total book name q ∙ ap (λ b. cond (eq_by_cmp name_cmp q name) None (fin.get b q)) (sym s.book_is) ∙ ap (cond (eq_by_cmp name_cmp q name) None) (get-from_entries nat_list_cmp_total (map entry_of s.lines) q)));
@@ -270,7 +275,7 @@ stands_without test rows book name s r l is = record {
 
 -- to take an entry out and put one there is to put it
 pub insert_again : (book : Accounts) (name : List ℕ) (v : Option RecordValue) → fin.insert (fin.remove book name) name v ≡ fin.insert book name v
-insert_again book name v = same_map nat_list_cmp_total (slice_cmp-IsAntisymmetric nat_cmp-IsAntisymmetric) _ _ (λ q.
+insert_again book name v = same_map nat_list_cmp_total same_names _ _ (λ q.
     get-insert nat_list_cmp_total _ name v q ∙ ap (cond (eq_by_cmp name_cmp q name) (Some v)) (get-remove nat_list_cmp_total book name q)
     ∙ twice (eq_by_cmp name_cmp q name) _ _ _ ∙ sym (get-insert nat_list_cmp_total book name v q))
 

@@ -61,17 +61,7 @@ unfolding understood everything
 insert_plain = of_book (λ s. IsPlain (understood s insert_text)) (refl, refl) (refl, refl)
 
 abbrev pub all_rows : Query
-all_rows = record {
-  from = inner 0 end;
-  filter = [];
-  group = None;
-  project = col 1 0 ∷ col 1 1 ∷ col 1 2 ∷ [];
-  distinct = false;
-  collations = [];
-  order = [];
-  limit = lit (Int (negsuc 0));
-  offset = lit (Int (pos 0));
-}
+all_rows = record matched { filter = []; project = col 1 0 ∷ col 1 1 ∷ col 1 2 ∷ [] }
 
 pub rows_is : (s : Schema) → IsBookSchema s → command_of (understood s rows_text) ≡ Select (record { lets = []; body = all_rows }) (codes "rowid" ∷ codes "name" ∷ codes "record" ∷ [])
 unfolding understood everything
@@ -94,17 +84,7 @@ unfolding understood everything
 update_plain = of_book (λ s. IsPlain (understood s update_text)) (refl, refl) (refl, refl)
 
 abbrev pub deleting : Query
-deleting = record {
-  from = inner 0 end;
-  filter = op2 (Compare Eq Binary) (col 1 1) (col 0 0) ∷ [];
-  group = None;
-  project = col 1 0 ∷ [];
-  distinct = false;
-  collations = [];
-  order = [];
-  limit = lit (Int (negsuc 0));
-  offset = lit (Int (pos 0));
-}
+deleting = record matched { project = col 1 0 ∷ [] }
 
 pub delete_is : (s : Schema) → IsBookSchema s → command_of (understood s delete_text) ≡ Delete 0 (record { lets = []; body = deleting })
 unfolding understood everything
@@ -115,17 +95,7 @@ unfolding understood everything
 delete_plain = of_book (λ s. IsPlain (understood s delete_text)) (refl, refl) (refl, refl)
 
 abbrev pub renaming : Query
-renaming = record {
-  from = inner 0 end;
-  filter = op2 (Compare Eq Binary) (col 1 1) (col 0 0) ∷ [];
-  group = None;
-  project = col 1 0 ∷ col 1 0 ∷ col 0 1 ∷ col 1 2 ∷ [];
-  distinct = false;
-  collations = [];
-  order = [];
-  limit = lit (Int (negsuc 0));
-  offset = lit (Int (pos 0));
-}
+renaming = record matched { project = col 1 0 ∷ col 1 0 ∷ col 0 1 ∷ col 1 2 ∷ [] }
 
 pub rename_is : (s : Schema) → IsBookSchema s → command_of (understood s rename_text) ≡ Update 0 (record { lets = []; body = renaming })
 unfolding understood everything

@@ -1,17 +1,14 @@
 -- What happens to the table within a transaction, and as it is committed.
-use Rattle.std.proofs.Common.{◌≡◌, ◌⊎◌, inl, inr, ℕ, List, ◌∷◌, [], true, false, Option, OnErr, OnOk, Ok, Err, Result, IsTrue, refl, sym, ap, subst, ◌∙◌}
-use Rattle.std.specs.FinMap as fin
-use Rattle.sqlite.specs.{declared.types.Value.Value, declared.types.Value.TheVariants.Text, Tree.Trees, Command.TheVariants.Insert, Command.TheVariants.Update}
-use Rattle.sqlite.specs.{Source.TheVariants.Values, Effect.Database, Listing.understood}
+use Rattle.std.proofs.Common.{◌≡◌, ◌⊎◌, inl, inr, ℕ, List, true, false, OnErr, OnOk, Ok, Err, Result, refl, sym, ap, subst, ◌∙◌}
+use Rattle.sqlite.specs.{Order.Row, Tree.Trees, Effect.Database, Listing.understood}
+use Rattle.sqlite_schema.specs.declared.command.Command.{Command}
 use Rattle.sqlite.specs.{State.State, State.HasCleanDisk, State.Survives, State.Executes, State.Shows, State.mode_of, Held.Held, Held.state, Store.Ghosts}
 use Rattle.sqlite.proofs.Callers.{runs_as, statement_of}
 use Rattle.sqlite_catalog.specs.Listing.{IsSound}
-use Rattle.cred_phc.specs.Values.{RecordValue}
-use Rattle.cred_book.specs.{Accounts.Accounts, Names.is_name}
-use Rattle.cred_file.specs.{Schema.IsBookSchema, Schema.insert_text, Schema.update_text, Table.StandsFor, Table.Tells, Keeps.IsTableOf, Keeps.LeavesOnly}
+use Rattle.cred_book.specs.{Accounts.Accounts}
+use Rattle.cred_file.specs.{Schema.IsBookSchema, Table.StandsFor, Keeps.IsTableOf, Keeps.LeavesOnly}
 use Rattle.cred_file.specs.Together.{IsUnderWay}
-use Rattle.cred_file.proofs.Texts.{insert_is, insert_plain, matched, terms, update_is, update_plain}
-use Rattle.cred_file.proofs.Keeping.{IsSettled, holds, insert_does, update_does}
+use Rattle.cred_file.proofs.Keeping.{IsSettled, IsStep, holds}
 
 -- nothing is committed until the commit
 pub still : (old new : State) (P : Accounts → Type 0) → HasCleanDisk new → Survives old new (λ _. ⊥) → LeavesOnly old P → LeavesOnly new P
@@ -20,33 +17,19 @@ still old new P clean s was db may = elim (s.crash clean db may) [ inl before �
 pub begun : {S : Type 0} (g : Ghosts S) (conn : Held S) (book : Accounts) → IsTableOf (state g conn) book → IsUnderWay (state g (record conn { in_transaction = true })) book book
 begun g conn book was = record { schema = was.schema; stands = was.stands; sound = was.sound; inside = refl; left = was.left }
 
--- a row is added
-pub inserted_within : (book : Accounts) (name : List ℕ) (value : Value) (v : Option RecordValue) → Tells value v → (old new : State) (first : Accounts) (count : ℕ) → HasCleanDisk new → Survives old new (λ _. ⊥)
-    → IsUnderWay old first book → IsTrue (is_name name) → fin.contains_key book name ≡ false → Executes insert_text (Text name ∷ value ∷ []) old new (Ok count) → IsUnderWay new first (fin.insert book name v)
-inserted_within book name value v tells old new first count clean s was named absent h =
-    let w = runs_as insert_text (Text name ∷ value ∷ []) old new old.now.schema refl (Insert 0 (Values terms 3)) (insert_is _ was.schema) (insert_plain _ was.schema) count h in
-    let made = insert_does book name named value v tells absent old new old.now.schema was.schema old.step_limit (mode_of old) old.now new.now (statement_of insert_text (understood old.now.schema insert_text)) w.tally refl was.stands w.changed in
-    record {
-      schema = subst IsBookSchema (sym made.0) was.schema;
-      stands = made.1;
-      sound = w.sound;
-      inside = w.shown.mode ∙ was.inside;
-      left = still old new _ clean s was.left;
-    }
-
--- a row has another record
-pub updated_within : (book : Accounts) (name : List ℕ) (value : Value) (v : Option RecordValue) → Tells value v → (old new : State) (first : Accounts) (count : ℕ) → HasCleanDisk new → Survives old new (λ _. ⊥)
-    → IsUnderWay old first book → fin.contains_key book name ≡ true → Executes update_text (Text name ∷ value ∷ []) old new (Ok count) → IsUnderWay new first (fin.insert book name v)
-updated_within book name value v tells old new first count clean s was there h =
-    let w = runs_as update_text (Text name ∷ value ∷ []) old new old.now.schema refl (Update 0 (record { lets = []; body = matched })) (update_is _ was.schema) (update_plain _ was.schema) count h in
-    let made = update_does book name value v tells there old new old.now.schema was.schema old.step_limit (mode_of old) old.now new.now (statement_of update_text (understood old.now.schema update_text)) w.tally refl was.stands w.changed in
-    record {
-      schema = subst IsBookSchema (sym made.0) was.schema;
-      stands = made.1;
-      sound = w.sound;
-      inside = w.shown.mode ∙ was.inside;
-      left = still old new _ clean s was.left;
-    }
+-- a statement that makes one book of another
+module _ {sql : List ℕ} {params : Row} {command : Command} {from to : Accounts} (it : IsStep sql params command from to) (old new : State) (first : Accounts) where
+  pub within : (count : ℕ) → HasCleanDisk new → Survives old new (λ _. ⊥) → IsUnderWay old first from → Executes sql params old new (Ok count) → IsUnderWay new first to
+  within count clean s was h =
+      let w = it.runs old new _ count (runs_as sql params old new old.now.schema refl command (it.is _ was.schema) (it.plain _ was.schema) count h) in
+      let made = it.does old.now.schema was.schema old.step_limit (mode_of old) old.now new.now (statement_of sql (understood old.now.schema sql)) w.tally refl was.stands w.changed in
+      record {
+        schema = subst IsBookSchema (sym made.0) was.schema;
+        stands = made.1;
+        sound = w.sound;
+        inside = w.shown.mode ∙ was.inside;
+        left = still old new _ clean s was.left;
+      }
 
 -- ---- the commit
 

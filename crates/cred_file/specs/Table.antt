@@ -20,6 +20,11 @@ Tells Null None = ⊤
 Tells (Text t) (Some v) = read_record t ≡ Ok v
 Tells _ _ = ⊥
 
+-- the text of a record; of none, any
+abbrev pub IsTextOf : List ℕ → Option RecordValue → Type 0
+IsTextOf t None = ⊤
+IsTextOf t (Some v) = read_record t ≡ Ok v
+
 pub record Says (row : Row) (l : Line) : Type 0 where
   pub id : column row 0 ≡ Int l.id
   pub name : column row 1 ≡ Text l.name

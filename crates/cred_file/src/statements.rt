@@ -7,7 +7,7 @@ ghost use Rattle.cred_book.specs.Accounts.{register_capacity};
 ghost use Rattle.cred_file.specs.{Edits.renamed, Failures.FailsToDelete, Failures.FailsToPut, Failures.FailsToRename, Failures.Refuses};
 ghost use Rattle.cred_file.specs.Schema.{IsBookSchema, create_text, no_schema};
 ghost use Rattle.cred_file.specs.Keeps.{Has, IsRenamable, IsTableOf, Lacks, Makes, MayBegin, MayMake};
-ghost use Rattle.cred_file.specs.{Table.StandsFor, Table.Tells, Opening.IsFound, Opening.IsUnopened};
+ghost use Rattle.cred_file.specs.{Table.IsTextOf, Table.StandsFor, Table.Tells, Opening.IsFound, Opening.IsUnopened};
 ghost use Rattle.sqlite.specs.{State.HasCleanDisk, State.IsUnchanged, State.Survives, Held.state};
 ghost use Rattle.sqlite_value.specs.Value.{owned};
 ghost use Rattle.sqlite_trees.specs.View.{doubt};
@@ -15,9 +15,31 @@ ghost use Rattle.sqlite_trees.specs.View.{doubt};
 use crate::fault::OpenFault;
 use crate::reading::Draft;
 use cred_book::{Name, Register};
+use cred_phc::{PhcError, Record, write_record};
 use sqlite::types::ValueRef;
 use sqlite::{Alter, Connection, Error};
 use std::alloc::Global;
+
+/// The text of a record, for its row; of none, an empty one.
+pub(crate) fn text_of(alloc: Global, stored: &Option<Record>) -> Result<Vec<u8>, PhcError>
+    ensures { IfOk result (λ text. IsTextOf text.items stored.now) }
+{
+    match stored {
+        None => Ok(Vec::new(alloc)),
+        Some(it) => write_record(alloc, it),
+    }
+}
+
+/// What stands in the row: the text, or NULL for no record.
+pub(crate) fn value_of<'a>(text: &'a [u8], stored: &Option<Record>) -> ValueRef<'a>
+    requires { IsTextOf text.now stored.now }
+    ensures { Tells (owned result) stored.now }
+{
+    match stored {
+        None => ValueRef::Null,
+        Some(_) => ValueRef::Text(text),
+    }
+}
 
 /// Adds the row of a name that doesn't exist, with a record's text or NULL.
 pub(crate) fn insert_row<S: Alter>(

@@ -9,8 +9,9 @@ ghost use Rattle.sqlite.specs.{State.HasCleanDisk, State.Shows, State.Survives, 
 ghost use Rattle.sqlite_value.specs.Value.{owned};
 ghost use Rattle.sqlite_trees.specs.View.{doubt};
 
+use crate::statements::{text_of, value_of};
 use cred_book::{Name, Register};
-use cred_phc::{Record, write_record};
+use cred_phc::Record;
 use sqlite::types::ValueRef;
 use sqlite::{Alter, Connection, Error, ErrorCode, Transaction};
 use std::alloc::Global;
@@ -137,6 +138,7 @@ fn enter_one<S: Alter>(
     }
 }
 
+/// Adds the row of a name that doesn't exist, with a record or none.
 fn insert_stored<S: Alter>(
     alloc: Global,
     tx: &mut Transaction<'_, S>,
@@ -150,34 +152,12 @@ fn insert_stored<S: Alter>(
     ensures survives { Survives (state S.Store tx.old.conn.now)
         (state S.Store tx.new.conn.now) (λ _. ⊥) }
 {
-    match stored {
-        None => insert_within(tx, name, ValueRef::Null),
-        Some(it) => {
-            let Ok(text) = write_record(alloc, it) else {
-                return Err(out_of_memory());
-            };
-            insert_within(tx, name, ValueRef::Text(&text))
-        }
-    }
-}
-
-/// Adds the row of a name that doesn't exist, with a record's text or NULL.
-fn insert_within<S: Alter>(
-    tx: &mut Transaction<'_, S>,
-    name: &Name,
-    value: ValueRef<'_>,
-) -> Result<(), Error>
-    ensures same_reference { tx.new.conn.ghost_name ≡ tx.old.conn.ghost_name }
-    ensures entered { HasCleanDisk (state S.Store tx.new.conn.now) → OnOk result
-        ((v : Option RecordValue) → Tells (owned value.entry) v
-        → MakesWithin (state S.Store tx.old.conn.now) (state S.Store tx.new.conn.now)
-        (Lacks name.now) (λ b. fin.insert b name.now v)) }
-    ensures survives { Survives (state S.Store tx.old.conn.now)
-        (state S.Store tx.new.conn.now) (λ _. ⊥) }
-{
+    let Ok(text) = text_of(alloc, stored) else {
+        return Err(out_of_memory());
+    };
     tx.execute(
         "INSERT INTO account (name, record) VALUES (?1, ?2)",
-        &[ValueRef::Text(name.bytes()), value],
+        &[ValueRef::Text(name.bytes()), value_of(&text, stored)],
     )?;
     Ok(())
 }
@@ -201,6 +181,7 @@ fn update_each<S: Alter>(
     Ok(())
 }
 
+/// Puts a record, or none, in the row of an existing name.
 fn update_stored<S: Alter>(
     alloc: Global,
     tx: &mut Transaction<'_, S>,
@@ -214,34 +195,12 @@ fn update_stored<S: Alter>(
     ensures survives { Survives (state S.Store tx.old.conn.now)
         (state S.Store tx.new.conn.now) (λ _. ⊥) }
 {
-    match stored {
-        None => update_within(tx, name, ValueRef::Null),
-        Some(it) => {
-            let Ok(text) = write_record(alloc, it) else {
-                return Err(out_of_memory());
-            };
-            update_within(tx, name, ValueRef::Text(&text))
-        }
-    }
-}
-
-/// Puts a record's text, or NULL, in the row of an existing name.
-fn update_within<S: Alter>(
-    tx: &mut Transaction<'_, S>,
-    name: &Name,
-    value: ValueRef<'_>,
-) -> Result<(), Error>
-    ensures same_reference { tx.new.conn.ghost_name ≡ tx.old.conn.ghost_name }
-    ensures updated { HasCleanDisk (state S.Store tx.new.conn.now) → OnOk result
-        ((v : Option RecordValue) → Tells (owned value.entry) v
-        → MakesWithin (state S.Store tx.old.conn.now) (state S.Store tx.new.conn.now)
-        (Has name.now) (λ b. fin.insert b name.now v)) }
-    ensures survives { Survives (state S.Store tx.old.conn.now)
-        (state S.Store tx.new.conn.now) (λ _. ⊥) }
-{
+    let Ok(text) = text_of(alloc, stored) else {
+        return Err(out_of_memory());
+    };
     tx.execute(
         "UPDATE account SET record = ?2 WHERE name = ?1",
-        &[ValueRef::Text(name.bytes()), value],
+        &[ValueRef::Text(name.bytes()), value_of(&text, stored)],
     )?;
     Ok(())
 }

@@ -6,17 +6,15 @@ ghost use Rattle.std.specs.FinMap as fin;
 ghost use Rattle.cred_book.specs.{Accounts.register_capacity, Calls.AdmitsWithin, Calls.EntersWithin, Calls.Loads, Commits.Commits, Commits.judgement};
 ghost use Rattle.cred_book.specs.Works.{name_of};
 ghost use Rattle.cred_file.specs.Edits.{Deletes, PutsEntry, Renames};
-ghost use Rattle.cred_file.specs.{Failures.FailsToDelete, Failures.FailsToPut, Failures.FailsToRename, Failures.Loses, Failures.Remembers, Table.Tells};
+ghost use Rattle.cred_file.specs.{Failures.FailsToDelete, Failures.FailsToPut, Failures.FailsToRename, Failures.Loses, Failures.Remembers};
 ghost use Rattle.cred_file.specs.declared.fault.Edit.TheVariants as Edit;
-ghost use Rattle.sqlite_value.specs.Value.{owned};
 
 use super::FileBook;
 use crate::fault::{Edit, Lost};
-use crate::statements::{delete_row, insert_row, rename_row, update_row};
+use crate::statements::{delete_row, insert_row, rename_row, text_of, update_row, value_of};
 use cred_book::{BookError, Name, Reply, Worked};
-use cred_phc::{Record, write_record};
+use cred_phc::Record;
 use sqlite::Alter;
-use sqlite::types::ValueRef;
 
 impl<S: Alter> FileBook<S> {
     /// Adds a name, with no record.
@@ -182,41 +180,18 @@ impl<S: Alter> FileBook<S> {
         if self.lost.is_some() {
             return Err(BookError::Memory);
         }
-        match &stored {
-            None => self.enter_value(&name, &stored, ValueRef::Null),
-            Some(it) => {
-                let Ok(text) = write_record(self.alloc, it) else {
-                    return Err(BookError::Memory);
-                };
-                self.enter_value(&name, &stored, ValueRef::Text(&text))
-            }
-        }
-    }
-
-    /// Adds a name in the book, and then its row. `value` tells the record, or none.
-    fn enter_value(
-        &mut self,
-        name: &Name,
-        stored: &Option<Record>,
-        value: ValueRef<'_>,
-    ) -> Result<(), BookError>
-        requires none { self.old.lost ≡ None }
-        requires value { Tells (owned value) stored.now }
-        ensures done { EntersWithin register_capacity self.old.book self.new.book name.now
-            stored.now result }
-        ensures remembers { Remembers (Edit.Put name.now stored.now)
-            (FailsToPut S.Store self.old.conn self.new.conn false name.now stored.now)
-            self.old self.new result }
-    {
-        match self.book.enter(*name, *stored) {
+        let Ok(text) = text_of(self.alloc, &stored) else {
+            return Err(BookError::Memory);
+        };
+        match self.book.enter(name, stored) {
             Ok(()) => {}
             Err(refusal) => return Err(refusal),
         }
-        match insert_row(&mut self.conn, name, value) {
+        match insert_row(&mut self.conn, &name, value_of(&text, &stored)) {
             Ok(()) => Ok(()),
             Err(error) => {
-                self.book.remove(name);
-                self.lost = Some(Lost::put(error, *name, *stored));
+                self.book.remove(&name);
+                self.lost = Some(Lost::put(error, name, stored));
                 Err(BookError::Memory)
             }
         }
@@ -235,36 +210,10 @@ impl<S: Alter> FileBook<S> {
         if self.lost.is_some() {
             return Err(BookError::Memory);
         }
-        match &stored {
-            None => self.replace_value(name, stored, ValueRef::Null),
-            Some(it) => {
-                let Ok(text) = write_record(self.alloc, it) else {
-                    return Err(BookError::Memory);
-                };
-                self.replace_value(name, stored, ValueRef::Text(&text))
-            }
-        }
-    }
-
-    /// Puts a record, or none, in the row of an existing name, and then in the book. `value`
-    /// tells it.
-    fn replace_value(
-        &mut self,
-        name: &Name,
-        stored: Option<Record>,
-        value: ValueRef<'_>,
-    ) -> Result<(), BookError>
-        requires there { fin.contains_key self.old.book name.now ≡ true }
-        requires none { self.old.lost ≡ None }
-        requires value { Tells (owned value) stored }
-        ensures done { OnOk result (self.new.book ≡ fin.insert self.old.book name.now stored) }
-        ensures memory { IfErr result (λ e.
-            (e ≡ BookError.Memory) × (self.new.book ≡ self.old.book)) }
-        ensures remembers { Remembers (Edit.Put name.now stored)
-            (FailsToPut S.Store self.old.conn self.new.conn true name.now stored)
-            self.old self.new result }
-    {
-        match update_row(&mut self.conn, name, value) {
+        let Ok(text) = text_of(self.alloc, &stored) else {
+            return Err(BookError::Memory);
+        };
+        match update_row(&mut self.conn, name, value_of(&text, &stored)) {
             Ok(()) => {
                 self.book.replace(name, stored);
                 Ok(())

@@ -2,21 +2,21 @@ use Rattle.std.proofs.Common.{rules, true}
 use Rattle.sqlite.specs.Held.{state}
 use Rattle.sqlite_value.specs.Value.{owned}
 use Rattle.cred_file.specs.Failures.{FailsToPut}
-use Rattle.cred_file.proofs.Keeping.{bound_told, updated, update_left}
+use Rattle.cred_file.proofs.Keeping.{bound_told, step_done, step_left, update_step}
 use Rattle.cred_file.proofs.statements.update_row.Goals as goal
 
 pub returns-in_err-execute-clause-left : goal.returns-in_err-execute-clause-left
 returns-in_err-execute-clause-left g c clean v tells book there was =
-    update_left book c.args.name.now (owned c.args.value) v tells there (state g.S.Store c.args.conn.now) (state g.S.Store c.execute.new.self) clean (rw (c.bytes.ensures.value, bound_told (owned c.args.value) v tells) at c.execute.ensures.survives) was
+    step_left (update_step book c.args.name.now (owned c.args.value) v tells there) (state g.S.Store c.args.conn.now) (state g.S.Store c.execute.new.self) clean (rw (c.bytes.ensures.value, bound_told (owned c.args.value) v tells) at c.execute.ensures.survives) was
 
 pub returns-clause-updated : goal.returns-clause-updated
 returns-clause-updated g c clean v tells book there was =
-    updated book c.args.name.now (owned c.args.value) v tells there (state g.S.Store c.args.conn.now) (state g.S.Store c.execute.new.self) c.in_ok-execute.field-0
+    step_done (update_step book c.args.name.now (owned c.args.value) v tells there) (state g.S.Store c.args.conn.now) (state g.S.Store c.execute.new.self) c.in_ok-execute.field-0
     (g.met.S.Store.settled c.execute.new.self.store) was (rw (c.bytes.ensures.value, bound_told (owned c.args.value) v tells) at (c.in_ok-execute.ensures.runs clean))
 
 pub returns-clause-left : goal.returns-clause-left
 returns-clause-left g c clean v tells book there was =
-    update_left book c.args.name.now (owned c.args.value) v tells there (state g.S.Store c.args.conn.now) (state g.S.Store c.execute.new.self) clean (rw (c.bytes.ensures.value, bound_told (owned c.args.value) v tells) at c.execute.ensures.survives) was
+    step_left (update_step book c.args.name.now (owned c.args.value) v tells there) (state g.S.Store c.args.conn.now) (state g.S.Store c.execute.new.self) clean (rw (c.bytes.ensures.value, bound_told (owned c.args.value) v tells) at c.execute.ensures.survives) was
 
 pub returns-in_err-execute-clause-refused : goal.returns-in_err-execute-clause-refused
 returns-in_err-execute-clause-refused g c v tells =

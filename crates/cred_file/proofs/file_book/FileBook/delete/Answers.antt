@@ -1,7 +1,8 @@
 use Rattle.std.proofs.Common.{Some, sym, subst}
 use Rattle.std.specs.FinMap as fin
 use Rattle.cred_file.specs.{declared.fault.Edit.TheVariants.Delete, Keeps.Keeps}
-use Rattle.cred_file.proofs.{Keeping.keeps_done, Keeping.keeps_lost, Keeping.fits, Keeping.no_some, Keeping.shown_there, Removing.len_less}
+use Rattle.cred_file.proofs.{Keeping.keeps_done, Keeping.keeps_lost, Keeping.fits, Keeping.shown_there, Removing.len_less}
+use Rattle.cred_file.proofs.TableLemmas.{no_some}
 use Rattle.cred_file.proofs.file_book.FileBook.delete.Goals as goal
 
 pub invariant_of-self : goal.invariant_of-self

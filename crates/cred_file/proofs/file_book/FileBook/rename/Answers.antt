@@ -3,8 +3,9 @@ use Rattle.std.specs.FinMap as fin
 use Rattle.cred_book.specs.Accounts.{Accounts, register_capacity}
 use Rattle.cred_book.proofs.Registered.{remove_again}
 use Rattle.cred_file.specs.{declared.fault.Edit.TheVariants.Rename, Edits.MayRename, Edits.renamed, Keeps.Keeps}
-use Rattle.cred_file.proofs.Keeping.{keeps_done, keeps_lost, fits, no_some}
+use Rattle.cred_file.proofs.Keeping.{keeps_done, keeps_lost, fits}
 use Rattle.cred_file.proofs.Removing.{absent_less, len_renamed, renamed_is}
+use Rattle.cred_file.proofs.TableLemmas.{no_some}
 use Rattle.cred_file.proofs.file_book.FileBook.rename.Goals as goal
 
 pub invariant_of-self-in-Ok-rename_row : goal.invariant_of-self-in-Ok-rename_row

@@ -1,9 +1,43 @@
-use Rattle.std.proofs.Common.{sym, subst, ◌∙◌}
-use Rattle.sqlite.specs.declared.types.Value.TheVariants.{Text}
-use Rattle.cred_file.specs.Table.{Tells}
-use Rattle.cred_file.proofs.Keeping.{record_told}
+use Rattle.cred_file.proofs.Keeping.{keeps_done, keeps_lost, fits, len_old}
+use Rattle.cred_file.specs.{declared.fault.Edit.TheVariants.Put, declared.fault.Lost.Lost, Failures.FailsToPut, Keeps.Keeps}
+use Rattle.std.specs.FinMap as fin
+use Rattle.std.proofs.Common.{◌≡◌, IfSome, Some, true, sym, ap, ◌∙◌, subst}
+use Rattle.cred_file.proofs.TableLemmas.{no_some}
 use Rattle.cred_file.proofs.file_book.FileBook.replace.Goals as goal
 
-pub replace_value-requires-in-Some-clause-value : goal.replace_value-requires-in-Some-clause-value
-replace_value-requires-in-Some-clause-value g c =
-    subst (Tells (Text c.deref.result.now)) (sym c.in-Some.is) (record_told c.deref.result.now c.in-Some.it (c.deref.ensures.value ∙ c.in-Ok.ensures.text) c.in-Ok.ensures.ranges)
+pub invariant_of-self : goal.invariant_of-self
+invariant_of-self g c =
+    let there = subst (λ b. fin.contains_key b c.args.name.now ≡ true) (sym (ap (λ v. v.book) c.self.view_is)) c.requires in
+    let none = no_some c.self.inside.lost (sym c.if-is_some.ensures) in
+    subst (λ b. Keeps g.S.Store c.update_row.new.conn b c.self.inside.lost) (sym c.replace.ensures)
+    (keeps_done g.S.Store c.self.inside.conn c.update_row.new.conn c.self.inside.book c.self.inside.lost c.self.invariant none c.in-Ok-update_row.ensures.clean
+    (fin.insert c.self.inside.book c.args.name.now c.args.stored)
+    (len_old c.self.inside.book c.args.name.now c.args.stored there (fits g.S.Store c.self.inside.conn c.update_row.new.conn c.self.inside.book c.self.inside.lost c.self.invariant none c.in-Ok-update_row.ensures.clean))
+    (λ clean was. c.in-Ok-update_row.ensures.updated clean c.args.stored c.value_of.ensures c.self.inside.book there was))
+
+pub invariant_of-self-in-Err : goal.invariant_of-self-in-Err
+invariant_of-self-in-Err g c =
+    let there = subst (λ b. fin.contains_key b c.args.name.now ≡ true) (sym (ap (λ v. v.book) c.self.view_is)) c.requires in
+    let none = no_some c.self.inside.lost (sym c.if-is_some.ensures) in
+    subst (λ l. Keeps g.S.Store c.update_row.new.conn c.self.inside.book (Some l)) (sym c.put.ensures)
+    (keeps_lost g.S.Store c.self.inside.conn c.update_row.new.conn c.self.inside.book c.self.inside.lost c.self.invariant none c.in-Err.ensures.clean
+    (record { error = c.in-Err.error; edit = Put c.args.name.now c.args.stored })
+    (len_old c.self.inside.book c.args.name.now c.args.stored there (fits g.S.Store c.self.inside.conn c.update_row.new.conn c.self.inside.book c.self.inside.lost c.self.invariant none c.in-Err.ensures.clean))
+    (λ clean was. c.in-Err.ensures.left clean c.args.stored c.value_of.ensures c.self.inside.book there was))
+
+pub returns-clause-remembers : goal.returns-clause-remembers
+returns-clause-remembers g c =
+    let none = no_some c.self.inside.lost (sym c.if-is_some.ensures) in
+    let was = ap (λ v. v.lost) (sym c.self.view_is) ∙ none in
+    let name = c.args.name.now in
+    record {
+      written = tt;
+      loses = record {
+        remembered = subst (λ l. IfSome l (λ x. Some c.put.result ≡ Some x)) (sym was) tt;
+        lost = λ _. record {
+          edit_is = ap (λ (l : Lost). l.edit) c.put.ensures;
+          error = subst (λ (l : Lost). FailsToPut g.S.Store c.args.self.now.conn c.update_row.new.conn true name c.args.stored l.error) (sym c.put.ensures)
+              (subst (λ k. FailsToPut g.S.Store k c.update_row.new.conn true name c.args.stored c.in-Err.error) (ap (λ v. v.conn) c.self.view_is) (c.in-Err.ensures.refused c.args.stored c.value_of.ensures));
+        };
+      };
+    }

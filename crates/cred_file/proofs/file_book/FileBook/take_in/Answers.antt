@@ -2,7 +2,8 @@ use Rattle.std.proofs.Common.{◌≡◌, ◌≤◌, ◌+◌, Some, sym, ap, subs
 use Rattle.std.specs.FinMap as fin
 use Rattle.cred_book.specs.Accounts.{Accounts, register_capacity}
 use Rattle.cred_file.specs.{declared.fault.Edit.TheVariants.TakeIn, Edits.MayTakeIn, Edits.taken_in, Keeps.Keeps}
-use Rattle.cred_file.proofs.{Keeping.keeps_done, Keeping.keeps_lost, Keeping.no_some, Joined.len_taken, Joined.undone}
+use Rattle.cred_file.proofs.{Keeping.keeps_done, Keeping.keeps_lost, Joined.len_taken, Joined.undone}
+use Rattle.cred_file.proofs.TableLemmas.{no_some}
 use Rattle.cred_file.proofs.file_book.FileBook.take_in.Goals as goal
 
 pub invariant_of-self : goal.invariant_of-self
