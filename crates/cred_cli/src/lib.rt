@@ -50,7 +50,7 @@ pub use process::run_program;
 pub use program::command;
 pub use progress::LineStart;
 pub use refusal::Refusal;
-pub use script::{End, run_script};
+pub use script::{End, run_script, run_script_by};
 pub use service::serve;
 pub use tools::Tools;
 pub use transcript::Transcript;

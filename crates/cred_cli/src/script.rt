@@ -7,6 +7,7 @@ ghost use Rattle.cred_cli.specs.Watched.{GivesAsContracted, IsNew, MayFollow, Ta
 
 use crate::costs::CostBounds;
 use crate::fault::ScriptFault;
+use crate::keeper_by::{KeeperBy, Waiting};
 use crate::limit::Limit;
 use crate::mode::Mode;
 use crate::policy::{Engine, Policy};
@@ -79,8 +80,51 @@ pub fn run_script<T: Threads + Wait + Sync, K: Keeper, R: Read, W: Write>(
     ensures takes { TakesAsContracted W.contents writer.old writer.new }
 {
     let tools = Tools { rt, alloc, workers };
+    run_script_by::<Waiting, T, K, R, W>(&tools, keeper, reader, writer)
+}
+
+/// Runs a script as [`run_script`] does, over a keeper whose changes are made in this way.
+///
+/// It waits only where a call of the reader, the writer or the keeper does. So over a keeper whose
+/// changes wait for nobody every body of it returns, and is bound by this.
+pub fn run_script_by<Way, T: Threads + Sync, K: KeeperBy<Way, T>, R: Read, W: Write>(
+    tools: &Tools<'_, T>,
+    keeper: &mut K,
+    reader: &mut Watched<R>,
+    writer: &mut Watched<W>,
+) -> Result<End, ScriptFault>
+    requires new_reader { IsNew reader.old }
+    requires new_writer { IsNew writer.old }
+    ensures done { IfOk result (λ end. IfSome (R.remaining (inner_of reader.old)) (λ bytes.
+        IsAnswered K.capacity (K.book keeper.old) bytes (W.contents (inner_of writer.old))
+        (W.contents (inner_of writer.new)) (K.book keeper.new) end.lines)) }
+    ensures short { OnOk result
+        (IfSome (R.remaining (inner_of reader.old)) (λ bytes. length bytes ≤ longest_script)) }
+    ensures fault { IfErr result (λ fault. IfSome (R.remaining (inner_of reader.old)) (λ bytes.
+        ScriptFails K.capacity (K.book keeper.old) bytes (R.remaining (inner_of reader.new))
+        (W.contents (inner_of writer.old)) (W.contents (inner_of writer.new))
+        (K.book keeper.new) fault)) }
+    ensures cause { IfErr result (HasCause (failed_of reader.new) (failed_of writer.new)) }
+    ensures prompt { IfSome (R.remaining (inner_of reader.old)) (λ bytes. IsPrompt K.capacity
+        (script_start (K.book keeper.old) bytes (W.contents (inner_of writer.old)))
+        (name_of writer.old) (log_of reader.new)) }
+    ensures calls { calls_of reader.new ≤ most_calls }
+    ensures few { IfSome (R.remaining (inner_of reader.old))
+        (λ bytes. calls_of reader.new ≤ length bytes + 1) }
+    ensures answers { OnOk result (taken_of writer.new
+        ≡ out K.capacity (K.book keeper.old) (given_of reader.new)) }
+    ensures end { OnOk result (ended_of reader.new ≡ true) }
+    ensures transcript { (rest : List ℕ) → MayFollow rest reader.new
+        → EndsAs longest_script K.capacity (script_start (K.book keeper.old)
+        (given_of reader.new ++ rest) (Some (taken_of writer.old)))
+        (transcript_reading rest reader.new) (transcript_writing writer.old writer.new)
+        (K.book keeper.new) result }
+    ensures reads { calls_of reader.new ≤ length (given_of reader.new) + 1 }
+    ensures gives { GivesAsContracted R.remaining reader.old reader.new }
+    ensures takes { TakesAsContracted W.contents writer.old writer.new }
+{
     let engine = Engine {
-        tools: &tools,
+        tools,
         policy: Policy {
             mode: Mode::Script,
             most: CostBounds::none(),

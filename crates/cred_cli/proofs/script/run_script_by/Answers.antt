@@ -1,7 +1,7 @@
 use Rattle.std.proofs.Common.{◌+◌, ◌≤◌, ◌++◌, [], length, refl, sym, append-nil}
 use Rattle.cred_cli.proofs.{Starvings.Alone, Starvings.as_asked, Starvings.asked_alone, Basis.alone, Basis.answers_of, Basis.as_passed}
 use Rattle.cred_cli.specs.Watched.{Contract, Transcript, given_of, transcript_writing}
-use Rattle.cred_cli.proofs.script.run_script.Goals as goal
+use Rattle.cred_cli.proofs.script.run_script_by.Goals as goal
 
 pub returns-clause-done : goal.returns-clause-done
 returns-clause-done g c = (as_asked _ _ _ _ _ _ _ (rw c.none.ensures at (c.answer_all.ensures.ended Contract tt))).0
