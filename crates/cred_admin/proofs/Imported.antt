@@ -9,11 +9,11 @@ use Rattle.cred_admin.specs.declared.entry.LineFault.{LineFault}
 use Rattle.cred_admin.specs.declared.entry.LineFault.TheVariants.{Book, Costly, Locked as IsLocked}
 use Rattle.cred_admin.specs.declared.entry.Said.{Said}
 use Rattle.cred_admin.specs.declared.entry.Said.TheVariants.{Nothing, Account, Locked}
-use Rattle.cred_admin.specs.declared.gathering.Existing.{Existing}
-use Rattle.cred_admin.specs.declared.gathering.Existing.TheVariants.{Refused, Kept, Updated}
-use Rattle.cred_admin.specs.declared.gathering.LockedRecords.{LockedRecords}
-use Rattle.cred_admin.specs.declared.gathering.LockedRecords.TheVariants as locked
-use Rattle.cred_admin.specs.declared.gathering.Rules.{Rules}
+use Rattle.cred_admin.specs.declared.import.Existing.{Existing}
+use Rattle.cred_admin.specs.declared.import.Existing.TheVariants.{Refused, Kept, Updated}
+use Rattle.cred_admin.specs.declared.import.LockedRecords.{LockedRecords}
+use Rattle.cred_admin.specs.declared.import.LockedRecords.TheVariants as locked
+use Rattle.cred_admin.specs.declared.import.Rules.{Rules}
 use Rattle.cred_admin.specs.Import.{HasNone, Tally, entry_of, entry_with, is_costly, locked_entry, nothing_yet, said_of, tally_from, with_account, with_bad, with_change, with_entry, with_existing, with_kept, with_line, with_locked}
 use Rattle.cred_admin.specs.Listing.{Entry}
 

@@ -5,6 +5,7 @@ mod Reading
 mod Records
 pub mod Tallies
 mod Renaming
-mod Twice
+mod Misread
+mod Obeyed
 pub mod Printed
 mod BeforeSalt

@@ -3,7 +3,7 @@ use Rattle.std.proofs.Common.{◌≡◌, ℕ, List, Bool, true, false, cond, is_
 use Rattle.std.specs.FinMap as map
 use Rattle.std.specs.{Cmp.eq_by_cmp_equiv, Ordering.eq_by_cmp, Cmp.Lexicographic.nat_list_cmp_total}
 use Rattle.cred_phc.specs.Values.{RecordValue}
-use Rattle.cred_book.specs.{Accounts.Accounts, Calls.Shows, Commits.commit_outcome, Commits.commit_outcome_at, Commits.commit_outcome_if, Names.name_cmp}
+use Rattle.cred_book.specs.{Accounts.Accounts, Calls.Loads, Calls.Shows, Commits.commit_outcome, Commits.commit_outcome_at, Commits.commit_outcome_if, Names.name_cmp}
 use Rattle.cred_book.specs.{Works.Task, Works.name_of, Works.same, Works.seq, Works.seq_at, Works.whole, declared.error.BookError.BookError}
 use Rattle.cred_book.specs.declared.error.BookError.TheVariants as error
 use Rattle.cred_book.specs.declared.reply.Reply.{Reply}
@@ -61,6 +61,15 @@ not_there book name error.Memory h = absurd h
 not_there book name error.Name h = absurd h
 not_there book name error.Exists h = absurd h
 not_there book name error.Full h = absurd h
+
+-- ---- what a keeper refuses
+
+pub stays : (old new : Accounts) (name : List ℕ) (stored : RecordValue) (e : BookError) → Loads old new name stored (Err e) → new ≡ old
+stays old new name stored error.NoAccount h = h.1
+stays old new name stored error.Memory h = h.1
+stays old new name stored error.Name h = absurd h
+stays old new name stored error.Exists h = absurd h
+stays old new name stored error.Full h = absurd h
 
 -- the account was added before
 pub put_behind : (old mid new : Accounts) (name : List ℕ) (stored made : RecordValue) → map.get old name ≡ None → mid ≡ map.insert old name None → stored ≡ made

@@ -2,19 +2,19 @@
 use Rattle.std.proofs.Common.{Bool, true, false, cond, if◌then◌else◌, ◌≡◌, ℕ, ◌+◌, ◌≤◌, ◌<◌, ◌⊎◌, inl, inr, refl, List, [], ◌∷◌, None, Result, Ok, Err, sym, ap, ◌∙◌, arith}
 use Rattle.std.specs.FinMap as map
 use Rattle.std.specs.Cmp.Lexicographic.{nat_list_cmp_total}
-use Rattle.cred_book.specs.Accounts.{Accounts}
+use Rattle.cred_book.specs.Accounts.{Accounts, register_capacity}
 use Rattle.cred_book.specs.declared.error.BookError.TheVariants as error
 use Rattle.cred_admin.specs.declared.entry.LineFault.{LineFault}
 use Rattle.cred_admin.specs.declared.entry.LineFault.TheVariants.{Book, Costly, Locked as IsLocked}
 use Rattle.cred_admin.specs.declared.entry.Said.{Said}
 use Rattle.cred_admin.specs.declared.entry.Said.TheVariants.{Nothing, Account, Locked}
-use Rattle.cred_admin.specs.declared.gathering.Existing.{Existing}
-use Rattle.cred_admin.specs.declared.gathering.Existing.TheVariants.{Refused, Kept, Updated}
-use Rattle.cred_admin.specs.declared.gathering.LockedRecords.{LockedRecords}
-use Rattle.cred_admin.specs.declared.gathering.LockedRecords.TheVariants as locked
-use Rattle.cred_admin.specs.{declared.gathering.Rules.Rules, declared.gathering.ImportFault.ImportFault}
-use Rattle.cred_admin.specs.declared.gathering.ImportFault.TheVariants as fault
-use Rattle.cred_admin.specs.Import.{Tally, is_costly, said_of, tally_from, with_account, with_bad, with_entry, with_existing, with_line, with_locked}
+use Rattle.cred_admin.specs.declared.import.Existing.{Existing}
+use Rattle.cred_admin.specs.declared.import.Existing.TheVariants.{Refused, Kept, Updated}
+use Rattle.cred_admin.specs.declared.import.LockedRecords.{LockedRecords}
+use Rattle.cred_admin.specs.declared.import.LockedRecords.TheVariants as locked
+use Rattle.cred_admin.specs.{declared.import.Rules.Rules, declared.import.ImportFault.ImportFault}
+use Rattle.cred_admin.specs.declared.import.ImportFault.TheVariants as fault
+use Rattle.cred_admin.specs.Import.{Comes, Tally, is_costly, said_of, tally_from, with_account, with_bad, with_entry, with_existing, with_line, with_locked}
 use Rattle.cred_admin.specs.Listing.{Entry}
 
 pub tally_more : (rules : Rules) (book : Accounts) (t next : Tally) (n : ℕ) (lines rest : List (List ℕ)) (line : List ℕ) (all : Tally) → tally_from rules book t n lines ≡ all → lines ≡ line ∷ rest
@@ -82,10 +82,11 @@ one_too_many how book t n room e new_there new_here full =
     rw (new_there, new_here) (omega (arith, full, rw new_here at (map.len-insert nat_list_cmp_total t.accounts e.0 e.1)))
 
 -- and so all of them are too many
-pub fault_of_line : (rules : Rules) (book : Accounts) (t : Tally) (n room : ℕ) (lines rest : List (List ℕ)) (line : List ℕ) (all : Tally) → tally_from rules book t n lines ≡ all → lines ≡ line ∷ rest
-    → (e : ImportFault) → (e ≡ fault.Memory) ⊎ ((e ≡ fault.Full) × (room < map.len (with_line rules book t n (said_of line)).accounts))
-    → (e ≡ fault.Memory) ⊎ ((e ≡ fault.Full) × (room < map.len all.accounts))
-fault_of_line rules book t n room lines rest line all goes cut e (inl memory) = inl memory
-fault_of_line rules book t n room lines rest line all goes cut e (inr (full, many)) =
+pub fault_of_line : (rules : Rules) (book : Accounts) (t : Tally) (n : ℕ) (lines rest : List (List ℕ)) (line : List ℕ) (all : Tally) → tally_from rules book t n lines ≡ all → lines ≡ line ∷ rest
+    → (e : ImportFault) → Comes (with_line rules book t n (said_of line)) t (Err e) → (e ≡ fault.Memory) ⊎ ((e ≡ fault.Full) × (register_capacity < map.len all.accounts))
+fault_of_line rules book t n lines rest line all goes cut fault.Memory many = inl refl
+fault_of_line rules book t n lines rest line all goes cut fault.Full many =
     let whole = tally_more rules book t (with_line rules book t n (said_of line)) n lines rest line all goes cut refl in
-    inr (full, omega (arith, many, tally_keeps rules book (with_line rules book t n (said_of line)) (n + 1) rest, ap (λ (u : Tally). map.len u.accounts) whole))
+    inr (refl, omega (arith, many, tally_keeps rules book (with_line rules book t n (said_of line)) (n + 1) rest, ap (λ (u : Tally). map.len u.accounts) whole))
+fault_of_line rules book t n lines rest line all goes cut fault.Read none = absurd none
+fault_of_line rules book t n lines rest line all goes cut (fault.Lines bad) none = absurd none

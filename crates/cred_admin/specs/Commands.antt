@@ -1,129 +1,60 @@
 -- What the commands on one account do.
-use Rattle.std.specs.Prelude.{◌≡◌, ◌⊎◌, ℕ, ◌≤◌, ◌<◌, List, [], length, Option, Some, None, IfSome, Result, Ok, Err, true, false}
+use Rattle.std.specs.Prelude.{◌≡◌, ℕ, ◌≤◌, List, Bool, Option, Some, None, Result, Ok, Err, true, false}
 use Rattle.std.specs.FinMap as map
-use Rattle.std.specs.Io.KnownBytes.{Appends, Keeps}
+use Rattle.std.specs.Io.KnownBytes.{Keeps}
 use Rattle.cred_phc.specs.Values.{RecordValue}
-use Rattle.cred_book.specs.{Accounts.Accounts, Works.new_record, Works.seq, declared.reply.Reply.Reply}
+use Rattle.cred_book.specs.{Accounts.Accounts, Works.is_for_current, Works.new_record, Works.seq, declared.reply.Reply.Reply}
 use Rattle.cred_book.specs.declared.reply.Reply.TheVariants as reply
-use Rattle.cred_book.specs.declared.request.Request.{Request}
-use Rattle.cred_admin.specs.declared.fault.Fault.{Fault}
+use Rattle.cred_book.specs.declared.request.Request.TheVariants as request
+use Rattle.cred_admin.specs.declared.command.Asked.{Asked}
+use Rattle.cred_admin.specs.declared.command.Command.{Command}
+use Rattle.cred_admin.specs.declared.command.Command.TheVariants.{Add, Check, Change, Reset, Upgrade, Remove}
+use Rattle.cred_admin.specs.{declared.fault.Fault.Fault, declared.new_password.NewPassword.NewPassword}
 use Rattle.cred_admin.specs.declared.fault.Fault.TheVariants as fault
-use Rattle.cred_admin.specs.{declared.new_password.NewPassword.NewPassword, declared.new_password.EmptyPassword.TheVariants.Refused, declared.status.Hint.Hint}
-use Rattle.cred_admin.specs.{declared.status.Status.Status, Lines.HasEmptyLine, Lines.IsAdmitted, Lines.ReadsLine, Lines.behind_line, Lines.line_before}
-use Rattle.cred_admin.specs.{Seen.Seen, Statuses.hint_of, Statuses.status_of}
-use Rattle.cred_cli.specs.{Outcome.FrontWritten, Texts.reply_line, Watched.Writing}
-use Rattle.cred_phc.specs.declared.password.TheConstants.{MAX_PASSWORD}
+use Rattle.cred_admin.specs.declared.operation.Operation.{Operation}
+use Rattle.cred_admin.specs.declared.operation.Operation.TheVariants as operation
+use Rattle.cred_admin.specs.declared.password.Passwords.{Passwords}
+use Rattle.cred_admin.specs.declared.password.Passwords.TheVariants.{Present, New, PresentAndNew}
+use Rattle.cred_admin.specs.{declared.status.Hint.Hint, declared.status.Status.Status, Lines.IsAdmitted, Lines.IsMisread, Lines.TakesLine, Lines.TakesLines}
+use Rattle.cred_admin.specs.{Listing.Tells, Seen.Seen, Statuses.hint_of, Statuses.status_of}
+use Rattle.cred_cli.specs.{Texts.reply_line, Watched.Reading}
 
--- nothing was written, and the book is as it was
-pub record Stays (s : Seen) : Type 0 where
-  pub book : s.new ≡ s.old
-  pub written : Keeps s.writing.before s.writing.now
+-- ---- what is asked
 
--- the reply is written, the book is the one after the step, and the status says which it was
-pub record IsAnswered (step : Reply × Accounts) (hint : Option Hint) (new : Accounts) (w : Writing)
-    (answer : Status) : Type 0 where
-  pub written : Appends w.before w.now (reply_line step.0)
-  pub book : new ≡ step.1
-  pub status : answer ≡ status_of step.0 hint
+abbrev pub passwords_of : Command → Passwords
+passwords_of (Add new) = New new.empty
+passwords_of Check = Present
+passwords_of (Change new) = PresentAndNew new.empty
+passwords_of (Reset new) = New new.empty
+passwords_of (Upgrade setting) = Present
+passwords_of Remove = Present
 
--- a call on the writer failed, a proper prefix of the reply is written, and the book is the one
--- after the step
-pub record IsUnanswered (step : Reply × Accounts) (new : Accounts) (w : Writing) : Type 0 where
-  pub written : FrontWritten w.before w.now (reply_line step.0)
-  pub book : new ≡ step.1
-  pub cause : w.failed ≡ true
+abbrev pub asked : Operation → Option Hint → Asked
+asked operation hint = record { operation = operation; hint = hint }
 
--- the step was done and answered, or done and not answered, or not done
-abbrev pub Does : Reply × Accounts → Option Hint → Accounts → Accounts → Writing
-    → Result Status Fault → Type 0
-Does step hint old new w (Ok status) = IsAnswered step hint new w status
-Does step hint old new w (Err fault.Write) = IsUnanswered step new w
-Does step hint old new w (Err fault.Memory) = (new ≡ old) × Keeps w.before w.now
-Does step hint old new w (Err _) = ⊥
+-- it is asked for with the password in the first line
+abbrev pub AsksWith : (List ℕ → Operation) → Reading → Asked → Type 0
+AsksWith operation r a =
+    (pw : List ℕ) × TakesLine r pw × (a ≡ asked (operation pw) (hint_of pw))
 
--- after this step, asked for with this password
-abbrev pub IsDone : Seen → List ℕ → Reply × Accounts → Status → Type 0
-IsDone s pw step status = IsAnswered step (hint_of pw) s.new s.writing status
+-- and the same with a new password
+abbrev pub AsksWithNew : NewPassword → (List ℕ → Operation) → Reading → Asked → Type 0
+AsksWithNew new operation r a = (pw : List ℕ) × TakesLine r pw × IsAdmitted new.empty pw
+    × (a ≡ asked (operation pw) (hint_of pw))
 
-abbrev pub IsDoneUntold : Seen → Reply × Accounts → Type 0
-IsDoneUntold s step = IsUnanswered step s.new s.writing
+-- what the lines of a command ask for, with the hint of the first one
+abbrev pub Asks : List ℕ → Command → Reading → Asked → Type 0
+Asks name (Add new) r a = AsksWithNew new (operation.Enrol name new.setting) r a
+Asks name (Reset new) r a = AsksWithNew new (operation.Reset name new.setting) r a
+Asks name Check r a = AsksWith (λ pw. operation.Ask (request.Verify name pw)) r a
+Asks name (Upgrade setting) r a =
+    AsksWith (λ pw. operation.Ask (request.Upgrade name pw setting)) r a
+Asks name Remove r a = AsksWith (λ pw. operation.Ask (request.Remove name pw)) r a
+Asks name (Change new) r a = (pw new_pw : List ℕ) × TakesLines r pw new_pw
+    × IsAdmitted new.empty new_pw
+    × (a ≡ asked (operation.Ask (request.Change name pw new_pw new.setting)) (hint_of pw))
 
--- reading failed, and all is as it was
-abbrev pub FailsToRead : Seen → Type 0
-FailsToRead s = (s.reading.failed ≡ true) × Stays s
-
--- ---- the first line
-
--- it is this, and what follows it is left
-abbrev pub TakesLine : Seen → List ℕ → Type 0
-TakesLine s pw = IfSome s.reading.input (λ bytes. ReadsLine bytes s.reading.left pw)
-
--- there is none: the input ends before its first byte
-abbrev pub HasNoLine : Seen → Type 0
-HasNoLine s = IfSome s.reading.input (λ bytes. bytes ≡ [])
-
-abbrev pub HasLongLine : Seen → Type 0
-HasLongLine s = IfSome s.reading.input (λ bytes. MAX_PASSWORD < length (line_before bytes))
-
--- it is empty, and that wasn't asked for
-abbrev pub HasRefusedLine : NewPassword → Seen → Type 0
-HasRefusedLine new s = (new.empty ≡ Refused) × IfSome s.reading.input HasEmptyLine
-
--- the password is the first line, and the step is that of a request with it; a fault in reading
--- leaves all as it was
-abbrev pub Asks : (List ℕ → Request) → Seen → Result Status Fault → Type 0
-Asks request s (Ok status) =
-    (pw : List ℕ) × TakesLine s pw × IsDone s pw (seq s.old (request pw)) status
-Asks request s (Err fault.Write) =
-    (pw : List ℕ) × TakesLine s pw × IsDoneUntold s (seq s.old (request pw))
-Asks request s (Err fault.Read) = FailsToRead s
-Asks request s (Err fault.Memory) = Stays s
-Asks request s (Err fault.NoPassword) = HasNoLine s × Stays s
-Asks request s (Err fault.Password) = HasLongLine s × Stays s
-Asks request s (Err _) = ⊥
-
--- ---- the first two lines
-
--- they are these
-pub record ReadsLines (bytes : List ℕ) (left : Option (List ℕ)) (first second : List ℕ)
-    : Type 0 where
-  pub there : 0 < length bytes
-  pub first_is : first ≡ line_before bytes
-  pub second_is : ReadsLine (behind_line bytes) left second
-
-abbrev pub TakesLines : Seen → List ℕ → List ℕ → Type 0
-TakesLines s first second =
-    IfSome s.reading.input (λ bytes. ReadsLines bytes s.reading.left first second)
-
--- the input ends before the second one's first byte
-abbrev pub HasNoSecondLine : Seen → Type 0
-HasNoSecondLine s = IfSome s.reading.input (λ bytes. (0 < length bytes) × (behind_line bytes ≡ []))
-
-abbrev pub HasLongLines : Seen → Type 0
-HasLongLines s = IfSome s.reading.input (λ bytes. (MAX_PASSWORD < length (line_before bytes))
-    ⊎ (MAX_PASSWORD < length (line_before (behind_line bytes))))
-
--- the second one is empty, and that wasn't asked for
-abbrev pub HasRefusedSecondLine : NewPassword → Seen → Type 0
-HasRefusedSecondLine new s =
-    (new.empty ≡ Refused) × IfSome s.reading.input (λ bytes. HasEmptyLine (behind_line bytes))
-
--- the first line is the present password, and the second one the new one
-abbrev pub AsksTwice : NewPassword → (List ℕ → List ℕ → Request) → Seen → Result Status Fault
-    → Type 0
-AsksTwice new request s (Ok status) = (pw new_pw : List ℕ) × TakesLines s pw new_pw
-    × IsAdmitted new.empty new_pw × IsDone s pw (seq s.old (request pw new_pw)) status
-AsksTwice new request s (Err fault.Write) = (pw new_pw : List ℕ) × TakesLines s pw new_pw
-    × IsAdmitted new.empty new_pw × IsDoneUntold s (seq s.old (request pw new_pw))
-AsksTwice new request s (Err fault.Read) = FailsToRead s
-AsksTwice new request s (Err fault.Memory) = Stays s
-AsksTwice new request s (Err fault.NoPassword) = HasNoLine s × Stays s
-AsksTwice new request s (Err fault.NoNewPassword) = HasNoSecondLine s × Stays s
-AsksTwice new request s (Err fault.Password) = HasLongLines s × Stays s
-AsksTwice new request s (Err fault.Empty) = HasRefusedSecondLine new s × Stays s
-AsksTwice new request s (Err _) = ⊥
-
--- ---- a record that is put there
+-- ---- what is done
 
 -- the record is put if there is none, at an account that is added if it isn't there
 abbrev pub enrolment_at : Accounts → List ℕ → RecordValue → Option (Option RecordValue)
@@ -156,37 +87,62 @@ pub record IsBare (old new : Accounts) (name : List ℕ) (made told : RecordValu
   pub added : new ≡ map.insert old name None
   pub told_is : told ≡ made
 
-abbrev pub Enrols : ℕ → Accounts → Accounts → List ℕ → RecordValue → Result Reply Fault → Type 0
-Enrols capacity old new name stored (Ok r) = (r, new) ≡ enrolment old name stored
-Enrols capacity old new name stored (Err fault.Memory) = new ≡ old
-Enrols capacity old new name stored (Err (fault.NoRecord made)) = IsBare old new name stored made
-Enrols capacity old new name stored (Err fault.Full) = HasNoRoom capacity old name × (new ≡ old)
-Enrols capacity old new name stored (Err _) = ⊥
+-- the reply to a whole operation, and the book after it
+abbrev pub done : Accounts → Operation → Reply × Accounts
+done book (operation.Ask request) = seq book request
+done book (operation.Enrol name setting pw) = enrolment book name (new_record setting pw)
+done book (operation.Reset name setting pw) = reset_step book name (new_record setting pw)
 
-abbrev pub Adds : ℕ → List ℕ → NewPassword → Seen → Result Status Fault → Type 0
-Adds capacity name new s (Ok status) = (pw : List ℕ) × TakesLine s pw × IsAdmitted new.empty pw
-    × IsDone s pw (enrolment s.old name (new_record new.setting pw)) status
-Adds capacity name new s (Err fault.Write) = (pw : List ℕ) × TakesLine s pw
-    × IsAdmitted new.empty pw × IsDoneUntold s (enrolment s.old name (new_record new.setting pw))
-Adds capacity name new s (Err fault.Memory) = Stays s
-Adds capacity name new s (Err (fault.NoRecord made)) = (pw : List ℕ) × TakesLine s pw
-    × IsBare s.old s.new name (new_record new.setting pw) made
-    × Keeps s.writing.before s.writing.now
-Adds capacity name new s (Err fault.Full) = HasNoRoom capacity s.old name × Stays s
-Adds capacity name new s (Err fault.Read) = FailsToRead s
-Adds capacity name new s (Err fault.NoPassword) = HasNoLine s × Stays s
-Adds capacity name new s (Err fault.Password) = HasLongLine s × Stays s
-Adds capacity name new s (Err fault.Empty) = HasRefusedLine new s × Stays s
-Adds capacity name new s (Err fault.NoNewPassword) = ⊥
+-- a setting of a new record isn't of version 0x10
+abbrev pub is_current_operation : Operation → Bool
+is_current_operation (operation.Ask request) = is_for_current request
+is_current_operation (operation.Enrol name setting pw) = true
+is_current_operation (operation.Reset name setting pw) = true
 
-abbrev pub Resets : List ℕ → NewPassword → Seen → Result Status Fault → Type 0
-Resets name new s (Ok status) = (pw : List ℕ) × TakesLine s pw × IsAdmitted new.empty pw
-    × IsDone s pw (reset_step s.old name (new_record new.setting pw)) status
-Resets name new s (Err fault.Write) = (pw : List ℕ) × TakesLine s pw × IsAdmitted new.empty pw
-    × IsDoneUntold s (reset_step s.old name (new_record new.setting pw))
-Resets name new s (Err fault.Memory) = Stays s
-Resets name new s (Err fault.Read) = FailsToRead s
-Resets name new s (Err fault.NoPassword) = HasNoLine s × Stays s
-Resets name new s (Err fault.Password) = HasLongLine s × Stays s
-Resets name new s (Err fault.Empty) = HasRefusedLine new s × Stays s
-Resets name new s (Err _) = ⊥
+abbrev pub FindsNoRoom : ℕ → Accounts → Operation → Type 0
+FindsNoRoom capacity book (operation.Enrol name setting pw) = HasNoRoom capacity book name
+FindsNoRoom capacity book _ = ⊥
+
+abbrev pub LeavesBare : Accounts → Accounts → Operation → RecordValue → Type 0
+LeavesBare old new (operation.Enrol name setting pw) told =
+    IsBare old new name (new_record setting pw) told
+LeavesBare old new _ told = ⊥
+
+-- it is done, or not
+abbrev pub Works : ℕ → Accounts → Accounts → Operation → Result Reply Fault → Type 0
+Works capacity old new o (Ok r) = (r, new) ≡ done old o
+Works capacity old new o (Err fault.Memory) = new ≡ old
+Works capacity old new o (Err fault.Full) = FindsNoRoom capacity old o × (new ≡ old)
+Works capacity old new o (Err (fault.NoRecord made)) = LeavesBare old new o made
+Works capacity old new o (Err _) = ⊥
+
+-- ---- what comes of it
+
+-- what is written of a reply, and the status that goes with it
+abbrev pub answer_of : Reply → Option Hint → List ℕ × Status
+answer_of r hint = (reply_line r, status_of r hint)
+
+-- the operation is done and answered, or done and not answered
+abbrev pub IsDone : ℕ → List ℕ → Command → Seen → Result Status Fault → Type 0
+IsDone capacity name command s ended = (a : Asked) × Asks name command s.reading a
+    × (r : Reply) × Works capacity s.old s.new a.operation (Ok r)
+    × Tells (answer_of r a.hint) s.writing ended
+
+-- it meets this fault, and nothing is written
+abbrev pub IsNotDone : ℕ → List ℕ → Command → Seen → Fault → Type 0
+IsNotDone capacity name command s e = (a : Asked) × Asks name command s.reading a
+    × Works capacity s.old s.new a.operation (Err e) × Keeps s.writing.before s.writing.now
+
+-- nothing was written, and the book is as it was
+pub record Stays (s : Seen) : Type 0 where
+  pub book : s.new ≡ s.old
+  pub written : Keeps s.writing.before s.writing.now
+
+abbrev pub Obeys : ℕ → List ℕ → Command → Seen → Result Status Fault → Type 0
+Obeys capacity name command s (Ok status) = IsDone capacity name command s (Ok status)
+Obeys capacity name command s (Err fault.Write) =
+    IsDone capacity name command s (Err fault.Write)
+Obeys capacity name command s (Err fault.Full) = IsNotDone capacity name command s fault.Full
+Obeys capacity name command s (Err (fault.NoRecord made)) =
+    IsNotDone capacity name command s (fault.NoRecord made)
+Obeys capacity name command s (Err e) = IsMisread (passwords_of command) s.reading e × Stays s

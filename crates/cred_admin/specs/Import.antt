@@ -12,13 +12,13 @@ use Rattle.cred_admin.specs.declared.entry.LineFault.{LineFault}
 use Rattle.cred_admin.specs.declared.entry.LineFault.TheVariants.{Line, Text, Book, Costly, Locked as IsLocked}
 use Rattle.cred_admin.specs.declared.entry.Said.{Said}
 use Rattle.cred_admin.specs.declared.entry.Said.TheVariants.{Nothing, Account, Locked}
-use Rattle.cred_admin.specs.{declared.gathering.BadLine.BadLine, declared.gathering.Existing.Existing}
-use Rattle.cred_admin.specs.declared.gathering.Existing.TheVariants.{Refused, Kept, Updated}
-use Rattle.cred_admin.specs.{declared.gathering.Gathered.Gathered, declared.gathering.ImportFault.ImportFault}
-use Rattle.cred_admin.specs.declared.gathering.ImportFault.TheVariants as fault
-use Rattle.cred_admin.specs.declared.gathering.LockedRecords.{LockedRecords}
-use Rattle.cred_admin.specs.declared.gathering.LockedRecords.TheVariants as locked
-use Rattle.cred_admin.specs.{declared.gathering.Rules.Rules, Listing.Entry}
+use Rattle.cred_admin.specs.{declared.import.BadLine.BadLine, declared.import.Existing.Existing}
+use Rattle.cred_admin.specs.declared.import.Existing.TheVariants.{Refused, Kept, Updated}
+use Rattle.cred_admin.specs.{declared.import.Gathered.Gathered, declared.import.ImportFault.ImportFault}
+use Rattle.cred_admin.specs.declared.import.ImportFault.TheVariants as fault
+use Rattle.cred_admin.specs.declared.import.LockedRecords.{LockedRecords}
+use Rattle.cred_admin.specs.declared.import.LockedRecords.TheVariants as locked
+use Rattle.cred_admin.specs.{declared.import.Rules.Rules, Listing.Entry}
 
 abbrev pub line_number : LineFault → ℕ
 line_number Line = 11
@@ -186,6 +186,14 @@ tally rules book text = tally_from rules book nothing_yet 1 (import_lines text)
 abbrev pub tally_of : Gathered → Tally
 tally_of g =
     record { accounts = g.accounts; changed = g.changed; kept = g.kept; bad = g.bad.items }
+
+-- what a line adds makes this of what there was; or there was no memory, or the accounts are too many
+-- for any book
+abbrev pub Comes : Tally → Tally → Result (Unit {0}) ImportFault → Type 0
+Comes next now (Ok _) = now ≡ next
+Comes next now (Err fault.Memory) = ⊤
+Comes next now (Err fault.Full) = register_capacity < map.len next.accounts
+Comes next now (Err _) = ⊥
 
 -- ---- what it comes to, in the words of who wrote the lines
 

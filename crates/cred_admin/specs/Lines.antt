@@ -1,9 +1,13 @@
 -- Passwords, a line each.
-use Rattle.std.specs.Prelude.{◌≡◌, ℕ, ◌<◌, ◌==◌, if◌then◌else◌, List, [], ◌∷◌, length, Option, Some, None, ⊤, Bool, true}
+use Rattle.std.specs.Prelude.{◌≡◌, ◌⊎◌, ℕ, ◌<◌, ◌==◌, if◌then◌else◌, List, [], ◌∷◌, length, Option, Some, None, IfSome, ⊤, Bool, true}
 use Rattle.cred_admin.specs.declared.new_password.EmptyPassword.{EmptyPassword}
 use Rattle.cred_admin.specs.declared.new_password.EmptyPassword.TheVariants.{Refused, Taken}
 use Rattle.cred_admin.specs.declared.fault.Fault.{Fault}
 use Rattle.cred_admin.specs.declared.fault.Fault.TheVariants as fault
+use Rattle.cred_admin.specs.declared.password.Passwords.{Passwords}
+use Rattle.cred_admin.specs.declared.password.Passwords.TheVariants.{Present, New, PresentAndNew}
+use Rattle.cred_cli.specs.Watched.{Reading}
+use Rattle.cred_phc.specs.declared.password.TheConstants.{MAX_PASSWORD}
 
 -- the bytes before the first line end (byte 10)
 unfoldable pub line_before : List ℕ → List ℕ
@@ -27,36 +31,75 @@ pub record ReadsLine (bytes : List ℕ) (left : Option (List ℕ)) (line : List 
   pub line_is : line ≡ line_before bytes
   pub left_is : left ≡ Some (behind_line bytes)
 
--- the first line is empty
-abbrev pub HasEmptyLine : List ℕ → Type 0
-HasEmptyLine bytes = (0 < length bytes) × (line_before bytes ≡ [])
+-- the first two lines were
+pub record ReadsLines (bytes : List ℕ) (left : Option (List ℕ)) (first second : List ℕ)
+    : Type 0 where
+  pub there : 0 < length bytes
+  pub first_is : first ≡ line_before bytes
+  pub second_is : ReadsLine (behind_line bytes) left second
+
+-- what a reader had begins with this line, or these two, and it has left what follows
+abbrev pub TakesLine : Reading → List ℕ → Type 0
+TakesLine r pw = IfSome r.input (λ bytes. ReadsLine bytes r.left pw)
+
+abbrev pub TakesLines : Reading → List ℕ → List ℕ → Type 0
+TakesLines r first second = IfSome r.input (λ bytes. ReadsLines bytes r.left first second)
 
 -- a new password may be empty only if that was asked for
 abbrev pub IsAdmitted : EmptyPassword → List ℕ → Type 0
 IsAdmitted Taken pw = ⊤
 IsAdmitted Refused pw = 0 < length pw
 
+-- ---- lines that aren't the passwords that are wanted
+
+-- there is none: the input ends before its first byte
+abbrev pub HasNoLine : List ℕ → Type 0
+HasNoLine bytes = bytes ≡ []
+
+abbrev pub HasLongLine : List ℕ → Type 0
+HasLongLine bytes = MAX_PASSWORD < length (line_before bytes)
+
+abbrev pub HasEmptyLine : List ℕ → Type 0
+HasEmptyLine bytes = (0 < length bytes) × (line_before bytes ≡ [])
+
+abbrev pub LacksNew : Passwords → List ℕ → Type 0
+LacksNew (PresentAndNew empty) bytes = (0 < length bytes) × HasNoLine (behind_line bytes)
+LacksNew _ bytes = ⊥
+
+abbrev pub HasLong : Passwords → List ℕ → Type 0
+HasLong (PresentAndNew empty) bytes = HasLongLine bytes ⊎ HasLongLine (behind_line bytes)
+HasLong _ bytes = HasLongLine bytes
+
+-- the new one is an empty line, and that wasn't asked for
+abbrev pub HasEmpty : Passwords → Option (List ℕ) → Type 0
+HasEmpty Present known = ⊥
+HasEmpty (New empty) known = (empty ≡ Refused) × IfSome known HasEmptyLine
+HasEmpty (PresentAndNew empty) known =
+    (empty ≡ Refused) × IfSome known (λ bytes. HasEmptyLine (behind_line bytes))
+
+-- why these passwords aren't read
+abbrev pub IsMisread : Passwords → Reading → Fault → Type 0
+IsMisread pws r fault.Read = r.failed ≡ true
+IsMisread pws r fault.Memory = ⊤
+IsMisread pws r fault.NoPassword = IfSome r.input HasNoLine
+IsMisread pws r fault.NoNewPassword = IfSome r.input (LacksNew pws)
+IsMisread pws r fault.Password = IfSome r.input (HasLong pws)
+IsMisread pws r fault.Empty = HasEmpty pws r.input
+IsMisread pws r _ = ⊥
+
+-- a fault of the first line, in the second
+abbrev pub of_second_line : Fault → Fault
+of_second_line fault.NoPassword = fault.NoNewPassword
+of_second_line e = e
+
+-- ---- the reader
+
 -- after a byte a reader is at its end if it was before
 abbrev pub IsOpen : Bool → Bool → Option ℕ → Type 0
 IsOpen old new (Some byte) = new ≡ old
 IsOpen old new None = ⊤
 
--- what may go wrong as a line is read, by a reader on which a call had failed before and now:
--- memory runs out only where no call on the reader fails
+-- a call on the reader fails where that is told, and nowhere else
 abbrev pub ReadFails : Bool → Bool → Fault → Type 0
 ReadFails before now fault.Read = now ≡ true
-ReadFails before now fault.Memory = now ≡ before
-ReadFails before now fault.Password = ⊤
-ReadFails before now fault.NoPassword = ⊤
-ReadFails before now _ = ⊥
-
--- and as that of a new password is read
-abbrev pub NewReadFails : Bool → Bool → Fault → Type 0
-NewReadFails before now fault.Empty = ⊤
-NewReadFails before now e = ReadFails before now e
-
--- and as it is read after the old one
-abbrev pub SecondReadFails : Bool → Bool → Fault → Type 0
-SecondReadFails before now fault.NoNewPassword = ⊤
-SecondReadFails before now fault.NoPassword = ⊥
-SecondReadFails before now e = NewReadFails before now e
+ReadFails before now _ = now ≡ before

@@ -1,5 +1,7 @@
 -- The exit statuses, and when each is answered.
 use Rattle.std.specs.Prelude.{ℕ, ◌-◌, ◌==◌, if◌then◌else◌, List, length, Option, Some, None, slice_get}
+use Rattle.cred_book.specs.declared.error.BookError.{BookError}
+use Rattle.cred_book.specs.declared.error.BookError.TheVariants as error
 use Rattle.cred_book.specs.declared.reply.Reply.{Reply}
 use Rattle.cred_book.specs.declared.reply.Reply.TheVariants as reply
 use Rattle.cred_admin.specs.declared.fault.Fault.{Fault}
@@ -26,6 +28,11 @@ status_of_fault fault.NoPassword = Data
 status_of_fault fault.NoNewPassword = Data
 status_of_fault fault.Empty = Data
 status_of_fault fault.Full = Data
+
+-- what ends a command if a book refuses it
+abbrev pub fault_of_book : BookError → Fault
+fault_of_book error.Full = fault.Full
+fault_of_book _ = fault.Memory
 
 -- ---- why a password may be wrong
 

@@ -1,10 +1,11 @@
 //! Why a command ends without its answer.
 
 ghost use Rattle.std.specs.Prelude.{◌≡◌};
-ghost use Rattle.cred_admin.specs.{Statuses.status_of_fault, declared.fault.Fault.TheVariants.Memory as OutOfMemory};
+ghost use Rattle.cred_admin.specs.{Statuses.fault_of_book, Statuses.status_of_fault, declared.fault.Fault.TheVariants.Memory as OutOfMemory};
 
 use crate::status::Status;
-use cred_phc::Record;
+use cred_book::BookError;
+use cred_phc::{Record, TagError};
 use std::alloc::AllocError;
 use thiserror::Error;
 
@@ -54,5 +55,25 @@ impl From<AllocError> for Fault {
 
     fn from(_error: AllocError) -> Self {
         Fault::Memory
+    }
+}
+
+impl From<TagError> for Fault {
+    ghost from_gives = { λ _ e. e ≡ OutOfMemory };
+
+    fn from(_error: TagError) -> Self {
+        Fault::Memory
+    }
+}
+
+/// A book that is asked for what it can do refuses it only for want of room or memory.
+impl From<BookError> for Fault {
+    ghost from_gives = { λ why e. e ≡ fault_of_book why };
+
+    fn from(why: BookError) -> Self {
+        match why {
+            BookError::Full => Fault::Full,
+            _ => Fault::Memory,
+        }
     }
 }

@@ -4,7 +4,7 @@ ghost use Rattle.std.specs.Prelude.{◌≡◌, ℕ, List, None, Some, false, tru
 ghost use Rattle.std.specs.FinMap as map;
 ghost use Rattle.cred_book.specs.Accounts.{Accounts};
 ghost use Rattle.cred_admin.specs.{Import.HasNone, Import.IsFirst, Import.import_lines, Import.tally, Listing.Entry};
-ghost use Rattle.cred_admin.specs.{declared.gathering.Existing.TheVariants.Updated, declared.gathering.Rules.Rules};
+ghost use Rattle.cred_admin.specs.{declared.import.Existing.TheVariants.Updated, declared.import.Rules.Rules};
 
 /// The law that the first good line of each name has its record: among the new accounts, if the
 /// name isn't in the book; among the changed ones, if it is, and such accounts are updated. No

@@ -6,16 +6,16 @@
 //! never written before its change is made.
 #![tactic(auto)]
 
-mod account;
-mod answer;
+mod command;
 mod edit_reply;
 mod edits;
 mod entry;
 mod fault;
-mod gathering;
+mod import;
 mod laws;
 mod listing;
 mod new_password;
+mod operation;
 mod part;
 mod password;
 mod printing;
@@ -23,16 +23,17 @@ mod setting;
 mod showing;
 mod status;
 
-pub use account::{add, change, check, remove, reset, upgrade};
+pub use command::Command;
 pub use edit_reply::{EditReply, edit_line};
 pub use edits::{Edit, disable_shown, edit_account, make_edit};
 pub use entry::LineFault;
 pub use fault::Fault;
-pub use gathering::{BadLine, Existing, Gathered, ImportFault, LockedRecords, Rules, gather};
+pub use import::{BadLine, Existing, Gathered, ImportFault, LockedRecords, Rules, gather};
 pub use laws::imports_are_of_their_lines;
 pub use listing::{Line, a_piece_has_64_kib, list};
 pub use new_password::{EmptyPassword, NewPassword};
 pub use part::Part;
+pub use password::Passwords;
 pub use printing::tell;
 pub use setting::{NewSetting, setting_of};
 pub use showing::{show, show_json};

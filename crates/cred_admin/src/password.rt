@@ -1,8 +1,9 @@
 //! Passwords as they are read: a line each.
 
-ghost use Rattle.std.specs.Prelude.{◌≡◌, ◌<◌, ◌++◌, ◌∷◌, [], Err, IfErr, IfOk, IfSome, OnOk, Some, false, length, true};
-ghost use Rattle.cred_cli.specs.Watched.{Basis, ended_of, failed_of, left_on};
-ghost use Rattle.cred_admin.specs.Lines.{HasEmptyLine, IsAdmitted, IsOpen, NewReadFails, ReadFails, ReadsLine, SecondReadFails, Takes, line_before};
+ghost use Rattle.std.specs.Prelude.{◌≡◌, ◌<◌, ◌&&◌, ◌++◌, ◌∷◌, [], IfErr, IfOk, IfSome, OnOk, Some, false, length, not, true};
+ghost use Rattle.cred_cli.specs.Watched.{Basis, ended_of, failed_of, left_on, reading_on};
+ghost use Rattle.cred_admin.specs.Lines.{IsAdmitted, IsMisread, IsOpen, ReadFails, Takes, TakesLine, TakesLines, of_second_line};
+ghost use Rattle.cred_admin.specs.declared.password.Passwords.TheVariants as passwords;
 ghost use Rattle.cred_admin.specs.Seen.{FitsSince, GivesMore};
 ghost use Rattle.cred_phc.specs.declared.password.TheConstants.{MAX_PASSWORD};
 
@@ -12,6 +13,17 @@ use cred_cli::Watched;
 use cred_phc::{MAX_PASSWORD, Password};
 use std::alloc::Global;
 use std::io::Read;
+
+/// The passwords that a command reads, a line each.
+#[derive(Clone, Copy, Debug, PartialEq, Eq)]
+pub enum Passwords {
+    /// The account's.
+    Present,
+    /// A new one.
+    New(EmptyPassword),
+    /// The account's, and then a new one.
+    PresentAndNew(EmptyPassword),
+}
 
 /// Reads one line: the bytes before the next line end, which is taken off too, or before the end of
 /// what is read. No byte after the line is taken.
@@ -23,19 +35,15 @@ pub(crate) fn read_password<R: Read>(
     reader: &mut Watched<R>,
 ) -> Result<Password, Fault>
     ensures line { (basis : Basis) → FitsSince basis reader.old reader.new
-        → IfOk result (λ pw. IfSome (left_on basis R.remaining reader.old)
-        (λ bytes. ReadsLine bytes (left_on basis R.remaining reader.new) pw)) }
-    ensures none { (basis : Basis) → FitsSince basis reader.old reader.new
-        → result ≡ Err Fault.NoPassword → IfSome (left_on basis R.remaining reader.old)
-        (λ bytes. bytes ≡ []) }
-    ensures long { (basis : Basis) → FitsSince basis reader.old reader.new
-        → result ≡ Err Fault.Password → IfSome (left_on basis R.remaining reader.old)
-        (λ bytes. MAX_PASSWORD < length (line_before bytes)) }
+        → IfOk result (TakesLine (reading_on basis R.remaining reader.old reader.new)) }
+    ensures misread { (basis : Basis) → FitsSince basis reader.old reader.new → IfErr result
+        (IsMisread passwords.Present (reading_on basis R.remaining reader.old reader.new)) }
     ensures end { (basis : Basis) → FitsSince basis reader.old reader.new
         → ended_of reader.old ≡ false → ended_of reader.new ≡ true
         → OnOk result (IfSome (left_on basis R.remaining reader.old)
         (λ bytes. left_on basis R.remaining reader.new ≡ Some [])) }
     ensures given { GivesMore reader.old reader.new }
+    ensures kept { OnOk result (failed_of reader.new ≡ failed_of reader.old) }
     ensures faults { IfErr result (ReadFails (failed_of reader.old) (failed_of reader.new)) }
 {
     let mut line = Vec::new(alloc);
@@ -63,20 +71,14 @@ pub(crate) fn read_new_password<R: Read>(
     reader: &mut Watched<R>,
 ) -> Result<Password, Fault>
     ensures line { (basis : Basis) → FitsSince basis reader.old reader.new
-        → IfOk result (λ pw. IfSome (left_on basis R.remaining reader.old)
-        (λ bytes. ReadsLine bytes (left_on basis R.remaining reader.new) pw)) }
+        → IfOk result (TakesLine (reading_on basis R.remaining reader.old reader.new)) }
     ensures admitted { IfOk result (IsAdmitted empty) }
-    ensures none { (basis : Basis) → FitsSince basis reader.old reader.new
-        → result ≡ Err Fault.NoPassword → IfSome (left_on basis R.remaining reader.old)
-        (λ bytes. bytes ≡ []) }
-    ensures long { (basis : Basis) → FitsSince basis reader.old reader.new
-        → result ≡ Err Fault.Password → IfSome (left_on basis R.remaining reader.old)
-        (λ bytes. MAX_PASSWORD < length (line_before bytes)) }
-    ensures empty { (basis : Basis) → FitsSince basis reader.old reader.new
-        → result ≡ Err Fault.Empty → (empty ≡ EmptyPassword.Refused)
-        × IfSome (left_on basis R.remaining reader.old) HasEmptyLine }
+    ensures misread { (basis : Basis) → FitsSince basis reader.old reader.new → IfErr result
+        (IsMisread (passwords.New empty)
+        (reading_on basis R.remaining reader.old reader.new)) }
     ensures given { GivesMore reader.old reader.new }
-    ensures faults { IfErr result (NewReadFails (failed_of reader.old) (failed_of reader.new)) }
+    ensures kept { OnOk result (failed_of reader.new ≡ failed_of reader.old) }
+    ensures faults { IfErr result (ReadFails (failed_of reader.old) (failed_of reader.new)) }
 {
     let pw = read_password(alloc, reader)?;
     match empty {
@@ -85,34 +87,49 @@ pub(crate) fn read_new_password<R: Read>(
     }
 }
 
-/// Reads a new password in the line after the old one, as [`read_new_password`] does.
+/// Reads the account's password and then a new one, as [`read_new_password`] does.
 ///
-/// Errors: those, but `NoNewPassword` for `NoPassword`.
-pub(crate) fn read_second_password<R: Read>(
+/// Errors: those; `NoNewPassword` if there is no byte after the first line.
+pub(crate) fn read_passwords<R: Read>(
     alloc: Global,
     empty: EmptyPassword,
     reader: &mut Watched<R>,
-) -> Result<Password, Fault>
-    ensures line { (basis : Basis) → FitsSince basis reader.old reader.new
-        → IfOk result (λ pw. IfSome (left_on basis R.remaining reader.old)
-        (λ bytes. ReadsLine bytes (left_on basis R.remaining reader.new) pw)) }
-    ensures admitted { IfOk result (IsAdmitted empty) }
-    ensures none { (basis : Basis) → FitsSince basis reader.old reader.new
-        → result ≡ Err Fault.NoNewPassword → IfSome (left_on basis R.remaining reader.old)
-        (λ bytes. bytes ≡ []) }
-    ensures long { (basis : Basis) → FitsSince basis reader.old reader.new
-        → result ≡ Err Fault.Password → IfSome (left_on basis R.remaining reader.old)
-        (λ bytes. MAX_PASSWORD < length (line_before bytes)) }
-    ensures empty { (basis : Basis) → FitsSince basis reader.old reader.new
-        → result ≡ Err Fault.Empty → (empty ≡ EmptyPassword.Refused)
-        × IfSome (left_on basis R.remaining reader.old) HasEmptyLine }
-    ensures given { GivesMore reader.old reader.new }
-    ensures faults { IfErr result (SecondReadFails (failed_of reader.old) (failed_of reader.new)) }
+) -> Result<(Password, Password), Fault>
+    ensures lines { (basis : Basis) → FitsSince basis reader.old reader.new → IfOk result
+        (λ pws. TakesLines (reading_on basis R.remaining reader.old reader.new) pws.0 pws.1) }
+    ensures admitted { IfOk result (λ pws. IsAdmitted empty pws.1) }
+    ensures misread { (basis : Basis) → FitsSince basis reader.old reader.new → IfErr result
+        (IsMisread (passwords.PresentAndNew empty)
+        (reading_on basis R.remaining reader.old reader.new)) }
+    ensures kept { OnOk result (failed_of reader.new ≡ failed_of reader.old) }
+    ensures faults { IfErr result (ReadFails (failed_of reader.old) (failed_of reader.new)) }
 {
+    let was_ended = reader.ended();
+    let pw = read_password(alloc, reader)?;
+    if came_to_end(was_ended, reader) {
+        return Err(Fault::NoNewPassword);
+    }
     match read_new_password(alloc, empty, reader) {
-        Ok(pw) => Ok(pw),
-        Err(Fault::NoPassword) => Err(Fault::NoNewPassword),
-        Err(fault) => Err(fault),
+        Ok(new_pw) => Ok((pw, new_pw)),
+        Err(fault) => Err(of_second_line(fault)),
+    }
+}
+
+/// Whether the reader came to its end since it was asked. No line follows then, whatever a terminal
+/// may give behind its end.
+fn came_to_end<R>(was_ended: bool, reader: &Watched<R>) -> bool
+    ensures { result ≡ (not was_ended && ended_of reader.now) }
+{
+    !was_ended && reader.ended()
+}
+
+/// What a fault of the first line is called in the second.
+fn of_second_line(fault: Fault) -> Fault
+    ensures { result ≡ of_second_line fault }
+{
+    match fault {
+        Fault::NoPassword => Fault::NoNewPassword,
+        _ => fault,
     }
 }
 

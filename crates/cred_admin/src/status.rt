@@ -1,8 +1,9 @@
 //! The exit statuses.
 
 ghost use Rattle.std.specs.Prelude.{◌≡◌};
-ghost use Rattle.cred_admin.specs.Statuses.{hint_of, number_of};
+ghost use Rattle.cred_admin.specs.Statuses.{hint_of, number_of, status_of};
 
+use cred_book::Reply;
 use cred_phc::Password;
 
 /// Why a password may not be the one that was meant.
@@ -56,6 +57,24 @@ impl Status {
             Status::No(_) => 4,
             Status::Database => 5,
             Status::Data => 6,
+        }
+    }
+}
+
+/// The exit status that goes with a reply, and with the hint of the password that was asked with.
+pub(crate) fn status_of(reply: &Reply, hint: Option<Hint>) -> Status
+    ensures { result ≡ status_of reply.now hint }
+{
+    match reply {
+        Reply::Enrolled
+        | Reply::Yes
+        | Reply::Replaced
+        | Reply::Upgraded
+        | Reply::Kept
+        | Reply::Removed => Status::Done,
+        Reply::No | Reply::Wrong => Status::No(hint),
+        Reply::Exists | Reply::Absent | Reply::Changed { .. } | Reply::NoAccount => {
+            Status::No(None)
         }
     }
 }

@@ -3,8 +3,8 @@ use Rattle.std.proofs.Common.{Result, Ok, Err, IfOk, IfErr}
 use Rattle.sqlite.specs.{Held.Held, Held.state, State.HasCleanDisk, Store.Ghosts}
 use Rattle.cred_book.specs.Accounts.{Accounts}
 use Rattle.cred_file.specs.Opening.{IsFound}
-use Rattle.cred_keep.specs.{Copying.IsUncopied, Copying.IsUnwritten, declared.copying.CopyFault.CopyFault}
-use Rattle.cred_keep.specs.declared.copying.CopyFault.TheVariants.{Source, Target}
+use Rattle.cred_keep.specs.{Copy.IsUncopied, Copy.IsUnwritten, declared.copy.CopyFault.CopyFault}
+use Rattle.cred_keep.specs.declared.copy.CopyFault.TheVariants.{Source, Target}
 
 pub if_ok : {A E : Type 0} (r : Result A E) (P Q : A → Type 0) → ((x : A) → P x → Q x) → IfOk r P → IfOk r Q
 if_ok (Ok x) P Q f p = f x p

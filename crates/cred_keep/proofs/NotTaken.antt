@@ -2,10 +2,10 @@
 use Rattle.std.proofs.Common.{◌≡◌, false, ℕ, ◌+◌, ◌<◌, List, IfSome, Err, subst}
 use Rattle.std.specs.FinMap as map
 use Rattle.cred_book.specs.Accounts.{Accounts, register_capacity}
-use Rattle.cred_admin.specs.{Import.tally, declared.gathering.ImportFault.ImportFault}
-use Rattle.cred_admin.specs.declared.gathering.ImportFault.TheVariants as fault
+use Rattle.cred_admin.specs.{Import.tally, declared.import.ImportFault.ImportFault}
+use Rattle.cred_admin.specs.declared.import.ImportFault.TheVariants as fault
 use Rattle.cred_cli.specs.Watched.{Reading}
-use Rattle.cred_keep.specs.{Importing.Imports, Importing.Takes, declared.importing.Importing.Importing}
+use Rattle.cred_keep.specs.{Imports.Imports, Imports.Takes, declared.import.Importing.Importing}
 
 pub not_taken : (how : Importing) (r : Reading) (old new added changed : Accounts) (text : List ℕ) → r.failed ≡ false → IfSome r.input (λ bytes. text ≡ bytes) → added ≡ (tally how.rules old text).accounts → (e : ImportFault)
     → Takes how.effect old new added changed (Err e) → Imports how r old new (Err e)

@@ -1,6 +1,6 @@
 -- Definitions that contracts cite: what an order makes of a kept book, and how it ends.
-pub mod Copying
-pub mod Importing
+pub mod Copy
+pub mod Imports
 pub mod Orders
 pub use Rattle.cred_admin.specs.Edits
 pub use Rattle.cred_admin.specs.Import

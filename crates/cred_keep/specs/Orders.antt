@@ -3,31 +3,30 @@ use Rattle.std.specs.Prelude.{◌≡◌, ℕ, ◌≤◌, Bool, true, false, List
 use Rattle.std.specs.FinMap as map
 use Rattle.std.specs.Io.KnownBytes.{Appends, Keeps}
 use Rattle.cred_book.specs.Accounts.{register_capacity}
-use Rattle.cred_book.specs.declared.request.Request.TheVariants as request
-use Rattle.cred_admin.specs.{Commands.Adds, Commands.Asks, Commands.AsksTwice, Commands.Resets, Edits.DisablesShown, Edits.Edits}
-use Rattle.cred_admin.specs.{Listing.Prints, Listing.Tells, Listing.json_at, Listing.line_text, Listing.shown_at, Seen.Seen, Statuses.status_of_fault}
+use Rattle.cred_admin.specs.{Commands.Obeys, Edits.DisablesShown, Edits.Edits}
+use Rattle.cred_admin.specs.{Listing.Prints, Listing.Tells, Listing.json_at, Listing.line_text, Listing.shown_at, Seen.Seen, Seen.seen, Statuses.status_of_fault}
 use Rattle.cred_admin.specs.declared.fault.Fault.{Fault}
 use Rattle.cred_admin.specs.declared.fault.Fault.TheVariants as fault
-use Rattle.cred_admin.specs.declared.gathering.ImportFault.{ImportFault}
-use Rattle.cred_admin.specs.declared.gathering.ImportFault.TheVariants as import
+use Rattle.cred_admin.specs.declared.import.ImportFault.{ImportFault}
+use Rattle.cred_admin.specs.declared.import.ImportFault.TheVariants as import
 use Rattle.cred_admin.specs.declared.status.Status.{Status}
 use Rattle.cred_admin.specs.declared.status.Status.TheVariants.{Done, Io, Memory, Database, Data}
 use Rattle.cred_cli.specs.{Outcome.FailsAs, Outcome.FrontWritten, Outcome.HasCause, Outcome.IsAnswered, Outcome.longest_script, Prompt.IsPrompt}
 use Rattle.cred_cli.specs.{Script.script_start, Starving.Serves, declared.costs.CostBounds.CostBounds, declared.fault.ScriptFault.ScriptFault}
 use Rattle.cred_cli.specs.declared.fault.ScriptFault.TheVariants as script
-use Rattle.cred_cli.specs.{Watched.Writing, declared.script.End.End}
-use Rattle.cred_file.specs.{Keeps.Keeps as IsKept, Kept.Kept, declared.fault.Lost.Lost, declared.fault.OpenFault.OpenFault}
+use Rattle.cred_cli.specs.{Watched.Reading, Watched.Writing, declared.script.End.End}
+use Rattle.cred_file.specs.{Keeps.Keeps as IsKept, Kept.Kept, Opening.IsFound, Opening.IsUnopened, declared.fault.Lost.Lost, declared.fault.OpenFault.OpenFault}
 use Rattle.cred_file.specs.declared.fault.OpenFault.TheVariants as open_fault
-use Rattle.sqlite.specs.{Store.Ghosts, declared.error.Error.Error}
+use Rattle.sqlite.specs.{Held.Held, Held.state, State.HasCleanDisk, State.Survives, Store.Ghosts, declared.error.Error.Error}
 use Rattle.sqlite.specs.declared.error.Error.TheVariants as sqlite
 use Rattle.sqlite.specs.declared.error.ErrorCode.{ErrorCode}
 use Rattle.sqlite.specs.declared.error.ErrorCode.TheVariants as code
-use Rattle.cred_keep.specs.{Importing.Imports, declared.ending.Ending.Ending}
-use Rattle.cred_keep.specs.declared.ending.Ending.TheVariants as ending
-use Rattle.cred_keep.specs.{declared.importing.Imported.Imported, declared.failure.Failure.Failure}
-use Rattle.cred_keep.specs.declared.failure.Failure.TheVariants as failure
+use Rattle.cred_keep.specs.{Imports.Imports, declared.outcome.Ending.Ending}
+use Rattle.cred_keep.specs.declared.outcome.Ending.TheVariants as ending
+use Rattle.cred_keep.specs.{declared.import.Imported.Imported, declared.outcome.Failure.Failure}
+use Rattle.cred_keep.specs.declared.outcome.Failure.TheVariants as failure
 use Rattle.cred_keep.specs.declared.order.Order.{Order}
-use Rattle.cred_keep.specs.declared.order.Order.TheVariants.{Run, Serve, Add, Check, Change, Upgrade, Reset, Remove, Edit, DisableShown, Show, ShowJson, List as Lines, Import}
+use Rattle.cred_keep.specs.declared.order.Order.TheVariants.{Run, Serve, Account, Edit, DisableShown, Show, ShowJson, List as Lines, Import}
 
 -- ---- how it ends
 
@@ -126,14 +125,8 @@ Performs Run s ended =
     (r : Result End ScriptFault) × RunsWithin longest_script s r × (ended ≡ run_end r)
 Performs (Serve most) s ended =
     (r : Result End ScriptFault) × ServesLines most s r × (ended ≡ run_end r)
-Performs (Add name new) s ended = Commands (Adds register_capacity name new s) ended
-Performs (Check name) s ended = Commands (Asks (λ pw. request.Verify name pw) s) ended
-Performs (Change name new) s ended =
-    Commands (AsksTwice new (λ pw new_pw. request.Change name pw new_pw new.setting) s) ended
-Performs (Reset name new) s ended = Commands (Resets name new s) ended
-Performs (Upgrade name setting) s ended =
-    Commands (Asks (λ pw. request.Upgrade name pw setting) s) ended
-Performs (Remove name) s ended = Commands (Asks (λ pw. request.Remove name pw) s) ended
+Performs (Account name command) s ended =
+    Commands (Obeys register_capacity name command s) ended
 Performs (Edit edit) s ended =
     Commands (Edits register_capacity s.old s.new edit s.writing) ended
 Performs (DisableShown name) s ended =
@@ -159,6 +152,26 @@ pub record Leaves {S : Type 0} (g : Ghosts S) (order : Order) (s : Seen) (kept :
   pub ends : Ends order s kept.lost ended
   pub keeps : IsKept g kept.conn kept.book kept.lost
 
+-- the book that a database holds is opened, the order is done on it, once, and the connection comes
+-- back as the order left it
+pub record IsServed {S : Type 0} (g : Ghosts S) (order : Order) (r : Reading) (w : Writing)
+    (old new : Held S) (status : Status) : Type 0 where
+  pub opened : Kept S
+  pub found : HasCleanDisk (state g opened.conn)
+      → IsFound (state g old) (state g opened.conn) opened.book
+  pub kept : Kept S
+  pub ended : Result Ending Failure
+  pub leaves : Leaves g order (seen r w opened.book kept.book) kept ended
+  pub closed : new ≡ kept.conn
+  pub told : status ≡ status_of_end ended
+
+-- it holds none, and nothing is changed
+pub record IsRefused {S : Type 0} (g : Ghosts S) (old new : Held S) (status : Status) : Type 0 where
+  pub why : OpenFault
+  pub unopened : HasCleanDisk (state g new) → IsUnopened (state g old) (state g new) why
+  pub kept : Survives (state g old) (state g new) (λ _. ⊥)
+  pub told : status ≡ status_of_open why
+
 -- the order reads nothing
 abbrev pub is_unread : Order → Bool
 is_unread (Lines line) = true
@@ -168,10 +181,5 @@ is_unread (Edit edit) = true
 is_unread (DisableShown name) = true
 is_unread Run = false
 is_unread (Serve most) = false
-is_unread (Add name new) = false
-is_unread (Check name) = false
-is_unread (Change name new) = false
-is_unread (Reset name new) = false
-is_unread (Upgrade name setting) = false
-is_unread (Remove name) = false
+is_unread (Account name command) = false
 is_unread (Import how) = false

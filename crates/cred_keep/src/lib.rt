@@ -3,20 +3,16 @@
 //! `cred_file`'s.
 #![tactic(auto)]
 
-mod copying;
-mod ending;
-mod failure;
-mod importing;
+mod copy;
+mod import;
 mod order;
-mod performing;
+mod outcome;
 mod report;
 mod script;
 
-pub use copying::{CopyFault, copy_book, copy_into, count_accounts};
-pub use ending::Ending;
-pub use failure::Failure;
-pub use importing::{BadLines, Counts, Effect, Imported, Importing};
-pub use order::Order;
-pub use performing::{perform, serve};
+pub use copy::{CopyFault, copy_book, copy_into, count_accounts};
+pub use import::{BadLines, Counts, Effect, Imported, Importing};
+pub use order::{Order, perform, serve, serve_in};
+pub use outcome::{Ending, Failure};
 pub use report::{NAME_RULE, explain, refuse};
 pub use script::{run_on_file, serve_on_file};

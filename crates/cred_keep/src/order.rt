@@ -1,11 +1,27 @@
-//! What is asked of a kept book.
+//! What is asked of a kept book, and doing it.
 
-use crate::importing::Importing;
-use cred_admin::{Edit, Line, NewPassword, NewSetting, Part};
+ghost use Rattle.std.specs.Prelude.{◌≡◌, ◌⊎◌, ℕ, List, OnOk, false, true};
+ghost use Rattle.cred_cli.specs.Watched.{Basis, IsNew, MayFollow, reading, reading_on, transcript_reading, transcript_writing, writing, writing_on};
+ghost use Rattle.cred_admin.specs.Seen.{FitsSince, seen};
+ghost use Rattle.cred_file.specs.Keeps.{IsTableOf};
+ghost use Rattle.cred_keep.specs.Orders.{IsRefused, IsServed, Leaves, Performs, is_unread, status_of_end};
+ghost use Rattle.sqlite.specs.{State.HasCleanDisk, Held.state};
+
+use crate::import::{Importing, import};
+use crate::outcome::{Ending, Failure, command_end, import_end, run_end};
+use crate::report::{advise, explain, refuse};
+use crate::script::{AtOnce, run_on_file, serve_on_file};
+use cred_admin::{
+    Command, Edit, Line, Part, Status, disable_shown, edit_account, list, show, show_json,
+};
 use cred_book::Name;
-use cred_cli::CostBounds;
+use cred_cli::{CostBounds, Tools, Watched};
+use cred_file::FileBook;
+use sqlite::{Alter, Connection};
+use std::io::{Read, Write};
+use std::thread::Threads;
 
-/// A command of `credkeep` on a book that is kept, with the words that it was given.
+/// What is asked of a book that is kept.
 #[derive(Clone, Copy)]
 pub enum Order {
     /// Runs a script.
@@ -13,18 +29,8 @@ pub enum Order {
     /// Answers the lines of a script for as long as they come. Those that bring a setting or a
     /// record are refused if it asks for more than this.
     Serve { most: CostBounds },
-    /// Makes the first record of an account, and the account if it doesn't exist.
-    Add { name: Name, new: NewPassword },
-    /// Asks whether a password is the account's.
-    Check { name: Name },
-    /// Puts the record of a new password in place of the old one's.
-    Change { name: Name, new: NewPassword },
-    /// Puts the record of a new password at an account, without the old one.
-    Reset { name: Name, new: NewPassword },
-    /// Rehashes the account's record under another scheme or other numbers.
-    Upgrade { name: Name, setting: NewSetting },
-    /// Takes the account's record away.
-    Remove { name: Name },
+    /// Does a command on one account, with its passwords.
+    Account { name: Name, command: Command },
     /// Disables, deletes or renames an account without its password.
     Edit { edit: Edit },
     /// Writes the account's line of a passwd-file, and takes its record away without its password.
@@ -37,4 +43,137 @@ pub enum Order {
     List { line: Line },
     /// Takes in a passwd-file.
     Import { how: Importing },
+}
+
+/// Opens the book of a database, and does what is asked of it, as [`serve`] does. The connection
+/// comes back. If the database holds no book, `faults` says why, and nothing is read or written.
+pub fn serve_in<T: Threads + Sync, S: Alter, R: Read, W: Write, F: Write>(
+    tools: &Tools<'_, T>,
+    conn: Connection<S>,
+    order: &Order,
+    reader: &mut Watched<R>,
+    writer: &mut Watched<W>,
+    faults: &mut F,
+) -> (Connection<S>, Status)
+    requires new_reader { IsNew reader.old }
+    requires new_writer { IsNew writer.old }
+    requires autocommit { conn.in_transaction ≡ false }
+    ensures done { IsServed S.Store order.now (reading R.remaining reader.old reader.new)
+        (writing W.contents writer.old writer.new) conn result.0 result.1
+        ⊎ (IsRefused S.Store conn result.0 result.1 × (reader.new ≡ reader.old)
+        × (writer.new ≡ writer.old)) }
+    ensures transcript { (rest : List ℕ) → MayFollow rest reader.new
+        → IsServed S.Store order.now (transcript_reading rest reader.new)
+        (transcript_writing writer.old writer.new) conn result.0 result.1
+        ⊎ (IsRefused S.Store conn result.0 result.1 × (reader.new ≡ reader.old)
+        × (writer.new ≡ writer.old)) }
+{
+    match FileBook::open(tools.alloc, conn) {
+        Ok(mut book) => {
+            let status = serve(tools, &mut book, order, reader, writer, faults);
+            (book.close(), status)
+        }
+        Err((why, conn)) => (conn, refuse(faults, &why)),
+    }
+}
+
+/// Does what is asked, as [`perform`] does, says on `faults` what ended it if something did, why a
+/// password may be wrong or what an import left out, and gives the exit status: `Database` if a
+/// change is lost. Whether `faults` takes its text changes nothing.
+pub fn serve<T: Threads + Sync, S: Alter, R: Read, W: Write, F: Write>(
+    tools: &Tools<'_, T>,
+    book: &mut FileBook<S>,
+    order: &Order,
+    reader: &mut Watched<R>,
+    writer: &mut Watched<W>,
+    faults: &mut F,
+) -> Status
+    requires new_reader { IsNew reader.old }
+    requires new_writer { IsNew writer.old }
+    ensures done { (ended : _) × Leaves S.Store order.now (seen
+        (reading R.remaining reader.old reader.new) (writing W.contents writer.old writer.new)
+        book.old.book book.new.book) book.new ended × (result ≡ status_of_end ended) }
+    ensures transcript { (rest : List ℕ) → MayFollow rest reader.new
+        → (ended : _) × Leaves S.Store order.now (seen (transcript_reading rest reader.new)
+        (transcript_writing writer.old writer.new) book.old.book book.new.book) book.new ended
+        × (result ≡ status_of_end ended) }
+    ensures unread { is_unread order.now ≡ true → reader.new ≡ reader.old }
+{
+    match perform(tools, book, order, reader, writer) {
+        Ok(ending) => {
+            advise(faults, &ending);
+            ending.status()
+        }
+        Err(failure) => {
+            explain(faults, &failure, book.lost());
+            failure.status()
+        }
+    }
+}
+
+/// Does what is asked of a book that is kept. No call was made on the reader or the writer before.
+/// It waits only where a call of the reader or the writer does: else every body of it returns, and
+/// is bound by this.
+///
+/// Ok tells how it ended, and then the table stands for the book, and a crash leaves it. Errors:
+/// what ended the order; `Database` if the database failed, whatever came of it.
+pub fn perform<T: Threads + Sync, S: Alter, R: Read, W: Write>(
+    tools: &Tools<'_, T>,
+    book: &mut FileBook<S>,
+    order: &Order,
+    reader: &mut Watched<R>,
+    writer: &mut Watched<W>,
+) -> Result<Ending, Failure>
+    requires new_reader { IsNew reader.old }
+    requires new_writer { IsNew writer.old }
+    ensures done { Leaves S.Store order.now (seen (reading R.remaining reader.old reader.new)
+        (writing W.contents writer.old writer.new) book.old.book book.new.book) book.new result }
+    ensures transcript { (rest : List ℕ) → MayFollow rest reader.new
+        → Leaves S.Store order.now (seen (transcript_reading rest reader.new)
+        (transcript_writing writer.old writer.new) book.old.book book.new.book) book.new result }
+    ensures unread { is_unread order.now ≡ true → reader.new ≡ reader.old }
+    ensures kept { OnOk result (HasCleanDisk (state S.Store book.new.conn)
+        → IsTableOf (state S.Store book.new.conn) book.new.book) }
+{
+    let ended = obey(tools, book, order, reader, writer);
+    book.keeps();
+    if book.lost().is_some() {
+        return Err(Failure::Database);
+    }
+    ended
+}
+
+fn obey<T: Threads + Sync, S: Alter, R: Read, W: Write>(
+    tools: &Tools<'_, T>,
+    book: &mut FileBook<S>,
+    order: &Order,
+    reader: &mut Watched<R>,
+    writer: &mut Watched<W>,
+) -> Result<Ending, Failure>
+    requires new_reader { IsNew reader.old }
+    requires new_writer { IsNew writer.old }
+    ensures done { (basis : Basis) → FitsSince basis reader.old reader.new
+        → Performs order.now (seen (reading_on basis R.remaining reader.old reader.new)
+        (writing_on basis W.contents writer.old writer.new) book.old.book book.new.book) result }
+    ensures unread { is_unread order.now ≡ true → reader.new ≡ reader.old }
+{
+    match order {
+        Order::Run => run_end(run_on_file(tools, book, reader, writer)),
+        Order::Serve { most } => run_end(serve_on_file(tools, *most, book, reader, writer)),
+        Order::Account { name, command } => {
+            command_end(command.carry_out::<AtOnce, T, FileBook<S>, R, W>(
+                tools, book, name, reader, writer,
+            ))
+        }
+        Order::Edit { edit } => command_end(edit_account(book, edit, writer)),
+        Order::DisableShown { name } => {
+            command_end(disable_shown(tools.alloc, book, name, writer))
+        }
+        Order::Show { name, part } => command_end(show(tools.alloc, book, name, *part, writer)),
+        Order::ShowJson { name, part } => {
+            command_end(show_json(tools.alloc, book, name, *part, writer))
+        }
+        Order::List { line } => command_end(list(tools.alloc, book.book(), *line, writer)),
+        Order::Import { how } => import_end(import(tools.alloc, book, *how, reader), writer),
+    }
 }

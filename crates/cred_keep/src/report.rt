@@ -3,9 +3,8 @@
 ghost use Rattle.std.specs.Prelude.{◌≡◌};
 ghost use Rattle.cred_keep.specs.Orders.{status_of_open};
 
-use crate::ending::Ending;
-use crate::failure::Failure;
-use crate::importing::{Effect, Imported};
+use crate::import::{Effect, Imported};
+use crate::outcome::{Ending, Failure};
 use cred_admin::{BadLine, Fault, Hint, ImportFault, LineFault, Status};
 use cred_book::{BookError, Name, Register};
 use cred_file::{Edit, Lost, OpenFault};

@@ -8,23 +8,20 @@ ghost use Rattle.cred_file.specs.Keeps.{Keeps};
 ghost use Rattle.cred_keep.specs.Orders.{RunsWithin, ServesLines};
 
 use cred_book::{BookError, Name, Reply, Worked};
-use cred_cli::{CostBounds, End, KeeperBy, ScriptFault, Tools, Watched, run_script, serve};
+use cred_cli::{CostBounds, End, KeeperBy, ScriptFault, Tools, Watched, run_script_by, serve};
 use cred_file::FileBook;
 use cred_phc::Record;
 use sqlite::Alter;
-use std::alloc::Global;
 use std::io::{Read, Write};
-use std::sync::Wait;
 use std::thread::Threads;
 
-/// Runs a script on a kept book, as `run_script` does.
+/// Runs a script on a kept book, as `run_script` does. It waits only where a call of the reader or
+/// the writer does: else every body of it returns, and is bound by this.
 ///
 /// A crash after it leaves the book after the lines that were done, perhaps with the change that
 /// was under way as the database failed.
-pub fn run_on_file<T: Threads + Wait + Sync, S: Alter, R: Read, W: Write>(
-    rt: &T,
-    alloc: Global,
-    workers: u8,
+pub fn run_on_file<T: Threads + Sync, S: Alter, R: Read, W: Write>(
+    tools: &Tools<'_, T>,
     book: &mut FileBook<S>,
     reader: &mut Watched<R>,
     writer: &mut Watched<W>,
@@ -45,7 +42,7 @@ pub fn run_on_file<T: Threads + Wait + Sync, S: Alter, R: Read, W: Write>(
     ensures takes { TakesAsContracted W.contents writer.old writer.new }
     ensures keeps { Keeps S.Store book.new.conn book.new.book book.new.lost }
 {
-    let result = run_script(rt, alloc, workers, book, reader, writer);
+    let result = run_script_by::<AtOnce, T, FileBook<S>, R, W>(tools, book, reader, writer);
     book.keeps();
     result
 }

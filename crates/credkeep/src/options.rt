@@ -47,6 +47,11 @@ pub(crate) fn number_in<'a>(
     }
 }
 
+/// A word that has to be given.
+pub(crate) fn text_in<'a>(values: &ArgMatches<'a>, word: &'static str) -> &'a str {
+    values.get_str(word).unwrap_or("")
+}
+
 /// How many threads an option gives, if it is given.
 pub(crate) fn threads_in<'a>(
     values: &ArgMatches<'a>,

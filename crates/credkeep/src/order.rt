@@ -4,17 +4,17 @@ use crate::arguments::credkeep;
 use crate::commands::{CommandText, command_in};
 use crate::options::{
     counts_in, echo_in, empty_in, importing_in, line_in, most_in, name_in, number_in, part_in,
-    remarks_in, size_in, threads_in,
+    remarks_in, size_in, text_in, threads_in,
 };
 use crate::tagged::Tagged;
 use crate::terminal::Echo;
 use clap::error::ErrorKind;
 use clap::{ArgMatches, Error};
-use cred_admin::{Edit, Line, NewPassword, NewSetting, Part, setting_of};
+use cred_admin::{Command, Edit, Line, NewPassword, NewSetting, Part, setting_of};
 use cred_book::BookError;
 use cred_cli::exceeds;
 use cred_keep::{Counts, Order};
-use cred_many::Costs;
+use cred_many::{Costs, Means};
 use cred_phc::{PhcError, draw_salt};
 use rand::rngs::StdRng;
 use rand::{Rng, make_rng};
@@ -131,7 +131,7 @@ pub(crate) fn asked_by<'a, R: RandomSource + AllocGlobal>(
         Ok(matches) => matches,
         Err(error) => return Err(refusal_of(words, error)),
     };
-    let file = matches.get_str("file").unwrap_or("");
+    let file = text_in(&matches, "file");
     let wait = number_in(&matches, "wait", 0, 3600)?.unwrap_or(0);
     let remarks = remarks_in(&matches);
     let act = match matches.subcommand() {
@@ -175,26 +175,39 @@ fn act_of<'a, R: RandomSource + AllocGlobal>(
     word: &str,
     values: &ArgMatches<'a>,
 ) -> Result<Act<'a>, Refusal<'a>> {
-    match word {
-        "init" => Ok(Act::Init),
-        "backup" => Ok(Act::Backup {
-            to: values.get_str("to").unwrap_or(""),
-            counts: counts_in(values),
+    let counts = counts_in(values);
+    let order = match word {
+        "init" => return Ok(Act::Init),
+        "backup" => return Ok(Act::Backup {
+            to: text_in(values, "to"),
+            counts,
         }),
-        "restore" => Ok(Act::Restore {
-            from: values.get_str("from").unwrap_or(""),
-            counts: counts_in(values),
+        "restore" => return Ok(Act::Restore {
+            from: text_in(values, "from"),
+            counts,
         }),
-        "verify" => Ok(Act::Verify {
-            counts: counts_in(values),
-        }),
-        "serve" if values.get_flag("tagged") => Ok(Act::Tagged(tagged_in(rt, values)?)),
-        _ => Ok(Act::Perform {
-            order: order_of(rt, word, values)?,
-            workers: threads_in(values, "workers", 64)?.unwrap_or(LANES),
-            echo: echo_in(values),
-        }),
-    }
+        "verify" => return Ok(Act::Verify { counts }),
+        "serve" if values.get_flag("tagged") => return Ok(Act::Tagged(tagged_in(rt, values)?)),
+        "run" => Order::Run,
+        "serve" => Order::Serve {
+            most: most_in(values)?,
+        },
+        "list" => Order::List {
+            line: line_in(values),
+        },
+        "export" => Order::List {
+            line: Line::Passwd(Part::Record),
+        },
+        "import" => Order::Import {
+            how: importing_in(values)?,
+        },
+        _ => order_on(rt, word, values)?,
+    };
+    Ok(Act::Perform {
+        order,
+        workers: threads_in(values, "workers", 64)?.unwrap_or(LANES),
+        echo: echo_in(values),
+    })
 }
 
 /// How tagged lines are answered.
@@ -216,33 +229,12 @@ fn tagged_in<'a, R: RandomSource + AllocGlobal>(
     };
     Ok(Tagged {
         at_once: threads_in(values, "at-once", 255)?,
-        memory,
-        costs,
-        most,
+        means: Means {
+            memory,
+            costs,
+            most,
+        },
     })
-}
-
-fn order_of<'a, R: RandomSource + AllocGlobal>(
-    rt: &R,
-    word: &str,
-    values: &ArgMatches<'a>,
-) -> Result<Order, Refusal<'a>> {
-    match word {
-        "run" => Ok(Order::Run),
-        "serve" => Ok(Order::Serve {
-            most: most_in(values)?,
-        }),
-        "list" => Ok(Order::List {
-            line: line_in(values),
-        }),
-        "export" => Ok(Order::List {
-            line: Line::Passwd(Part::Record),
-        }),
-        "import" => Ok(Order::Import {
-            how: importing_in(values)?,
-        }),
-        _ => order_on(rt, word, values),
-    }
 }
 
 /// An order on one account.
@@ -251,40 +243,50 @@ fn order_on<'a, R: RandomSource + AllocGlobal>(
     word: &str,
     values: &ArgMatches<'a>,
 ) -> Result<Order, Refusal<'a>> {
-    let name = name_in(values.get_str("name").unwrap_or(""))?;
-    match word {
-        "check" => Ok(Order::Check { name }),
-        "remove" => Ok(Order::Remove { name }),
-        "disable" if values.get_flag("show") => Ok(Order::DisableShown { name }),
-        "disable" => Ok(Order::Edit {
-            edit: Edit::Disable(name),
-        }),
-        "delete" => Ok(Order::Edit {
-            edit: Edit::Delete(name),
-        }),
-        "rename" => Ok(Order::Edit {
-            edit: Edit::Rename(name, name_in(values.get_str("new").unwrap_or(""))?),
-        }),
-        "show" if values.get_flag("json") => Ok(Order::ShowJson {
-            name,
-            part: part_in(values),
-        }),
-        "show" => Ok(Order::Show {
+    let name = name_in(text_in(values, "name"))?;
+    let edit = match word {
+        "disable" if values.get_flag("show") => return Ok(Order::DisableShown { name }),
+        "disable" => Edit::Disable(name),
+        "delete" => Edit::Delete(name),
+        "rename" => Edit::Rename(name, name_in(text_in(values, "new"))?),
+        "show" if values.get_flag("json") => {
+            return Ok(Order::ShowJson {
+                name,
+                part: part_in(values),
+            });
+        }
+        "show" => return Ok(Order::Show {
             name,
             part: part_in(values),
         }),
         _ => {
-            let setting = new_setting(rt, values)?;
-            let empty = empty_in(values);
-            let new = NewPassword { setting, empty };
-            Ok(match word {
-                "add" => Order::Add { name, new },
-                "change" => Order::Change { name, new },
-                "reset" => Order::Reset { name, new },
-                _ => Order::Upgrade { name, setting },
-            })
+            let command = command_of(rt, word, values)?;
+            return Ok(Order::Account { name, command });
         }
+    };
+    Ok(Order::Edit { edit })
+}
+
+/// A command that reads passwords.
+fn command_of<'a, R: RandomSource + AllocGlobal>(
+    rt: &R,
+    word: &str,
+    values: &ArgMatches<'a>,
+) -> Result<Command, Refusal<'a>> {
+    match word {
+        "check" => return Ok(Command::Check),
+        "remove" => return Ok(Command::Remove),
+        _ => {}
     }
+    let setting = new_setting(rt, values)?;
+    let empty = empty_in(values);
+    let new = NewPassword { setting, empty };
+    Ok(match word {
+        "add" => Command::Add(new),
+        "change" => Command::Change(new),
+        "reset" => Command::Reset(new),
+        _ => Command::Upgrade(setting),
+    })
 }
 
 /// The setting that was given.

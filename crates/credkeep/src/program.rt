@@ -17,7 +17,7 @@ use crate::terminal::{Echo, Typed, asked_for};
 use cred_admin::Status;
 use cred_cli::{Tools, Watched};
 use cred_file::{FileBook, OpenFault};
-use cred_keep::{Order, refuse, serve};
+use cred_keep::{Order, refuse, serve_in};
 use sqlite::{Alter, Connection};
 use std::alloc::Global;
 use std::io::{ErrorKind, Read, Write};
@@ -158,7 +158,7 @@ fn before_opening(
 }
 
 /// Opens the file, does what is asked in its database, and closes it.
-fn on_file<T: Threads + Wait + Sync>(
+fn on_file<T: Threads + Sync>(
     host: &HostRuntime,
     tools: &Tools<'_, T>,
     asked: &Asked<'_>,
@@ -175,12 +175,11 @@ fn on_file<T: Threads + Wait + Sync>(
         Typed::Nothing => (&[][..], u64::MAX),
     };
     let input = lines.chain(host.stdin().take(rest));
-    let streams = Streams {
-        reader: Counted::new(input, Progress::new(host, remarks_of(asked, order))),
-        writer: host.stdout(),
-        faults: host.stderr(),
-    };
-    let (conn, status) = perform_in(tools, conn, order, streams);
+    let counted = Counted::new(input, Progress::new(host, remarks_of(asked, order)));
+    let mut reader = Watched::new(counted);
+    let mut writer = Watched::new(host.stdout());
+    let mut faults = host.stderr();
+    let (conn, status) = serve_in(tools, conn, order, &mut reader, &mut writer, &mut faults);
     close(host, conn, status)
 }
 
@@ -190,13 +189,6 @@ fn remarks_of(asked: &Asked<'_>, order: &Order) -> Remarks {
         Order::Import { .. } => asked.remarks,
         _ => Remarks::Hidden,
     }
-}
-
-/// Where the program reads its input and writes its answer and its faults.
-struct Streams<R, W, F> {
-    reader: R,
-    writer: W,
-    faults: F,
 }
 
 /// Begins a book in the database, which comes back.
@@ -226,44 +218,6 @@ fn refuse_begun<S: Alter, F: Write + Drop>(
         Ok(book) => {
             let _ = writeln!(faults, "credkeep: the file holds a book already");
             (book.close(), Status::Database)
-        }
-        Err((why, conn)) => (conn, refuse(&mut faults, &why)),
-    }
-}
-
-/// Does what is asked of the book in the database, which comes back.
-fn perform_in<T, S, R, W, F>(
-    tools: &Tools<'_, T>,
-    conn: Connection<S>,
-    order: &Order,
-    streams: Streams<R, W, F>,
-) -> (Connection<S>, Status)
-where
-    T: Threads + Wait + Sync,
-    S: Alter,
-    R: Read + Drop,
-    W: Write + Drop,
-    F: Write + Drop,
-    requires autocommit { conn.in_transaction ≡ false }
-{
-    let Streams {
-        reader,
-        writer,
-        mut faults,
-    } = streams;
-    let mut reader = Watched::new(reader);
-    let mut writer = Watched::new(writer);
-    match FileBook::open(tools.alloc, conn) {
-        Ok(mut book) => {
-            let status = serve(
-                tools,
-                &mut book,
-                order,
-                &mut reader,
-                &mut writer,
-                &mut faults,
-            );
-            (book.close(), status)
         }
         Err((why, conn)) => (conn, refuse(&mut faults, &why)),
     }

@@ -1,9 +1,12 @@
 //! Passwords that are typed at a terminal, which shows them.
 
+use cred_admin::Passwords;
 use cred_keep::Order;
 use std::alloc::AllocError;
 use std::io;
 use std::io::{BufRead, IsTerminal, Write};
+
+const PRESENT: &str = "Password: ";
 
 /// Why a terminal gave no passwords.
 #[derive(Drop)]
@@ -32,15 +35,6 @@ impl From<AllocError> for TypingFault {
     }
 }
 
-/// Which passwords an order reads, a line each.
-#[derive(Clone, Copy, PartialEq, Eq)]
-enum Passwords {
-    None,
-    Present,
-    New,
-    PresentAndNew,
-}
-
 /// Whether passwords may be typed at a terminal.
 #[derive(Clone, Copy, PartialEq, Eq)]
 pub(crate) enum Echo {
@@ -55,23 +49,25 @@ pub(crate) fn asked_for(
     order: &Order,
     echo: Echo,
 ) -> Result<Typed, TypingFault> {
-    let wanted = passwords_of(order);
-    if wanted == Passwords::None || !host.stdin().is_terminal() {
+    let Order::Account { command, .. } = order else {
+        return Ok(Typed::Nothing);
+    };
+    if !host.stdin().is_terminal() {
         return Ok(Typed::Nothing);
     }
     if echo == Echo::Refused {
         return Err(TypingFault::Refused);
     }
-    let mut lines = Vec::new(host.alloc());
-    if wanted != Passwords::New {
-        let present = line_asked(host, "Password: ")?;
-        lines.extend_from_slice(&present)?;
+    match command.passwords() {
+        Passwords::Present => Ok(Typed::Lines(line_asked(host, PRESENT)?)),
+        Passwords::New(_) => Ok(Typed::Lines(new_line_asked(host)?)),
+        Passwords::PresentAndNew(_) => {
+            let mut lines = line_asked(host, PRESENT)?;
+            let new = new_line_asked(host)?;
+            lines.extend_from_slice(&new)?;
+            Ok(Typed::Lines(lines))
+        }
     }
-    if wanted != Passwords::Present {
-        let new = new_line_asked(host)?;
-        lines.extend_from_slice(&new)?;
-    }
-    Ok(Typed::Lines(lines))
 }
 
 /// What was typed.
@@ -81,22 +77,6 @@ pub(crate) enum Typed {
     Lines(Vec<u8>),
     /// Nothing: standard input is to be read.
     Nothing,
-}
-
-fn passwords_of(order: &Order) -> Passwords {
-    match order {
-        Order::Check { .. } | Order::Upgrade { .. } | Order::Remove { .. } => Passwords::Present,
-        Order::Add { .. } | Order::Reset { .. } => Passwords::New,
-        Order::Change { .. } => Passwords::PresentAndNew,
-        Order::Run
-        | Order::Serve { .. }
-        | Order::Edit { .. }
-        | Order::DisableShown { .. }
-        | Order::Show { .. }
-        | Order::ShowJson { .. }
-        | Order::List { .. }
-        | Order::Import { .. } => Passwords::None,
-    }
 }
 
 fn new_line_asked(host: &HostRuntime) -> Result<Vec<u8>, TypingFault> {

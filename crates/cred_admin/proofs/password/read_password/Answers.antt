@@ -10,8 +10,8 @@ returns-in_default-clause-line g c = λ basis fits.
     let now = fits_then g.R.Read.remaining c.args.reader.now c.loop-taken.reader c.next_byte.new.reader (λ was. c.loop-taken.invariant.goes_on ∙ was) c.next_byte.ensures.given basis fits in
     ended _ _ _ _ _ _ (c.loop-taken.invariant.line basis was) (c.in_ok-byte.ensures.byte basis now) (inl (c.in_default.is, omega (arith, c.loop-taken.invariant.count, c.if-taken-eq0.false))) (rw c.deref.ensures.value at c.password.ensures.value)
 
-pub returns-then-taken-eq0-clause-none : goal.returns-then-taken-eq0-clause-none
-returns-then-taken-eq0-clause-none g c = λ basis fits e.
+pub returns-then-taken-eq0-clause-misread : goal.returns-then-taken-eq0-clause-misread
+returns-then-taken-eq0-clause-misread g c = λ basis fits.
     let was = fits_first g.R.Read.remaining c.args.reader.now c.loop-taken.reader c.next_byte.new.reader (λ was. c.loop-taken.invariant.goes_on ∙ was) c.next_byte.ensures.given basis fits in
     let now = fits_then g.R.Read.remaining c.args.reader.now c.loop-taken.reader c.next_byte.new.reader (λ was. c.loop-taken.invariant.goes_on ∙ was) c.next_byte.ensures.given basis fits in
     no_line _ _ _ _ _ (c.loop-taken.invariant.line basis was) (c.in_ok-byte.ensures.byte basis now) c.in_default.is (c.loop-taken.invariant.count ∙ c.if-taken-eq0.true)
@@ -50,5 +50,5 @@ loop-taken-preserved g c = record {
   count = omega (arith, ap length c.in_ok-keep.ensures.kept, length-append c.loop-taken.line.items (c.in-Some.byte ∷ []), c.loop-taken.invariant.count);
 }
 
-pub returns-clause-long : goal.returns-clause-long
-returns-clause-long g c = λ basis fits e. long_line _ _ _ (c.loop-taken.invariant.line basis fits) (omega (arith, c.loop-taken.invariant.count, c.loop-taken-test.false))
+pub returns-clause-misread : goal.returns-clause-misread
+returns-clause-misread g c = λ basis fits. long_line _ _ _ (c.loop-taken.invariant.line basis fits) (omega (arith, c.loop-taken.invariant.count, c.loop-taken-test.false))

@@ -6,11 +6,11 @@ use Rattle.cred_keep.proofs.script.run_on_file.Goals as goal
 
 pub returns-clause-runs : goal.returns-clause-runs
 returns-clause-runs g c =
-    let s = seen (reading g.R.Read.remaining c.args.reader.now c.run_script-result.new.reader) (writing g.W.Write.contents c.args.writer.now c.run_script-result.new.writer) c.args.book.now.book c.run_script-result.new.keeper.book in
-    ran s c.run_script-result.result c.run_script-result.ensures.done c.run_script-result.ensures.short c.run_script-result.ensures.fault c.run_script-result.ensures.cause c.run_script-result.ensures.prompt
+    let s = seen (reading g.R.Read.remaining c.args.reader.now c.run_script_by-result.new.reader) (writing g.W.Write.contents c.args.writer.now c.run_script_by-result.new.writer) c.args.book.now.book c.run_script_by-result.new.keeper.book in
+    ran s c.run_script_by-result.result c.run_script_by-result.ensures.done c.run_script_by-result.ensures.short c.run_script_by-result.ensures.fault c.run_script_by-result.ensures.cause c.run_script_by-result.ensures.prompt
 
 pub returns-clause-transcript : goal.returns-clause-transcript
 returns-clause-transcript g c = λ rest may.
-    let s = seen (transcript_reading rest c.run_script-result.new.reader) (transcript_writing c.args.writer.now c.run_script-result.new.writer) c.args.book.now.book c.run_script-result.new.keeper.book in
-    let ended = c.run_script-result.ensures.transcript rest may in
-    ran s c.run_script-result.result ended.done ended.short ended.fault c.run_script-result.ensures.cause ended.prompt
+    let s = seen (transcript_reading rest c.run_script_by-result.new.reader) (transcript_writing c.args.writer.now c.run_script_by-result.new.writer) c.args.book.now.book c.run_script_by-result.new.keeper.book in
+    let ended = c.run_script_by-result.ensures.transcript rest may in
+    ran s c.run_script_by-result.result ended.done ended.short ended.fault c.run_script_by-result.ensures.cause ended.prompt

@@ -1,9 +1,0 @@
-use Rattle.std.proofs.Common.{Err, inr, refl, subst, sym}
-use Rattle.cred_book.specs.{Accounts.register_capacity, Calls.EntersWithin}
-use Rattle.cred_admin.proofs.Tallies.{one_too_many}
-use Rattle.cred_admin.proofs.gathering.Gathered.take_entry.Goals as goal
-
-pub returns-in-Err-Full-clause-fault : goal.returns-in-Err-Full-clause-fault
-returns-in-Err-Full-clause-fault c =
-    let full = subst (λ e. EntersWithin register_capacity c.args.self.now.accounts c.enter.new.self c.args.name c.args.stored (Err e)) c.in-Err-Full.field-0-is c.in-Err-Full.ensures in
-    inr (refl, one_too_many _ _ _ _ _ (c.args.name, c.args.stored) (sym c.if-contains.ensures) full.0 full.1)

@@ -1,0 +1,294 @@
+//! What the lines of a passwd-file come to, before they are taken in.
+
+ghost use Rattle.std.specs.Prelude.{◌≡◌, ◌⊎◌, ◌<◌, IfErr, IfOk, IfSome, List, OnOk, true, ℕ};
+ghost use Rattle.std.specs.FinMap as map;
+ghost use Rattle.cred_book.specs.Accounts.{register_capacity};
+ghost use Rattle.cred_cli.specs.Watched.{Basis, failed_of, left_on};
+ghost use Rattle.cred_admin.specs.Import.{Comes, GatherFails, is_costly, nothing_yet, said_of, tally, tally_of, with_bad, with_entry, with_existing, with_line, with_said};
+ghost use Rattle.cred_admin.specs.{Seen.FitsSince, declared.import.ImportFault.TheVariants.Memory as OutOfMemory};
+
+use crate::entry::{LineFault, Said, said_of};
+use cred_book::{BookError, Name, Register};
+use cred_cli::{CostBounds, Watched, exceeds};
+use cred_phc::{Pieces, Record};
+use std::alloc::{AllocError, Global};
+use std::io::Read;
+
+/// How many bytes are asked for at once.
+const CHUNK: usize = 65536;
+
+/// What an import does with a line whose account exists already.
+#[derive(Clone, Copy, Debug, PartialEq, Eq)]
+pub enum Existing {
+    /// The line is at fault.
+    Refused,
+    /// The account stays as it is.
+    Kept,
+    /// The account has the record of the line from now on, or none.
+    Updated,
+}
+
+/// What an import does with a record that is locked: that stands behind `!` or `*`.
+#[derive(Clone, Copy, Debug, PartialEq, Eq)]
+pub enum LockedRecords {
+    /// The line is at fault.
+    Refused,
+    /// The line is of an account without a record.
+    Disabled,
+}
+
+/// How an import takes its lines.
+#[derive(Clone, Copy, Debug, PartialEq, Eq)]
+pub struct Rules {
+    pub existing: Existing,
+    pub locked: LockedRecords,
+    /// What a record may ask for; a line whose record asks for more is at fault.
+    pub most: CostBounds,
+}
+
+impl Rules {
+    fn is_costly(&self, stored: &Option<Record>) -> bool
+        ensures { result ≡ is_costly self.now.most stored.now }
+    {
+        match stored {
+            Some(stored) => exceeds(&self.most, &stored.setting()),
+            None => false,
+        }
+    }
+}
+
+/// A line that isn't good.
+#[derive(Clone, Copy, Debug, PartialEq, Eq)]
+pub struct BadLine {
+    /// Counted from 1.
+    pub number: u64,
+    pub why: LineFault,
+}
+
+/// Why an import takes in nothing.
+#[derive(Debug, Drop)]
+pub enum ImportFault {
+    /// Reading failed.
+    Read,
+    /// There was no memory.
+    Memory,
+    /// There is no room for so many accounts.
+    Full,
+    /// These lines aren't good.
+    Lines(Vec<BadLine>),
+}
+
+impl From<AllocError> for ImportFault {
+    ghost from_gives = { λ _ e. e ≡ OutOfMemory };
+
+    fn from(_error: AllocError) -> Self {
+        ImportFault::Memory
+    }
+}
+
+/// What the lines of an import come to.
+#[derive(Drop)]
+pub struct Gathered {
+    /// The accounts that are new.
+    pub accounts: Register,
+    /// The existing accounts, with the records that they have from now on.
+    pub changed: Register,
+    /// How many lines name an account that exists and stays as it is.
+    pub kept: u64,
+    /// The lines that aren't good, in their order.
+    pub bad: Vec<BadLine>,
+}
+
+/// What the lines that the reader has come to, `NAME:RECORD` or `NAME:` each, beside this book.
+///
+/// Errors: `Read`; `Memory`; `Full` if there are over 2^24 accounts.
+pub fn gather<R: Read>(
+    alloc: Global,
+    book: &Register,
+    rules: Rules,
+    reader: &mut Watched<R>,
+) -> Result<Gathered, ImportFault>
+    ensures done { (basis : Basis) → FitsSince basis reader.old reader.new
+        → IfOk result (λ g. (text : List ℕ)
+        × IfSome (left_on basis R.remaining reader.old) (λ bytes. text ≡ bytes)
+        × (tally_of g ≡ tally rules book.now text)) }
+    ensures kept { OnOk result (failed_of reader.new ≡ failed_of reader.old) }
+    ensures fault { (basis : Basis) → FitsSince basis reader.old reader.new
+        → IfErr result (GatherFails rules book.now (left_on basis R.remaining reader.old)
+        (failed_of reader.old) (failed_of reader.new)) }
+{
+    let text = read_all(alloc, reader)?;
+    gather_lines(alloc, book, rules, &text)
+}
+
+/// Reads what the reader has to its end.
+fn read_all<R: Read>(alloc: Global, reader: &mut Watched<R>) -> Result<Vec<u8>, ImportFault>
+    ensures text { (basis : Basis) → FitsSince basis reader.old reader.new
+        → IfOk result (λ text. IfSome (left_on basis R.remaining reader.old)
+        (λ bytes. text.items ≡ bytes)) }
+    ensures kept { OnOk result (failed_of reader.new ≡ failed_of reader.old) }
+    ensures fault { IfErr result (λ e. ((e ≡ ImportFault.Read) × (failed_of reader.new ≡ true))
+        ⊎ ((e ≡ ImportFault.Memory) × (failed_of reader.new ≡ failed_of reader.old))) }
+{
+    let mut text = Vec::new(alloc);
+    let mut chunk = [0; CHUNK];
+    for _call in 0..u64::MAX {
+        match reader.read(&mut chunk) {
+            Ok(0) => return Ok(text),
+            Ok(n) => text.extend_from_slice(&chunk[..n])?,
+            Err(_) => return Err(ImportFault::Read),
+        }
+    }
+    unreachable!()
+}
+
+/// Takes the lines in turn.
+fn gather_lines(
+    alloc: Global,
+    book: &Register,
+    rules: Rules,
+    text: &[u8],
+) -> Result<Gathered, ImportFault>
+    ensures done { IfOk result (λ g. tally_of g ≡ tally rules book.now text.now) }
+    ensures fault { IfErr result (λ e. (e ≡ ImportFault.Memory) ⊎ ((e ≡ ImportFault.Full)
+        × (register_capacity < map.len (tally rules book.now text.now).accounts))) }
+{
+    let mut found = Gathered::new(alloc);
+    let mut lines = Pieces::new(text, b'\n');
+    for number in 1..u64::MAX {
+        match lines.next() {
+            Some(line) => found.take_line(book, rules, number, line)?,
+            None => return Ok(found),
+        }
+    }
+    match lines.next() {
+        Some(_) => Err(ImportFault::Memory),
+        None => Ok(found),
+    }
+}
+
+impl Gathered {
+    fn new(alloc: Global) -> Gathered
+        ensures { tally_of result ≡ nothing_yet }
+    {
+        Gathered {
+            accounts: Register::new(alloc),
+            changed: Register::new(alloc),
+            kept: 0,
+            bad: Vec::new(alloc),
+        }
+    }
+
+    /// Adds what a line comes to.
+    fn take_line(
+        &mut self,
+        book: &Register,
+        rules: Rules,
+        number: u64,
+        line: &[u8],
+    ) -> Result<(), ImportFault>
+        requires { self.old.kept < number }
+        ensures { Comes (with_line rules book.now (tally_of self.old) number (said_of line.now))
+            (tally_of self.new) result }
+    {
+        match said_of(line) {
+            Ok(said) => self.take_said(book, rules, number, &said),
+            Err(why) => self.refuse(number, why),
+        }
+    }
+
+    fn take_said(
+        &mut self,
+        book: &Register,
+        rules: Rules,
+        number: u64,
+        said: &Said,
+    ) -> Result<(), ImportFault>
+        requires { self.old.kept < number }
+        ensures { Comes (with_said rules book.now (tally_of self.old) number said.now)
+            (tally_of self.new) result }
+    {
+        match said {
+            Said::Nothing => Ok(()),
+            Said::Account { stored, .. } if rules.is_costly(stored) => {
+                self.refuse(number, LineFault::Costly)
+            }
+            Said::Account { name, stored } => {
+                self.take_entry(book, rules.existing, number, *name, *stored)
+            }
+            Said::Locked { name } => match rules.locked {
+                LockedRecords::Refused => self.refuse(number, LineFault::Locked),
+                LockedRecords::Disabled => {
+                    self.take_entry(book, rules.existing, number, *name, None)
+                }
+            },
+        }
+    }
+
+    fn take_entry(
+        &mut self,
+        book: &Register,
+        how: Existing,
+        number: u64,
+        name: Name,
+        stored: Option<Record>,
+    ) -> Result<(), ImportFault>
+        requires { self.old.kept < number }
+        ensures { Comes (with_entry how book.now (tally_of self.old) number (name, stored))
+            (tally_of self.new) result }
+    {
+        if book.contains(&name) {
+            return self.take_existing(how, number, name, stored);
+        }
+        match self.accounts.enter(name, stored) {
+            Ok(()) => Ok(()),
+            Err(BookError::Exists) => self.refuse(number, LineFault::Book(BookError::Exists)),
+            Err(BookError::Full) => Err(ImportFault::Full),
+            Err(_) => Err(ImportFault::Memory),
+        }
+    }
+
+    /// Adds a line whose account exists already.
+    fn take_existing(
+        &mut self,
+        how: Existing,
+        number: u64,
+        name: Name,
+        stored: Option<Record>,
+    ) -> Result<(), ImportFault>
+        requires { self.old.kept < number }
+        ensures { Comes (with_existing how (tally_of self.old) number (name, stored))
+            (tally_of self.new) result }
+    {
+        match how {
+            Existing::Kept => {
+                self.kept += 1;
+                Ok(())
+            }
+            Existing::Refused => self.refuse(number, LineFault::Book(BookError::Exists)),
+            Existing::Updated => self.change(number, name, stored),
+        }
+    }
+
+    /// Adds a record that is to take the place of another.
+    fn change(&mut self, number: u64, name: Name, stored: Option<Record>) -> Result<(), ImportFault>
+        ensures { Comes (with_existing Existing.Updated (tally_of self.old) number (name, stored))
+            (tally_of self.new) result }
+    {
+        match self.changed.enter(name, stored) {
+            Ok(()) => Ok(()),
+            Err(BookError::Exists) => self.refuse(number, LineFault::Book(BookError::Exists)),
+            Err(_) => Err(ImportFault::Memory),
+        }
+    }
+
+    /// Adds a line that isn't good.
+    fn refuse(&mut self, number: u64, why: LineFault) -> Result<(), ImportFault>
+        ensures { Comes (with_bad (tally_of self.old) number why) (tally_of self.new) result }
+    {
+        match self.bad.push(BadLine { number, why }) {
+            Ok(()) => Ok(()),
+            Err(_) => Err(ImportFault::Memory),
+        }
+    }
+}

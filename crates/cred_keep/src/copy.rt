@@ -1,0 +1,99 @@
+//! A book that is read to its end, and one that is written into another database.
+
+ghost use Rattle.std.specs.Prelude.{◌≡◌, false, IfErr, IfOk};
+ghost use Rattle.std.specs.FinMap as map;
+ghost use Rattle.cred_book.specs.Accounts.{Accounts};
+ghost use Rattle.cred_file.specs.{Keeps.IsTableOf, Opening.IsFound, Opening.IsUnopened};
+ghost use Rattle.cred_keep.specs.Copy.{IsUncopied, IsUnwritten};
+ghost use Rattle.sqlite.specs.{State.HasCleanDisk, State.Survives, Held.state};
+
+use cred_file::{FileBook, OpenFault};
+use sqlite::{Alter, Connection};
+use std::alloc::Global;
+
+/// Why a book wasn't written into another database.
+#[derive(Clone, Copy, Debug, PartialEq, Eq)]
+pub enum CopyFault {
+    /// The one database gave no book.
+    Source(OpenFault),
+    /// The other one took none.
+    Target(OpenFault),
+}
+
+/// Reads all accounts of the database's book, and says how many there are. Nothing is changed, and
+/// the connection comes back.
+///
+/// Errors: those of `FileBook::open`.
+pub fn count_accounts<S: Alter>(
+    alloc: Global,
+    conn: Connection<S>,
+) -> (Connection<S>, Result<usize, OpenFault>)
+    requires autocommit { conn.in_transaction ≡ false }
+    ensures found { HasCleanDisk (state S.Store result.0) → IfOk result.1 (λ count.
+        (book : Accounts) × IsFound (state S.Store conn) (state S.Store result.0) book
+        × (count ≡ map.len book)) }
+    ensures refused { HasCleanDisk (state S.Store result.0)
+        → IfErr result.1 (IsUnopened (state S.Store conn) (state S.Store result.0)) }
+    ensures kept { Survives (state S.Store conn) (state S.Store result.0) (λ _. ⊥) }
+{
+    match FileBook::open(alloc, conn) {
+        Ok(book) => {
+            let count = book.book().len();
+            (book.close(), Ok(count))
+        }
+        Err((why, conn)) => (conn, Err(why)),
+    }
+}
+
+/// Writes the book of one database into another, which is empty, by one transaction, and says how
+/// many accounts it has: the other table stands for the book that the first one does, and a crash
+/// leaves it. The first database isn't changed. Both connections come back.
+///
+/// Errors: `Source` with the error of `FileBook::open`; `Target` with that of
+/// `FileBook::create_copy`.
+pub fn copy_book<S: Alter, D: Alter>(
+    alloc: Global,
+    source: Connection<S>,
+    target: Connection<D>,
+) -> (Connection<S>, Connection<D>, Result<usize, CopyFault>)
+    requires source { source.in_transaction ≡ false }
+    requires target { target.in_transaction ≡ false }
+    ensures copied { HasCleanDisk (state S.Store result.0) → HasCleanDisk (state D.Store result.1)
+        → IfOk result.2 (λ count. (book : Accounts)
+        × IsFound (state S.Store source) (state S.Store result.0) book
+        × IsTableOf (state D.Store result.1) book × (count ≡ map.len book)) }
+    ensures refused { IfErr result.2
+        (IsUncopied S.Store source result.0 D.Store target result.1) }
+    ensures kept { Survives (state S.Store source) (state S.Store result.0) (λ _. ⊥) }
+{
+    match FileBook::open(alloc, source) {
+        Ok(book) => {
+            let (target, copied) = copy_into(alloc, &book, target);
+            (book.close(), target, copied)
+        }
+        Err((why, source)) => (source, target, Err(CopyFault::Source(why))),
+    }
+}
+
+/// Writes a book that is kept in one database into another, which is empty, by one transaction, and
+/// says how many accounts it has.
+///
+/// Errors: `Target` with that of `FileBook::create_copy`.
+pub fn copy_into<S: Alter, D: Alter>(
+    alloc: Global,
+    book: &FileBook<S>,
+    target: Connection<D>,
+) -> (Connection<D>, Result<usize, CopyFault>)
+    requires autocommit { target.in_transaction ≡ false }
+    ensures copied { HasCleanDisk (state D.Store result.0) → IfOk result.1 (λ count.
+        IsTableOf (state D.Store result.0) book.now.book × (count ≡ map.len book.now.book)) }
+    ensures refused { IfErr result.1 (IsUnwritten D.Store target result.0 book.now.book) }
+{
+    match FileBook::create_copy(alloc, target, book.book()) {
+        Ok(copy) => {
+            let count = copy.book().len();
+            (copy.close(), Ok(count))
+        }
+        Err((why, target)) => (target, Err(CopyFault::Target(why))),
+    }
+}

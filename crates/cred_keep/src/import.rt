@@ -1,0 +1,164 @@
+//! Taking in the lines of a passwd-file, all or none.
+
+ghost use Rattle.std.specs.Prelude.{◌≡◌, IfErr, IfOk, false, length, string_bytes};
+ghost use Rattle.cred_admin.specs.Seen.{FitsSince};
+ghost use Rattle.cred_cli.specs.Watched.{Basis, failed_of, reading_on};
+ghost use Rattle.cred_keep.specs.Imports.{Imports, Takes, counts_text};
+
+use cred_admin::{BadLine, Gathered, ImportFault, Rules, gather};
+use cred_book::{BookError, Register};
+use cred_cli::Watched;
+use cred_file::FileBook;
+use sqlite::Alter;
+use std::alloc::{AllocError, Global};
+use std::io::Read;
+
+/// What an import does with lines that aren't good.
+#[derive(Clone, Copy, Debug, PartialEq, Eq)]
+pub enum BadLines {
+    /// It takes in nothing.
+    Refused,
+    /// It leaves them out.
+    LeftOut,
+}
+
+/// Whether an import changes the book.
+#[derive(Clone, Copy, Debug, PartialEq, Eq)]
+pub enum Effect {
+    Made,
+    /// It only tells what it would change.
+    Foretold,
+}
+
+/// How the counts of an import are written.
+#[derive(Clone, Copy, Debug, PartialEq, Eq)]
+pub enum Counts {
+    Hidden,
+    /// In words, in a line.
+    Plain,
+    /// In JSON, in a line.
+    Json,
+}
+
+/// How an import is done.
+#[derive(Clone, Copy, Debug, PartialEq, Eq)]
+pub struct Importing {
+    pub rules: Rules,
+    pub bad: BadLines,
+    pub effect: Effect,
+    pub counts: Counts,
+}
+
+/// What an import made, or would make.
+#[derive(Debug, Drop)]
+pub struct Imported {
+    pub effect: Effect,
+    /// How many accounts are new.
+    pub added: usize,
+    /// How many existing accounts have the record of their line.
+    pub changed: usize,
+    /// How many lines name an account that exists and stays as it is.
+    pub kept: u64,
+    /// The lines that are left out since they aren't good, in their order.
+    pub bad: Vec<BadLine>,
+    /// These counts, as they are written.
+    pub text: Vec<u8>,
+}
+
+/// Takes in the lines that the reader has, by one transaction of the database: a crash leaves the
+/// book without them, or with all that are taken.
+///
+/// Errors: `Lines` with all that aren't good, unless they are left out; `Full` if there would be
+/// over 2^24 accounts; `Read`; `Memory`. The book is as it was.
+pub(crate) fn import<S: Alter, R: Read>(
+    alloc: Global,
+    book: &mut FileBook<S>,
+    how: Importing,
+    reader: &mut Watched<R>,
+) -> Result<Imported, ImportFault>
+    requires { failed_of reader.old ≡ false }
+    ensures { (basis : Basis) → FitsSince basis reader.old reader.new
+        → Imports how (reading_on basis R.remaining reader.old reader.new) book.old.book
+        book.new.book result }
+{
+    let Gathered {
+        accounts,
+        changed,
+        kept,
+        bad,
+    } = gather(alloc, book.book(), how.rules, reader)?;
+    match how.bad {
+        BadLines::Refused if !bad.is_empty() => return Err(ImportFault::Lines(bad)),
+        BadLines::Refused | BadLines::LeftOut => {}
+    }
+    let mut made = Imported {
+        effect: how.effect,
+        added: accounts.len(),
+        changed: changed.len(),
+        kept,
+        bad,
+        text: Vec::new(alloc),
+    };
+    made.text = counts_text(alloc, how.counts, &made)?.into_bytes();
+    take(book, how.effect, accounts, changed)?;
+    Ok(made)
+}
+
+fn counts_text(alloc: Global, counts: Counts, made: &Imported) -> Result<String, AllocError>
+    ensures { IfOk result (λ text. string_bytes text ≡ counts_text counts made.now.added
+        made.now.changed made.now.kept (length made.now.bad.items)) }
+{
+    match counts {
+        Counts::Hidden => Ok(String::new(alloc)),
+        Counts::Plain => plain_counts(alloc, made.added, made.changed, made.kept, made.bad.len()),
+        Counts::Json => json_counts(alloc, made.added, made.changed, made.kept, made.bad.len()),
+    }
+}
+
+fn plain_counts(
+    alloc: Global,
+    added: usize,
+    changed: usize,
+    kept: u64,
+    bad: usize,
+) -> Result<String, AllocError>
+    ensures { IfOk result (λ text.
+        string_bytes text ≡ counts_text Counts.Plain added changed kept bad) }
+{
+    format!(in alloc; "{added} added, {changed} updated, {kept} there already, {bad} bad\n")
+}
+
+fn json_counts(
+    alloc: Global,
+    added: usize,
+    changed: usize,
+    kept: u64,
+    bad: usize,
+) -> Result<String, AllocError>
+    ensures { IfOk result (λ text.
+        string_bytes text ≡ counts_text Counts.Json added changed kept bad) }
+{
+    format!(in alloc;
+        "{{\"added\":{added},\"updated\":{changed},\"there\":{kept},\"bad\":{bad}}}\n"
+    )
+}
+
+/// Adds accounts and replaces the records of others, or tells whether there is room for them.
+fn take<S: Alter>(
+    book: &mut FileBook<S>,
+    effect: Effect,
+    added: Register,
+    changed: Register,
+) -> Result<(), ImportFault>
+    ensures { Takes effect book.old.book book.new.book added changed result }
+{
+    match effect {
+        Effect::Foretold if book.has_room_for(&added) => Ok(()),
+        Effect::Foretold => Err(ImportFault::Full),
+        Effect::Made => match book.take_in(added, changed) {
+            Ok(()) => Ok(()),
+            Err(BookError::Full) => Err(ImportFault::Full),
+            Err(_) => Err(ImportFault::Memory),
+        },
+    }
+}

@@ -1,0 +1,99 @@
+//! How an order ends.
+
+ghost use Rattle.std.specs.Prelude.{◌≡◌};
+ghost use Rattle.cred_cli.specs.Watched.{Basis, writing_on};
+ghost use Rattle.cred_keep.specs.Orders.{EndsImport, command_end, run_end, status_of_ending, status_of_failure};
+
+use crate::import::Imported;
+use cred_admin::{Fault, ImportFault, Status, tell};
+use cred_cli::{End, ScriptFault, Watched};
+use std::io::Write;
+
+/// What an order came to.
+#[derive(Debug, Drop)]
+pub enum Ending {
+    /// A command, a list or a script ended with this status.
+    Answered(Status),
+    /// An import made this, or would make it.
+    Imported(Imported),
+}
+
+impl Ending {
+    /// The exit status that tells of it.
+    pub fn status(&self) -> Status
+        ensures { result ≡ status_of_ending self.now }
+    {
+        match self {
+            Ending::Answered(status) => *status,
+            Ending::Imported(_) => Status::Done,
+        }
+    }
+}
+
+/// What ended an order that did not do what was asked.
+#[derive(Debug, Drop)]
+pub enum Failure {
+    /// A command on one account, a list or an export met this fault.
+    Command(Fault),
+    /// An import met this fault.
+    Import(ImportFault),
+    /// A script met this fault.
+    Script(ScriptFault),
+    /// The database failed; the book's `lost` tells of the change that was under way.
+    Database,
+}
+
+impl Failure {
+    /// The exit status that tells of it.
+    pub fn status(&self) -> Status
+        ensures { result ≡ status_of_failure self.now }
+    {
+        match self {
+            Failure::Command(fault) => fault.status(),
+            Failure::Import(ImportFault::Read) => Status::Io,
+            Failure::Script(ScriptFault::Read | ScriptFault::Write) => Status::Io,
+            Failure::Import(ImportFault::Memory) => Status::Memory,
+            Failure::Script(ScriptFault::Memory) => Status::Memory,
+            Failure::Import(ImportFault::Full | ImportFault::Lines(_)) => Status::Data,
+            Failure::Script(ScriptFault::TooLong) => Status::Data,
+            Failure::Database => Status::Database,
+        }
+    }
+}
+
+/// How a command's end is that of an order.
+pub(crate) fn command_end(ended: Result<Status, Fault>) -> Result<Ending, Failure>
+    ensures { result ≡ command_end ended }
+{
+    match ended {
+        Ok(status) => Ok(Ending::Answered(status)),
+        Err(fault) => Err(Failure::Command(fault)),
+    }
+}
+
+/// Writes the counts of an import, which ends an order.
+pub(crate) fn import_end<W: Write>(
+    ended: Result<Imported, ImportFault>,
+    writer: &mut Watched<W>,
+) -> Result<Ending, Failure>
+    ensures { (basis : Basis) → EndsImport ended
+        (writing_on basis W.contents writer.old writer.new) result }
+{
+    match ended {
+        Ok(made) => match tell(&made.text, Status::Done, writer) {
+            Ok(_) => Ok(Ending::Imported(made)),
+            Err(fault) => Err(Failure::Command(fault)),
+        },
+        Err(fault) => Err(Failure::Import(fault)),
+    }
+}
+
+/// How a script's end is that of an order.
+pub(crate) fn run_end(ended: Result<End, ScriptFault>) -> Result<Ending, Failure>
+    ensures { result ≡ run_end ended }
+{
+    match ended {
+        Ok(_) => Ok(Ending::Answered(Status::Done)),
+        Err(fault) => Err(Failure::Script(fault)),
+    }
+}
