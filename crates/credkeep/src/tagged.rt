@@ -1,18 +1,20 @@
 //! A book that answers tagged lines of many clients.
 
-ghost use Rattle.std.specs.Prelude.{◌≡◌, false, IfSome, is_some, length, None};
+ghost use Rattle.std.specs.Prelude.{◌≡◌, ◌⊎◌, false, IfSome, is_some, length, None};
 ghost use Rattle.cred_book.specs.Accounts.{register_capacity};
 ghost use Rattle.cred_cli.specs.Script.{lines_of};
+ghost use Rattle.cred_keep.specs.Orders.{IsRefused};
 ghost use Rattle.cred_many.specs.{Served.StandsAtEnd, Served.left_of, Service.service};
+ghost use Rattle.credkeep.specs.Service.{ServesBook, status_of_end, status_of_fault};
 
 use crate::files::{Access, DamagedLog, look_at, open_file};
 use crate::program::close;
 use crate::refusal::{refuse_file, refuse_unopened, say, warn_of_others};
 use cred_admin::Status;
-use cred_cli::{CostBounds, Tools, Watched};
-use cred_file::FileBook;
+use cred_cli::{Tools, Watched};
+use cred_file::{FileBook, Lost};
 use cred_keep::{Failure, explain, refuse};
-use cred_many::{Costs, Means, Naming, Scribe, Served, ServiceFault, serve_file};
+use cred_many::{Means, Naming, Scribe, Served, ServiceFault, serve_file};
 use rand::make_rng;
 use rand::rngs::StdRng;
 use rand_core::Rng;
@@ -28,12 +30,8 @@ use std::thread::Threads;
 pub(crate) struct Tagged {
     /// How many threads hash, if it was said.
     pub(crate) at_once: Option<u8>,
-    /// How many KiB all hashes together may take.
-    pub(crate) memory: u64,
-    /// The costs of new records.
-    pub(crate) costs: Costs,
-    /// What a setting or a record of a line may ask for.
-    pub(crate) most: CostBounds,
+    /// What hashes together may take, the costs of new records, and what lines may ask for.
+    pub(crate) means: Means,
 }
 
 /// Opens the file, answers tagged lines from standard input, and closes it.
@@ -49,55 +47,86 @@ pub(crate) fn serve_tagged<T: Threads + Wait + Sync + Copy + Send + 'static>(
         Ok(Access::Others) => warn_of_others(host, path),
         Err(why) => return refuse_file(host, path, &why),
     }
-    match open_file(host, path, wait, DamagedLog::Refused) {
-        Ok(conn) => {
-            let (conn, status) = serve_in(host, rt, conn, tagged);
-            close(host, conn, status)
-        }
-        Err(why) => refuse_unopened(host, path, &why),
-    }
-}
-
-/// Answers tagged lines on the book in the database, which comes back.
-fn serve_in<T: Threads + Wait + Sync + Copy + Send + 'static, S: Alter>(
-    host: &HostRuntime,
-    rt: &T,
-    conn: Connection<S>,
-    tagged: &Tagged,
-) -> (Connection<S>, Status)
-    requires autocommit { conn.in_transaction ≡ false }
-{
     let Ok(salts) = make_rng::<StdRng, HostRuntime>(host) else {
-        return (
-            conn,
-            say(host, "the system has no random bytes", Status::Io),
-        );
-    };
-    let book = match FileBook::open(host.alloc(), conn) {
-        Ok(book) => book,
-        Err((why, conn)) => return (conn, refuse(&mut host.stderr(), &why)),
+        return say(host, "the system has no random bytes", Status::Io);
     };
     let tools = Tools {
         rt,
         alloc: host.alloc(),
         workers: threads_of(rt, tagged),
     };
-    let means = Means {
-        costs: tagged.costs,
-        memory: tagged.memory,
-        most: tagged.most,
+    let streams = Streams {
+        reader: host.stdin(),
+        writer: host.stdout(),
+        salts,
     };
-    let served = serve_book(&tools, &means, book, salts, host.stdin(), host.stdout());
-    let book = served.keeper;
-    let status = match served.fault.or(served.reading) {
-        None => Status::Done,
-        Some(ServiceFault::Keeper) => {
-            explain(&mut host.stderr(), &Failure::Database, book.lost());
-            Status::Database
+    match open_file(host, path, wait, DamagedLog::Refused) {
+        Ok(conn) => {
+            let (conn, status) = serve_in(&tools, tagged, conn, streams, &mut host.stderr());
+            close(host, conn, status)
         }
-        Some(fault) => tell(host, fault),
-    };
-    (book.close(), status)
+        Err(why) => refuse_unopened(host, path, &why),
+    }
+}
+
+/// Where lines come from, where their answers go, and where the salts of new records come from.
+struct Streams<R, W, G> {
+    reader: R,
+    writer: W,
+    salts: G,
+}
+
+/// Opens the book of a database, and answers tagged lines on it. The connection comes back. If the
+/// database holds no book, `faults` says why.
+fn serve_in<T, S, R, W, G, F>(
+    tools: &Tools<'_, T>,
+    tagged: &Tagged,
+    conn: Connection<S>,
+    streams: Streams<R, W, G>,
+    faults: &mut F,
+) -> (Connection<S>, Status)
+where
+    T: Threads + Wait + Sync + Copy + Send + 'static,
+    S: Alter,
+    R: Read + Send + Drop + 'static,
+    W: Write + Drop,
+    G: Rng + Send + Drop + 'static,
+    F: Write,
+    requires autocommit { conn.in_transaction ≡ false }
+    ensures { ServesBook S.Store W.contents (λ book. service book (R.remaining streams.reader)
+        (W.contents streams.writer) tagged.now.means (G.stream streams.salts))
+        conn result.0 result.1 ⊎ IsRefused S.Store conn result.0 result.1 }
+{
+    let Streams {
+        reader,
+        writer,
+        salts,
+    } = streams;
+    match FileBook::open(tools.alloc, conn) {
+        Ok(book) => {
+            let served = serve_book(tools, &tagged.means, book, salts, reader, writer);
+            let Served {
+                keeper,
+                fault,
+                reading,
+                ..
+            } = served;
+            tell_end(faults, fault.or(reading), keeper.lost());
+            (keeper.close(), status_of_end(fault, reading))
+        }
+        Err((why, conn)) => (conn, refuse(faults, &why)),
+    }
+}
+
+/// Says what ended a service, if something did.
+fn tell_end<F: Write>(faults: &mut F, fault: Option<ServiceFault>, lost: Option<&Lost>) {
+    match fault {
+        None => {}
+        Some(ServiceFault::Keeper) => explain(faults, &Failure::Database, lost),
+        Some(fault) => {
+            let _ = writeln!(faults, "credkeep: {fault}");
+        }
+    }
 }
 
 /// Answers tagged lines on a book, which comes back with the writer.
@@ -156,9 +185,22 @@ where
     scribe.end(ending)
 }
 
-/// Says what ended a service.
-fn tell(host: &HostRuntime, fault: ServiceFault) -> Status {
-    let _ = writeln!(host.stderr(), "credkeep: {fault}");
+/// The exit status of a service whose answers and whose reading met these faults, if any.
+fn status_of_end(fault: Option<ServiceFault>, reading: Option<ServiceFault>) -> Status
+    ensures { result ≡ status_of_end fault reading }
+{
+    match fault {
+        Some(fault) => status_of_fault(fault),
+        None => match reading {
+            Some(fault) => status_of_fault(fault),
+            None => Status::Done,
+        },
+    }
+}
+
+fn status_of_fault(fault: ServiceFault) -> Status
+    ensures { result ≡ status_of_fault fault }
+{
     match fault {
         ServiceFault::Memory | ServiceFault::Threads => Status::Memory,
         ServiceFault::TooLong => Status::Data,
@@ -177,7 +219,7 @@ fn threads_of<T: Threads>(rt: &T, tagged: &Tagged) -> u8 {
         Ok(count) => u64::try_from(count.get()).unwrap_or(1),
         Err(_) => 1,
     };
-    let each = tagged.costs.memory().max(1);
-    let fitting = (tagged.memory / each).max(1);
+    let each = tagged.means.costs.memory().max(1);
+    let fitting = (tagged.means.memory / each).max(1);
     u8::try_from(processors.min(fitting)).unwrap_or(u8::MAX)
 }
