@@ -175,12 +175,7 @@ pub(crate) fn look_at(rt: &HostRuntime, path: &str) -> Result<Access, FileFault>
         Err(error) if error.kind() == ErrorKind::NotFound => return Err(FileFault::Absent),
         Err(error) => return Err(FileFault::System(error)),
     };
-    if !found.is_file() {
-        return Err(FileFault::Irregular);
-    }
-    if found.nlink() != 1 {
-        return Err(FileFault::Linked);
-    }
+    see_single(&found)?;
     if found.len() == 0 {
         if !has_bytes(rt, path, LOG)? {
             return Err(FileFault::Empty);
@@ -201,16 +196,22 @@ pub(crate) fn look_at_old(rt: &HostRuntime, path: &str) -> Result<(), FileFault>
         Err(error) if error.kind() == ErrorKind::NotFound => return Ok(()),
         Err(error) => return Err(FileFault::System(error)),
     };
+    see_single(&found)?;
+    if found.len() == 0 {
+        return Ok(());
+    }
+    look_inside(rt, path)
+}
+
+/// Sees that it is a file with one name.
+fn see_single(found: &Metadata) -> Result<(), FileFault> {
     if !found.is_file() {
         return Err(FileFault::Irregular);
     }
     if found.nlink() != 1 {
         return Err(FileFault::Linked);
     }
-    if found.len() == 0 {
-        return Ok(());
-    }
-    look_inside(rt, path)
+    Ok(())
 }
 
 /// Who can read and write a file.

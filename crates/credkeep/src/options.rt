@@ -9,6 +9,11 @@ use cred_book::Name;
 use cred_cli::CostBounds;
 use cred_keep::{BadLines, Counts, Effect, Importing};
 
+/// The first value if the flag is given, and else the second.
+fn either<V: Copy>(values: &ArgMatches<'_>, flag: &str, given: V, absent: V) -> V {
+    if values.get_flag(flag) { given } else { absent }
+}
+
 /// What settings and records may ask for.
 pub(crate) fn most_in<'a>(values: &ArgMatches<'a>) -> Result<CostBounds, Refusal<'a>> {
     Ok(CostBounds {
@@ -64,11 +69,7 @@ pub(crate) fn threads_in<'a>(
 
 /// Whether warnings and progress are told.
 pub(crate) fn remarks_in(values: &ArgMatches<'_>) -> Remarks {
-    if values.get_flag("quiet") {
-        Remarks::Hidden
-    } else {
-        Remarks::Told
-    }
+    either(values, "quiet", Remarks::Hidden, Remarks::Told)
 }
 
 /// How counts are written.
@@ -83,11 +84,7 @@ pub(crate) fn counts_in(values: &ArgMatches<'_>) -> Counts {
 }
 
 pub(crate) fn echo_in(values: &ArgMatches<'_>) -> Echo {
-    if values.get_flag("echo") {
-        Echo::Taken
-    } else {
-        Echo::Refused
-    }
+    either(values, "echo", Echo::Taken, Echo::Refused)
 }
 
 pub(crate) fn name_in(text: &str) -> Result<Name, Refusal<'_>> {
@@ -98,11 +95,7 @@ pub(crate) fn name_in(text: &str) -> Result<Name, Refusal<'_>> {
 }
 
 pub(crate) fn part_in(values: &ArgMatches<'_>) -> Part {
-    if values.get_flag("record") {
-        Part::Record
-    } else {
-        Part::Costs
-    }
+    either(values, "record", Part::Record, Part::Costs)
 }
 
 /// How the accounts are listed.
@@ -118,30 +111,20 @@ pub(crate) fn line_in(values: &ArgMatches<'_>) -> Line {
 
 /// How an import is done.
 pub(crate) fn importing_in<'a>(values: &ArgMatches<'a>) -> Result<Importing, Refusal<'a>> {
-    let locked = if values.get_flag("disable-locked") {
-        LockedRecords::Disabled
-    } else {
-        LockedRecords::Refused
-    };
-    let bad = if values.get_flag("skip-bad") {
-        BadLines::LeftOut
-    } else {
-        BadLines::Refused
-    };
-    let effect = if values.get_flag("dry-run") {
-        Effect::Foretold
-    } else {
-        Effect::Made
-    };
     let rules = Rules {
         existing: existing_in(values)?,
-        locked,
+        locked: either(
+            values,
+            "disable-locked",
+            LockedRecords::Disabled,
+            LockedRecords::Refused,
+        ),
         most: most_in(values)?,
     };
     Ok(Importing {
         rules,
-        bad,
-        effect,
+        bad: either(values, "skip-bad", BadLines::LeftOut, BadLines::Refused),
+        effect: either(values, "dry-run", Effect::Foretold, Effect::Made),
         counts: counts_in(values),
     })
 }
@@ -156,9 +139,10 @@ fn existing_in<'a>(values: &ArgMatches<'a>) -> Result<Existing, Refusal<'a>> {
 }
 
 pub(crate) fn empty_in(values: &ArgMatches<'_>) -> EmptyPassword {
-    if values.get_flag("empty-password") {
-        EmptyPassword::Taken
-    } else {
-        EmptyPassword::Refused
-    }
+    either(
+        values,
+        "empty-password",
+        EmptyPassword::Taken,
+        EmptyPassword::Refused,
+    )
 }
