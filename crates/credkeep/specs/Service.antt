@@ -1,9 +1,10 @@
 -- What a service of tagged lines makes of a database, and how it ends.
-use Rattle.std.specs.Prelude.{◌≡◌, ℕ, List, Option, Some, None, is_some}
+use Rattle.std.specs.Prelude.{◌≡◌, ℕ, List, length, Option, Some, None, IfSome, is_some}
 use Rattle.sqlite.specs.{Held.Held, Held.state, State.HasCleanDisk, Store.Ghosts}
 use Rattle.cred_book.specs.Accounts.{Accounts, register_capacity}
 use Rattle.cred_admin.specs.declared.status.Status.{Status}
 use Rattle.cred_admin.specs.declared.status.Status.TheVariants.{Done, Io, Memory, Database, Data}
+use Rattle.cred_cli.specs.Script.{lines_of}
 use Rattle.cred_file.specs.{Kept.Kept, Opening.IsFound}
 use Rattle.cred_many.specs.{Served.StandsAtEnd, Served.left_of, Service.Service, declared.fault.ServiceFault.ServiceFault}
 use Rattle.cred_many.specs.declared.fault.ServiceFault.TheVariants as fault
@@ -24,8 +25,8 @@ status_of_end (Some e) reading = status_of_fault e
 status_of_end None (Some e) = status_of_fault e
 status_of_end None None = Done
 
--- the book that a database holds is opened and served, and the connection comes back as the service
--- left it
+-- The book that a database holds is opened and served, and the connection comes back as the service
+-- left it. If nothing failed, all lines came.
 pub record ServesBook {S W : Type 0} (g : Ghosts S) (contents : W → Option (List ℕ))
     (service : Accounts → Service) (old new : Held S) (status : Status) : Type 0 where
   pub opened : Kept S
@@ -34,5 +35,7 @@ pub record ServesBook {S W : Type 0} (g : Ghosts S) (contents : W → Option (Li
   pub served : Served (Kept S) W
   pub stands : ∥ StandsAtEnd register_capacity (service opened.book)
       (left_of (λ b. b.book) (λ b. is_some b.lost) contents served) ∥₁
+  pub all : served.fault ≡ None → served.reading ≡ None
+      → IfSome (service opened.book).input (λ bytes. served.lines ≡ length (lines_of bytes))
   pub closed : new ≡ served.keeper.conn
   pub told : status ≡ status_of_end served.fault served.reading

@@ -70,6 +70,7 @@ pub(crate) fn serve_tagged<T: Threads + Wait + Sync + Copy + Send + 'static>(
 }
 
 /// Where lines come from, where their answers go, and where the salts of new records come from.
+#[derive(Drop)]
 struct Streams<R, W, G> {
     reader: R,
     writer: W,
@@ -104,7 +105,14 @@ where
     } = streams;
     match FileBook::open(tools.alloc, conn) {
         Ok(book) => {
-            let served = serve_book(tools, &tagged.means, book, salts, reader, writer);
+            let served = serve_named::<Brand, T, S, R, W, G>(
+                tools,
+                &tagged.means,
+                book,
+                salts,
+                reader,
+                writer,
+            );
             let Served {
                 keeper,
                 fault,
@@ -127,30 +135,6 @@ fn tell_end<F: Write>(faults: &mut F, fault: Option<ServiceFault>, lost: Option<
             let _ = writeln!(faults, "credkeep: {fault}");
         }
     }
-}
-
-/// Answers tagged lines on a book, which comes back with the writer.
-fn serve_book<T, S, R, W, G>(
-    tools: &Tools<'_, T>,
-    means: &Means,
-    book: FileBook<S>,
-    salts: G,
-    reader: R,
-    writer: W,
-) -> Served<FileBook<S>, W>
-where
-    T: Threads + Wait + Sync + Copy + Send + 'static,
-    S: Alter,
-    R: Read + Send + Drop + 'static,
-    W: Write + Drop,
-    G: Rng + Send + Drop + 'static,
-    ensures served { ∥ StandsAtEnd register_capacity (service book.book (R.remaining reader)
-        (W.contents writer) means.now (G.stream salts))
-        (left_of (λ b. b.book) (λ b. is_some b.lost) W.contents result) ∥₁ }
-    ensures all { result.fault ≡ None → result.reading ≡ None
-        → IfSome (R.remaining reader) (λ all. result.lines ≡ length (lines_of all)) }
-{
-    serve_named::<Brand, T, S, R, W, G>(tools, means, book, salts, reader, writer)
 }
 
 /// Makes the scribe of the book and the writer, lends it to the service, and takes it back.

@@ -1,5 +1,5 @@
 use Rattle.cred_many.specs.Service.{service}
-use Rattle.credkeep.proofs.tagged.serve_book.Given as goal
+use Rattle.credkeep.proofs.tagged.serve_in.Given as goal
 
 -- the service that begins here
 abbrev pub ghosts-serve_named : goal.ghosts-serve_named
