@@ -3,18 +3,17 @@ use Rattle.std.proofs.Common.{◌≡◌, ℕ, List, [], ◌∷◌, ◌++◌, Opt
 use Rattle.std.specs.FinMap as map
 use Rattle.cred_phc.specs.Values.{RecordValue, SettingValue, record_of}
 use Rattle.cred_book.specs.{Accounts.Accounts, Commits.Commits, Commits.commit_outcome, Commits.commit_outcome_if}
-use Rattle.cred_book.specs.Works.{Task, is_for_current, makes_change, name_of, new_record, right, same, same_scheme, seq, seq_at, whole}
+use Rattle.cred_book.specs.Works.{Task, is_for_current, name_of, new_record, right, same, same_scheme, seq, seq_at, whole}
 use Rattle.cred_book.specs.declared.error.BookError.{BookError}
 use Rattle.cred_book.specs.declared.error.BookError.TheVariants as error
 use Rattle.cred_book.specs.{declared.reply.Reply.Reply, declared.request.Request.Request}
 use Rattle.cred_book.specs.declared.request.Request.TheVariants as request
 use Rattle.cred_book.proofs.Commitments.{committed_found}
-use Rattle.cred_cli.specs.{History.Replied, Texts.reply_line}
-use Rattle.cred_many.specs.declared.ask.Ask.{Ask}
-use Rattle.cred_many.specs.declared.ask.Ask.TheVariants.{Account, Load, Show, Edit, List as Names, Whole, Login, Reset, Bad}
-use Rattle.cred_many.specs.{Asks.Entry, Asks.IsJobOf, Asks.IsResetOf, Asks.IsSound, Scribe.IsChange}
-use Rattle.cred_many.specs.Served.{NeedsMemory, Script, done, login_reply, name_asked, reset_at, told_line, told_reply}
-use Rattle.cred_many.specs.Steps.{is_changed}
+use Rattle.cred_cli.specs.Texts.{reply_line}
+use Rattle.cred_many.specs.{declared.ask.Ask.Ask, declared.ask.Ask.TheVariants.Quick, declared.ask.Ask.TheVariants.Whole}
+use Rattle.cred_many.specs.declared.ask.Ask.TheVariants.{Login, Reset}
+use Rattle.cred_many.specs.{Asks.Entry, Asks.IsJobOf, Asks.IsResetOf, Asks.IsSound, Scribe.is_changed}
+use Rattle.cred_many.specs.Served.{NeedsMemory, done, login_reply, name_asked, reset_at, told_reply}
 use Rattle.cred_many.proofs.Serving.{IsDone, done_at}
 
 chosen : (b : Bool) (x y : Reply) → is_changed x ≡ false → is_changed y ≡ false → is_changed (if b then x else y) ≡ false
@@ -80,50 +79,30 @@ refused_still book new work (back, error.NoAccount) h = absurd h
 
 -- a record of version 0x10 is never made
 pub job_current : (ask : Ask) (r : Request) → IsSound ask → ((copy : Option RecordValue) → IsJobOf ask (r, copy)) → is_for_current r ≡ true
+job_current (Quick ask) r sound job = absurd (job None)
 job_current (Whole q) r sound job = ap is_for_current (job None) ∙ sound
 job_current (Login name pw setting) r sound job = ap is_for_current (job None) ∙ sound
 job_current (Reset name pw setting) r sound job = ap (λ t. is_for_current t.0) (job None) ∙ sound
-job_current (Account name) r sound job = absurd (job None)
-job_current (Load name stored) r sound job = absurd (job None)
-job_current (Show name) r sound job = absurd (job None)
-job_current (Names from most) r sound job = absurd (job None)
-job_current (Edit edit) r sound job = absurd (job None)
-job_current (Bad why) r sound job = absurd (job None)
 
 -- the account is the one that is asked about
 pub job_name : (ask : Ask) (r : Request) → ((copy : Option RecordValue) → IsJobOf ask (r, copy)) → name_of r ≡ name_asked ask
+job_name (Quick ask) r job = absurd (job None)
 job_name (Whole q) r job = ap name_of (job None)
 job_name (Login name pw setting) r job = ap name_of (job None)
 job_name (Reset name pw setting) r job = ap (λ t. name_of t.0) (job None)
-job_name (Account name) r job = absurd (job None)
-job_name (Load name stored) r job = absurd (job None)
-job_name (Show name) r job = absurd (job None)
-job_name (Names from most) r job = absurd (job None)
-job_name (Edit edit) r job = absurd (job None)
-job_name (Bad why) r job = absurd (job None)
 
 -- a hash needs memory
 pub job_needs : (ask : Ask) (task : Task) (capacity : ℕ) (book : Accounts) → IsJobOf ask task → NeedsMemory capacity book ask
+job_needs (Quick ask) task capacity book job = absurd job
 job_needs (Whole q) task capacity book job = tt
 job_needs (Login name pw setting) task capacity book job = tt
 job_needs (Reset name pw setting) task capacity book job = tt
-job_needs (Account name) task capacity book job = absurd job
-job_needs (Load name stored) task capacity book job = absurd job
-job_needs (Show name) task capacity book job = absurd job
-job_needs (Names from most) task capacity book job = absurd job
-job_needs (Edit edit) task capacity book job = absurd job
-job_needs (Bad why) task capacity book job = absurd job
 
 pub reset_needs : (ask : Ask) (name : List ℕ) (task : Task) (capacity : ℕ) (book : Accounts) → IsResetOf ask name task → NeedsMemory capacity book ask
 reset_needs (Reset n pw setting) name task capacity book job = tt
+reset_needs (Quick ask) name task capacity book job = absurd job
 reset_needs (Whole q) name task capacity book job = absurd job
 reset_needs (Login n pw setting) name task capacity book job = absurd job
-reset_needs (Account n) name task capacity book job = absurd job
-reset_needs (Load n stored) name task capacity book job = absurd job
-reset_needs (Show n) name task capacity book job = absurd job
-reset_needs (Names from most) name task capacity book job = absurd job
-reset_needs (Edit edit) name task capacity book job = absurd job
-reset_needs (Bad why) name task capacity book job = absurd job
 
 -- no setting is a record
 no_reset : (name pw : List ℕ) (setting : SettingValue) (r : Request) → ((copy : Option RecordValue) → IsJobOf (Reset name pw setting) (r, copy)) → ⊥
@@ -131,71 +110,44 @@ no_reset name pw setting r job =
     let some : Option RecordValue = Some (record_of setting []) in
     let one : some ≡ None = ap (λ t. t.1) (job some) in absurd cc
 
--- a change that is hashed for it is one that it makes
-pub job_change : (ask : Ask) (r : Request) → ((copy : Option RecordValue) → IsJobOf ask (r, copy)) → (book : Accounts) → makes_change (seq book r).0 ≡ true → IsChange book ask
-job_change (Whole q) r job book is = ap (λ t. makes_change (seq book t).0) (sym (job None)) ∙ is
-job_change (Login name pw setting) r job book is = ap (λ t. makes_change (seq book t).0) (sym (job None)) ∙ is
-job_change (Reset name pw setting) r job book is = absurd (no_reset name pw setting r job)
-job_change (Account name) r job book is = absurd (job None)
-job_change (Load name stored) r job book is = absurd (job None)
-job_change (Show name) r job book is = absurd (job None)
-job_change (Names from most) r job book is = absurd (job None)
-job_change (Edit edit) r job book is = absurd (job None)
-job_change (Bad why) r job book is = absurd (job None)
-
 job_whole : (ask : Ask) (r : Request) → ((copy : Option RecordValue) → IsJobOf ask (r, copy)) → (capacity : ℕ) (book later : Accounts) (found : Reply)
-    → (found, later) ≡ seq book r → (Script (Replied (told_reply ask found)), later) ≡ done capacity book ask
-job_whole (Whole q) r job capacity book later found is = ap (λ o. (Script (Replied o.0), o.1)) (is ∙ ap (seq book) (job None))
-job_whole (Login name pw setting) r job capacity book later found is = ap (λ o. (Script (Replied (login_reply o.0)), o.1)) (is ∙ ap (seq book) (job None))
+    → (found, later) ≡ seq book r → (reply_line (told_reply ask found), later) ≡ done capacity book ask
+job_whole (Quick ask) r job capacity book later found is = absurd (job None)
+job_whole (Whole q) r job capacity book later found is = ap (λ o. (reply_line o.0, o.1)) (is ∙ ap (seq book) (job None))
+job_whole (Login name pw setting) r job capacity book later found is = ap (λ o. (reply_line (login_reply o.0), o.1)) (is ∙ ap (seq book) (job None))
 job_whole (Reset name pw setting) r job capacity book later found is = absurd (no_reset name pw setting r job)
-job_whole (Account name) r job capacity book later found is = absurd (job None)
-job_whole (Load name stored) r job capacity book later found is = absurd (job None)
-job_whole (Show name) r job capacity book later found is = absurd (job None)
-job_whole (Names from most) r job capacity book later found is = absurd (job None)
-job_whole (Edit edit) r job capacity book later found is = absurd (job None)
-job_whole (Bad why) r job capacity book later found is = absurd (job None)
 
 pub done_whole : (capacity : ℕ) (book later : Accounts) (e : Entry) (work : Task) (found : Reply) (tag answer : List ℕ)
     → ((copy : Option RecordValue) → IsJobOf e.ask (work.0, copy)) → Commits book later work (Ok found) → is_changed found ≡ false → tag ≡ e.tag
     → answer ≡ reply_line (told_reply e.ask found) → IsDone capacity book later e (tag ++ 32 ∷ answer)
 done_whole capacity book later e work found tag answer job commits is_not tag_is answer_is =
     let whole = job_whole e.ask work.0 job capacity book later found (commits_whole book later work found commits is_not) in
-    done_at capacity book later e tag answer (ap (λ o. o.1) whole) tag_is (answer_is ∙ ap (λ o. told_line o.0) whole)
+    done_at capacity book later e tag answer (ap (λ o. o.1) whole) tag_is (answer_is ∙ ap (λ o. o.0) whole)
 
 -- ---- resets
 
 pub reset_stored : (ask : Ask) (name : List ℕ) (task : Task) → IsResetOf ask name task → (whole task.0 task.1).1 ≡ None → ⊥
 reset_stored (Reset n pw setting) name task job none =
     let made : Some (new_record setting pw) ≡ None = ap (λ t. (whole t.0 t.1).1) (sym job.1) ∙ none in absurd cc
+reset_stored (Quick ask) name task job none = job
 reset_stored (Whole q) name task job none = job
 reset_stored (Login n pw setting) name task job none = job
-reset_stored (Account n) name task job none = job
-reset_stored (Load n stored) name task job none = job
-reset_stored (Show n) name task job none = job
-reset_stored (Names from most) name task job none = job
-reset_stored (Edit edit) name task job none = job
-reset_stored (Bad why) name task job none = job
 
 job_reset : (ask : Ask) (name : List ℕ) (task : Task) (stored : RecordValue) → IsResetOf ask name task → Some stored ≡ (whole task.0 task.1).1
-    → (capacity : ℕ) (book later : Accounts) (found : Reply) → (Script (Replied found), later) ≡ reset_at book name stored (map.get book name) → (Script (Replied found), later) ≡ done capacity book ask
+    → (capacity : ℕ) (book later : Accounts) (found : Reply) → (reply_line found, later) ≡ reset_at book name stored (map.get book name) → (reply_line found, later) ≡ done capacity book ask
 job_reset (Reset n pw setting) name task stored job is capacity book later found done_is =
     let made : stored ≡ new_record setting pw = some_inj (is ∙ ap (λ t. (whole t.0 t.1).1) job.1) in
     done_is ∙ ap (λ r. reset_at book name r (map.get book name)) made ∙ ap (λ m. reset_at book m (new_record setting pw) (map.get book m)) job.0
   where
     some_inj : {A : Type 0} {x y : A} → Some x ≡ Some y → x ≡ y
     some_inj e = cc
+job_reset (Quick ask) name task stored job is capacity book later found done_is = absurd job
 job_reset (Whole q) name task stored job is capacity book later found done_is = absurd job
 job_reset (Login n pw setting) name task stored job is capacity book later found done_is = absurd job
-job_reset (Account n) name task stored job is capacity book later found done_is = absurd job
-job_reset (Load n there) name task stored job is capacity book later found done_is = absurd job
-job_reset (Show n) name task stored job is capacity book later found done_is = absurd job
-job_reset (Names from most) name task stored job is capacity book later found done_is = absurd job
-job_reset (Edit edit) name task stored job is capacity book later found done_is = absurd job
-job_reset (Bad why) name task stored job is capacity book later found done_is = absurd job
 
 pub done_reset : (capacity : ℕ) (book later : Accounts) (e : Entry) (name : List ℕ) (task : Task) (stored : RecordValue) (found : Reply) (tag answer : List ℕ)
-    → IsResetOf e.ask name task → Some stored ≡ (whole task.0 task.1).1 → (Script (Replied found), later) ≡ reset_at book name stored (map.get book name) → tag ≡ e.tag
+    → IsResetOf e.ask name task → Some stored ≡ (whole task.0 task.1).1 → (reply_line found, later) ≡ reset_at book name stored (map.get book name) → tag ≡ e.tag
     → answer ≡ reply_line found → IsDone capacity book later e (tag ++ 32 ∷ answer)
 done_reset capacity book later e name task stored found tag answer job is done_is tag_is answer_is =
     let whole = job_reset e.ask name task stored job is capacity book later found done_is in
-    done_at capacity book later e tag answer (ap (λ o. o.1) whole) tag_is (answer_is ∙ ap (λ o. told_line o.0) whole)
+    done_at capacity book later e tag answer (ap (λ o. o.1) whole) tag_is (answer_is ∙ ap (λ o. o.0) whole)

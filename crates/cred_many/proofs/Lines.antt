@@ -9,8 +9,7 @@ use Rattle.cred_cli.specs.{Events.longest_line, Events.most_kept, Events.most_pi
 use Rattle.cred_cli.proofs.Feeds.{none_kept, some_kept, take-kept}
 use Rattle.cred_cli.proofs.Lines.{length-whole_from, lines_of-ended, lines_of-line_end, lines_of-unfinished, unfinished_from-end, unfinished_from-more, whole_from}
 use Rattle.cred_cli.proofs.{Readings.if_known, Unended.ends_sooner, Unended.unended_at, Unended.unended_last}
-use Rattle.cred_many.specs.declared.ask.Ask.TheVariants.{Bad}
-use Rattle.cred_many.specs.Asks.{Tagged, entry_of, tag_of, tagged, tagged_by, tagged_of, untagged, within}
+use Rattle.cred_many.specs.Asks.{Tagged, entry_of, refused, tag_of, tagged, tagged_by, tagged_of, untagged, within}
 use Rattle.cred_many.specs.Reading.{ComesNext, IsCutLine, IsWholeLine, MovesOver, NothingIsLeft, Place, Splits}
 use Rattle.cred_many.specs.Service.{IsLine, Service, asked_from, cut_line, drawn_setting}
 
@@ -158,7 +157,7 @@ end_taken input old new cleared next = λ all rest known at. record {
 
 -- ---- a line, read
 
-pub long_read : (drawn : SettingValue) (line tag : List ℕ) → tag ≡ codes "*" → nat_lt longest_line (length line) ≡ true → (tag, Bad refusal.Long) ≡ tagged_of drawn line
+pub long_read : (drawn : SettingValue) (line tag : List ℕ) → tag ≡ codes "*" → nat_lt longest_line (length line) ≡ true → (tag, refused refusal.Long) ≡ tagged_of drawn line
 unfolding tagged_of
 long_read drawn line tag star long = rw (long, star) refl
 
@@ -206,12 +205,32 @@ bytes_all input old new bytes i whole on = λ all rest known at. on all rest kno
 
 -- ---- line ends in turn
 
-line_ends-append : (xs ys : List ℕ) → line_ends (xs ++ ys) ≡ line_ends xs + line_ends ys
+pub line_ends-append : (xs ys : List ℕ) → line_ends (xs ++ ys) ≡ line_ends xs + line_ends ys
 line_ends-append [] ys = omega arith
 line_ends-append (c ∷ cs) ys = elim (eqb_tells c 10) [
   | inl w ↦ rw w.0 (let r = line_ends-append cs ys in omega (arith, r))
   | inr w ↦ rw w.0 (line_ends-append cs ys)
 ]
+
+-- each line end ends a line
+ends_few_lines : (all : List ℕ) → line_ends all ≤ length (lines_of all)
+ends_few_lines all = elim (cases_lt 0 (length (unfinished_from [] all))) [
+  | inl left ↦ let count = ap length (lines_of-unfinished all left) ∙ length-append (whole_from [] all) (unfinished_from [] all ∷ []) in omega (arith, count, length-whole_from [] all)
+  | inr none ↦ let count = ap length (lines_of-ended all (empty (unfinished_from [] all) none)) ∙ length-whole_from [] all in omega (arith, count)
+]
+  where
+    empty : (xs : List ℕ) → length xs ≤ 0 → xs ≡ []
+    empty [] none = refl
+    empty (x ∷ xs) none = absurd (omega (arith, none))
+
+-- so there are as many lines as were handed on
+pub many_lines : (input : Option (List ℕ)) (at : Place) (least : ℕ) → ((all : List ℕ) → input ≡ Some all → (rest : List ℕ) × Splits all at rest) → least ≤ at.number
+    → IfSome input (λ all. least ≤ length (lines_of all))
+many_lines input at least came many = if_known input _ (λ all known.
+    let (rest, here) = came all known in
+    let ends = ap line_ends here.cut ∙ line_ends-append here.front rest in
+    let some = ends_few_lines all in
+    omega (arith, ends, some, here.number_is, many))
 
 ends_next : (bytes : List ℕ) (i : ℕ) → i < length bytes → line_ends (take (i + 1) bytes) ≡ line_ends (take i bytes) + line_ends (get_or bytes i 0 ∷ [])
 ends_next bytes i within = ap line_ends (take_more bytes i 0 within) ∙ line_ends-append (take i bytes) (get_or bytes i 0 ∷ [])
@@ -230,15 +249,15 @@ line_ends-short (c ∷ cs) = elim (eqb_tells c 10) [
   | inr w ↦ rw w.0 (let r = line_ends-short cs in omega (arith, r))
 ]
 
-pub ends_whole : (bytes : List ℕ) (i : ℕ) → length bytes ≤ i → (n : ℕ) → n ≡ line_ends (take i bytes) → n ≡ line_ends bytes
-ends_whole bytes i whole n is = is ∙ ap line_ends (take_all i bytes whole)
-
 pub ends_few : (bytes : List ℕ) (i : ℕ) → i < length bytes → (n : ℕ) → n ≡ line_ends (take i bytes) → n ≤ i
 ends_few bytes i within n is = let short = line_ends-short (take i bytes) in let long = length-take i bytes in omega (arith, is, short, long, within)
 
 -- what is given and what is handed on grow alike
 pub counted : (given more handed now next : ℕ) → handed ≡ given → now ≡ handed + more → next ≡ given + more → now ≡ next
 counted given more handed now next same on is = on ∙ ap (λ n. n + more) same ∙ sym is
+
+pub ends_whole : (bytes : List ℕ) (i : ℕ) → length bytes ≤ i → (n : ℕ) → n ≡ line_ends (take i bytes) → n ≡ line_ends bytes
+ends_whole bytes i whole n is = is ∙ ap line_ends (take_all i bytes whole)
 
 one_end : (b : ℕ) → b ≡ 10 → line_ends (b ∷ []) ≡ 1
 one_end b is = rw is refl

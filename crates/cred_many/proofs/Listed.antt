@@ -3,7 +3,7 @@ use Rattle.std.proofs.Common.{◌≡◌, ◌≢◌, ℕ, zero, suc, ◌-◌, Lis
 use Rattle.std.specs.{List.filter, Ordering.is_lt}
 use Rattle.cred_phc.specs.Values.{RecordValue}
 use Rattle.cred_book.specs.Names.{name_cmp}
-use Rattle.cred_many.specs.Edits.{page, spaced}
+use Rattle.cred_many.specs.Names.{page, spaced}
 
 abbrev pub Entries : Type 0
 Entries = List (List ℕ × Option RecordValue)

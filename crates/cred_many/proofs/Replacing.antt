@@ -1,13 +1,12 @@
--- What a keeper answers that replaces records together.
-use Rattle.std.proofs.Common.{◌≡◌, ℕ, List, [], ◌∷◌, ◌++◌, Bool, true, false, cond, Option, Some, Result, Ok, Err, is_some, refl, sym, ap, ◌∙◌}
+-- Records that a keeper replaces together.
+use Rattle.std.proofs.Common.{◌≡◌, ℕ, List, [], ◌∷◌, ◌++◌, Bool, true, false, cond, Option, Some, refl, sym, ap, ◌∙◌}
 use Rattle.std.specs.Option.{option_or}
 use Rattle.std.specs.FinMap as fin
 use Rattle.std.specs.{FinMap.get-empty, FinMap.get-entries, FinMap.get-from_entries, Cmp.Lexicographic.nat_list_cmp_total, Ordering.eq_by_cmp}
 use Rattle.cred_phc.specs.Values.{RecordValue}
-use Rattle.cred_book.specs.{Accounts.Accounts, Accounts.register_capacity, Names.name_cmp, declared.error.BookError.BookError}
-use Rattle.cred_book.specs.declared.error.BookError.TheVariants as error
-use Rattle.cred_file.specs.Edits.{TakesIn, joined, taken_in}
-use Rattle.cred_many.specs.Edits.{AreReplaced, ReplacesAll}
+use Rattle.cred_book.specs.{Accounts.Accounts, Names.name_cmp}
+use Rattle.cred_file.specs.Edits.{joined, taken_in}
+use Rattle.cred_many.specs.Scribe.{AreReplaced}
 
 abbrev Entries : Type 0
 Entries = List (List ℕ × Option RecordValue)
@@ -26,29 +25,8 @@ found_joined book more q =
     get-from_entries nat_list_cmp_total (fin.entries more ++ fin.entries book) q ∙ find_in_both q (fin.entries more) (fin.entries book)
     ∙ sym (ap (λ o. option_or o (fin.get book q)) (get-entries more q) ∙ ap (option_or (fin.find name_cmp q (fin.entries more))) (get-entries book q))
 
-pub found_taken : (book changed : Accounts) → AreReplaced book changed (taken_in book fin.empty changed)
-found_taken book changed q =
+pub replaced : (book changed later : Accounts) → later ≡ taken_in book fin.empty changed → AreReplaced book changed later
+replaced book changed later is q =
+    ap (λ (b : Accounts). fin.get b q) is ∙
     found_joined (joined book fin.empty) changed q
     ∙ ap (option_or (fin.get changed q)) (found_joined book fin.empty q ∙ ap (λ o. option_or o (fin.get book q)) (get-empty name_cmp q))
-
-abbrev Taken : Accounts → Accounts → Accounts → Result (Unit {0}) BookError → Type 0
-Taken old new changed r = TakesIn register_capacity old new fin.empty changed r
-
-pub replaced : (old new changed : Accounts) (r : Unit {0}) → Taken old new changed (Ok r) → ReplacesAll old new changed (Ok r)
-replaced old new changed r (may, few, is) = (may.1, λ q. ap (λ (b : Accounts). fin.get b q) is ∙ found_taken old changed q)
-
-pub missed : (old new changed : Accounts) → Taken old new changed (Err error.NoAccount) → ReplacesAll old new changed (Err error.NoAccount)
-missed old new changed h = h
-
-none_met : (q : List ℕ) → fin.contains_key (fin.empty {K = List ℕ} {X = Option RecordValue} {R = name_cmp}) q ≡ true → ⊥
-none_met q is = let no : false ≡ true = ap is_some (sym (get-empty name_cmp q)) ∙ is in absurd cc
-
-pub refused : (old new changed : Accounts) (e : BookError) → (e ≡ error.NoAccount → ⊥) → Taken old new changed (Err e) → ReplacesAll old new changed (Err error.Memory)
-refused old new changed error.Memory other h = (h.0.1, h.2)
-refused old new changed error.Full other h = (h.0.1, h.2)
-refused old new changed error.Exists other h = let (q, inside, also) = h.0 in absurd (none_met q inside)
-refused old new changed error.NoAccount other h = absurd (other refl)
-refused old new changed error.Name other h = absurd h
-
--- these together
-pub ruleset replacing = (missed, refused)

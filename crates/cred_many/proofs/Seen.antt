@@ -8,7 +8,7 @@ use Rattle.cred_book.specs.{Accounts.Accounts, Works.same}
 use Rattle.cred_book.proofs.Equality.{same-Decides}
 use Rattle.cred_many.specs.{declared.ask.Ask.Ask, declared.open.Open.Open, declared.open.Sight.Sight, Asks.Entry}
 use Rattle.cred_many.specs.Scribe.{AreClosed, IsBusy, Notes, SightHolds, WasThere, counted, numbers, unseen}
-use Rattle.cred_many.specs.Served.{book_after, change_from, changes, done, name_asked, record_at, tries}
+use Rattle.cred_many.specs.Served.{answers, book_after, change_from, changes, done, line_at, name_asked, record_at, tries}
 
 -- ---- how often a record changed
 
@@ -47,6 +47,14 @@ pub book_after-append : (capacity : ℕ) (book : Accounts) (xs ys : List Entry) 
 unfolding book_after
 book_after-append capacity book [] ys = refl
 book_after-append capacity book (x ∷ xs) ys = book_after-append capacity (done capacity book x.ask).1 xs ys
+
+pub answers-append : (capacity : ℕ) (book : Accounts) (xs ys : List Entry)
+    → answers capacity book (xs ++ ys) ≡ answers capacity book xs ++ answers capacity (book_after capacity book xs) ys
+unfolding answers book_after
+answers-append capacity book [] ys = refl
+answers-append capacity book (x ∷ xs) ys =
+    ap (λ l. line_at capacity book x ++ l) (answers-append capacity (done capacity book x.ask).1 xs ys)
+    ∙ sym (append_assoc (line_at capacity book x) (answers capacity (done capacity book x.ask).1 xs) (answers capacity (book_after capacity (done capacity book x.ask).1 xs) ys))
 
 -- ---- what was seen
 

@@ -1,32 +1,22 @@
 -- A history that goes on by one line.
-use Rattle.std.proofs.Common.{◌≡◌, ◌⊎◌, inl, inr, ℕ, zero, suc, ◌+◌, List, [], ◌∷◌, ◌++◌, Option, Some, None, IfSome, subst, ◌≤◌, false, refl, sym, ap, ◌∙◌, append_assoc, append-nil, arith, take, drop, slice_get, length}
+use Rattle.std.proofs.Common.{◌≡◌, ◌⊎◌, inl, inr, ℕ, zero, suc, ◌+◌, List, [], ◌∷◌, ◌++◌, Bool, Option, Some, None, IfSome, subst, ◌≤◌, refl, sym, ap, ◌∙◌, append_assoc, append-nil, arith, take, drop, slice_get, length}
 use Rattle.std.proofs.{Math.Logic.∥∥₁_map, lemmas.List.length-append}
 use Rattle.std.proofs.lemmas.List.Elements.{All-head, All-nil, All-push, All-same, All-tail}
 use Rattle.std.proofs.lemmas.List.Sorted.{IsPermutation-append_left, IsPermutation-append_right, IsPermutation-cons, IsPermutation-middle, IsPermutation-refl, IsPermutation-trans}
-use Rattle.std.proofs.KnownBytes.{Appends-nil, Appends-trans}
-use Rattle.std.specs.{List.All, List.range_with_len, List.Sorted.IsPermutation, Io.KnownBytes.Appends}
+use Rattle.std.proofs.KnownBytes.{Appends-nil}
+use Rattle.std.specs.{List.All, List.range_with_len, List.Sorted.IsPermutation, Option.option_or}
 use Rattle.cred_phc.specs.Values.{RecordValue}
 use Rattle.cred_book.specs.Accounts.{Accounts}
 use Rattle.cred_book.specs.declared.error.BookError.TheVariants as error
-use Rattle.cred_cli.specs.Outcome.{FrontWritten}
 use Rattle.cred_cli.specs.declared.refusal.Refusal.TheVariants as refusal
-use Rattle.cred_many.specs.{declared.ask.Ask.TheVariants.Bad, declared.fault.ServiceFault.ServiceFault}
-use Rattle.cred_many.specs.declared.fault.ServiceFault.TheVariants as fault
-use Rattle.cred_many.specs.{declared.open.Open.Open, Asks.Entry, Asks.entry}
-use Rattle.cred_many.specs.Scribe.{AreClosed, History, IsBusy, IsOneGroup, Notes, SightHolds, is_torn, numbers, unseen}
-use Rattle.cred_many.specs.Served.{AreFor, IsFor, NeedsMemory, answers, book_after, changes, done, entry_numbers, line_at, name_asked, record_at, told_line, tries}
-use Rattle.cred_many.specs.{Service.IsLine, Service.Service, Service.asked, Steps.IsConcluded}
+use Rattle.cred_many.specs.{declared.fault.ServiceFault.ServiceFault, declared.open.Open.Open, Asks.Entry, Asks.entry, Asks.refused}
+use Rattle.cred_many.specs.Scribe.{AreClosed, History, IsBusy, IsConcluded, Notes, SightHolds, numbers, unseen}
+use Rattle.cred_many.specs.Served.{AreFor, IsFor, NeedsMemory, answers, book_after, changes, done, entry_numbers, line_at, most_together, name_asked, record_at, tries}
+use Rattle.cred_many.specs.Service.{IsLine, Service, asked}
 use Rattle.cred_many.proofs.Seen.{book_after-append, looked_numbers, numbers-snoc, watched_looked, watched_on, watched_rest, worn}
+use Rattle.cred_many.proofs.Standing.{written_on, written_still, written_whole}
 
--- ---- the list grows
-
-pub answers-append : (capacity : ℕ) (book : Accounts) (xs ys : List Entry)
-    → answers capacity book (xs ++ ys) ≡ answers capacity book xs ++ answers capacity (book_after capacity book xs) ys
-unfolding answers book_after
-answers-append capacity book [] ys = refl
-answers-append capacity book (x ∷ xs) ys =
-    ap (λ l. line_at capacity book x ++ l) (answers-append capacity (done capacity book x.ask).1 xs ys)
-    ∙ sym (append_assoc (line_at capacity book x) (answers capacity (done capacity book x.ask).1 xs) (answers capacity (book_after capacity (done capacity book x.ask).1 xs) ys))
+-- ---- what may stand in the list
 
 module _ (capacity : ℕ) (s : Service) where
   -- behind these lines, this is for a line that was asked
@@ -43,13 +33,13 @@ module _ (capacity : ℕ) (s : Service) where
 
   -- and a line that is given up for want of memory
   memory_for : (input : Option (List ℕ)) (before : List Entry) (e : Entry) → IfSome input (λ bytes. IsLine s bytes e) → NeedsMemory capacity (book_after capacity s.opening before) e.ask
-      → IfSome input (λ bytes. IsFor capacity s.opening (asked s bytes) before (entry e.number e.tag (Bad (refusal.Book error.Memory))))
+      → IfSome input (λ bytes. IsFor capacity s.opening (asked s bytes) before (entry e.number e.tag (refused (refusal.Book error.Memory))))
   memory_for None before e h needs = tt
   memory_for (Some bytes) before e h needs = record { line = e; came = h; tag = refl; ask = inr (inl (refl, needs)) }
 
   -- or since others were faster
   busy_for : (input : Option (List ℕ)) (before : List Entry) (e : Entry) → IfSome input (λ bytes. IsLine s bytes e) → tries ≤ changes capacity s.opening (name_asked e.ask) before
-      → IfSome input (λ bytes. IsFor capacity s.opening (asked s bytes) before (entry e.number e.tag (Bad refusal.Busy)))
+      → IfSome input (λ bytes. IsFor capacity s.opening (asked s bytes) before (entry e.number e.tag (refused refusal.Busy)))
   busy_for None before e h often = tt
   busy_for (Some bytes) before e h often = record { line = e; came = h; tag = refl; ask = inr (inr (refl, often)) }
 
@@ -152,12 +142,12 @@ served_first capacity s now book left none is same = rw none (record {
   once = IsPermutation-refl [];
   seen = All-nil (SightHolds capacity s.opening []);
   book_is = is;
-  text = rw same (Appends-nil s.before);
+  text = written_whole capacity s.opening s.before now [] None (rw same (Appends-nil s.before));
 })
 
 module _ (capacity : ℕ) (s : Service) (old now : Option (List ℕ)) (book later : Accounts) (es : List Entry) (left rest : List Open) (came : ℕ)
     (served : History capacity s old book None left came) (each : IfSome s.input (λ bytes. AreFor capacity s.opening (asked s bytes) (served.list ++ es)))
-    (group : IsOneGroup book es) (closed : AreClosed es left rest) (later_is : later ≡ book_after capacity book es) where
+    (few : length es ≤ most_together) (closed : AreClosed es left rest) (later_is : later ≡ book_after capacity book es) where
   after_is : later ≡ book_after capacity s.opening (served.list ++ es)
   after_is = later_is ∙ ap (λ b. book_after capacity b es) served.book_is ∙ sym (book_after-append capacity s.opening served.list es)
 
@@ -167,53 +157,18 @@ module _ (capacity : ℕ) (s : Service) (old now : Option (List ℕ)) (book late
   seen_is : All (SightHolds capacity s.opening (served.list ++ es)) rest
   seen_is = watched_rest capacity s.opening (served.list ++ es) es left rest closed (watched_on capacity s.opening served.list es left served.seen)
 
-  served_more : Appends old now (answers capacity book es) → History capacity s now later None rest came
-  served_more written = record {
-    list = served.list ++ es;
-    each = each;
-    once = once_is;
-    seen = seen_is;
-    book_is = after_is;
-    text = rw answers-append (Appends-trans s.before old now _ _ served.text (rw served.book_is at written));
-  }
-
-  served_torn : FrontWritten old now (answers capacity book es) → History capacity s now later (Some fault.Write) rest came
-  served_torn (n, short, written) = record {
-    list = served.list ++ es;
-    each = each;
-    once = once_is;
-    seen = seen_is;
-    book_is = after_is;
-    text = record {
-      front = served.list;
-      last = es;
-      split = refl;
-      group = subst (λ b. IsOneGroup b es) served.book_is group;
-      cut = n;
-      short = rw served.book_is at short;
-      text = Appends-trans s.before old now _ _ served.text (rw served.book_is at written);
-    };
-  }
-
   -- whether their answers were written whole or the writer failed
-  pub served_on : (f : Option ServiceFault) → IsConcluded (answers capacity book es) old now f → History capacity s now later f rest came
-  served_on None written = served_more written
-  served_on (Some fault.Write) torn = served_torn torn
-  served_on (Some fault.Read) h = absurd h
-  served_on (Some fault.Memory) h = absurd h
-  served_on (Some fault.Threads) h = absurd h
-  served_on (Some fault.Keeper) h = absurd h
-  served_on (Some fault.TooLong) h = absurd h
-  served_on (Some fault.Lost) h = absurd h
+  pub served_on : (failed : Bool) (f : Option ServiceFault) → IsConcluded (answers capacity book es) old now failed f → History capacity s now later f rest came
+  served_on failed f told = record {
+    list = served.list ++ es;
+    each = each;
+    once = once_is;
+    seen = seen_is;
+    book_is = after_is;
+    text = written_on capacity s.opening s.before old served.list served.text es few now failed f (subst (λ b. IsConcluded (answers capacity b es) old now failed f) served.book_is told);
+  }
 
 -- ---- a step
-
--- a line alone
-one_alone : (book : Accounts) (e : Entry) → IsOneGroup book (e ∷ [])
-one_alone book e = record {
-  few = omega arith;
-  together = λ more. absurd (omega (arith, more));
-}
 
 -- what a line asks for was done, and its answer's text stands ready
 pub record IsDone (capacity : ℕ) (book later : Accounts) (e : Entry) (text : List ℕ) : Type 0 where
@@ -221,52 +176,52 @@ pub record IsDone (capacity : ℕ) (book later : Accounts) (e : Entry) (text : L
   pub text_is : text ≡ line_at capacity book e
 
 pub done_at : (capacity : ℕ) (book later : Accounts) (e : Entry) (tag answer : List ℕ) → later ≡ (done capacity book e.ask).1 → tag ≡ e.tag
-    → answer ≡ told_line (done capacity book e.ask).0 → IsDone capacity book later e (tag ++ 32 ∷ answer)
+    → answer ≡ (done capacity book e.ask).0 → IsDone capacity book later e (tag ++ 32 ∷ answer)
 done_at capacity book later e tag answer later_is tag_is answer_is = record {
   book_is = later_is;
   text_is = rw (tag_is, answer_is) refl;
 }
 
-module _ (capacity : ℕ) (s : Service) (old now : Option (List ℕ)) (book later : Accounts) (e : Entry) (left rest : List Open) (place came : ℕ) (text : List ℕ) (was f : Option ServiceFault) where
+module _ (capacity : ℕ) (s : Service) (old now : Option (List ℕ)) (book later : Accounts) (e : Entry) (left rest : List Open) (place came : ℕ) (text : List ℕ) (failed : Bool) (was f : Option ServiceFault) where
   concluded : ((h : History capacity s old book None left came) → MayFollow capacity s h.list e)
       → was ≡ None → slice_get (numbers left) place ≡ Some e.number → rest ≡ take place left ++ drop (place + 1) left
-      → IsDone capacity book later e text → IsConcluded text old now f
+      → IsDone capacity book later e text → IsConcluded text old now failed f
       → ∥ History capacity s old book was left came ∥₁ → ∥ History capacity s now later f rest came ∥₁
   unfolding answers book_after
   concluded owed none there rest_is d told served = ∥∥₁_map served (λ h. on (rw none at h))
     where
       on : History capacity s old book None left came → History capacity s now later f rest came
       on h =
-          served_on capacity s old now book later (e ∷ []) left rest came h (owed_all capacity s s.input h.list e h.each (owed h)) (one_alone book e) (place, there, rest_is) d.book_is f
-          (subst (λ t. IsConcluded t old now f) (d.text_is ∙ sym (append-nil (line_at capacity book e))) told)
+          served_on capacity s old now book later (e ∷ []) left rest came h (owed_all capacity s s.input h.list e h.each (owed h)) (omega arith) (place, there, rest_is) d.book_is failed f
+          (subst (λ t. IsConcluded t old now failed f) (d.text_is ∙ sym (append-nil (line_at capacity book e))) told)
 
   -- the line is answered
   pub answered : was ≡ None → IfSome s.input (λ bytes. IsLine s bytes e) → slice_get (numbers left) place ≡ Some e.number → rest ≡ take place left ++ drop (place + 1) left
-      → IsDone capacity book later e text → IsConcluded text old now f
+      → IsDone capacity book later e text → IsConcluded text old now failed f
       → ∥ History capacity s old book was left came ∥₁ → ∥ History capacity s now later f rest came ∥₁
   answered none came_is there rest_is d told served = concluded (λ h. owed_own capacity s h.list e came_is) none there rest_is d told served
 
-module _ (capacity : ℕ) (s : Service) (old now : Option (List ℕ)) (book : Accounts) (line : Entry) (left rest : List Open) (place came : ℕ) (text : List ℕ) (was f : Option ServiceFault)
+module _ (capacity : ℕ) (s : Service) (old now : Option (List ℕ)) (book : Accounts) (line : Entry) (left rest : List Open) (place came : ℕ) (text : List ℕ) (failed : Bool) (was f : Option ServiceFault)
     (none : was ≡ None) (came_is : IfSome s.input (λ bytes. IsLine s bytes line)) (there : slice_get (numbers left) place ≡ Some line.number) (rest_is : rest ≡ take place left ++ drop (place + 1) left) where
   -- the line is given up for want of memory
-  pub starved : NeedsMemory capacity book line.ask → IsDone capacity book book (entry line.number line.tag (Bad (refusal.Book error.Memory))) text → IsConcluded text old now f
+  pub starved : NeedsMemory capacity book line.ask → IsDone capacity book book (entry line.number line.tag (refused (refusal.Book error.Memory))) text → IsConcluded text old now failed f
       → ∥ History capacity s old book was left came ∥₁ → ∥ History capacity s now book f rest came ∥₁
   starved needs d told served =
-      concluded capacity s old now book book (entry line.number line.tag (Bad (refusal.Book error.Memory))) left rest place came text was f
+      concluded capacity s old now book book (entry line.number line.tag (refused (refusal.Book error.Memory))) left rest place came text failed was f
       (λ h. memory_for capacity s s.input h.list line came_is (subst (λ b. NeedsMemory capacity b line.ask) h.book_is needs)) none there rest_is d told served
 
   -- or since others were always faster
-  pub given_up : IsBusy left place line.ask → IsDone capacity book book (entry line.number line.tag (Bad refusal.Busy)) text → IsConcluded text old now f
+  pub given_up : IsBusy left place line.ask → IsDone capacity book book (entry line.number line.tag (refused refusal.Busy)) text → IsConcluded text old now failed f
       → ∥ History capacity s old book was left came ∥₁ → ∥ History capacity s now book f rest came ∥₁
   given_up busy d told served =
-      concluded capacity s old now book book (entry line.number line.tag (Bad refusal.Busy)) left rest place came text was f
+      concluded capacity s old now book book (entry line.number line.tag (refused refusal.Busy)) left rest place came text failed was f
       (λ h. busy_for capacity s s.input h.list line came_is (worn capacity s.opening h.list left place line.ask h.seen busy)) none there rest_is d told served
 
 -- nothing was done, and perhaps nothing more is answered
 pub still : (capacity : ℕ) (s : Service) (now : Option (List ℕ)) (book later : Accounts) (left rest : List Open) (came : ℕ) (was f : Option ServiceFault)
-    → was ≡ None → is_torn f ≡ false → later ≡ book → rest ≡ left
+    → was ≡ None → later ≡ book → rest ≡ left
     → ∥ History capacity s now book was left came ∥₁ → ∥ History capacity s now later f rest came ∥₁
-still capacity s now book later left rest came was f none torn book_is left_is served =
+still capacity s now book later left rest came was f none book_is left_is served =
     ∥∥₁_map served (λ h. subst (λ r. History capacity s now later f r came) (sym left_is) (on (rw none at h)))
   where
     on : History capacity s now book None left came → History capacity s now later f left came
@@ -276,7 +231,7 @@ still capacity s now book later left rest came was f none torn book_is left_is s
       once = h.once;
       seen = h.seen;
       book_is = book_is ∙ h.book_is;
-      text = rw torn h.text;
+      text = written_still capacity s.opening s.before now h.list h.text f;
     }
 
 -- a line comes
@@ -306,3 +261,16 @@ looked capacity s now book left rest place came name stored count was l is serve
       book_is = h.book_is;
       text = h.text;
     })
+
+-- what is told at the end
+pub left_history : (capacity : ℕ) (s : Service) (now : Option (List ℕ)) (book : Accounts) (left : List Open) (came : ℕ) (told why : Option ServiceFault) → History capacity s now book told left came
+    → History capacity s now book (option_or told why) left came
+left_history capacity s now book left came (Some f) why h = h
+left_history capacity s now book left came None why h = record {
+  list = h.list;
+  each = h.each;
+  once = h.once;
+  seen = h.seen;
+  book_is = h.book_is;
+  text = written_still capacity s.opening s.before now h.list h.text why;
+}

@@ -1,16 +1,29 @@
--- What is told of a history.
-use Rattle.std.proofs.Common.{◌≡◌, ◌≢◌, ℕ, ◌+◌, ◌-◌, ◌≤◌, List, [], ◌∷◌, ◌++◌, Bool, true, Option, Some, None, MatchBool, IfSome, refl, sym, ap, subst, ◌∙◌, arith, take, drop, take-append-drop, length, suc}
+-- What is written, why nothing more is, and what is told of a history.
+use Rattle.std.proofs.Common.{◌≡◌, ◌≢◌, ◌⊎◌, inl, inr, ℕ, ◌+◌, ◌-◌, ◌≤◌, ◌<◌, List, [], ◌∷◌, ◌++◌, Bool, true, false, Option, Some, None, IfSome, refl, sym, ap, subst, ◌∙◌, arith, take, drop, take-append-drop, length, suc}
 use Rattle.std.proofs.{lemmas.List.length-append, lemmas.List.take_all, lemmas.List.take-append-le, lemmas.Option.slice_get_within}
-use Rattle.std.specs.Io.KnownBytes.{Appends}
+use Rattle.std.proofs.KnownBytes.{Appends-trans}
+use Rattle.std.specs.{Io.KnownBytes.Appends, Option.option_or}
 use Rattle.cred_book.specs.Accounts.{Accounts}
-use Rattle.cred_cli.specs.Script.{lines_of}
+use Rattle.cred_cli.specs.{Outcome.FrontWritten, Script.lines_of}
+use Rattle.cred_cli.proofs.Unended.{length-unended}
 use Rattle.cred_many.specs.declared.fault.ServiceFault.{ServiceFault}
 use Rattle.cred_many.specs.declared.fault.ServiceFault.TheVariants as fault
-use Rattle.cred_many.specs.{declared.open.Open.Open, Asks.Entry, Scribe.History, Scribe.IsCut, Scribe.is_torn, Scribe.numbers}
+use Rattle.cred_many.specs.{declared.open.Open.Open, Asks.Entry, Scribe.History, Scribe.IsConcluded, Scribe.numbers}
 use Rattle.cred_many.specs.Served.{HasCause, IsWritten, Moment, Stands, answers, book_after, most_together}
-use Rattle.cred_many.specs.{Service.IsLine, Service.Service, Service.asked, Service.asked_from, Service.cut_line, Steps.IsConcluded}
-use Rattle.cred_cli.proofs.Unended.{length-unended}
-use Rattle.cred_many.proofs.{Serving.answers-append, Writes.take-behind}
+use Rattle.cred_many.specs.Service.{IsLine, Service, asked, asked_from, cut_line}
+use Rattle.cred_many.proofs.{Seen.answers-append, Writes.take-behind}
+
+-- a line is written, or the writer failed in it
+concluded : (line : List ℕ) (old now : Option (List ℕ)) (failed : Bool) (why : Option ServiceFault) → IsConcluded line old now failed why
+    → ((why ≡ None) × Appends old now line) ⊎ ((why ≡ Some fault.Write) × FrontWritten old now line × (failed ≡ true))
+concluded line old now failed None h = inl (refl, h)
+concluded line old now failed (Some fault.Write) h = inr (refl, h.0, h.1)
+concluded line old now failed (Some fault.Read) h = absurd h
+concluded line old now failed (Some fault.Memory) h = absurd h
+concluded line old now failed (Some fault.Threads) h = absurd h
+concluded line old now failed (Some fault.Keeper) h = absurd h
+concluded line old now failed (Some fault.TooLong) h = absurd h
+concluded line old now failed (Some fault.Lost) h = absurd h
 
 -- ---- what is written
 
@@ -24,67 +37,94 @@ module _ (capacity : ℕ) (opening : Accounts) where
   front : (list : List Entry) (n : ℕ) → length (answers capacity opening (take n list)) ≤ length (answers capacity opening list)
   front list n = subst (λ l. length (answers capacity opening (take n list)) ≤ length (answers capacity opening l)) (take-append-drop n list) (fewer (take n list) (drop n list))
 
-  module _ (before now : Option (List ℕ)) (list : List Entry) where
-    written_whole : (why : Option ServiceFault) → Appends before now (answers capacity opening list) → IsWritten capacity opening before now list why
-    written_whole why text = record {
+  module _ (before : Option (List ℕ)) where
+    pub written_whole : (now : Option (List ℕ)) (list : List Entry) (why : Option ServiceFault) → Appends before now (answers capacity opening list) → IsWritten capacity opening before now list why
+    written_whole now list why text = record {
       bytes = length (answers capacity opening list);
       front = subst (Appends before now) (sym (take_all (length (answers capacity opening list)) (answers capacity opening list) (omega arith))) text;
       whole = λ _. refl;
       most = front list (length list - most_together);
     }
 
-    written_cut : IsCut capacity opening before now list → IsWritten capacity opening before now list (Some fault.Write)
-    written_cut h =
-        let first = answers capacity opening h.front in
-        let rest = answers capacity (book_after capacity opening h.front) h.last in
-        let all : first ++ rest ≡ answers capacity opening list = sym (ap (answers capacity opening) h.split ∙ answers-append capacity opening h.front h.last) in
-        let kept = length list - most_together in
-        let few : kept ≤ length h.front = let long = ap length h.split ∙ length-append h.front h.last in omega (arith, long, h.group.few) in
-        let short = front h.front kept in
-        let same : take kept list ≡ take kept h.front = ap (take kept) h.split ∙ take-append-le kept h.front h.last few in
-        let lengths = ap (λ l. length (answers capacity opening l)) same in
-        record {
-          bytes = length first + h.cut;
-          front = subst (λ xs. Appends before now (take (length first + h.cut) xs)) all (subst (Appends before now) (sym (take-behind first rest h.cut (length first + h.cut) refl)) h.text);
-          whole = λ other. absurd (other refl);
-          most = omega (arith, lengths, short);
-        }
+    module _ (now : Option (List ℕ)) (list : List Entry) (was : IsWritten capacity opening before now list None) where
+      all_bytes : was.bytes ≡ length (answers capacity opening list)
+      all_bytes = was.whole (λ is. absurd cc)
 
-    written : (why : Option ServiceFault) → MatchBool (is_torn why) (IsCut capacity opening before now list) (Appends before now (answers capacity opening list)) → IsWritten capacity opening before now list why
-    written None h = written_whole None h
-    written (Some fault.Write) h = written_cut h
-    written (Some fault.Read) h = written_whole (Some fault.Read) h
-    written (Some fault.Memory) h = written_whole (Some fault.Memory) h
-    written (Some fault.Threads) h = written_whole (Some fault.Threads) h
-    written (Some fault.Keeper) h = written_whole (Some fault.Keeper) h
-    written (Some fault.TooLong) h = written_whole (Some fault.TooLong) h
-    written (Some fault.Lost) h = written_whole (Some fault.Lost) h
+      whole_text : Appends before now (answers capacity opening list)
+      whole_text = subst (Appends before now) (ap (λ n. take n (answers capacity opening list)) all_bytes ∙ take_all (length (answers capacity opening list)) (answers capacity opening list) (omega arith)) was.front
+
+      -- so it is whatever is told
+      pub written_still : (why : Option ServiceFault) → IsWritten capacity opening before now list why
+      written_still why = written_whole now list why whole_text
+
+      torn : (es : List Entry) → length es ≤ most_together → (next : Option (List ℕ)) → FrontWritten now next (answers capacity (book_after capacity opening list) es)
+          → IsWritten capacity opening before next (list ++ es) (Some fault.Write)
+      torn es few next (n, short, text) =
+          let first = answers capacity opening list in
+          let rest = answers capacity (book_after capacity opening list) es in
+          let kept = length (list ++ es) - most_together in
+          let within : kept ≤ length list = let long = length-append list es in omega (arith, long, few) in
+          let less = front list kept in
+          let same = ap (λ l. length (answers capacity opening l)) (take-append-le kept list es within) in
+          record {
+            bytes = length first + n;
+            front = subst (λ xs. Appends before next (take (length first + n) xs)) (sym (answers-append capacity opening list es))
+                (subst (Appends before next) (sym (take-behind first rest n (length first + n) refl)) (Appends-trans before now next first (take n rest) whole_text text));
+            whole = λ other. absurd (other refl);
+            most = omega (arith, same, less);
+          }
+
+      -- and with a few lines more, in which the writer may have failed
+      pub written_on : (es : List Entry) → length es ≤ most_together → (next : Option (List ℕ)) (failed : Bool) (why : Option ServiceFault)
+          → IsConcluded (answers capacity (book_after capacity opening list) es) now next failed why → IsWritten capacity opening before next (list ++ es) why
+      written_on es few next failed why told =
+          let rest = answers capacity (book_after capacity opening list) es in
+          elim (concluded rest now next failed why told) [
+            | inl w ↦ written_whole next (list ++ es) why (subst (Appends before next) (sym (answers-append capacity opening list es)) (Appends-trans before now next (answers capacity opening list) rest whole_text w.1))
+            | inr w ↦ subst (IsWritten capacity opening before next (list ++ es)) (sym w.0) (torn es few next w.1)
+          ]
 
 -- ---- why nothing more is answered
 
 -- a line was written, or a call on the writer failed
 pub cause_written : (line : List ℕ) (old now input : Option (List ℕ)) (writer keeper : Bool) (pending : List ℕ) (came : ℕ) (why : Option ServiceFault)
-    → IsConcluded line old now why → (why ≡ Some fault.Write → writer ≡ true) → HasCause input writer keeper pending came why
-cause_written line old now input writer keeper pending came None h failed = tt
-cause_written line old now input writer keeper pending came (Some fault.Write) h failed = failed refl
-cause_written line old now input writer keeper pending came (Some fault.Read) h failed = absurd h
-cause_written line old now input writer keeper pending came (Some fault.Memory) h failed = absurd h
-cause_written line old now input writer keeper pending came (Some fault.Threads) h failed = absurd h
-cause_written line old now input writer keeper pending came (Some fault.Keeper) h failed = absurd h
-cause_written line old now input writer keeper pending came (Some fault.TooLong) h failed = absurd h
-cause_written line old now input writer keeper pending came (Some fault.Lost) h failed = absurd h
+    → IsConcluded line old now writer why → HasCause input false writer keeper pending came why
+cause_written line old now input writer keeper pending came why h = elim (concluded line old now writer why h) [
+  | inl w ↦ subst (HasCause input false writer keeper pending came) (sym w.0) tt
+  | inr w ↦ subst (HasCause input false writer keeper pending came) (sym w.0) w.2
+]
 
 -- nothing failed yet
-pub no_cause : (input : Option (List ℕ)) (writer keeper : Bool) (pending : List ℕ) (came : ℕ) (why : Option ServiceFault) → why ≡ None → HasCause input writer keeper pending came why
+pub no_cause : (input : Option (List ℕ)) (writer keeper : Bool) (pending : List ℕ) (came : ℕ) (why : Option ServiceFault) → why ≡ None → HasCause input false writer keeper pending came why
 no_cause input writer keeper pending came why none = rw none tt
+
+-- what is told at the end is told already, or it ends the reading
+pub cause_left : (input : Option (List ℕ)) (source writer keeper : Bool) (pending : List ℕ) (came : ℕ) (told why : Option ServiceFault) → (told ≡ None → pending ≡ [])
+    → HasCause input false writer keeper pending came told → HasCause input source writer keeper [] came why → HasCause input source writer keeper pending came (option_or told why)
+cause_left input source writer keeper pending came None why idle h cause = subst (λ p. HasCause input source writer keeper p came why) (sym (idle refl)) cause
+cause_left input source writer keeper pending came (Some fault.Read) why idle h cause = absurd cc
+cause_left input source writer keeper pending came (Some fault.Write) why idle h cause = h
+cause_left input source writer keeper pending came (Some fault.Keeper) why idle h cause = h
+cause_left input source writer keeper pending came (Some fault.TooLong) why idle h cause = h
+cause_left input source writer keeper pending came (Some fault.Lost) why idle h cause = h
+cause_left input source writer keeper pending came (Some fault.Memory) why idle h cause = tt
+cause_left input source writer keeper pending came (Some fault.Threads) why idle h cause = tt
+
+pub none_told : (told why : Option ServiceFault) → option_or told why ≡ None → told ≡ None
+none_told None why is = refl
+none_told (Some f) why is = absurd cc
+
+pub none_why : (told why : Option ServiceFault) → option_or told why ≡ None → why ≡ None
+none_why None why is = is
+none_why (Some f) why is = absurd cc
 
 length-asked : (s : Service) (n : ℕ) (lines : List (List ℕ)) → length (asked_from s n lines) ≡ length lines
 unfolding asked_from
 length-asked s n [] = refl
 length-asked s n (line ∷ lines) = let r = length-asked s (suc n) lines in omega (arith, r)
 
--- a line came behind one that didn't
-pub line_missing : (s : Service) (input : Option (List ℕ)) (e : Entry) (came : ℕ) → IfSome input (λ bytes. IsLine s bytes e) → came + 1 ≤ e.number
+-- a line that comes is one of the input
+pub line_missing : (s : Service) (input : Option (List ℕ)) (e : Entry) (came : ℕ) → IfSome input (λ bytes. IsLine s bytes e) → came ≤ e.number
     → IfSome input (λ bytes. came ≢ length (lines_of bytes))
 line_missing s None e came h behind = tt
 line_missing s (Some bytes) e came h behind = λ all.
@@ -96,15 +136,19 @@ pub not_all : (input : Option (List ℕ)) (came lines : ℕ) → IfSome input (�
 not_all None came lines h other = tt
 not_all (Some bytes) came lines h other = λ all. other (all ∙ sym h)
 
+pub too_few : (input : Option (List ℕ)) (came least : ℕ) → IfSome input (λ bytes. least ≤ length (lines_of bytes)) → came < least → IfSome input (λ bytes. came ≢ length (lines_of bytes))
+too_few None came least h fewer = tt
+too_few (Some bytes) came least h fewer = λ all. absurd (omega (arith, all, h, fewer))
+
 -- ---- all of it
 
 pub stands : (capacity : ℕ) (s : Service) (m : Moment) (left : List Open) → m.pending ≡ numbers left → History capacity s m.written m.book m.fault left m.came
-    → HasCause s.input m.writer_failed m.keeper_failed m.pending m.came m.fault → Stands capacity s m
+    → HasCause s.input m.source_failed m.writer_failed m.keeper_failed m.pending m.came m.fault → Stands capacity s m
 stands capacity s m left pending h cause = record {
   list = h.list;
   each = h.each;
   once = rw pending h.once;
   book = h.book_is;
-  text = written capacity s.opening s.before m.written h.list m.fault h.text;
+  text = h.text;
   cause = cause;
 }

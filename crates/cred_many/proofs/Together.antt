@@ -1,22 +1,22 @@
 -- Changes of different accounts that are made together.
-use Rattle.std.proofs.Common.{◌≡◌, ◌≢◌, inl, inr, ℕ, suc, ◌<◌, List, [], ◌∷◌, ◌++◌, length, Option, Some, None, IfSome, Result, Ok, Err, OnErr, OnOk, Bool, true, false, cond, is_some, refl, sym, ap, subst, ◌∙◌, append_assoc, append-nil, arith}
+use Rattle.std.proofs.Common.{◌≡◌, ℕ, suc, ◌<◌, List, [], ◌∷◌, ◌++◌, length, Option, Some, None, IfSome, Result, Ok, Err, OnErr, OnOk, Bool, true, false, cond, refl, sym, ap, subst, ◌∙◌, append_assoc, append-nil, arith}
 use Rattle.std.proofs.Math.Logic.{∥∥₁_map}
 use Rattle.std.specs.{List.All, Option.option_or, Ordering.eq_by_cmp}
 use Rattle.std.specs.FinMap as fin
-use Rattle.std.specs.{FinMap.get-empty, FinMap.get-insert, FinMap.same_map, Cmp.eq_by_cmp_equiv, Cmp.Lexicographic.nat_list_cmp_total}
-use Rattle.std.proofs.{lemmas.List.Elements.All-nil, lemmas.List.Elements.All-push, lemmas.List.Elements.All-weaker, lemmas.List.length-append}
+use Rattle.std.specs.{FinMap.get-empty, FinMap.get-insert, FinMap.same_map, Cmp.Lexicographic.nat_list_cmp_total}
+use Rattle.std.proofs.{lemmas.List.Elements.All-nil, lemmas.List.Elements.All-push, lemmas.List.length-append}
 use Rattle.cred_phc.specs.Values.{RecordValue}
 use Rattle.cred_book.specs.{Accounts.Accounts, Changes.judged_book, Commits.Commits, Commits.judgement, Commits.judgement_at, Commits.judgement_if}
-use Rattle.cred_book.specs.{Names.name_cmp, Works.Task, Works.makes_change, Works.name_of, Works.same, Works.seq, Works.seq_at, Works.whole}
+use Rattle.cred_book.specs.{Names.name_cmp, Works.Task, Works.name_of, Works.same}
 use Rattle.cred_book.specs.declared.reply.Reply.{Reply}
 use Rattle.cred_book.proofs.Changes.{committed_as_judged}
 use Rattle.cred_cli.specs.Texts.{reply_line}
-use Rattle.cred_many.specs.{declared.fault.ServiceFault.ServiceFault, declared.open.Open.Open, Asks.Entry, Asks.IsJobOf, Edits.AreReplaced}
-use Rattle.cred_many.specs.{Groups.IsGroup, Groups.entries_of, Scribe.AreApart, Scribe.AreClosed, Scribe.AreTogether, Scribe.History, Scribe.IsChange}
-use Rattle.cred_many.specs.Served.{answers, book_after, line_at, most_together, name_asked, told_reply}
-use Rattle.cred_many.specs.{Service.IsLine, Service.Service, Steps.IsConcluded, Steps.is_changed}
-use Rattle.cred_many.proofs.{Commits.done_whole, Commits.job_change, Commits.job_name, Commits.whole_unchanged, Seen.book_after-append}
-use Rattle.cred_many.proofs.Serving.{IsDone, answers-append, owed_each, served_on, snoc_cut}
+use Rattle.cred_many.specs.{declared.fault.ServiceFault.ServiceFault, declared.open.Open.Open, Asks.Entry, Asks.IsJobOf}
+use Rattle.cred_many.specs.Scribe.{AreClosed, AreReplaced, History, IsConcluded, IsGroup, entries_of, is_changed}
+use Rattle.cred_many.specs.Served.{answers, book_after, line_at, most_together, told_reply}
+use Rattle.cred_many.specs.Service.{IsLine, Service}
+use Rattle.cred_many.proofs.{Commits.done_whole, Commits.whole_unchanged, Seen.answers-append, Seen.book_after-append}
+use Rattle.cred_many.proofs.Serving.{IsDone, owed_each, served_on}
 
 -- ---- what is judged at a name depends on its record alone
 
@@ -37,38 +37,13 @@ judged_unchanged : (book : Accounts) (work : Task) → (judgement book work).2 �
 unfolding judgement
 judged_unchanged book work is = judged_found work (fin.get book (name_of work.0)) is
 
--- and what is judged to be one is one of the whole operation
-change_if : (work : Task) (now : Option RecordValue) (is_copy : Bool) → (judgement_if work now is_copy).2 ≡ true → makes_change (whole work.0 now).0 ≡ true
-change_if work now true is = is
-change_if work now false is = absurd cc
-
-change_found : (book : Accounts) (work : Task) (found : Option (Option RecordValue)) → (judgement_at work found).2 ≡ true → makes_change (seq_at book work.0 found).0 ≡ true
-change_found book work None is = absurd cc
-change_found book work (Some now) is = change_if work now (same now work.1) is
-
-judged_change : (book : Accounts) (work : Task) → (judgement book work).2 ≡ true → makes_change (seq book work.0).0 ≡ true
-unfolding judgement seq
-judged_change book work is = change_found book work (fin.get book (name_of work.0)) is
-
 -- ---- one change more
-
-none_apart : AreApart []
-none_apart before rest e is = let none : 0 ≡ length (before ++ e ∷ rest) = ap length is in absurd (omega (arith, none, length-append before (e ∷ rest)))
-
--- a line more, of an account that no other line has
-apart_more : (list : List Entry) (e : Entry) → AreApart list → All (λ b. name_asked b.ask ≢ name_asked e.ask) list → AreApart (list ++ e ∷ [])
-apart_more list e apart others before rest z is = elim (snoc_cut list before rest e z is) [
-  | inl w ↦ rw (w.0, w.1) others
-  | inr w ↦ apart before w.0 z w.1
-]
 
 pub none_together : (capacity : ℕ) (s : Service) (book : Accounts) → IsGroup capacity s book fin.empty [] []
 unfolding answers book_after
 none_together capacity s book = record {
   came = none_came s.input;
   few = omega arith;
-  together = record { changes = All-nil (λ e. IsChange book e.ask); apart = none_apart };
-  named = All-nil _;
   after = λ q. ap (λ o. option_or o (fin.get book q)) (sym (get-empty name_cmp q));
   text_is = refl;
 }
@@ -122,47 +97,12 @@ module _ (capacity : ℕ) (s : Service) (book changed : Accounts) (list : List E
   came_more None all one = tt
   came_more (Some bytes) all one = All-push (IsLine s bytes) list e all one
 
-  name_is : name_of work.0 ≡ name_asked e.ask
-  name_is = job_name e.ask work.0 job
-
-  not_named : (b : Entry) → fin.contains_key changed (name_asked b.ask) ≡ true → name_asked b.ask ≢ name_asked e.ask
-  not_named b there alike =
-      let none : fin.get changed (name_asked b.ask) ≡ None = ap (fin.get changed) (alike ∙ sym name_is) ∙ first in
-      let absent : fin.contains_key changed (name_asked b.ask) ≡ false = ap is_some none in
-      absurd cc
-
-  together_more : AreTogether book (list ++ e ∷ [])
-  together_more = record {
-    changes = All-push (λ b. IsChange book b.ask) list e g.together.changes (job_change e.ask work.0 job book (judged_change book work (ap (λ j. j.2) is)));
-    apart = apart_more list e g.together.apart (All-weaker (λ b. fin.contains_key changed (name_asked b.ask) ≡ true) (λ b. name_asked b.ask ≢ name_asked e.ask) not_named list g.named);
-  }
-
-  still_named : (q : List ℕ) (b : Bool) → fin.get (fin.insert changed (name_of work.0) stored) q ≡ cond b (Some stored) (fin.get changed q)
-      → fin.contains_key changed q ≡ true → fin.contains_key (fin.insert changed (name_of work.0) stored) q ≡ true
-  still_named q true is there = ap is_some is
-  still_named q false is there = ap is_some is ∙ there
-
-  now_named : fin.contains_key (fin.insert changed (name_of work.0) stored) (name_asked e.ask) ≡ true
-  now_named =
-      ap (fin.contains_key (fin.insert changed (name_of work.0) stored)) (sym name_is)
-      ∙ ap is_some (get-insert nat_list_cmp_total changed (name_of work.0) stored (name_of work.0)
-      ∙ ap (λ b. cond b (Some stored) (fin.get changed (name_of work.0))) ((eq_by_cmp_equiv nat_list_cmp_total).refl (name_of work.0)))
-
-  named_more : All (λ b. fin.contains_key (fin.insert changed (name_of work.0) stored) (name_asked b.ask) ≡ true) (list ++ e ∷ [])
-  named_more =
-      All-push (λ b. fin.contains_key (fin.insert changed (name_of work.0) stored) (name_asked b.ask) ≡ true) list e
-      (All-weaker (λ b. fin.contains_key changed (name_asked b.ask) ≡ true) (λ b. fin.contains_key (fin.insert changed (name_of work.0) stored) (name_asked b.ask) ≡ true)
-      (λ b. still_named (name_asked b.ask) (eq_by_cmp name_cmp (name_asked b.ask) (name_of work.0)) (get-insert nat_list_cmp_total changed (name_of work.0) stored (name_asked b.ask))) list g.named)
-      now_named
-
   -- a line more, which changes an account that the others don't
   pub one_together : length list < most_together → IfSome s.input (λ bytes. IsLine s bytes e)
       → IsGroup capacity s book (fin.insert changed (name_of work.0) stored) (list ++ e ∷ []) (text ++ (tag ++ 32 ∷ answer))
   one_together short came = record {
     came = came_more s.input g.came came;
     few = omega (arith, short, length-append list (e ∷ []));
-    together = together_more;
-    named = named_more;
     after = after_more;
     text_is = text_more;
   }
@@ -173,15 +113,15 @@ same_names : fin.IsAntisymmetric name_cmp
 same_names = fin.slice_cmp-IsAntisymmetric fin.nat_cmp-IsAntisymmetric
 
 -- all lines of a group are answered, once the records stand
-pub answered_together : (capacity : ℕ) (s : Service) (old now : Option (List ℕ)) (book later changed : Accounts) (es lines : List Entry) (left rest : List Open) (came : ℕ) (text written : List ℕ) (was f : Option ServiceFault)
-    → was ≡ None → IsGroup capacity s book changed es text → AreReplaced book changed later → AreClosed lines left rest → lines ≡ es → IsConcluded written old now f → written ≡ text
+pub answered_together : (capacity : ℕ) (s : Service) (old now : Option (List ℕ)) (book later changed : Accounts) (es lines : List Entry) (left rest : List Open) (came : ℕ) (text written : List ℕ) (failed : Bool) (was f : Option ServiceFault)
+    → was ≡ None → IsGroup capacity s book changed es text → AreReplaced book changed later → AreClosed lines left rest → lines ≡ es → IsConcluded written old now failed f → written ≡ text
     → ∥ History capacity s old book was left came ∥₁ → ∥ History capacity s now later f rest came ∥₁
-answered_together capacity s old now book later changed es lines left rest came text written was f none g replaced closed same told is served = ∥∥₁_map served (λ h. on (rw none at h))
+answered_together capacity s old now book later changed es lines left rest came text written failed was f none g replaced closed same told is served = ∥∥₁_map served (λ h. on (rw none at h))
   where
     on : History capacity s old book None left came → History capacity s now later f rest came
     on h =
-        served_on capacity s old now book later es left rest came h (owed_each capacity s s.input h.list es h.each g.came) (record { few = g.few; together = λ more. g.together }) (subst (λ l. AreClosed l left rest) same closed)
-        (same_map nat_list_cmp_total same_names _ _ (λ q. replaced q ∙ sym (g.after q))) f (subst (λ t. IsConcluded t old now f) (is ∙ g.text_is) told)
+        served_on capacity s old now book later es left rest came h (owed_each capacity s s.input h.list es h.each g.came) g.few (subst (λ l. AreClosed l left rest) same closed)
+        (same_map nat_list_cmp_total same_names _ _ (λ q. replaced q ∙ sym (g.after q))) failed f (subst (λ t. IsConcluded t old now failed f) (is ∙ g.text_is) told)
 
 -- ---- a line is taken into a group, or not
 

@@ -1,12 +1,10 @@
 -- The definitions that the contracts of a service cite.
 pub mod Asks
 pub mod Costs
-pub mod Edits
-pub mod Groups
+pub mod Names
 pub mod Reading
 pub mod Scribe
 pub mod Served
 pub mod Service
-pub mod Steps
 pub use Rattle.cred_book.specs.Accounts
 pub use Rattle.cred_phc.specs.Values

@@ -1,6 +1,8 @@
--- Where the thread that reads is in its input. No public clause speaks of it.
-use Rattle.std.specs.Prelude.{◌≡◌, ℕ, ◌<◌, List, [], ◌++◌, Option, Some, None, take, slice_get}
+-- Where the thread that reads is in its input, and how it ends. No public clause speaks of it.
+use Rattle.std.specs.Prelude.{◌≡◌, ℕ, ◌<◌, ◌≤◌, ◌^◌, List, [], ◌++◌, Bool, true, IfSome, Option, Some, None, length, take, slice_get}
 use Rattle.cred_cli.specs.{Events.most_kept, Feeding.unfinished_from, Script.line_ends, Script.lines_of}
+use Rattle.cred_many.specs.{declared.ending.End.End, declared.ending.End.TheVariants.Failed, declared.ending.End.TheVariants.Whole}
+use Rattle.cred_many.specs.declared.ending.End.TheVariants.{Memory, Threads, TooLong, Untaken}
 
 -- the start of the line that has no end yet, and how many lines came before it
 pub record Place : Type 0 where
@@ -45,3 +47,18 @@ IsCutLine bytes number = (line : List ℕ) × (slice_get (lines_of bytes) number
 abbrev pub how_many : {A : Type 0} → Option A → ℕ
 how_many None = 0
 how_many (Some x) = 1
+
+-- so the reading may end where these bytes are the input, and this tells the failure of a source
+abbrev pub IsEnd : {S : Type 0} → Option (List ℕ) → (S → Bool) → End S → Type 0
+IsEnd input failed (Whole lines) = IfSome input (λ all. lines ≡ length (lines_of all))
+IsEnd input failed (Failed source) = failed source ≡ true
+IsEnd input failed TooLong = IfSome input (λ all. 2 ^ 63 ≤ length (lines_of all))
+IsEnd input failed (Untaken gone) = Unit {0}
+IsEnd input failed Threads = Unit {0}
+IsEnd input failed Memory = Unit {0}
+
+-- it isn't told of a reading that it didn't begin
+abbrev pub IsOfReading : {S : Type 0} → End S → Type 0
+IsOfReading Threads = ⊥
+IsOfReading Memory = ⊥
+IsOfReading _ = Unit {0}

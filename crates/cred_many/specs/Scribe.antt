@@ -1,16 +1,17 @@
--- What stands behind it in a scribe: what each open line has seen, and lines that are done together.
--- No public clause speaks of it.
-use Rattle.std.specs.Prelude.{◌≡◌, ◌≢◌, ℕ, ◌<◌, ◌≤◌, ◌+◌, List, [], ◌∷◌, ◌++◌, Bool, true, false, All, if◌then◌else◌, IfSome, MatchBool, Option, Some, None, drop, length, map, set, slice_get, take}
-use Rattle.std.specs.{List.range_with_len, List.Sorted.IsPermutation, Str.bytes_eq, Io.KnownBytes.Appends}
+-- What stands behind it in a scribe: what each open line has seen, lines that are answered, and those
+-- whose changes are made together. No public clause speaks of it.
+use Rattle.std.specs.Prelude.{◌≡◌, ℕ, ◌≤◌, ◌+◌, List, [], ◌∷◌, ◌++◌, Bool, true, false, All, if◌then◌else◌, IfSome, Option, Some, None, drop, length, map, set, slice_get, take}
+use Rattle.std.specs.{List.range_with_len, List.Sorted.IsPermutation, Option.option_or, Str.bytes_eq, Io.KnownBytes.Appends}
+use Rattle.std.specs.FinMap as fin
 use Rattle.cred_phc.specs.Values.{RecordValue}
-use Rattle.cred_book.specs.{Accounts.Accounts, Works.makes_change, Works.seq}
-use Rattle.cred_book.specs.declared.request.Request.TheVariants as request
-use Rattle.cred_many.specs.{declared.ask.Ask.Ask, declared.ask.Ask.TheVariants.Whole, declared.ask.Ask.TheVariants.Login}
-use Rattle.cred_many.specs.declared.fault.ServiceFault.{ServiceFault}
-use Rattle.cred_many.specs.declared.fault.ServiceFault.TheVariants as fault
+use Rattle.cred_book.specs.{Accounts.Accounts, Works.Task}
+use Rattle.cred_book.specs.declared.reply.Reply.{Reply}
+use Rattle.cred_book.specs.declared.reply.Reply.TheVariants as reply
+use Rattle.cred_cli.specs.Outcome.{FrontWritten}
+use Rattle.cred_many.specs.{declared.ask.Ask.Ask, declared.fault.ServiceFault.ServiceFault, declared.fault.ServiceFault.TheVariants.Write}
 use Rattle.cred_many.specs.{declared.open.Open.Open, declared.open.Sight.Sight, Asks.Entry}
-use Rattle.cred_many.specs.Served.{AreFor, answers, book_after, change_from, changes, entry_numbers, most_together, name_asked, record_at, tries}
-use Rattle.cred_many.specs.Service.{Service, asked}
+use Rattle.cred_many.specs.Served.{AreFor, IsWritten, answers, book_after, change_from, changes, entry_numbers, most_together, name_asked, record_at, tries}
+use Rattle.cred_many.specs.Service.{IsLine, Service, asked}
 
 -- ---- what an open line has seen
 
@@ -65,47 +66,39 @@ AreClosed [] old new = new ≡ old
 AreClosed (e ∷ es) old new = (place : ℕ) × (slice_get (numbers old) place ≡ Some e.number)
     × AreClosed es (take place old ++ drop (place + 1) old) new
 
--- ---- lines that are done together
+-- ---- what one step does
 
--- what is asked makes a change of its account's record at this book
-abbrev pub IsChange : Accounts → Ask → Type 0
-IsChange book (Whole r) = makes_change (seq book r).0 ≡ true
-IsChange book (Login name pw setting) =
-    makes_change (seq book (request.Upgrade name pw setting)).0 ≡ true
-IsChange book _ = ⊥
+-- a line is written, or the writer failed in it
+abbrev pub IsConcluded : List ℕ → Option (List ℕ) → Option (List ℕ) → Bool → Option ServiceFault
+    → Type 0
+IsConcluded line old new failed None = Appends old new line
+IsConcluded line old new failed (Some Write) = FrontWritten old new line × (failed ≡ true)
+IsConcluded line old new failed (Some _) = ⊥
 
--- no line has the account of one before it
-abbrev pub AreApart : List Entry → Type 0
-AreApart list = (before rest : List Entry) (e : Entry) → list ≡ before ++ e ∷ rest
-    → All (λ b. name_asked b.ask ≢ name_asked e.ask) before
+-- the record isn't the one that was copied
+abbrev pub is_changed : Reply → Bool
+is_changed (reply.Changed now) = true
+is_changed _ = false
 
--- changes of different accounts, each of which is one at this book
-pub record AreTogether (book : Accounts) (list : List Entry) : Type 0 where
-  pub changes : All (λ e. IsChange book e.ask) list
-  pub apart : AreApart list
+-- ---- changes that are made together
 
--- what is done at once: one line, or a few changes together
-pub record IsOneGroup (book : Accounts) (list : List Entry) : Type 0 where
+-- the lines of what is hashed
+abbrev pub entries_of : List (Entry × Task) → List Entry
+entries_of works = map (λ w. w.0) works
+
+-- the accounts of these names have these records, and the others have theirs
+abbrev pub AreReplaced : Accounts → Accounts → Accounts → Type 0
+AreReplaced old changed new =
+    (name : List ℕ) → fin.get new name ≡ option_or (fin.get changed name) (fin.get old name)
+
+-- Lines that came, a few. Done in their order, they give these accounts their records, and have this
+-- text of answers.
+pub record IsGroup (capacity : ℕ) (s : Service) (book changed : Accounts) (list : List Entry)
+    (text : List ℕ) : Type 0 where
+  pub came : IfSome s.input (λ bytes. All (IsLine s bytes) list)
   pub few : length list ≤ most_together
-  pub together : 1 < length list → AreTogether book list
-
--- The answers of the last group are cut, and those before it are whole. A line that changes nothing
--- is done alone.
-pub record IsCut (capacity : ℕ) (opening : Accounts) (before now : Option (List ℕ))
-    (list : List Entry) : Type 0 where
-  pub front : List Entry
-  pub last : List Entry
-  pub split : list ≡ front ++ last
-  pub group : IsOneGroup (book_after capacity opening front) last
-  pub cut : ℕ
-  pub short : cut < length (answers capacity (book_after capacity opening front) last)
-  pub text : Appends before now (answers capacity opening front
-      ++ take cut (answers capacity (book_after capacity opening front) last))
-
-abbrev pub is_torn : Option ServiceFault → Bool
-is_torn None = false
-is_torn (Some fault.Write) = true
-is_torn (Some _) = false
+  pub after : AreReplaced book changed (book_after capacity book list)
+  pub text_is : text ≡ answers capacity book list
 
 -- ---- the whole
 
@@ -117,5 +110,4 @@ pub record History (capacity : ℕ) (s : Service) (now : Option (List ℕ)) (boo
   pub once : IsPermutation (entry_numbers list ++ numbers open_lines) (range_with_len 0 came)
   pub seen : All (SightHolds capacity s.opening list) open_lines
   pub book_is : book ≡ book_after capacity s.opening list
-  pub text : MatchBool (is_torn why) (IsCut capacity s.opening s.before now list)
-      (Appends s.before now (answers capacity s.opening list))
+  pub text : IsWritten capacity s.opening s.before now list why

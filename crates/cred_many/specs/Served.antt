@@ -1,6 +1,6 @@
 -- What a service stands for at every moment: one list of lines, each done whole, one after another.
 use Rattle.std.specs.Prelude.{◌≡◌, ◌≢◌, ◌⊎◌, ℕ, ◌<◌, ◌≤◌, ◌+◌, ◌-◌, ◌^◌, List, [], ◌∷◌, ◌++◌, Bool, true, false, if◌then◌else◌, IfSome, nat_lt, Option, Some, None, length, map, take, slice_get, unwrap_or}
-use Rattle.std.specs.{List.range_with_len, List.Sorted.IsPermutation}
+use Rattle.std.specs.{List.range_with_len, List.Sorted.IsPermutation, Option.option_map}
 use Rattle.std.specs.FinMap as fin
 use Rattle.std.specs.Io.KnownBytes.{Appends}
 use Rattle.cred_phc.specs.Values.{RecordValue}
@@ -9,34 +9,18 @@ use Rattle.cred_book.specs.declared.error.BookError.TheVariants as error
 use Rattle.cred_book.specs.declared.reply.Reply.{Reply}
 use Rattle.cred_book.specs.declared.reply.Reply.TheVariants as reply
 use Rattle.cred_book.specs.declared.request.Request.TheVariants as request
-use Rattle.cred_cli.specs.{History.Answer, History.Done, History.Replied, History.Refused, History.show_answer, Script.lines_of, Texts.text_of}
+use Rattle.cred_cli.specs.{History.Done, History.Refused, History.show_answer, Script.lines_of, Texts.line_of, Texts.reply_line}
 use Rattle.cred_cli.specs.Watched.{failed_of, inner_of}
-use Rattle.cred_admin.specs.{Edits.edit_status, Edits.edit_word, Edits.edited, Edits.lacks_room, declared.edit_reply.EditReply.EditReply}
-use Rattle.cred_admin.specs.declared.status.Status.TheVariants as status
 use Rattle.cred_cli.specs.declared.refusal.Refusal.TheVariants as refusal
+use Rattle.cred_admin.specs.{Edits.disabling, Edits.edit_line, Edits.edit_status, Edits.edited, Edits.lacks_room, Listing.passwd_line}
+use Rattle.cred_admin.specs.declared.edit_reply.EditReply.TheVariants as edit
+use Rattle.cred_admin.specs.declared.status.Status.TheVariants as status
 use Rattle.cred_many.specs.declared.ask.Ask.{Ask}
-use Rattle.cred_many.specs.declared.ask.Ask.TheVariants.{Account, Load, Show, Whole, Login, Reset, Bad, Edit as Change, List as Names}
+use Rattle.cred_many.specs.declared.ask.Ask.TheVariants.{Quick, Whole, Login, Reset}
+use Rattle.cred_many.specs.declared.ask.QuickAsk.TheVariants.{Account, Load, Show, DisableShown, Bad, Edit as Change, List as Names}
 use Rattle.cred_many.specs.declared.fault.ServiceFault.{ServiceFault}
-use Rattle.cred_admin.specs.declared.edits.Edit.{Edit}
 use Rattle.cred_many.specs.declared.fault.ServiceFault.TheVariants as fault
-use Rattle.cred_many.specs.{declared.served.Served.Served, Asks.Entry, Edits.names_text, Edits.page, Service.Service, Service.asked}
-
--- ---- what is answered
-
--- as in a script, or to a change without a password, or with names
-pub data Told : Type 0 where
-  Script : (answer : Answer) → Told
-  Edited : (reply : EditReply) → Told
-  Listed : (names : List (List ℕ)) → Told
-
-abbrev pub told_text : Told → List ℕ
-told_text (Script answer) = text_of answer
-told_text (Edited r) = edit_word r
-told_text (Listed names) = names_text names
-
--- with the line end
-abbrev pub told_line : Told → List ℕ
-told_line told = told_text told ++ 10 ∷ []
+use Rattle.cred_many.specs.{declared.ending.Served.Served, Asks.Entry, Asks.refused, Names.names_line, Names.page, Service.Service, Service.asked}
 
 -- ---- what is done
 
@@ -54,46 +38,47 @@ told_reply _ r = r
 
 -- a record takes the place of any other
 abbrev pub reset_at : Accounts → List ℕ → RecordValue → Option (Option RecordValue)
-    → Told × Accounts
-reset_at book name new None = (Script (Replied reply.NoAccount), book)
+    → List ℕ × Accounts
+reset_at book name new None = (reply_line reply.NoAccount, book)
 reset_at book name new (Some None) =
-    (Script (Replied reply.Enrolled), fin.insert book name (Some new))
+    (reply_line reply.Enrolled, fin.insert book name (Some new))
 reset_at book name new (Some (Some old)) =
-    (Script (Replied reply.Replaced), fin.insert book name (Some new))
+    (reply_line reply.Replaced, fin.insert book name (Some new))
 
--- a change without a password, where there is room for it
-abbrev pub edit_at : Accounts → Edit → Bool → Told × Accounts
-edit_at book edit true = (Script (Refused (refusal.Book error.Full)), book)
-edit_at book edit false = (Edited (edited book edit).0, (edited book edit).1)
+-- the line of an account whose record is taken away, or that it has none
+abbrev pub disabled_line : List ℕ → Option (Option RecordValue) → List ℕ
+disabled_line name None = edit_line edit.NoAccount
+disabled_line name (Some None) = edit_line edit.Absent
+disabled_line name (Some (Some stored)) = passwd_line (name, Some stored)
 
--- the answer to what is asked, done whole on the book, and the book after
-abbrev pub done : ℕ → Accounts → Ask → Told × Accounts
-done capacity book (Account name) =
-    if fin.contains_key book name then (Script (Refused (refusal.Book error.Exists)), book)
-    else if nat_lt (fin.len book) capacity then (Script Done, fin.insert book name None)
-    else (Script (Refused (refusal.Book error.Full)), book)
-done capacity book (Load name stored) =
-    if fin.contains_key book name then (Script Done, fin.insert book name (Some stored))
-    else (Script (Refused (refusal.Book error.NoAccount)), book)
-done capacity book (Show name) = (Script (show_answer (fin.get book name)), book)
-done capacity book (Names from most) = (Listed (page from most (fin.keys book)), book)
-done capacity book (Change edit) = edit_at book edit (lacks_room capacity book edit)
-done capacity book (Whole r) = (Script (Replied (seq book r).0), (seq book r).1)
+-- the answer to what is asked, with its line end, done whole on the book, and the book after
+abbrev pub done : ℕ → Accounts → Ask → List ℕ × Accounts
+done capacity book (Quick (Account name)) =
+    if fin.contains_key book name then (line_of (Refused (refusal.Book error.Exists)), book)
+    else if nat_lt (fin.len book) capacity then (line_of Done, fin.insert book name None)
+    else (line_of (Refused (refusal.Book error.Full)), book)
+done capacity book (Quick (Load name stored)) =
+    if fin.contains_key book name then (line_of Done, fin.insert book name (Some stored))
+    else (line_of (Refused (refusal.Book error.NoAccount)), book)
+done capacity book (Quick (Show name)) = (line_of (show_answer (fin.get book name)), book)
+done capacity book (Quick (Names from most)) = (names_line (page from most (fin.keys book)), book)
+done capacity book (Quick (Change change)) =
+    if lacks_room capacity book change then (line_of (Refused (refusal.Book error.Full)), book)
+    else (edit_line (edited book change).0, (edited book change).1)
+done capacity book (Quick (DisableShown name)) =
+    (disabled_line name (fin.get book name), (disabling book name).1)
+done capacity book (Quick (Bad why)) = (line_of (Refused why), book)
+done capacity book (Whole r) = (reply_line (seq book r).0, (seq book r).1)
 done capacity book (Login name pw setting) = (
-  Script (Replied (login_reply (seq book (request.Upgrade name pw setting)).0)),
+  reply_line (login_reply (seq book (request.Upgrade name pw setting)).0),
   (seq book (request.Upgrade name pw setting)).1,
 )
 done capacity book (Reset name pw setting) =
     reset_at book name (new_record setting pw) (fin.get book name)
-done capacity book (Bad why) = (Script (Refused why), book)
 
--- `TAG ANSWER` with the line end
-abbrev pub tagged_line : List ℕ → Told → List ℕ
-tagged_line tag told = tag ++ 32 ∷ told_line told
-
--- the answer to a line at this book, as it is written
+-- the answer to a line at this book, as it is written: `TAG ANSWER`
 abbrev pub line_at : ℕ → Accounts → Entry → List ℕ
-line_at capacity book e = tagged_line e.tag (done capacity book e.ask).0
+line_at capacity book e = e.tag ++ 32 ∷ (done capacity book e.ask).0
 
 -- the book after the lines
 unfoldable pub book_after : ℕ → Accounts → List Entry → Accounts
@@ -134,17 +119,18 @@ name_asked _ = []
 -- What is asked needs memory at this book: for a hash, a list, the text of a record or a change. No
 -- line is given up for want of it that would be refused anyway.
 abbrev pub NeedsMemory : ℕ → Accounts → Ask → Type 0
-NeedsMemory capacity book (Account name) =
+NeedsMemory capacity book (Quick (Account name)) =
     (fin.contains_key book name ≡ false) × (fin.len book < capacity)
-NeedsMemory capacity book (Load name stored) = fin.contains_key book name ≡ true
-NeedsMemory capacity book (Show name) = (stored : RecordValue) × (fin.get book name ≡ Some (Some stored))
-NeedsMemory capacity book (Names from most) = Unit {0}
-NeedsMemory capacity book (Change edit) =
-    (edit_status (edited book edit).0 ≡ status.Done) × (lacks_room capacity book edit ≡ false)
-NeedsMemory capacity book (Whole r) = Unit {0}
-NeedsMemory capacity book (Login name pw setting) = Unit {0}
-NeedsMemory capacity book (Reset name pw setting) = Unit {0}
-NeedsMemory capacity book (Bad why) = ⊥
+NeedsMemory capacity book (Quick (Load name stored)) = fin.contains_key book name ≡ true
+NeedsMemory capacity book (Quick (Show name)) =
+    (stored : RecordValue) × (fin.get book name ≡ Some (Some stored))
+NeedsMemory capacity book (Quick (Names from most)) = Unit {0}
+NeedsMemory capacity book (Quick (Change change)) =
+    (edit_status (edited book change).0 ≡ status.Done) × (lacks_room capacity book change ≡ false)
+NeedsMemory capacity book (Quick (DisableShown name)) =
+    (stored : RecordValue) × (fin.get book name ≡ Some (Some stored))
+NeedsMemory capacity book (Quick (Bad why)) = ⊥
+NeedsMemory capacity book _ = Unit {0}
 
 -- so many changes of its account's record, and a line is given up
 abbrev pub tries : ℕ
@@ -154,9 +140,9 @@ tries = 8
 -- before changed the record so often
 abbrev pub IsGivenUp : ℕ → Accounts → List Entry → Ask → Ask → Type 0
 IsGivenUp capacity opening before line told =
-    ((told ≡ Bad (refusal.Book error.Memory))
+    ((told ≡ refused (refusal.Book error.Memory))
     × NeedsMemory capacity (book_after capacity opening before) line)
-    ⊎ ((told ≡ Bad refusal.Busy) × (tries ≤ changes capacity opening (name_asked line) before))
+    ⊎ ((told ≡ refused refusal.Busy) × (tries ≤ changes capacity opening (name_asked line) before))
 
 -- ---- at every moment
 
@@ -190,25 +176,28 @@ pub record IsWritten (capacity : ℕ) (opening : Accounts) (before now : Option 
   pub most :
       length (answers capacity opening (take (length list - most_together) list)) ≤ bytes
 
--- It answers no more since a call on the writer failed; since the keeper has failed; since as many
--- lines came as can be counted; or since one that came has no answer. Of memory nothing is said.
-abbrev pub HasCause : Option (List ℕ) → Bool → Bool → List ℕ → ℕ → Option ServiceFault → Type 0
-HasCause input writer_failed keeper_failed pending came None = Unit {0}
-HasCause input writer_failed keeper_failed pending came (Some fault.Write) = writer_failed ≡ true
-HasCause input writer_failed keeper_failed pending came (Some fault.Keeper) = keeper_failed ≡ true
-HasCause input writer_failed keeper_failed pending came (Some fault.TooLong) = came ≡ 2 ^ 64 - 1
-HasCause input writer_failed keeper_failed pending came (Some fault.Lost) =
+-- It answers no more since a call on the source, the writer or the keeper failed; since as many
+-- lines came as are read; or since one that came has no answer. Of memory and of threads nothing is
+-- said.
+abbrev pub HasCause : Option (List ℕ) → Bool → Bool → Bool → List ℕ → ℕ → Option ServiceFault
+    → Type 0
+HasCause input source writer keeper pending came None = Unit {0}
+HasCause input source writer keeper pending came (Some fault.Read) = source ≡ true
+HasCause input source writer keeper pending came (Some fault.Write) = writer ≡ true
+HasCause input source writer keeper pending came (Some fault.Keeper) = keeper ≡ true
+HasCause input source writer keeper pending came (Some fault.TooLong) = 2 ^ 63 ≤ came
+HasCause input source writer keeper pending came (Some fault.Lost) =
     (pending ≢ []) ⊎ IfSome input (λ bytes. came ≢ length (lines_of bytes))
-HasCause input writer_failed keeper_failed pending came (Some fault.Memory) = Unit {0}
-HasCause input writer_failed keeper_failed pending came (Some fault.Read) = ⊥
-HasCause input writer_failed keeper_failed pending came (Some fault.Threads) = ⊥
+HasCause input source writer keeper pending came (Some fault.Memory) = Unit {0}
+HasCause input source writer keeper pending came (Some fault.Threads) = Unit {0}
 
 -- what a scribe has at a moment: the book; what its writer holds, if that is known; whether a call on
--- the writer or the keeper has failed; why it answers no more; the lines that came and have no answer
--- yet; and how many came
+-- the source, the writer or the keeper has failed; why it answers no more; the lines that came and
+-- have no answer yet; and how many came
 pub record Moment : Type 0 where
   pub book : Accounts
   pub written : Option (List ℕ)
+  pub source_failed : Bool
   pub writer_failed : Bool
   pub keeper_failed : Bool
   pub fault : Option ServiceFault
@@ -223,15 +212,17 @@ pub record Stands (capacity : ℕ) (s : Service) (m : Moment) : Type 0 where
   pub once : IsPermutation (entry_numbers list ++ m.pending) (range_with_len 0 m.came)
   pub book : m.book ≡ book_after capacity s.opening list
   pub text : IsWritten capacity s.opening s.before m.written list m.fault
-  pub cause : HasCause s.input m.writer_failed m.keeper_failed m.pending m.came m.fault
+  pub cause :
+      HasCause s.input m.source_failed m.writer_failed m.keeper_failed m.pending m.came m.fault
 
 -- what is left of a service, with these lines pending, where these tell the book and the failure of
--- a keeper and the bytes of a writer
-abbrev pub left_of : {K W : Type 0} → (K → Accounts) → (K → Bool) → (W → Option (List ℕ))
-    → Served K W → List ℕ → Moment
-left_of book failed contents served pending = record {
+-- a keeper, the bytes of a writer, and the failure of a source
+abbrev pub left_of : {K W S : Type 0} → (K → Accounts) → (K → Bool) → (W → Option (List ℕ))
+    → (S → Bool) → Served K W S → List ℕ → Moment
+left_of book failed contents source_failed served pending = record {
   book = book served.keeper;
   written = contents (inner_of served.writer);
+  source_failed = unwrap_or (option_map source_failed served.source) false;
   writer_failed = failed_of served.writer;
   keeper_failed = failed served.keeper;
   fault = served.fault;

@@ -7,7 +7,7 @@ use Rattle.cred_book.specs.Accounts.{Accounts}
 use Rattle.cred_cli.specs.{Costs.no_bounds, declared.costs.CostBounds.CostBounds}
 use Rattle.cred_cli.specs.declared.refusal.Refusal.TheVariants as refusal
 use Rattle.cred_cli.specs.Script.{lines_of, with_unended}
-use Rattle.cred_many.specs.{declared.ask.Ask.TheVariants.Bad, Asks.Entry, Asks.entry, Asks.entry_of, declared.service.Means.Means}
+use Rattle.cred_many.specs.{Asks.Entry, Asks.entry, Asks.entry_of, Asks.refused, declared.service.Means.Means}
 
 -- the book at first, what the reader has to give, what was written before, with which costs and
 -- from which source of salts settings are drawn, and what the costs of a line may ask for
@@ -48,7 +48,7 @@ asked_from s n (line ∷ lines) =
 
 -- the last line, if it has no end: as more than that may be lost of it, it is refused under no tag
 abbrev pub cut_line : ℕ → Entry
-cut_line number = entry number (codes "*") (Bad refusal.Line)
+cut_line number = entry number (codes "*") (refused refusal.Line)
 
 -- the lines of an input
 abbrev pub asked : Service → List ℕ → List Entry

@@ -1,15 +1,17 @@
 //! What is done in one go, without hashing.
 
-ghost use Rattle.std.specs.Prelude.{◌≡◌, IfOk, OnErr, OnOk, true};
-ghost use Rattle.cred_book.specs.declared.error.BookError.{BookError};
+ghost use Rattle.std.specs.Prelude.{◌≡◌, IfOk, OnErr, OnOk, Some, true};
 ghost use Rattle.std.specs.FinMap as map;
-ghost use Rattle.cred_cli.specs.{Answers.line_bytes, History.Replied};
-ghost use Rattle.cred_many.specs.{Asks.NeedsNoHash, Served.NeedsMemory, Served.Script, Served.done, Served.reset_at, Served.told_line};
+ghost use Rattle.cred_phc.specs.Values.{RecordValue};
+ghost use Rattle.cred_admin.specs.Edits.{disabling};
+ghost use Rattle.cred_cli.specs.{Answers.line_bytes, Texts.reply_line};
+ghost use Rattle.cred_many.specs.{Served.NeedsMemory, Served.disabled_line, Served.done, Served.reset_at};
+ghost use Rattle.cred_many.specs.declared.ask.Ask.TheVariants.{Quick};
 
-use crate::ask::Ask;
+use crate::ask::QuickAsk;
 use crate::host::Host;
-use crate::listing::names_line;
-use cred_admin::edit_line;
+use crate::listing::{names_line, passwd_line};
+use cred_admin::{Edit, EditReply, edit_line};
 use cred_book::{BookError, Name, Reply};
 use cred_cli::{AnswerLine, Refusal};
 use cred_phc::Record;
@@ -19,42 +21,68 @@ use std::alloc::{AllocError, Global};
 pub(crate) fn do_ask<K: Host>(
     alloc: Global,
     keeper: &mut K,
-    ask: Ask,
+    ask: QuickAsk,
 ) -> Result<AnswerLine, AllocError>
-    requires { NeedsNoHash ask }
-    ensures answer { IfOk result (λ line.
-        line_bytes line ≡ told_line (done K.capacity (K.book keeper.old) ask).0) }
-    ensures book { OnOk result (K.book keeper.new ≡ (done K.capacity (K.book keeper.old) ask).1) }
+    ensures answer { IfOk result
+        (λ line. line_bytes line ≡ (done K.capacity (K.book keeper.old) (Quick ask)).0) }
+    ensures book { OnOk result
+        (K.book keeper.new ≡ (done K.capacity (K.book keeper.old) (Quick ask)).1) }
     ensures refused { OnErr result (K.book keeper.new ≡ K.book keeper.old) }
-    ensures needs { OnErr result (NeedsMemory K.capacity (K.book keeper.old) ask) }
+    ensures needs { OnErr result (NeedsMemory K.capacity (K.book keeper.old) (Quick ask)) }
 {
     match ask {
-        Ask::Account(name) => match keeper.admit(name) {
+        QuickAsk::Account(name) => match keeper.admit(name) {
             Ok(()) => Ok(AnswerLine::Fixed(b"ok\n")),
             Err(BookError::Memory) => Err(AllocError),
             Err(refusal) => Ok(AnswerLine::bad(Refusal::Book(refusal))),
         },
-        Ask::Load(name, stored) => match keeper.load(&name, stored) {
+        QuickAsk::Load(name, stored) => match keeper.load(&name, stored) {
             Ok(()) => Ok(AnswerLine::Fixed(b"ok\n")),
             Err(BookError::Memory) => Err(AllocError),
             Err(refusal) => Ok(AnswerLine::bad(Refusal::Book(refusal))),
         },
-        Ask::Show(name) => match keeper.accounts().show(&name) {
+        QuickAsk::Show(name) => match keeper.accounts().show(&name) {
             Ok(None) => Ok(AnswerLine::Fixed(b"none\n")),
             Ok(Some(stored)) => AnswerLine::shown(alloc, &stored),
             Err(refusal) => Ok(AnswerLine::bad(Refusal::Book(refusal))),
         },
-        Ask::List(from, most) => {
+        QuickAsk::List(from, most) => {
             let line = names_line(alloc, keeper.accounts(), &from, most)?;
             Ok(AnswerLine::Made(line))
         }
-        Ask::Edit(edit) => match keeper.edit(&edit) {
+        QuickAsk::Edit(edit) => match keeper.edit(&edit) {
             Ok(reply) => Ok(AnswerLine::Fixed(edit_line(reply))),
             Err(BookError::Memory) => Err(AllocError),
             Err(refusal) => Ok(AnswerLine::bad(Refusal::Book(refusal))),
         },
-        Ask::Bad(why) => Ok(AnswerLine::bad(why)),
-        Ask::Whole(_) | Ask::Login(..) | Ask::Reset(..) => unreachable!(),
+        QuickAsk::DisableShown(name) => disable_shown(alloc, keeper, name),
+        QuickAsk::Bad(why) => Ok(AnswerLine::bad(why)),
+    }
+}
+
+/// Takes an account's record away, and answers with the line that it had. If memory runs out the
+/// book stays.
+fn disable_shown<K: Host>(
+    alloc: Global,
+    keeper: &mut K,
+    name: Name,
+) -> Result<AnswerLine, AllocError>
+    ensures answer { IfOk result (λ line.
+        line_bytes line ≡ disabled_line name (map.get (K.book keeper.old) name)) }
+    ensures book { OnOk result (K.book keeper.new ≡ (disabling (K.book keeper.old) name).1) }
+    ensures refused { OnErr result (K.book keeper.new ≡ K.book keeper.old) }
+    ensures needs { OnErr result
+        ((stored : RecordValue) × (map.get (K.book keeper.old) name ≡ Some (Some stored))) }
+{
+    let stored = match keeper.accounts().show(&name) {
+        Ok(Some(stored)) => stored,
+        Ok(None) => return Ok(AnswerLine::Fixed(edit_line(EditReply::Absent))),
+        Err(_) => return Ok(AnswerLine::Fixed(edit_line(EditReply::NoAccount))),
+    };
+    let line = passwd_line(alloc, &name, &stored)?;
+    match keeper.edit(&Edit::Disable(name)) {
+        Ok(_) => Ok(AnswerLine::Made(line)),
+        Err(_) => Err(AllocError),
     }
 }
 
@@ -65,7 +93,7 @@ pub(crate) fn put_in_place<K: Host>(
     name: &Name,
     stored: Record,
 ) -> Result<Reply, AllocError>
-    ensures done { IfOk result (λ reply. (Script (Replied reply), K.book keeper.new)
+    ensures done { IfOk result (λ reply. (reply_line reply, K.book keeper.new)
         ≡ reset_at (K.book keeper.old) name.now stored (map.get (K.book keeper.old) name.now)) }
     ensures refused { OnErr result (K.book keeper.new ≡ K.book keeper.old) }
     ensures there { OnErr result (map.contains_key (K.book keeper.old) name.now ≡ true) }

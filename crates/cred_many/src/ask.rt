@@ -1,7 +1,7 @@
 //! What a tagged line asks for.
 
 ghost use Rattle.std.specs.Prelude.{◌≡◌};
-ghost use Rattle.cred_many.specs.Asks.{IsSound, is_costly, within};
+ghost use Rattle.cred_many.specs.Asks.{IsSound, is_costly, refused, within};
 
 use cred_admin::Edit;
 use cred_book::{Name, Request};
@@ -11,6 +11,19 @@ use cred_phc::{Password, Record, Setting};
 /// A whole operation with its fields, or why the line asks for none.
 #[derive(Clone, Copy)]
 pub(crate) enum Ask {
+    /// What needs no hash.
+    Quick(QuickAsk),
+    /// An operation on an account's record, answered by its reply.
+    Whole(Request),
+    /// Asks whether the password is right, and if it is rehashes a record of other costs.
+    Login(Name, Password, Setting),
+    /// Gives an account the record of this password, in place of any other.
+    Reset(Name, Password, Setting),
+}
+
+/// An operation that needs no hash, or why the line asks for none.
+#[derive(Clone, Copy)]
+pub(crate) enum QuickAsk {
     /// Adds a name, with no record.
     Account(Name),
     /// Gives an account this record.
@@ -21,17 +34,20 @@ pub(crate) enum Ask {
     List(Name, u16),
     /// Changes an account for which no password is asked.
     Edit(Edit),
-    /// An operation on an account's record, answered by its reply.
-    Whole(Request),
-    /// Asks whether the password is right, and if it is rehashes a record of other costs.
-    Login(Name, Password, Setting),
-    /// Gives an account the record of this password, in place of any other.
-    Reset(Name, Password, Setting),
+    /// Takes an account's record away, and asks for its line.
+    DisableShown(Name),
     /// The line asks for nothing.
     Bad(Refusal),
 }
 
 impl Ask {
+    /// What a line asks for that is refused.
+    pub(crate) fn refused(why: Refusal) -> Ask
+        ensures { result ≡ refused why }
+    {
+        Ask::Quick(QuickAsk::Bad(why))
+    }
+
     /// The same, or a refusal if its setting or record asks for more than is allowed.
     pub(crate) fn within(self, most: &CostBounds) -> Ask
         requires { IsSound self }
@@ -39,7 +55,7 @@ impl Ask {
         ensures sound { IsSound result }
     {
         if self.is_costly(most) {
-            return Ask::Bad(Refusal::Costly);
+            return Ask::refused(Refusal::Costly);
         }
         self
     }
@@ -48,15 +64,10 @@ impl Ask {
         ensures { result ≡ is_costly most.now self.now }
     {
         match self {
-            Ask::Load(_, stored) => exceeds(most, &stored.setting()),
+            Ask::Quick(QuickAsk::Load(_, stored)) => exceeds(most, &stored.setting()),
             Ask::Whole(request) => request_exceeds(most, request),
             Ask::Reset(_, _, setting) => exceeds(most, setting),
-            Ask::Account(_)
-            | Ask::Show(_)
-            | Ask::List(_, _)
-            | Ask::Edit(_)
-            | Ask::Login(_, _, _)
-            | Ask::Bad(_) => false,
+            Ask::Quick(_) | Ask::Login(_, _, _) => false,
         }
     }
 }

@@ -1,83 +1,143 @@
 //! The memory that all hashes together may take.
 
-ghost use Rattle.std.specs.Prelude.{◌≡◌, ◌<◌, ◌≤◌, ◌+◌, ◌-◌, ◌^◌, IfNone, IfSome, min};
+ghost use Rattle.std.specs.Prelude.{◌≡◌, ◌<◌, ◌≤◌, ◌+◌, ◌^◌, IfErr, IfOk, All, vec_len};
 
+use std::alloc::{AllocError, Global};
+use std::marker::Brand;
+use std::sync::ledger::{Book, Ledger, Share};
 use std::sync::{Condvar, Mutex, Wait};
+
+/// Names the ledger of one budget, in which stands what threads have taken. A function that is
+/// generic over it is called with `Brand`, and that call picks which it is.
+pub(crate) trait Limit: Ledger {
+    ghost use Rattle.std.specs.Prelude.{ℕ};
+
+    /// How many KiB the budget has.
+    ghost total: { ℕ };
+}
+
+impl Limit for Brand {
+    ghost total = { 0 };
+}
 
 /// So many KiB for all hashes that are worked at once. They take their turn: one that asks for more
 /// than is free waits, and others wait behind it. What a thread keeps between two hashes isn't
 /// counted, so nobody waits for a thread that is idle.
 #[derive(Drop)]
-pub(crate) struct Budget {
+pub(crate) struct Budget<L: Limit> {
     total: u64,
-    free: Mutex<Free>,
+    free: Mutex<Free<L>>,
     freed: Condvar,
     turn: Mutex<()>,
 }
 
-/// What nobody has taken of a budget.
+/// What nobody has taken of a budget: all but what stands in the ledger.
 #[derive(Drop)]
-struct Free {
+struct Free<L: Limit> {
     kib: u64,
+    taken: Book<L>,
+
+    ghost whole: { kib + taken.total ≡ L.total },
+    ghost fits: { L.total < 2 ^ 64 },
 }
 
-/// What was taken of a budget. It isn't `Drop`: it has to be given back, once.
-pub(crate) struct Taken {
-    kib: u64,
+/// The part of a thread that has taken nothing of a budget.
+#[derive(Drop)]
+pub(crate) struct Idle<L: Limit> {
+    share: Share<L>,
+
+    ghost part: { share.parts ≡ 1 },
+    ghost none: { share.amount ≡ 0 },
 }
 
-impl Budget {
-    pub(crate) fn new(total: u64) -> Budget
-        ensures { result.total ≡ total }
+/// The part of a thread that has taken so many KiB of a budget. It isn't `Drop`: it has to be given
+/// back, once and whole.
+pub(crate) struct Taken<L: Limit> {
+    kib: u64,
+    share: Share<L>,
+
+    ghost part: { share.parts ≡ 1 },
+    ghost all: { share.amount ≡ kib },
+}
+
+impl<L: Limit> Budget<L> {
+    /// So many KiB, of which nothing is taken.
+    pub(crate) fn new(total: u64, taken: Book<L>) -> Budget<L>
+        requires total { total ≡ L.total }
+        requires none { taken.total ≡ 0 }
     {
         Budget {
             total,
-            free: Mutex::new(Free { kib: total }),
+            free: Mutex::new(Free { kib: total, taken }),
             freed: Condvar::new(),
             turn: Mutex::new(()),
         }
     }
 
     /// Takes so many KiB, once they are free, or none if there are never so many.
-    pub(crate) fn take<T: Wait>(&self, rt: &T, kib: u64) -> Option<Taken>
-        ensures taken { IfSome result (λ taken. taken.kib ≡ kib) }
-        ensures never { IfNone result (self.now.total < kib) }
+    pub(crate) fn take<T: Wait>(&self, rt: &T, idle: Idle<L>, kib: u64) -> Result<Taken<L>, Idle<L>>
+        ensures taken { IfOk result (λ taken. taken.kib ≡ kib) }
+        ensures never { IfErr result (λ _. self.now.total < kib) }
     {
         if kib > self.total {
-            return None;
+            return Err(idle);
         }
         let _turn = self.turn.lock(rt);
         let mut free = self
             .freed
             .wait_while(rt, self.free.lock(rt), |free| free.kib < kib);
-        Some(free.split(kib))
+        Ok(free.split(kib, idle))
     }
 
     /// Gives back what was taken.
-    pub(crate) fn give_back<T: Wait>(&self, rt: &T, taken: Taken) {
+    pub(crate) fn give_back<T: Wait>(&self, rt: &T, taken: Taken<L>) -> Idle<L> {
         let mut free = self.free.lock(rt);
-        free.join(taken);
+        let idle = free.join(taken);
         drop(free);
         self.freed.notify_all();
+        idle
     }
 }
 
-impl Free {
+impl<L: Limit> Free<L> {
     /// Takes so many KiB of it.
-    fn split(&mut self, kib: u64) -> Taken
+    fn split(&mut self, kib: u64, idle: Idle<L>) -> Taken<L>
         requires { kib ≤ self.old.kib }
-        ensures taken { result.kib ≡ kib }
-        ensures left { self.new.kib ≡ self.old.kib - kib }
+        ensures { result.kib ≡ kib }
     {
-        self.kib -= kib;
-        Taken { kib }
+        let Idle { share } = idle;
+        let mut share = share;
+        let Free { kib: free, taken } = self;
+        taken.add(&mut share, kib);
+        *free -= kib;
+        Taken { kib, share }
     }
 
     /// Adds what was taken of it.
-    fn join(&mut self, taken: Taken)
-        ensures { self.new.kib ≡ min (self.old.kib + taken.kib) (2 ^ 64 - 1) }
-    {
-        let Taken { kib } = taken;
-        self.kib = self.kib.saturating_add(kib);
+    fn join(&mut self, taken: Taken<L>) -> Idle<L> {
+        let Taken { kib, share } = taken;
+        let mut share = share;
+        let Free { kib: free, taken } = self;
+        taken.sub(&mut share, kib);
+        *free += kib;
+        Idle { share }
     }
+}
+
+/// A part for each of so many threads.
+pub(crate) fn parts<L: Limit>(
+    alloc: Global,
+    share: Share<L>,
+    threads: u8,
+) -> Result<Vec<Idle<L>>, AllocError>
+    requires parts { share.parts ≡ threads }
+    requires none { share.amount ≡ 0 }
+{
+    let mut share = share;
+    let mut idle = Vec::with_capacity(alloc, usize::from(threads))?;
+    for _thread in 0..threads {
+        let share = share.split_off(1, 0);
+        idle.push_reserved(Idle { share });
+    }
+    Ok(idle)
 }

@@ -1,12 +1,11 @@
 //! Lines as they come in.
 
-ghost use Rattle.std.specs.Prelude.{◌≡◌, [], ◌∷◌, ◌+◌, IfOk, IfSome, OnOk, length};
+ghost use Rattle.std.specs.Prelude.{◌≡◌, [], ◌∷◌, ◌+◌, ◌^◌, ◌<◌, IfSome, length};
 ghost use Rattle.cred_cli.specs.Script.{line_ends, lines_of};
 ghost use Rattle.cred_many.specs.Reading.{MovesOver, IsWholeLine, NothingIsLeft, ComesNext, how_many, place};
 ghost use Rattle.cred_many.specs.Service.{salts_after};
 
 use crate::costs::Costs;
-use crate::fault::ServiceFault;
 use crate::line::Line;
 use crate::naming::Naming;
 use crate::service::Means;
@@ -52,23 +51,21 @@ impl<J: Naming, G: Rng> LineDecoder<J, G> {
     }
 
     /// Takes one byte. At a line end it gives the line.
-    ///
-    /// Errors: `TooLong` after 2^64 - 1 lines, which take centuries to come.
-    pub(crate) fn take(&mut self, byte: u8) -> Result<Option<Line<J>>, ServiceFault>
-        requires { ComesNext J.service.input (place self.old.start self.old.number) (byte ∷ []) }
-        ensures on { OnOk result (MovesOver J.service.input (place self.old.start self.old.number)
-            (byte ∷ []) (place self.new.start self.new.number)) }
-        ensures next { IfOk result (λ came. IfSome came (λ line. line.number ≡ self.old.number)) }
-        ensures ended { IfOk result (λ came. how_many came ≡ line_ends (byte ∷ [])) }
-        ensures number { OnOk result
-            (self.new.number ≡ self.old.number + line_ends (byte ∷ [])) }
+    pub(crate) fn take(&mut self, byte: u8) -> Option<Line<J>>
+        requires next { ComesNext J.service.input (place self.old.start self.old.number)
+            (byte ∷ []) }
+        requires few { self.old.number + 1 < 2 ^ 64 }
+        ensures on { MovesOver J.service.input (place self.old.start self.old.number)
+            (byte ∷ []) (place self.new.start self.new.number) }
+        ensures next { IfSome result (λ line. line.number ≡ self.old.number) }
+        ensures ended { how_many result ≡ line_ends (byte ∷ []) }
+        ensures number { self.new.number ≡ self.old.number + line_ends (byte ∷ []) }
     {
         if byte != b'\n' {
             self.start.push(byte);
-            return Ok(None);
+            return None;
         }
-        let line = self.end_line()?;
-        Ok(Some(line))
+        Some(self.end_line())
     }
 
     /// The last line, if it has no end.
@@ -85,21 +82,19 @@ impl<J: Naming, G: Rng> LineDecoder<J, G> {
     }
 
     /// The line that has come, after which the next begins.
-    fn end_line(&mut self) -> Result<Line<J>, ServiceFault>
-        requires { IfSome J.service.input
+    fn end_line(&mut self) -> Line<J>
+        requires whole { IfSome J.service.input
             (λ all. IsWholeLine all (place self.old.start self.old.number)) }
-        ensures next { IfOk result (λ line. line.number ≡ self.old.number) }
-        ensures start { OnOk result (self.new.start ≡ []) }
-        ensures number { OnOk result (self.new.number ≡ self.old.number + 1) }
+        requires few { self.old.number + 1 < 2 ^ 64 }
+        ensures next { result.number ≡ self.old.number }
+        ensures start { self.new.start ≡ [] }
+        ensures number { self.new.number ≡ self.old.number + 1 }
     {
-        let Some(next) = self.number.checked_add(1) else {
-            return Err(ServiceFault::TooLong);
-        };
         let salt = draw_salt(&mut self.salts);
         let drawn = self.costs.setting(&salt);
         let line = Line::read(self.number, &self.most, drawn, self.start.bytes());
-        self.number = next;
+        self.number += 1;
         self.start.clear();
-        Ok(line)
+        line
     }
 }

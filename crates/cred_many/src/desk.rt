@@ -1,10 +1,8 @@
 //! What the thread with the book does with what the others hand over.
 
-use crate::fault::ServiceFault;
 use crate::group::MOST_TOGETHER;
 use crate::host::Host;
-use crate::job::{Hashed, Job};
-use crate::message::{Ending, Message};
+use crate::job::{Hashed, Job, Message};
 use crate::naming::Naming;
 use crate::open::MOST_OPEN;
 use crate::scribe::Scribe;
@@ -27,19 +25,21 @@ pub(crate) struct Desk<J: Naming> {
 struct Waiting<J: Naming> {
     /// Changes, which are made together.
     changes: Vec<Hashed<J>>,
-    ending: Option<Ending<J>>,
+    /// Whether no line comes any more.
+    ended: bool,
 }
 
-/// Does what the other threads hand over, until all that came is answered or a fault ends it.
+/// Does what the other threads hand over, until all that came is answered or a fault ends it. It
+/// answers whether all has come that will.
 pub(crate) fn attend<J: Naming, T: Wait, K: Host, W: Write + Drop>(
     rt: &T,
     alloc: Global,
     scribe: &mut Scribe<J, K, W>,
     desk: &Desk<J>,
-) -> Ending<J> {
+) -> bool {
     let mut waiting = Waiting {
         changes: Vec::new(alloc),
-        ending: None,
+        ended: false,
     };
     for _ in rt.forever() {
         let Ok(message) = desk.inbox.recv(rt) else {
@@ -49,18 +49,11 @@ pub(crate) fn attend<J: Naming, T: Wait, K: Host, W: Write + Drop>(
         gather(rt, alloc, scribe, desk, &mut waiting);
         let changes = mem::replace(&mut waiting.changes, Vec::new(alloc));
         commit(rt, alloc, scribe, desk, changes);
-        if scribe.is_over() || (waiting.ending.is_some() && scribe.is_idle()) {
+        if scribe.is_over() || (waiting.ended && scribe.is_idle()) {
             break;
         }
     }
-    let Waiting {
-        changes: _changes,
-        ending,
-    } = waiting;
-    match ending {
-        Some(ending) => ending,
-        None => Ending::cut(ServiceFault::Lost),
-    }
+    !scribe.is_over()
 }
 
 /// While changes wait, does what else has been handed over by now, so that they are made with all
@@ -93,7 +86,7 @@ fn take_in<J: Naming, T: Wait, K: Host, W: Write + Drop>(
     waiting: &mut Waiting<J>,
 ) {
     match message {
-        Message::Ended(ending) => waiting.ending = Some(ending),
+        Message::Ended => waiting.ended = true,
         Message::Came(line) => {
             let job = scribe.take(alloc, line);
             desk.pass_on(rt, job);

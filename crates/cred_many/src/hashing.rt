@@ -1,9 +1,8 @@
 //! The threads that hash.
 
-use crate::budget::Budget;
+use crate::budget::{Budget, Idle, Limit};
 use crate::costs::{Costs, NO_SALT};
-use crate::job::{Hashed, Job};
-use crate::message::Message;
+use crate::job::{Job, Message};
 use crate::naming::Naming;
 use cred_book::{Request, Ticket};
 use cred_cli::memory_alone;
@@ -18,13 +17,13 @@ const NEW_TAG: u8 = 32;
 
 /// With what the threads hash.
 #[derive(Drop)]
-pub(crate) struct Hashing {
+pub(crate) struct Hashing<L: Limit> {
     pub(crate) alloc: Global,
     pub(crate) costs: Costs,
-    pub(crate) budget: Budget,
+    pub(crate) budget: Budget<L>,
 }
 
-impl Hashing {
+impl<L: Limit> Hashing<L> {
     /// Hashes jobs as long as they come. The memory of a hash is kept for the next one, as far as
     /// the costs of new records go.
     pub(crate) fn work<J: Naming, T: Wait>(
@@ -32,34 +31,45 @@ impl Hashing {
         rt: &T,
         jobs: Receiver<Job<J>>,
         book: Sender<Message<J>>,
+        idle: Idle<L>,
     ) {
         let most = u32::try_from(self.costs.memory()).unwrap_or(u32::MAX);
         let mut scratch = Scratch::new(self.alloc, most);
+        let mut idle = idle;
         for _ in rt.forever() {
             let Ok(job) = jobs.recv(rt) else {
                 return;
             };
-            if book.send(rt, self.hashed(rt, &mut scratch, job)).is_err() {
+            let (message, back) = self.hashed(rt, &mut scratch, job, idle);
+            idle = back;
+            if book.send(rt, message).is_err() {
                 return;
             }
         }
     }
 
     /// Hashes a job, once the memory for it is free.
-    fn hashed<J: Naming, T: Wait>(&self, rt: &T, scratch: &mut Scratch, job: Job<J>) -> Message<J> {
-        let Some(taken) = self.budget.take(rt, self.memory_of(&job.ticket)) else {
-            return job.without_memory();
-        };
-        let message = self.hash(scratch, job);
-        self.budget.give_back(rt, taken);
-        message
+    fn hashed<J: Naming, T: Wait>(
+        &self,
+        rt: &T,
+        scratch: &mut Scratch,
+        job: Job<J>,
+        idle: Idle<L>,
+    ) -> (Message<J>, Idle<L>) {
+        match self.budget.take(rt, idle, self.memory_of(&job.ticket)) {
+            Ok(taken) => {
+                let message = self.hash(scratch, job);
+                (message, self.budget.give_back(rt, taken))
+            }
+            Err(idle) => (Message::NoMemory(job), idle),
+        }
     }
 
     /// Hashes a job. A name that doesn't exist, and an account without a record, take a hash too.
     fn hash<J: Naming>(&self, scratch: &mut Scratch, job: Job<J>) -> Message<J> {
         let request = job.ticket.request();
         if job.ticket.copy().is_none() && self.hash_for_nothing(scratch, &request).is_err() {
-            return job.without_memory();
+            return Message::NoMemory(job);
         }
         job.work(scratch, self.alloc)
     }

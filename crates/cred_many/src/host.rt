@@ -14,7 +14,8 @@ pub trait Host {
     ghost use Rattle.cred_book.specs.Calls.{AdmitsWithin, Loads};
     ghost use Rattle.cred_book.specs.Commits.{Commits};
     ghost use Rattle.cred_admin.specs.Edits.{EditsWithin};
-    ghost use Rattle.cred_many.specs.Edits.{ReplacesAll};
+    ghost use Rattle.cred_file.specs.Edits.{TakesIn};
+    ghost use Rattle.std.specs.FinMap as map;
 
     ghost book: { Self → Accounts };
 
@@ -58,7 +59,7 @@ pub trait Host {
     ///
     /// Errors: `NoAccount` if there is no account of one of the names; `Memory`. The book stays.
     fn replace_all(&mut self, changed: Register) -> Result<(), BookError>
-        ensures { ReplacesAll (book self.old) (book self.new) changed result };
+        ensures { TakesIn capacity (book self.old) (book self.new) map.empty changed result };
 
     /// Whether it has failed for good. An error with which it hasn't failed is want of memory.
     fn has_failed(&self) -> bool

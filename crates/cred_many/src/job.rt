@@ -1,9 +1,8 @@
-//! Lines between the book and the threads that hash.
+//! What the thread with the book and those that hash and read hand each other.
 
 ghost use Rattle.cred_many.specs.Asks.{IsJobOf};
 
 use crate::line::Line;
-use crate::message::Message;
 use crate::naming::Naming;
 use cred_book::{Ticket, Worked};
 use cred_phc::Scratch;
@@ -47,6 +46,19 @@ impl<J: Naming> Model for Hashed<J> {
     ghost invariant = { λ h. IsJobOf h.line.ask h.worked };
 }
 
+/// A message to the thread that has the book.
+#[derive(Drop)]
+pub(crate) enum Message<J: Naming> {
+    /// A line came.
+    Came(Line<J>),
+    /// A line is hashed.
+    Hashed(Hashed<J>),
+    /// There was no memory to hash a line.
+    NoMemory(Job<J>),
+    /// No line comes any more.
+    Ended,
+}
+
 impl<J: Naming> Job<J> {
     pub(crate) fn new(line: Line<J>, ticket: Ticket) -> Job<J>
         requires { IsJobOf line.ask ticket }
@@ -61,11 +73,6 @@ impl<J: Naming> Job<J> {
             Ok(worked) => Message::Hashed(Hashed::new(line, worked)),
             Err(ticket) => Message::NoMemory(Job::new(line, ticket)),
         }
-    }
-
-    /// There is no memory to hash it.
-    pub(crate) fn without_memory(self) -> Message<J> {
-        Message::NoMemory(self)
     }
 }
 

@@ -1,10 +1,10 @@
 //! A kept book that answers tagged lines.
 
 ghost use Rattle.std.specs.Prelude.{◌≡◌};
-ghost use Rattle.cred_many.specs.{Edits.ReplacesAll, Service.service};
+ghost use Rattle.cred_many.specs.Service.{service};
 
+use crate::ending::Ending;
 use crate::host::Host;
-use crate::message::Ending;
 use crate::naming::Naming;
 use crate::scribe::Scribe;
 use crate::service::{Means, serve_tagged};
@@ -51,23 +51,11 @@ impl<S: Alter> Host for FileBook<S> {
     }
 
     fn replace_all(&mut self, changed: Register) -> Result<(), BookError> {
-        replace_all(self, changed)
+        FileBook::replace_all(self, changed)
     }
 
     fn has_failed(&self) -> bool {
         self.lost().is_some()
-    }
-}
-
-/// Replaces records by one transaction.
-#[tactic(auto, using(crate::proofs::Replacing::replacing))]
-fn replace_all<S: Alter>(book: &mut FileBook<S>, changed: Register) -> Result<(), BookError>
-    ensures { ReplacesAll book.old.book book.new.book changed result }
-{
-    match book.replace_all(changed) {
-        Ok(()) => Ok(()),
-        Err(BookError::NoAccount) => Err(BookError::NoAccount),
-        Err(_) => Err(BookError::Memory),
     }
 }
 
@@ -81,7 +69,7 @@ pub fn serve_file<J, T, S, R, W, G>(
     scribe: &mut Scribe<J, FileBook<S>, W>,
     salts: G,
     reader: R,
-) -> Ending<J>
+) -> Ending<J, LineReader<R>>
 where
     J: Naming + Send + Sync + 'static,
     T: Threads + Wait + Sync + Copy + Send + 'static,

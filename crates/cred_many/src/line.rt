@@ -67,7 +67,7 @@ impl<J: Naming> Line<J> {
         Line {
             number,
             tag: star(),
-            ask: Ask::Bad(Refusal::Line),
+            ask: Ask::refused(Refusal::Line),
             of: PhantomData,
         }
     }
@@ -103,7 +103,7 @@ fn parts(drawn: Setting, line: &[u8]) -> (Tag, Ask)
     ensures sound { IsSound result.1 }
 {
     if is_too_long(line) {
-        return (star(), Ask::Bad(Refusal::Long));
+        return (star(), Ask::refused(Refusal::Long));
     }
     tagged(drawn, &first_pieces(line))
 }
@@ -114,14 +114,14 @@ fn tagged(drawn: Setting, pieces: &[&[u8]]) -> (Tag, Ask)
     ensures sound { IsSound result.1 }
 {
     let [first, words @ ..] = pieces else {
-        return (star(), Ask::Bad(Refusal::Line));
+        return (star(), Ask::refused(Refusal::Line));
     };
     match tag_of(first) {
         Some(tag) => match ask_of(drawn, words) {
             Ok(ask) => (tag, ask),
-            Err(why) => (tag, Ask::Bad(why)),
+            Err(why) => (tag, Ask::refused(why)),
         },
-        None => (star(), Ask::Bad(Refusal::Line)),
+        None => (star(), Ask::refused(Refusal::Line)),
     }
 }
 

@@ -1,7 +1,7 @@
 //! The lines that have come and aren't answered yet.
 
 ghost use Rattle.std.specs.Prelude.{◌≡◌, ◌≤◌, ◌+◌, ◌<◌, ◌++◌, ◌∷◌, [], IfOk, IfSome, MatchBool, OnErr, OnOk, Some, drop, length, map, slice_get, take};
-ghost use Rattle.cred_many.specs.{Groups.entries_of, Scribe.AreClosed, Scribe.Notes, Scribe.counted, Scribe.numbers, Scribe.unseen};
+ghost use Rattle.cred_many.specs.Scribe.{AreClosed, Notes, counted, entries_of, numbers, unseen};
 
 use crate::job::Hashed;
 use crate::naming::Naming;

@@ -1,9 +1,9 @@
 //! Where answers are written.
 
-ghost use Rattle.std.specs.Prelude.{◌≡◌, ◌∷◌, ◌++◌, OnErr, OnOk, None, Some, true};
+ghost use Rattle.std.specs.Prelude.{◌≡◌, ◌∷◌, ◌++◌, OnErr, OnOk, None, true};
 ghost use Rattle.std.specs.Io.KnownBytes.{Appends};
 ghost use Rattle.cred_cli.specs.{Outcome.FrontWritten, Watched.failed_of, Watched.inner_of};
-ghost use Rattle.cred_many.specs.Steps.{IsConcluded};
+ghost use Rattle.cred_many.specs.Scribe.{IsConcluded};
 
 use crate::fault::ServiceFault;
 use cred_cli::{ScriptFault, Watched, write_whole};
@@ -20,11 +20,9 @@ impl<W: Write> Output<W> {
     /// Writes an answer under its tag. If that fails nothing more is answered.
     pub(crate) fn conclude(&mut self, tag: &[u8], answer: &[u8])
         requires { self.old.fault ≡ None }
-        ensures done { IsConcluded (tag.now ++ 32 ∷ answer.now)
+        ensures { IsConcluded (tag.now ++ 32 ∷ answer.now)
             (W.contents (inner_of self.old.writer)) (W.contents (inner_of self.new.writer))
-            self.new.fault }
-        ensures failed { self.new.fault ≡ Some ServiceFault.Write
-            → failed_of self.new.writer ≡ true }
+            (failed_of self.new.writer) self.new.fault }
     {
         if write_answer(&mut self.writer, tag, answer).is_err() {
             self.fault = Some(ServiceFault::Write);
@@ -34,10 +32,8 @@ impl<W: Write> Output<W> {
     /// Writes the answers of lines that were done together. If that fails nothing more is answered.
     pub(crate) fn conclude_all(&mut self, answers: &[u8])
         requires { self.old.fault ≡ None }
-        ensures done { IsConcluded answers.now (W.contents (inner_of self.old.writer))
-            (W.contents (inner_of self.new.writer)) self.new.fault }
-        ensures failed { self.new.fault ≡ Some ServiceFault.Write
-            → failed_of self.new.writer ≡ true }
+        ensures { IsConcluded answers.now (W.contents (inner_of self.old.writer))
+            (W.contents (inner_of self.new.writer)) (failed_of self.new.writer) self.new.fault }
     {
         if write_whole(&mut self.writer, answers).is_err() {
             self.fault = Some(ServiceFault::Write);

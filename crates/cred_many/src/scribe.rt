@@ -1,26 +1,27 @@
 //! The book that is served, the lines that are open, and the writer of their answers.
 
-ghost use Rattle.std.specs.Prelude.{◌≡◌, ◌≢◌, ◌<◌, [], IfSome, length, None, OnSome, Option, slice_get, Some, true};
+ghost use Rattle.std.specs.Prelude.{◌≡◌, ◌≢◌, ◌<◌, [], false, IfSome, length, None, OnSome, Option, option_map, slice_get, Some, true, unwrap_or};
 ghost use Rattle.cred_cli.specs.{Script.lines_of, Watched.failed_of, Watched.inner_of};
 ghost use Rattle.cred_book.specs.Works.{is_for_current, name_of};
 ghost use Rattle.cred_phc.specs.Values.{RecordValue};
-ghost use Rattle.cred_many.specs.{Asks.IsJobOf, Asks.IsResetOf, Asks.NeedsNoHash, Scribe.History, Scribe.numbers};
-ghost use Rattle.cred_many.specs.{Served.HasCause, Served.Stands, Served.StandsAtEnd, Served.left_of, Served.record_at, Served.told_reply, Steps.is_changed};
+ghost use Rattle.cred_many.specs.{Asks.IsJobOf, Asks.IsResetOf, Scribe.History, Scribe.is_changed, Scribe.numbers};
+ghost use Rattle.cred_many.specs.Served.{HasCause, Stands, StandsAtEnd, left_of, record_at, told_reply};
+ghost use Rattle.cred_many.specs.declared.ask.Ask.TheVariants.{Quick};
 
 mod groups;
 mod refusals;
 
 use crate::answer::{do_ask, put_in_place};
-use crate::ask::Ask;
+use crate::ask::{Ask, QuickAsk};
+use crate::ending::{End, Ending, MOST_LINES, Served};
 use crate::fault::ServiceFault;
 use crate::host::Host;
 use crate::job::{Hashed, Job};
 use crate::line::Line;
-use crate::message::Ending;
 use crate::naming::Naming;
 use crate::open::OpenLines;
 use crate::output::Output;
-use crate::served::Served;
+use crate::source::Source;
 use cred_book::{Name, Reply, Request, Ticket, Worked};
 use cred_cli::{Watched, reply_line};
 use std::alloc::Global;
@@ -47,7 +48,7 @@ pub struct Scribe<J: Naming, K: Host, W: Write> {
 
     ghost history: { ∥ History K.capacity J.service (W.contents (inner_of output.writer))
         (K.book keeper) output.fault pending came ∥₁ },
-    ghost cause: { ∥ HasCause J.service.input (failed_of output.writer) (K.failed keeper)
+    ghost cause: { ∥ HasCause J.service.input false (failed_of output.writer) (K.failed keeper)
         (numbers pending) came output.fault ∥₁ },
 }
 
@@ -74,6 +75,7 @@ impl<J: Naming, K: Host, W: Write> Scribe<J, K, W> {
         ensures { ∥ Stands K.capacity J.service (record {
           book = K.book self.now.keeper;
           written = W.contents (inner_of self.now.output.writer);
+          source_failed = false;
           writer_failed = failed_of self.now.output.writer;
           keeper_failed = K.failed self.now.keeper;
           fault = self.now.output.fault;
@@ -95,46 +97,64 @@ impl<J: Naming, K: Host, W: Write> Scribe<J, K, W> {
     }
 
     /// What is left of it once no line comes any more. A line that is pending is lost.
-    pub fn end(mut self, ending: Ending<J>) -> Served<K, W>
+    pub fn end<S: Source>(mut self, ending: Ending<J, S>) -> Served<K, W, S>
         ensures served { ∥ StandsAtEnd K.capacity J.service
-            (left_of K.book K.failed W.contents result) ∥₁ }
-        ensures all { result.fault ≡ None → result.reading ≡ None
+            (left_of K.book K.failed W.contents S.failed result) ∥₁ }
+        ensures all { result.fault ≡ None
             → IfSome J.service.input (λ all. result.lines ≡ length (lines_of all)) }
     {
-        match ending.lines() {
-            Ok(lines) => {
+        self.lose_pending();
+        match ending.end() {
+            End::Whole(lines) => {
                 if lines != self.came {
-                    self.lose();
-                    return self.left(None);
+                    return self.lost();
                 }
-                self.left(None)
+                self.left(None, None)
             }
-            Err(fault) => self.left(Some(fault)),
+            End::Failed(source) => self.left(Some(source), Some(ServiceFault::Read)),
+            End::TooLong => {
+                if self.came < MOST_LINES {
+                    return self.lost();
+                }
+                self.left(None, Some(ServiceFault::TooLong))
+            }
+            End::Untaken(_) | End::Threads => self.left(None, Some(ServiceFault::Threads)),
+            End::Memory => self.left(None, Some(ServiceFault::Memory)),
         }
     }
 
-    /// What is left of it. A line that is pending is lost.
-    fn left(mut self, reading: Option<ServiceFault>) -> Served<K, W>
+    /// Notes that a line that is pending has no answer.
+    fn lose_pending(&mut self)
+        ensures idle { self.new.output.fault ≡ None → numbers self.new.pending ≡ [] }
+        ensures came { self.new.came ≡ self.old.came }
+    {
+        if !self.pending.is_empty() {
+            self.lose();
+        }
+    }
+
+    /// What is left of it, where a line didn't come.
+    fn lost<S: Source>(mut self) -> Served<K, W, S>
+        requires { HasCause J.service.input false (failed_of self.output.writer)
+            (K.failed self.keeper) (numbers self.pending) self.came (Some ServiceFault.Lost) }
         ensures served { ∥ StandsAtEnd K.capacity J.service
-            (left_of K.book K.failed W.contents result) ∥₁ }
+            (left_of K.book K.failed W.contents S.failed result) ∥₁ }
+        ensures told { result.fault ≢ None }
+    {
+        self.lose();
+        self.left(None, None)
+    }
+
+    /// What is left of it, and why not all came.
+    fn left<S: Source>(self, source: Option<S>, why: Option<ServiceFault>) -> Served<K, W, S>
+        requires idle { self.output.fault ≡ None → numbers self.pending ≡ [] }
+        requires cause { HasCause J.service.input (unwrap_or (option_map S.failed source) false)
+            (failed_of self.output.writer) (K.failed self.keeper) [] self.came why }
+        ensures served { ∥ StandsAtEnd K.capacity J.service
+            (left_of K.book K.failed W.contents S.failed result) ∥₁ }
         ensures lines { result.lines ≡ self.came }
         ensures fault { result.fault ≡ None → self.output.fault ≡ None }
-        ensures reading { result.reading ≡ reading }
-    {
-        if self.pending.is_empty() {
-            return self.parts(reading);
-        }
-        self.lose();
-        self.parts(reading)
-    }
-
-    fn parts(self, reading: Option<ServiceFault>) -> Served<K, W>
-        requires { self.output.fault ≡ None → numbers self.pending ≡ [] }
-        ensures served { ∥ StandsAtEnd K.capacity J.service
-            (left_of K.book K.failed W.contents result) ∥₁ }
-        ensures lines { result.lines ≡ self.came }
-        ensures fault { result.fault ≡ self.output.fault }
-        ensures reading { result.reading ≡ reading }
+        ensures why { result.fault ≡ None → why ≡ None }
     {
         let Scribe {
             keeper,
@@ -146,15 +166,15 @@ impl<J: Naming, K: Host, W: Write> Scribe<J, K, W> {
         Served {
             keeper,
             writer: output.writer,
+            source,
             lines: came,
-            fault: output.fault,
-            reading,
+            fault: output.fault.or(why),
         }
     }
 
     /// Notes that a line that came has no answer, unless a fault is told already.
     fn lose(&mut self)
-        requires { HasCause J.service.input (failed_of self.old.output.writer)
+        requires { HasCause J.service.input false (failed_of self.old.output.writer)
             (K.failed self.old.keeper) (numbers self.old.pending) self.old.came
             (Some ServiceFault.Lost) }
         ensures told { self.new.output.fault ≢ None }
@@ -180,7 +200,7 @@ impl<J: Naming, K: Host, W: Write> Scribe<J, K, W> {
                 let ticket = Ticket::new(Request::Enrol { name, pw, setting }, None);
                 Some(Job::new(line, ticket))
             }
-            ask => {
+            Ask::Quick(ask) => {
                 self.answer_at_once(alloc, place, line, ask);
                 None
             }
@@ -196,14 +216,10 @@ impl<J: Naming, K: Host, W: Write> Scribe<J, K, W> {
             (λ place. slice_get (numbers self.new.pending) place ≡ Some line.now.number) }
     {
         let number = line.number();
-        let Some(next) = self.came.checked_add(1) else {
-            self.output.fault = Some(ServiceFault::TooLong);
-            return None;
-        };
         if number < self.came {
             return None;
         }
-        if number != self.came {
+        if number != self.came || self.came == u64::MAX {
             let _tag = line.tag();
             self.output.fault = Some(ServiceFault::Lost);
             return None;
@@ -212,7 +228,7 @@ impl<J: Naming, K: Host, W: Write> Scribe<J, K, W> {
             self.output.fault = Some(ServiceFault::Memory);
             return None;
         }
-        self.came = next;
+        self.came += 1;
         self.pending.place_of(number)
     }
 
@@ -235,12 +251,11 @@ impl<J: Naming, K: Host, W: Write> Scribe<J, K, W> {
     }
 
     /// Does what needs no hash.
-    fn answer_at_once(&mut self, alloc: Global, place: usize, line: Line<J>, ask: Ask)
+    fn answer_at_once(&mut self, alloc: Global, place: usize, line: Line<J>, ask: QuickAsk)
         requires going { self.old.output.fault ≡ None }
         requires within { place < length self.old.pending }
         requires there { slice_get (numbers self.old.pending) place ≡ Some line.number }
-        requires asked { ask ≡ line.ask }
-        requires light { NeedsNoHash ask }
+        requires asked { Quick ask ≡ line.ask }
     {
         match do_ask(alloc, &mut self.keeper, ask) {
             Ok(text) => {
@@ -265,12 +280,7 @@ impl<J: Naming, K: Host, W: Write> Scribe<J, K, W> {
                 self.reset(place, line, &name, &worked);
                 None
             }
-            Ask::Account(_)
-            | Ask::Load(..)
-            | Ask::Show(_)
-            | Ask::List(..)
-            | Ask::Edit(_)
-            | Ask::Bad(_) => unreachable!(),
+            Ask::Quick(_) => unreachable!(),
         }
     }
 

@@ -1,10 +1,9 @@
 //! How the thread that reads hands out lines.
 
-ghost use Rattle.std.specs.Prelude.{◌≡◌, ◌+◌, OnOk};
+ghost use Rattle.std.specs.Prelude.{◌≡◌, ◌+◌, ◌^◌, ◌<◌, OnOk};
 
-use crate::fault::ServiceFault;
+use crate::job::Message;
 use crate::line::Line;
-use crate::message::{Ending, Message};
 use crate::naming::Naming;
 use crossbeam_channel::{Receiver, Sender};
 use std::marker::Model;
@@ -33,6 +32,10 @@ impl Handed {
     }
 }
 
+/// That nobody takes lines any more. Only `LineSender::hand_out` makes one.
+#[derive(Clone, Copy)]
+pub(crate) struct Gone(());
+
 /// Hands lines to the thread that has the book, no more than may be open.
 #[derive(Drop)]
 pub(crate) struct LineSender<J: Naming> {
@@ -59,27 +62,20 @@ impl<J: Naming> LineSender<J> {
     }
 
     /// Hands out the next line, once there is room for it. It counts those that were sent.
-    ///
-    /// Errors: `Lost` if nobody takes it; `TooLong` after 2^64 - 1 lines.
-    pub(crate) fn hand_out<T: Wait>(&mut self, rt: &T, line: Line<J>) -> Result<(), ServiceFault>
-        requires { line.number ≡ self.old.handed }
+    pub(crate) fn hand_out<T: Wait>(&mut self, rt: &T, line: Line<J>) -> Result<(), Gone>
+        requires next { line.number ≡ self.old.handed }
+        requires few { self.old.handed + 1 < 2 ^ 64 }
         ensures { OnOk result (self.new.handed ≡ self.old.handed + 1) }
     {
-        let Some(next) = self.handed.lines.checked_add(1) else {
-            return Err(ServiceFault::TooLong);
-        };
-        if self.room.recv(rt).is_err() {
-            return Err(ServiceFault::Lost);
+        if self.room.recv(rt).is_err() || self.book.send(rt, Message::Came(line)).is_err() {
+            return Err(Gone(()));
         }
-        if self.book.send(rt, Message::Came(line)).is_err() {
-            return Err(ServiceFault::Lost);
-        }
-        self.handed.lines = next;
+        self.handed.lines += 1;
         Ok(())
     }
 
     /// Tells that no line comes any more.
-    pub(crate) fn end<T: Wait>(self, rt: &T, ending: Ending<J>) {
-        let _ = self.book.send(rt, Message::Ended(ending));
+    pub(crate) fn end<T: Wait>(self, rt: &T) {
+        let _ = self.book.send(rt, Message::Ended);
     }
 }

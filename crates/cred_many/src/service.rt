@@ -1,29 +1,30 @@
 //! The service: one thread reads, others hash, and this one has the book.
 
-ghost use Rattle.std.specs.Prelude.{◌≡◌, false, IfOk};
+ghost use Rattle.std.specs.Prelude.{◌≡◌, [], false, IfOk};
 ghost use Rattle.cred_many.specs.Service.{service};
 
-use crate::budget::Budget;
+use crate::budget::{Budget, Idle, Limit, parts};
 use crate::costs::Costs;
 use crate::decoder::LineDecoder;
 use crate::desk::{Desk, attend};
-use crate::fault::ServiceFault;
+use crate::ending::{End, Ending};
 use crate::hashing::Hashing;
 use crate::host::Host;
-use crate::job::Job;
-use crate::message::{Ending, Message};
+use crate::job::{Job, Message};
 use crate::naming::Naming;
 use crate::open::MOST_OPEN;
-use crate::reading::Reading;
+use crate::reading::read;
 use crate::scribe::Scribe;
 use crate::sender::LineSender;
 use crate::source::Source;
 use cred_cli::{CostBounds, Tools};
 use crossbeam_channel::{Receiver, Sender, bounded};
 use rand_core::Rng;
-use std::alloc::Global;
+use std::alloc::{AllocError, Global};
 use std::io::Write;
+use std::marker::Brand;
 use std::sync::Wait;
+use std::sync::ledger::Blank;
 use std::thread;
 use std::thread::Threads;
 
@@ -56,7 +57,7 @@ pub fn serve_tagged<J, T, S, G, K, W>(
     scribe: &mut Scribe<J, K, W>,
     salts: G,
     source: S,
-) -> Ending<J>
+) -> Ending<J, S>
 where
     J: Naming + Send + Sync + 'static,
     T: Threads + Wait + Sync + Copy + Send + 'static,
@@ -67,15 +68,27 @@ where
     requires named { J.service ≡ service J.service.opening (S.remaining source)
         J.service.before means.now (G.stream salts) }
     requires given { S.given source ≡ 0 }
-    requires going { S.ended source ≡ false }
+    requires going { (S.ended source ≡ false) × (S.failed source ≡ false) }
 {
     let decoder: LineDecoder<J, G> = LineDecoder::new(means, salts);
-    match make_channels(tools.rt, tools.alloc) {
-        Ok((channels, sender)) => {
-            let reading = Reading::new(source, decoder, sender);
-            run(tools, means, scribe, reading, channels)
-        }
-        Err(fault) => Ending::cut(fault),
+    let Ok((channels, sender)) = make_channels(tools.rt, tools.alloc) else {
+        return Ending::new(End::Memory);
+    };
+    let there = *tools.rt;
+    let reading = move || -> Ending<J, S>
+        requires { (S.remaining source ≡ J.service.input) × (S.given source ≡ 0)
+            × (S.ended source ≡ false) × (S.failed source ≡ false)
+            × (decoder.start ≡ []) × (decoder.number ≡ 0) × (sender.handed ≡ 0) }
+    { read(&there, source, decoder, sender) };
+    let Ok(reader) = thread::spawn(tools.rt, reading) else {
+        return Ending::new(End::Threads);
+    };
+    let blank = Blank::new(u64::from(tools.workers));
+    if hash_beside::<Brand, J, T, K, W>(tools, means, scribe, channels, blank) {
+        reader.join(tools.rt)
+    } else {
+        // It isn't waited for: after a fault it may never end.
+        Ending::new(End::Threads)
     }
 }
 
@@ -95,13 +108,13 @@ struct Channels<J: Naming> {
 fn make_channels<J: Naming, T: Wait>(
     rt: &T,
     alloc: Global,
-) -> Result<(Channels<J>, LineSender<J>), ServiceFault>
+) -> Result<(Channels<J>, LineSender<J>), AllocError>
     ensures { IfOk result (λ made. made.1.handed ≡ 0) }
 {
     let (room, rooms) = bounded(alloc, MOST_OPEN)?;
     for _ in 0..MOST_OPEN {
         if room.send(rt, ()).is_err() {
-            return Err(ServiceFault::Memory);
+            return Err(AllocError);
         }
     }
     let (jobs, waiting) = bounded(alloc, MOST_OPEN)?;
@@ -117,32 +130,52 @@ fn make_channels<J: Naming, T: Wait>(
     Ok((channels, sender))
 }
 
-/// Reads and hashes in other threads, and does what they hand over in this one.
-fn run<J, T, S, G, K, W>(
+/// Hashes in other threads, each with a part of the ledger, and does what is handed over in this
+/// one. It answers whether all has come that will.
+fn hash_beside<L, J, T, K, W>(
     tools: &Tools<'_, T>,
     means: &Means,
     scribe: &mut Scribe<J, K, W>,
-    reading: Reading<J, S, G>,
     channels: Channels<J>,
-) -> Ending<J>
+    blank: Blank,
+) -> bool
 where
+    L: Limit + Send + Sync,
     J: Naming + Send + Sync + 'static,
     T: Threads + Wait + Sync + Copy + Send + 'static,
-    S: Source + Send + Drop + 'static,
-    G: Rng + Send + Drop + 'static,
+    K: Host,
+    W: Write + Drop,
+    requires name { blank.name ≡ L.name }
+    requires parts { (blank.parts ≡ L.parts) × (blank.parts ≡ tools.now.workers) }
+    requires total { means.now.memory ≡ L.total }
+{
+    let (taken, share) = blank.open::<L>();
+    let Ok(parts) = parts(tools.alloc, share, tools.workers) else {
+        return false;
+    };
+    let hashing = Hashing {
+        alloc: tools.alloc,
+        costs: means.costs,
+        budget: Budget::new(means.memory, taken),
+    };
+    attend_beside(tools, &hashing, scribe, channels, parts)
+}
+
+fn attend_beside<L, J, T, K, W>(
+    tools: &Tools<'_, T>,
+    hashing: &Hashing<L>,
+    scribe: &mut Scribe<J, K, W>,
+    channels: Channels<J>,
+    parts: Vec<Idle<L>>,
+) -> bool
+where
+    L: Limit + Send + Sync,
+    J: Naming + Send + Sync + 'static,
+    T: Threads + Wait + Sync + Copy + Send + 'static,
     K: Host,
     W: Write + Drop,
 {
     let rt = tools.rt;
-    let hashing = Hashing {
-        alloc: tools.alloc,
-        costs: means.costs,
-        budget: Budget::new(means.memory),
-    };
-    let shared = &hashing;
-    if start(rt, reading).is_err() {
-        return Ending::cut(ServiceFault::Threads);
-    }
     thread::scope(thread::scope_env(), rt, move |scope| {
         let Channels {
             room,
@@ -152,14 +185,17 @@ where
             inbox,
         } = channels;
         let mut started = false;
-        for _ in 0..tools.workers {
+        for idle in parts {
             let Ok(jobs) = waiting.clone() else {
                 break;
             };
             let Ok(book) = book.clone() else {
                 break;
             };
-            if scope.spawn(move || shared.work(rt, jobs, book)).is_err() {
+            if scope
+                .spawn(move || hashing.work(rt, jobs, book, idle))
+                .is_err()
+            {
                 break;
             }
             started = true;
@@ -169,25 +205,8 @@ where
         drop(waiting);
         drop(book);
         if !started {
-            return Ending::cut(ServiceFault::Threads);
+            return false;
         }
         attend(rt, tools.alloc, scribe, &Desk { inbox, jobs, room })
     })
-}
-
-/// Starts the thread that reads. It isn't waited for: after a fault it may never read to an end.
-///
-/// Errors: `Threads` if it can't be started.
-fn start<J, T, S, G>(rt: &T, reading: Reading<J, S, G>) -> Result<(), ServiceFault>
-where
-    J: Naming + Send + Sync + 'static,
-    T: Threads + Wait + Copy + Send + 'static,
-    S: Source + Send + Drop + 'static,
-    G: Rng + Send + Drop + 'static,
-{
-    let there = *rt;
-    match thread::spawn(rt, move || reading.run(&there)) {
-        Ok(_) => Ok(()),
-        Err(_) => Err(ServiceFault::Threads),
-    }
 }

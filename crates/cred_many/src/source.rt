@@ -5,14 +5,14 @@ ghost use Rattle.cred_cli.specs.Script.{line_ends};
 
 use crate::sender::Handed;
 use std::io;
-use std::io::{ErrorKind, Read};
+use std::io::Read;
 
 /// What the lines of many clients come from.
 ///
-/// Who calls it owes two things: that each whole line that it gave was handed on, and that it
-/// neither gave its end nor failed.
+/// Who calls it owes three things: that each whole line that it gave was handed on, that it neither
+/// gave its end nor failed, and that what it gives can be counted.
 pub trait Source {
-    ghost use Rattle.std.specs.Prelude.{◌≡◌, ◌+◌, ◌==◌, ℕ, Bool, false, true, List, Option};
+    ghost use Rattle.std.specs.Prelude.{◌≡◌, ◌+◌, ◌^◌, ◌<◌, ◌==◌, ℕ, Bool, false, true, List, Option, length};
     ghost use Rattle.std.specs.Prelude.{IfOk, MatchResult, take};
     ghost use Rattle.std.specs.Io.{ReadsAtMost};
     ghost use Rattle.std.specs.Io.KnownBytes.{ReadConsumes};
@@ -24,19 +24,24 @@ pub trait Source {
     /// How many line ends it gave.
     ghost given: { Self → ℕ };
 
-    /// Whether it gave its end, or failed.
+    /// Whether it gave its end.
     ghost ended: { Self → Bool };
+
+    /// Whether a call on it failed.
+    ghost failed: { Self → Bool };
 
     /// Reads as [`Read::read`] does, once that many lines were handed on.
     fn read(&mut self, handed: &Handed, buf: &mut [u8]) -> io::Result<usize>
         requires handed { handed.now ≡ given self.old }
-        requires going { ended self.old ≡ false }
+        requires going { (ended self.old ≡ false) × (failed self.old ≡ false) }
+        requires few { given self.old + length buf.old < 2 ^ 64 }
         ensures bound { ReadsAtMost result buf.new }
         ensures bytes { ReadConsumes (remaining self.old) (remaining self.new) result buf.new }
         ensures given { IfOk result
             (λ n. given self.new ≡ given self.old + line_ends (take n buf.new)) }
-        ensures ended { MatchResult result
-            (λ n. ended self.new ≡ (n == 0)) (λ _. ended self.new ≡ true) };
+        ensures ended { IfOk result (λ n. ended self.new ≡ (n == 0)) }
+        ensures failed { MatchResult result
+            (λ _. failed self.new ≡ false) (λ _. failed self.new ≡ true) };
 }
 
 /// A reader whose line ends are counted.
@@ -45,6 +50,7 @@ pub struct LineReader<R> {
     reader: R,
     given: u64,
     ended: bool,
+    failed: bool,
 }
 
 impl<R: Read> LineReader<R> {
@@ -52,12 +58,14 @@ impl<R: Read> LineReader<R> {
     pub fn new(reader: R) -> LineReader<R>
         ensures remaining { ⟦<LineReader<R> as Source>⟧.remaining result ≡ R.remaining reader }
         ensures given { ⟦<LineReader<R> as Source>⟧.given result ≡ 0 }
-        ensures going { ⟦<LineReader<R> as Source>⟧.ended result ≡ false }
+        ensures going { (⟦<LineReader<R> as Source>⟧.ended result ≡ false)
+            × (⟦<LineReader<R> as Source>⟧.failed result ≡ false) }
     {
         LineReader {
             reader,
             given: 0,
             ended: false,
+            failed: false,
         }
     }
 }
@@ -69,16 +77,20 @@ impl<R: Read> Source for LineReader<R> {
 
     ghost ended = { λ l. l.ended };
 
+    ghost failed = { λ l. l.failed };
+
     fn read(&mut self, _handed: &Handed, buf: &mut [u8]) -> io::Result<usize> {
-        self.ended = true;
-        // After 2^64 lines, which take centuries to come, no more can be counted.
-        if u64::MAX - self.given < buf.len() as u64 {
-            return Err(io::Error::from(ErrorKind::OutOfMemory));
+        match self.reader.read(buf) {
+            Ok(n) => {
+                self.given += line_ends(&buf[..n]);
+                self.ended = n == 0;
+                Ok(n)
+            }
+            Err(error) => {
+                self.failed = true;
+                Err(error)
+            }
         }
-        let n = self.reader.read(buf)?;
-        self.given += line_ends(&buf[..n]);
-        self.ended = n == 0;
-        Ok(n)
     }
 }
 

@@ -1,5 +1,5 @@
 -- What a service of tagged lines makes of a database, and how it ends.
-use Rattle.std.specs.Prelude.{◌≡◌, ℕ, List, length, Option, Some, None, IfSome, is_some}
+use Rattle.std.specs.Prelude.{◌≡◌, ℕ, List, length, Bool, Option, Some, None, IfSome, is_some}
 use Rattle.sqlite.specs.{Held.Held, Held.state, State.HasCleanDisk, Store.Ghosts}
 use Rattle.cred_book.specs.Accounts.{Accounts, register_capacity}
 use Rattle.cred_admin.specs.declared.status.Status.{Status}
@@ -8,7 +8,7 @@ use Rattle.cred_cli.specs.Script.{lines_of}
 use Rattle.cred_file.specs.{Kept.Kept, Opening.IsFound}
 use Rattle.cred_many.specs.{Served.StandsAtEnd, Served.left_of, Service.Service, declared.fault.ServiceFault.ServiceFault}
 use Rattle.cred_many.specs.declared.fault.ServiceFault.TheVariants as fault
-use Rattle.cred_many.specs.declared.served.Served.{Served}
+use Rattle.cred_many.specs.declared.ending.Served.{Served}
 
 abbrev pub status_of_fault : ServiceFault → Status
 status_of_fault fault.Read = Io
@@ -19,23 +19,22 @@ status_of_fault fault.Keeper = Database
 status_of_fault fault.TooLong = Data
 status_of_fault fault.Lost = Io
 
--- the fault of the answers comes before that of the reading
-abbrev pub status_of_end : Option ServiceFault → Option ServiceFault → Status
-status_of_end (Some e) reading = status_of_fault e
-status_of_end None (Some e) = status_of_fault e
-status_of_end None None = Done
+abbrev pub status_of_end : Option ServiceFault → Status
+status_of_end (Some e) = status_of_fault e
+status_of_end None = Done
 
 -- The book that a database holds is opened and served, and the connection comes back as the service
 -- left it. If nothing failed, all lines came.
-pub record ServesBook {S W : Type 0} (g : Ghosts S) (contents : W → Option (List ℕ))
-    (service : Accounts → Service) (old new : Held S) (status : Status) : Type 0 where
+pub record ServesBook {S W L : Type 0} (g : Ghosts S) (contents : W → Option (List ℕ))
+    (failed : L → Bool) (service : Accounts → Service) (old new : Held S) (status : Status)
+    : Type 0 where
   pub opened : Kept S
   pub found : HasCleanDisk (state g opened.conn)
       → IsFound (state g old) (state g opened.conn) opened.book
-  pub served : Served (Kept S) W
+  pub served : Served (Kept S) W L
   pub stands : ∥ StandsAtEnd register_capacity (service opened.book)
-      (left_of (λ b. b.book) (λ b. is_some b.lost) contents served) ∥₁
-  pub all : served.fault ≡ None → served.reading ≡ None
+      (left_of (λ b. b.book) (λ b. is_some b.lost) contents failed served) ∥₁
+  pub all : served.fault ≡ None
       → IfSome (service opened.book).input (λ bytes. served.lines ≡ length (lines_of bytes))
   pub closed : new ≡ served.keeper.conn
-  pub told : status ≡ status_of_end served.fault served.reading
+  pub told : status ≡ status_of_end served.fault

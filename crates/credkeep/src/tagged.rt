@@ -14,7 +14,7 @@ use cred_admin::Status;
 use cred_cli::{Tools, Watched};
 use cred_file::{FileBook, Lost};
 use cred_keep::{Failure, explain, refuse};
-use cred_many::{Means, Naming, Scribe, Served, ServiceFault, serve_file};
+use cred_many::{LineReader, Means, Naming, Scribe, Served, ServiceFault, Source, serve_file};
 use rand::make_rng;
 use rand::rngs::StdRng;
 use rand_core::Rng;
@@ -94,8 +94,9 @@ where
     G: Rng + Send + Drop + 'static,
     F: Write,
     requires autocommit { conn.in_transaction ≡ false }
-    ensures { ServesBook S.Store W.contents (λ book. service book (R.remaining streams.reader)
-        (W.contents streams.writer) tagged.now.means (G.stream streams.salts))
+    ensures { ServesBook S.Store W.contents ⟦<LineReader<R> as Source>⟧.failed
+        (λ book. service book (R.remaining streams.reader) (W.contents streams.writer)
+        tagged.now.means (G.stream streams.salts))
         conn result.0 result.1 ⊎ IsRefused S.Store conn result.0 result.1 }
 {
     let Streams {
@@ -113,14 +114,9 @@ where
                 reader,
                 writer,
             );
-            let Served {
-                keeper,
-                fault,
-                reading,
-                ..
-            } = served;
-            tell_end(faults, fault.or(reading), keeper.lost());
-            (keeper.close(), status_of_end(fault, reading))
+            let Served { keeper, fault, .. } = served;
+            tell_end(faults, fault, keeper.lost());
+            (keeper.close(), status_of_end(fault))
         }
         Err((why, conn)) => (conn, refuse(faults, &why)),
     }
@@ -145,7 +141,7 @@ fn serve_named<J, T, S, R, W, G>(
     salts: G,
     reader: R,
     writer: W,
-) -> Served<FileBook<S>, W>
+) -> Served<FileBook<S>, W, LineReader<R>>
 where
     J: Naming + Send + Sync + 'static,
     T: Threads + Wait + Sync + Copy + Send + 'static,
@@ -156,8 +152,9 @@ where
     requires { J.service ≡ service book.book (R.remaining reader) (W.contents writer)
         means.now (G.stream salts) }
     ensures served { ∥ StandsAtEnd register_capacity J.service
-        (left_of (λ b. b.book) (λ b. is_some b.lost) W.contents result) ∥₁ }
-    ensures all { result.fault ≡ None → result.reading ≡ None
+        (left_of (λ b. b.book) (λ b. is_some b.lost) W.contents
+        ⟦<LineReader<R> as Source>⟧.failed result) ∥₁ }
+    ensures all { result.fault ≡ None
         → IfSome (R.remaining reader) (λ all. result.lines ≡ length (lines_of all)) }
 {
     let mut scribe: Scribe<J, FileBook<S>, W> = Scribe::new(
@@ -169,16 +166,13 @@ where
     scribe.end(ending)
 }
 
-/// The exit status of a service whose answers and whose reading met these faults, if any.
-fn status_of_end(fault: Option<ServiceFault>, reading: Option<ServiceFault>) -> Status
-    ensures { result ≡ status_of_end fault reading }
+/// The exit status of a service that met this fault, if any.
+fn status_of_end(fault: Option<ServiceFault>) -> Status
+    ensures { result ≡ status_of_end fault }
 {
     match fault {
         Some(fault) => status_of_fault(fault),
-        None => match reading {
-            Some(fault) => status_of_fault(fault),
-            None => Status::Done,
-        },
+        None => Status::Done,
     }
 }
 

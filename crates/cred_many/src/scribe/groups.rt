@@ -2,7 +2,7 @@
 
 ghost use Rattle.std.specs.Prelude.{◌≡◌, None, Option};
 ghost use Rattle.cred_phc.specs.Values.{RecordValue};
-ghost use Rattle.cred_many.specs.{Asks.IsJobOf, Groups.IsGroup, Groups.entries_of};
+ghost use Rattle.cred_many.specs.{Asks.IsJobOf, Scribe.IsGroup, Scribe.entries_of};
 
 use super::{Scribe, told_reply};
 use crate::ask::Ask;

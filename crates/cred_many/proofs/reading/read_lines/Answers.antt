@@ -1,6 +1,7 @@
 use Rattle.std.proofs.Common.{rules, [], arith, refl, sym, ◌∙◌}
 use Rattle.cred_cli.proofs.Readings.{came, came_to_end}
-use Rattle.cred_many.proofs.Lines.{counted}
+use Rattle.cred_many.specs.Reading.{place}
+use Rattle.cred_many.proofs.Lines.{counted, many_lines}
 use Rattle.cred_many.proofs.reading.read_lines.Goals as goal
 
 pub loop-call-init : goal.loop-call-init
@@ -11,6 +12,11 @@ loop-call-init g c = record {
   going = c.requires.going;
   size = search rules;
 }
+
+pub new-requires : goal.new-requires
+new-requires g c =
+    many_lines _ (place c.loop-call.decoder.start c.loop-call.decoder.number) _ (λ all known. let (rest, left, at) = c.loop-call.invariant.at all known in (rest, at))
+    (omega (arith, c.if-lines-ge-MOST_LINES.true, c.handed.ensures, c.lines.ensures, c.loop-call.invariant.number))
 
 pub read_last-requires-clause-end : goal.read_last-requires-clause-end
 read_last-requires-clause-end g c = λ all known.
@@ -32,6 +38,6 @@ loop-call-preserved g c = record {
       (more.left, more.now_is, c.in-Ok-take_bytes.ensures.on all more.left known (rw more.cut at at));
   handed = counted _ _ _ _ _ c.loop-call.invariant.handed c.in-Ok-take_bytes.ensures.handed c.in-Ok.ensures.given;
   number = c.in-Ok-take_bytes.ensures.number;
-  going = c.in-Ok.ensures.ended ∙ (search rules);
+  going = (c.in-Ok.ensures.ended ∙ (search rules), c.in-Ok.ensures.failed);
   size = omega (arith, c.loop-call.invariant.size, c.read.auto.buf);
 }

@@ -9,6 +9,6 @@ invariant-loop-call g l = record {
       (rest : List ℕ) × (g.S.Source.remaining l.source ≡ Some rest) × Splits all (place l.decoder.start l.decoder.number) rest;
   handed : l.sender.handed ≡ g.S.Source.given l.source;
   number : l.decoder.number ≡ l.sender.handed;
-  going : g.S.Source.ended l.source ≡ false;
+  going : (g.S.Source.ended l.source ≡ false) × (g.S.Source.failed l.source ≡ false);
   size : length l.buffer ≡ 4096;
 }

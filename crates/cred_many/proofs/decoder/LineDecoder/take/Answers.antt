@@ -7,9 +7,9 @@ pub returns-then-byte-ne10-clause-on : goal.returns-then-byte-ne10-clause-on
 returns-then-byte-ne10-clause-on g c =
     byte_taken _ (place c.args.self.now.start c.args.self.now.number) (place c.push.new.self c.args.self.now.number) c.args.byte c.if-byte-ne10.true c.push.ensures refl
 
-pub end_line-requires : goal.end_line-requires
-end_line-requires g c = line_came _ (place c.args.self.now.start c.args.self.now.number) (rw c.if-byte-ne10.false at c.requires)
+pub end_line-requires-clause-whole : goal.end_line-requires-clause-whole
+end_line-requires-clause-whole g c = line_came _ (place c.args.self.now.start c.args.self.now.number) (rw c.if-byte-ne10.false at c.requires.next)
 
 pub returns-clause-on : goal.returns-clause-on
 returns-clause-on g c =
-    rw c.if-byte-ne10.false (end_taken _ (place c.args.self.now.start c.args.self.now.number) (place c.end_line.new.self.start c.end_line.new.self.number) c.in_ok-line.ensures.start c.in_ok-line.ensures.number)
+    rw c.if-byte-ne10.false (end_taken _ (place c.args.self.now.start c.args.self.now.number) (place c.end_line.new.self.start c.end_line.new.self.number) c.end_line.ensures.start c.end_line.ensures.number)

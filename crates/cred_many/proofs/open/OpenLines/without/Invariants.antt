@@ -1,5 +1,5 @@
 use Rattle.std.proofs.Common.{List, drop}
-use Rattle.cred_many.specs.{declared.open.Open.Open, Groups.entries_of, Scribe.AreClosed}
+use Rattle.cred_many.specs.{declared.open.Open.Open, Scribe.AreClosed, Scribe.entries_of}
 use Rattle.cred_many.proofs.open.OpenLines.without.Given as goal
 
 -- what is left once the others are closed is what is left once all are

@@ -3,16 +3,13 @@ use Rattle.cred_many.proofs.{Serving.opened, Serving.still, Standing.line_missin
 use Rattle.cred_many.proofs.scribe.Scribe.admit.Goals as goal
 
 pub invariant_of-self : goal.invariant_of-self
-invariant_of-self g c = record { history = still _ _ _ _ _ _ _ _ _ _ c.requires refl refl refl c.args.self.now.history; cause = ∣ (search rules) ∣₁ }
-
-pub invariant_of-self-then-number-self-2 : goal.invariant_of-self-then-number-self-2
-invariant_of-self-then-number-self-2 g c = record {
-  history = still _ _ _ _ _ _ _ _ _ _ c.requires refl refl refl c.args.self.now.history;
+invariant_of-self g c = record {
+  history = still _ _ _ _ _ _ _ _ _ _ c.requires refl refl c.args.self.now.history;
   cause = ∣ inr (line_missing g.J.Naming.service _ c.args.line.now _ c.tag-tag.ensures.came (omega arith)) ∣₁;
 }
 
 pub invariant_of-self-then-is_err : goal.invariant_of-self-then-is_err
-invariant_of-self-then-is_err g c = record { history = still _ _ _ _ _ c.args.self.now.pending c.push.new.self _ _ _ c.requires refl refl (search rules) c.args.self.now.history; cause = ∣ tt ∣₁ }
+invariant_of-self-then-is_err g c = record { history = still _ _ _ _ _ c.args.self.now.pending c.push.new.self _ _ _ c.requires refl (search rules) c.args.self.now.history; cause = ∣ tt ∣₁ }
 
 pub invariant_of-self-2 : goal.invariant_of-self-2
 invariant_of-self-2 g c = record { history = opened _ _ _ _ _ _ c.number-number.result _ _ _ (search rules) (search rules) (search rules) c.args.self.now.history; cause = ∣ no_cause _ _ _ _ _ _ c.requires ∣₁ }

@@ -1,6 +1,6 @@
 use Rattle.std.proofs.Common.{[], ap}
 use Rattle.std.specs.FinMap as map
-use Rattle.cred_many.specs.Groups.{entries_of}
+use Rattle.cred_many.specs.Scribe.{entries_of}
 use Rattle.cred_many.proofs.Together.{none_together, same_together}
 use Rattle.cred_many.proofs.scribe.Scribe.commit_together.Goals as goal
 

@@ -1,4 +1,4 @@
-use Rattle.cred_many.specs.Groups.{IsGroup, entries_of}
+use Rattle.cred_many.specs.Scribe.{IsGroup, entries_of}
 use Rattle.cred_many.proofs.scribe.Scribe.commit_together.Given as goal
 
 -- the lines that were taken in are a group, and no change is made yet

@@ -1,7 +1,7 @@
 use Rattle.std.proofs.Common.{refl}
 use Rattle.cred_book.specs.declared.error.BookError.TheVariants as error
 use Rattle.cred_cli.specs.declared.refusal.Refusal.TheVariants as refusal
-use Rattle.cred_many.specs.{declared.ask.Ask.TheVariants.Bad, Asks.entry}
+use Rattle.cred_many.specs.Asks.{entry, refused}
 use Rattle.cred_many.proofs.{Serving.done_at, Serving.starved, Standing.cause_written}
 use Rattle.cred_many.proofs.scribe.Scribe.give_up.Goals as goal
 
@@ -9,9 +9,9 @@ pub invariant_of-self : goal.invariant_of-self
 invariant_of-self g c =
     let s = g.J.Naming.service in
     let book = g.K.Host.book c.args.self.now.keeper in
-    let given = entry c.args.line.number c.args.line.tag (Bad (refusal.Book error.Memory)) in
+    let given = entry c.args.line.number c.args.line.tag (refused (refusal.Book error.Memory)) in
     let d = done_at g.K.Host.capacity book book given c.tag.result.now c.line.result.now refl c.tag.ensures.tag c.line.ensures in
     record {
-      history = starved _ s _ _ book c.args.line _ _ c.args.place _ _ _ _ c.requires.going c.tag.ensures.came c.requires.there c.close.ensures c.requires.needs d c.conclude.ensures.done c.args.self.now.history;
-      cause = ∣ cause_written _ _ _ _ _ _ _ _ _ c.conclude.ensures.done c.conclude.ensures.failed ∣₁;
+      history = starved _ s _ _ book c.args.line _ _ c.args.place _ _ _ _ _ c.requires.going c.tag.ensures.came c.requires.there c.close.ensures c.requires.needs d c.conclude.ensures c.args.self.now.history;
+      cause = ∣ cause_written _ _ _ _ _ _ _ _ _ c.conclude.ensures ∣₁;
     }

@@ -3,4 +3,4 @@ use Rattle.cred_many.proofs.Serving.{still}
 use Rattle.cred_many.proofs.scribe.Scribe.refuse_all.Goals as goal
 
 pub invariant_of-self : goal.invariant_of-self
-invariant_of-self g c = record { history = still _ _ _ _ _ _ _ _ _ _ c.requires refl refl refl c.args.self.now.history; cause = ∣ (search rules) ∣₁ }
+invariant_of-self g c = record { history = still _ _ _ _ _ _ _ _ _ _ c.requires refl refl c.args.self.now.history; cause = ∣ (search rules) ∣₁ }

@@ -7,8 +7,8 @@ invariant_of-self g c =
     let book = g.K.Host.book c.args.self.now.keeper in
     let d = done_reset g.K.Host.capacity book _ c.args.line c.args.name.now c.args.worked.now c.in-Some.stored c.in-Ok.reply c.tag.result.now c.reply_line.result.now c.requires.asked c.in-Some.ensures c.in-Ok.ensures.done c.tag.ensures.tag c.reply_line.ensures in
     record {
-      history = answered _ s _ _ book _ c.args.line _ _ c.args.place _ _ _ _ c.requires.going c.tag.ensures.came c.requires.there c.close.ensures d c.conclude.ensures.done c.args.self.now.history;
-      cause = ∣ cause_written _ _ _ _ _ _ _ _ _ c.conclude.ensures.done c.conclude.ensures.failed ∣₁;
+      history = answered _ s _ _ book _ c.args.line _ _ c.args.place _ _ _ _ _ c.requires.going c.tag.ensures.came c.requires.there c.close.ensures d c.conclude.ensures c.args.self.now.history;
+      cause = ∣ cause_written _ _ _ _ _ _ _ _ _ c.conclude.ensures ∣₁;
     }
 
 pub refuse-requires-clause-needs : goal.refuse-requires-clause-needs

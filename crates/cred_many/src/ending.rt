@@ -1,0 +1,83 @@
+//! How the reading ends, and what is left of a service.
+
+ghost use Rattle.std.specs.Prelude.{◌≡◌};
+ghost use Rattle.cred_many.specs.Reading.{IsEnd};
+
+use crate::fault::ServiceFault;
+use crate::host::Host;
+use crate::naming::Naming;
+use crate::sender::Gone;
+use crate::source::Source;
+use cred_cli::Watched;
+use std::io::Write;
+use std::marker::{Model, PhantomData};
+
+/// How many lines are read at most; they take centuries to come.
+pub(crate) const MOST_LINES: u64 = 1 << 63;
+
+/// What is left of a service.
+#[derive(Drop)]
+pub struct Served<K: Host, W: Write, S: Source> {
+    pub keeper: K,
+    pub writer: Watched<W>,
+    /// The source, if a call on it failed.
+    pub source: Option<S>,
+    /// How many lines came.
+    pub lines: u64,
+    /// Why not all lines of the input came and were answered.
+    pub fault: Option<ServiceFault>,
+}
+
+/// How the reading ended.
+#[derive(Drop)]
+pub struct Ending<J: Naming, S: Source> {
+    end: End<S>,
+    of: PhantomData<J>,
+}
+
+/// Why no line comes any more.
+#[derive(Drop)]
+pub(crate) enum End<S> {
+    /// The whole input came, and all of its lines were handed out, so many.
+    Whole(u64),
+    /// A call on the source failed.
+    Failed(S),
+    /// As many lines came as are read.
+    TooLong,
+    /// Nobody took a line.
+    Untaken(Gone),
+    /// No thread could be started.
+    Threads,
+    /// There was no memory to begin with.
+    Memory,
+}
+
+impl<J: Naming, S: Source> Model for Ending<J, S> {
+    ghost use Rattle.cred_many.specs.Reading.{IsEnd};
+    ghost use Rattle.cred_many.specs.declared.ending.End.{End};
+
+    ghost Value = { End S };
+
+    ghost view = { λ e. e.end };
+
+    ghost invariant = { λ e. IsEnd J.service.input S.failed e.end };
+}
+
+impl<J: Naming, S: Source> Ending<J, S> {
+    pub(crate) fn new(end: End<S>) -> Ending<J, S>
+        requires { IsEnd J.service.input S.failed end }
+        ensures { result ≡ end }
+    {
+        Ending {
+            end,
+            of: PhantomData,
+        }
+    }
+
+    pub(crate) fn end(self) -> End<S>
+        ensures { IsEnd J.service.input S.failed result }
+    {
+        let Ending { end, of: _ } = self;
+        end
+    }
+}
