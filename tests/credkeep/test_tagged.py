@@ -37,6 +37,11 @@ LINES = [
     ("rename cat", "bad 11 line"),
     ("rename cat Ann", "bad 3 name"),
     ("disable", "bad 11 line"),
+    ("disable cat show", "absent"),
+    ("disable ann show", "noaccount"),
+    ("disable cat cat", "bad 11 line"),
+    ("disable cat show show", "bad 11 line"),
+    ("disable Cat show", "bad 3 name"),
     ("begin 1 verify ann -", "bad 11 line"),
     ("list - 10", "names cat"),
 ]
@@ -108,6 +113,15 @@ class LinesTest(BookTest):
         self.assertEqual(answer, "a yes")
         self.assertTrue(cheap.startswith(f"a {CHEAP}$"), cheap)
         self.assertEqual(book.answers(f"a login ann {ONE}", shown), ["a yes", cheap])
+
+    def test_disabled_with_its_line(self) -> None:
+        """`disable NAME show` answers the line that it takes away, which `import --update` puts
+        back."""
+        book = self.begun({"ann": RECORD})
+        found = book.answers("t disable ann show", "t show ann")
+        self.assertEqual(found, [f"t ann:{RECORD}", "t none"])
+        self.assertEqual(book("import", "--update", given=f"ann:{RECORD}\n").status, 0)
+        self.assertEqual(book.answers("t show ann", "t disable ann"), [f"t {RECORD}", "t disabled"])
 
     def test_salts_are_drawn(self) -> None:
         """Each record has a salt of 16 bytes of its own where the line gives none."""
