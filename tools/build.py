@@ -17,6 +17,7 @@ import contextlib
 import hashlib
 import os
 import pathlib
+import queue
 import shutil
 import subprocess
 import sys
@@ -24,7 +25,8 @@ import tempfile
 import threading
 import time
 
-TOP = pathlib.Path(__file__).resolve().parent.parent
+from tree import CRATES, TOP, all_below, listed
+
 AT_ONCE = 2
 # Seconds between two lines on standard error.
 EVERY = float(os.environ.get("BUILD_SAYS_EVERY", 25))
@@ -40,45 +42,17 @@ FEATURES = {
 }
 
 
-def crates():
-    """Each crate of the repository with the crates of the repository that its line names."""
-    lines = [it.split("#")[0].partition(":") for it in (TOP / "crates.txt").read_text().splitlines()]
-    named = {head.split()[0]: below.split() for head, _, below in lines if head.strip()}
-    return {name: [it for it in below if it in named] for name, below in named.items()}
-
-
-def libraries_below(program, named):
-    """The libraries below a program, lowest first."""
-    found = []
-    for it in named[program]:
-        found += [low for low in [*libraries_below(it, named), it] if low not in found]
-    return found
-
-
-class Copies:
-    """Folders with the sources, each for one rt at a time. The first is the repository itself."""
-
-    def __init__(self, room):
-        self.free, self.lock = [TOP], threading.Condition()
-        for number in range(1, AT_ONCE):
-            copy = pathlib.Path(room) / str(number)
-            leave_out = shutil.ignore_patterns("out", ".git")
-            (copy / "crates").mkdir(parents=True)
-            shutil.copytree(TOP / "crates", copy / "crates", ignore=leave_out, dirs_exist_ok=True)
-            for it in ("crates.txt", "HANDLES"):
-                shutil.copy(TOP / it, copy)
-            self.free.append(copy)
-
-    def take(self):
-        with self.lock:
-            self.lock.wait_for(lambda: self.free)
-            return self.free.pop(0)
-
-    def give_back(self, copy):
-        with self.lock:
-            self.free.append(copy)
-            self.free.sort(key=lambda it: it != TOP)
-            self.lock.notify()
+def folders(room):
+    """Folders with the sources, each for one rt at a time. The first that is free is the repository itself."""
+    free = queue.PriorityQueue()
+    free.put((0, TOP))
+    for number in range(1, AT_ONCE):
+        copy = pathlib.Path(room) / str(number)
+        shutil.copytree(CRATES, copy / "crates", ignore=shutil.ignore_patterns("out", ".git"))
+        for it in ("crates.txt", "HANDLES"):
+            shutil.copy(TOP / it, copy)
+        free.put((number, copy))
+    return free
 
 
 def bring(name, source, target):
@@ -130,40 +104,39 @@ class Progress:
         print(f"{clear}{what}; {len(self.done)} of {len(self.names)} done{rest}", end=end, file=sys.stderr, flush=True)
 
 
-def build(name, below, copies, alone, progress):
-    """Proves one library in a copy that is free, and brings what was proved to the repository."""
-    copy = copies.take()
+def build(name, free, alone, progress):
+    """Proves one library in a folder that is free, and brings what was proved to the repository."""
+    place = free.get()
+    at = place[1]
     try:
         with progress.of(name, "proved"):
-            for it in below:
-                bring(it, TOP, copy)
+            for it in all_below(name):
+                bring(it, TOP, at)
             words = [RT, "lib"] if alone else [RT, "lib", "--jobs", "2"]
-            done = subprocess.run(words, cwd=copy / "crates" / name, capture_output=True, text=True)
+            done = subprocess.run(words, cwd=at / "crates" / name, capture_output=True, text=True)
             if done.returncode:
                 raise SystemExit(f"{name}: not proved\n{(done.stdout + done.stderr)[-4000:]}")
-            bring(name, copy, TOP)
+            bring(name, at, TOP)
     finally:
-        copies.give_back(copy)
+        free.put(place)
 
 
 def missing_of(libraries):
-    return [it for it in libraries if not (TOP / "crates" / it / "out/rlib/stamp").is_file()]
+    return [it for it in libraries if not (CRATES / it / "out/rlib/stamp").is_file()]
 
 
-def build_all(libraries, named, progress):
+def build_all(libraries, progress):
     """Builds each library once those below it are built."""
-    missing = missing_of(libraries)
     with tempfile.TemporaryDirectory(prefix="build-") as room, concurrent.futures.ThreadPoolExecutor(AT_ONCE) as pool:
-        copies, left, running = Copies(room), list(missing), {}
+        free, left, running = folders(room), missing_of(libraries), {}
         while left or running:
             pending = {*left, *running.values()}
-            ready = [it for it in left if not pending & {*libraries_below(it, named)}]
+            ready = [it for it in left if not pending & {*all_below(it)}]
             for name in ready[: AT_ONCE - len(running)]:
                 left.remove(name)
                 alone = not running and len(ready) == 1
-                running[pool.submit(build, name, libraries_below(name, named), copies, alone, progress)] = name
-            done = concurrent.futures.wait(running, return_when=concurrent.futures.FIRST_COMPLETED).done
-            for it in done:
+                running[pool.submit(build, name, free, alone, progress)] = name
+            for it in concurrent.futures.wait(running, return_when=concurrent.futures.FIRST_COMPLETED).done:
                 running.pop(it)
                 it.result()
 
@@ -179,63 +152,58 @@ def level_of(processor):
     return found
 
 
-def sum_of(program, below, level):
+def sum_of(program, level):
     """A sum over all that a built program depends on, and over the program itself."""
-    folders = [TOP / "crates" / it for it in [*below, program]]
-    sources = [it for at in folders for part in ("src", "specs", "proofs") for it in sorted((at / part).rglob("*")) if it.is_file()]
+    crates = [CRATES / it for it in [*all_below(program), program]]
+    sources = [it for at in crates for part in ("src", "specs", "proofs") for it in sorted((at / part).rglob("*")) if it.is_file()]
     found = hashlib.sha256(level.encode())
-    for it in [TOP / "crates.txt", *sources, folders[-1] / "out" / program]:
+    for it in [TOP / "crates.txt", *sources, crates[-1] / "out" / program]:
         found.update(hashlib.sha256(it.read_bytes()).digest())
     return found.hexdigest()
 
 
 def files_of(program):
     """Where a built program lies, and what it was built of and for."""
-    out = TOP / "crates" / program / "out"
+    out = CRATES / program / "out"
     return out / program, out / f"{program}.level"
 
 
-def is_built(program, below, level):
+def is_built(program, level):
     built, seal = files_of(program)
-    return built.is_file() and seal.is_file() and seal.read_text() == sum_of(program, below, level)
+    return built.is_file() and seal.is_file() and seal.read_text() == sum_of(program, level)
 
 
-def build_program(program, below, level, progress):
+def build_program(program, level, progress):
     """Proves a program over its libraries and compiles it for a level."""
     built, seal = files_of(program)
     built.unlink(missing_ok=True)
     with progress.of(program, "proved and built"):
         # rt builds a program as it runs it: here for its help.
         words = [RT, "run", f"--cpu={level}", "--", "--help"]
-        done = subprocess.run(words, cwd=TOP / "crates" / program, capture_output=True, text=True)
+        done = subprocess.run(words, cwd=CRATES / program, capture_output=True, text=True)
         if not built.is_file():
             raise SystemExit(f"{program}: not proved\n{(done.stdout + done.stderr)[-4000:]}")
-        seal.write_text(sum_of(program, below, level))
+        seal.write_text(sum_of(program, level))
 
 
 def main():
-    ours, theirs = sys.argv[1:], []
-    if "--" in ours:
-        at = ours.index("--")
-        ours, theirs = ours[:at], ours[at + 1 :]
-    named = crates()
+    at = sys.argv.index("--") if "--" in sys.argv else None
     reader = argparse.ArgumentParser(usage=__doc__.split("\n\n")[1].strip())
     reader.add_argument("--cpu", choices=LEVELS, metavar="LEVEL", help=", ".join(LEVELS))
     reader.add_argument("--built", action="store_true")
-    reader.add_argument("program", nargs="?", default="credbook", choices=[*named], metavar="PROGRAM")
-    asked = reader.parse_args(ours)
-    level = asked.cpu or level_of(pathlib.Path("/proc/cpuinfo").read_text())
-    below = libraries_below(asked.program, named)
-    if not is_built(asked.program, below, level):
+    reader.add_argument("program", nargs="?", default="credbook", choices=[*listed()], metavar="PROGRAM")
+    asked = reader.parse_args(sys.argv[1:at])
+    program, level = asked.program, asked.cpu or level_of(pathlib.Path("/proc/cpuinfo").read_text())
+    if not is_built(program, level):
         if asked.built:
-            raise SystemExit(f"{asked.program} isn't built for {level}: make programs CPU={level} does it")
-        print(f"{asked.program}: for {level}{'' if asked.cpu else ', which this processor has'}", file=sys.stderr, flush=True)
-        with Progress([*missing_of(below), asked.program]) as progress:
-            build_all(below, named, progress)
-            build_program(asked.program, below, level, progress)
-    if "--" in sys.argv:
-        os.chdir(TOP / "crates" / asked.program)
-        os.execv(f"out/{asked.program}", [asked.program, *theirs])
+            raise SystemExit(f"{program} isn't built for {level}: make programs CPU={level} does it")
+        print(f"{program}: for {level}{'' if asked.cpu else ', which this processor has'}", file=sys.stderr, flush=True)
+        with Progress([*missing_of(all_below(program)), program]) as progress:
+            build_all(all_below(program), progress)
+            build_program(program, level, progress)
+    if at is not None:
+        os.chdir(CRATES / program)
+        os.execv(f"out/{program}", [program, *sys.argv[at + 1 :]])
 
 
 if __name__ == "__main__":

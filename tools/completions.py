@@ -6,25 +6,25 @@
 The commands and the options are those that the built programs show for --help. With --remove it removes the files that it writes.
 """
 
-import dataclasses
 import pathlib
 import re
 import subprocess
 import sys
+from typing import NamedTuple
 
 TOP = pathlib.Path(__file__).resolve().parent.parent
 TEMPLATES = TOP / "completions"
+PROGRAMS = {"credbook": "crates/credbook/out/credbook", "credkeep": "crates/credkeep/out/credkeep"}
+PROGRAMS |= {"credkeep-server": "bin/credkeep-server"}
 
 
-@dataclasses.dataclass(frozen=True)
-class Option:
+class Option(NamedTuple):
     name: str
     value: str
     text: str
 
 
-@dataclasses.dataclass(frozen=True)
-class Command:
+class Command(NamedTuple):
     """What help says of a program, or of one of its commands."""
 
     word: str
@@ -69,7 +69,7 @@ class Program:
         return named | {"COMMANDS": " ".join(it.word for it in self.commands)}
 
     def bash(self):
-        options = [f"    {it.word or '-'}) options='{' '.join('--' + o.name for o in it.options)}' ;;" for it in self.commands]
+        options = [f"    {it.word}) options='{' '.join('--' + o.name for o in it.options)}' ;;" for it in self.commands]
         top = " ".join("--" + it.name for it in self.top.options)
         begun = {"FILE": "" if self.file_first else "-", "COMMAND": "" if self.commands else "-", "TOP": top}
         valued = " | ".join("--" + it for it in self.valued()) or "-"
@@ -120,15 +120,12 @@ def written(template, fields):
 
 
 def files(folders):
-    """Each file with the program and the shell that it is for."""
+    """Each file with the shell that it is for, and the program."""
     bash, zsh, fish = map(pathlib.Path, folders)
-    for name in ("credbook", "credkeep", "credkeep-server"):
-        yield name, "bash", bash / name
-        yield name, "zsh", zsh / f"_{name}"
-        yield name, "fish", fish / f"{name}.fish"
+    for name in PROGRAMS:
+        yield from ((bash / name, "bash", name), (zsh / f"_{name}", "zsh", name), (fish / f"{name}.fish", "fish", name))
     # bash and fish look for a file of the command's own name
-    yield "credkeep", "bash", bash / "credkeep-ask"
-    yield "credkeep-ask", "fish", fish / "credkeep-ask.fish"
+    yield from ((bash / "credkeep-ask", "bash", "credkeep"), (fish / "credkeep-ask.fish", "fish", "credkeep-ask"))
 
 
 def main():
@@ -136,12 +133,11 @@ def main():
     if len(folders) != 3:
         sys.exit(__doc__.split("\n\n")[1].strip())
     if "--remove" in sys.argv:
-        for _, _, path in files(folders):
+        for path, _, _ in files(folders):
             path.unlink(missing_ok=True)
         return
-    programs = {it: Program(it, TOP / "crates" / it / "out" / it, it == "credkeep") for it in ("credbook", "credkeep")}
-    programs["credkeep-server"] = Program("credkeep-server", TOP / "bin/credkeep-server", True)
-    for name, shell, path in files(folders):
+    programs = {it: Program(it, TOP / path, it != "credbook") for it, path in PROGRAMS.items()}
+    for path, shell, name in files(folders):
         path.parent.mkdir(parents=True, exist_ok=True)
         wraps = "complete -c credkeep-ask -w credkeep\n"
         path.write_text(written(shell, getattr(programs[name], shell)()) if name in programs else wraps)

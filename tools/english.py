@@ -11,11 +11,11 @@ The forms are rough: they find some sentences that need no change, and miss some
 import argparse
 import ast
 import collections
-import pathlib
 import random
 import re
 
-TOP = pathlib.Path(__file__).resolve().parent.parent
+from tree import TOP
+
 REFERENCE = {"PROMISES.md", "DEFINITIONS.md", "DECISIONS.md", "PLANTED.md", "RESULTS.md"}
 KINDS = ("pages", "reference", "manual", "messages", "docstrings")
 HABITS = {

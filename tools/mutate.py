@@ -16,9 +16,8 @@ See that COMMAND runs tests at all: unittest of Python 3.11 ends with status 0 w
 """
 
 import argparse
-import ast
 import concurrent.futures
-import dataclasses
+import contextlib
 import os
 import pathlib
 import queue
@@ -31,11 +30,10 @@ import subprocess
 import sys
 import tempfile
 import time
-import warnings
+from typing import NamedTuple
 
 
-@dataclasses.dataclass(frozen=True, order=True)
-class Mutant:
+class Mutant(NamedTuple):
     """The bytes from start to end are replaced by new."""
 
     start: int
@@ -44,134 +42,70 @@ class Mutant:
     new: str
 
 
-# Python, by its syntax tree.
+class Language(NamedTuple):
+    """How a language parts its tokens, and how it writes what takes the place of another thing."""
 
-TURNED = {ast.Lt: ast.LtE, ast.Gt: ast.GtE, ast.Eq: ast.NotEq, ast.Is: ast.IsNot, ast.In: ast.NotIn, ast.And: ast.Or}
-TURNED |= {ast.Add: ast.Sub, ast.Mult: ast.Div, ast.LShift: ast.RShift, ast.BitAnd: ast.BitOr}
-TURNED |= {new: old for old, new in TURNED.items()}
-STATEMENTS = ast.Expr, ast.Assign, ast.AugAssign, ast.Raise, ast.Continue, ast.Break, ast.Return, ast.Delete
-# What changes nothing, or has no place that Python says.
-LEFT_OUT = {"annotation", "returns", "decorator_list", "format_spec", "pattern"}
-
-
-def changed(node, **fields):
-    return type(node)(**{**dict(ast.iter_fields(node)), **fields})
+    gap: str
+    text: str
+    negation: str
+    constants: list
+    value: str
+    statement: str
+    lists: str
 
 
-def shortened(node, *names):
-    """The node without each element of its lists of these names."""
-    for at in range(len(getattr(node, names[0]))):
-        yield changed(node, **{it: getattr(node, it)[:at] + getattr(node, it)[at + 1 :] for it in names})
+C_GAP = r"\s+|//[^\n]*|/\*.*?\*/|^[ \t]*#(?:\\\n|[^\n])*"
+C_TEXT = r"\w?\"(?:\\.|[^\"\\])*\"|b?'(?:\\[^']+|[^'\\])'"
+PYTHON_GAP = r"[ \t]+|\\\n|\#[^\n]*"
+PYTHON_TEXT = r"\w{0,2}(?:\"{3}.*?\"{3}|'{3}.*?'{3}|\"(?:\\.|[^\"\\\n])*\"|'(?:\\.|[^'\\\n])*')"
+C = Language(C_GAP, C_TEXT, "(!{})", ["(0)", "(1)"], "0", "", "{")
+RUST = Language(C_GAP, C_TEXT, "!({})", ["false", "true"], "Default::default()", "", "[")
+PYTHON = Language(PYTHON_GAP, PYTHON_TEXT, "not ({})", ["False", "True"], "None", "pass", "([{")
+LANGUAGES = {".c": C, ".h": C, ".rs": RUST, ".py": PYTHON}
 
-
-def python_variants(node):
-    """What may replace a node or a part of it: (operator, what is replaced, by what)."""
-    tests = [node.test] if isinstance(node, (ast.If, ast.While, ast.IfExp, ast.Assert)) else getattr(node, "ifs", [])
-    for test in tests:
-        yield "condition negated", test, ast.UnaryOp(ast.Not(), test)
-        for value in [False] if isinstance(node, ast.While) else [False, True]:
-            yield "expression made a constant", test, ast.Constant(value)
-    match node:
-        case ast.Constant(value=bool() as value):
-            yield "constant changed", node, ast.Constant(not value)
-        case ast.Constant(value=int() | float() as value):
-            yield "constant changed", node, ast.Constant(value + 1)
-        case ast.Constant(value=str() | bytes() as value):
-            yield "constant changed", node, ast.Constant(value[:0] or type(value)() if value else "x")
-        case ast.Compare(ops=[first, *others]):
-            yield "comparison swapped", node, changed(node, ops=[TURNED[type(first)](), *others])
-            yield "expression made a constant", node, ast.Constant(True)
-            yield "expression made a constant", node, ast.Constant(False)
-        case ast.BoolOp(op=op, values=values):
-            yield "operator swapped", node, changed(node, op=TURNED[type(op)]())
-            for fewer in shortened(node, "values"):
-                yield "operand dropped", node, fewer if len(values) > 2 else fewer.values[0]
-        case ast.UnaryOp(op=ast.Not(), operand=operand):
-            yield "condition negated", node, operand
-        case ast.BinOp(left=left, op=op, right=right):
-            yield "operand dropped", node, left
-            yield "operand dropped", node, right
-            if type(op) in TURNED:
-                yield "operator swapped", node, changed(node, op=TURNED[type(op)]())
-            if not isinstance(op, (ast.Mult, ast.BitAnd, ast.BitOr)):
-                yield "operands swapped", node, changed(node, left=right, right=left)
-        case ast.Call(args=args, keywords=keywords):
-            yield "expression made a constant", node, ast.Constant(None)
-            for fewer in [*shortened(node, "args"), *shortened(node, "keywords")]:
-                yield "argument dropped", node, fewer
-            for at in range(len(args) - 1):
-                yield "operands swapped", node, changed(node, args=[*args[:at], args[at + 1], args[at], *args[at + 2 :]])
-            if len(args) == 1 and not keywords and not isinstance(args[0], ast.Starred):
-                yield "operand dropped", node, args[0]
-        case ast.Tuple(ctx=ast.Load()) | ast.List(ctx=ast.Load()) | ast.Set():
-            yield from (("element dropped", node, fewer) for fewer in shortened(node, "elts"))
-        case ast.Dict():
-            yield from (("element dropped", node, fewer) for fewer in shortened(node, "keys", "values"))
-        case ast.Subscript(value=value, slice=ast.Slice(), ctx=ast.Load()):
-            yield "operand dropped", node, value
-        case ast.For(iter=items) | ast.AsyncFor(iter=items) | ast.comprehension(iter=items):
-            yield "expression made a constant", items, ast.Tuple([], ast.Load())
-        case ast.Return(value=ast.expr() as value):
-            yield "expression made a constant", value, ast.Constant(None)
-    if isinstance(node, STATEMENTS):
-        yield "statement dropped", node, ast.Pass()
-
-
-def visited(node):
-    """Each node, but docstrings and what LEFT_OUT names."""
-    yield node
-    for name, value in ast.iter_fields(node):
-        for it in value if isinstance(value, list) else [value]:
-            is_text = isinstance(it, ast.Expr) and isinstance(it.value, ast.Constant)
-            if isinstance(it, ast.AST) and name not in LEFT_OUT and not is_text and not isinstance(node, ast.JoinedStr):
-                yield from visited(it)
-
-
-def python_mutants(source):
-    starts = [0]
-    for line in source.splitlines(keepends=True):
-        starts.append(starts[-1] + len(line))
-    for node in visited(ast.parse(source)):
-        for operator, old, new in python_variants(node):
-            text = ast.unparse(ast.fix_missing_locations(new))
-            start, end = starts[old.lineno - 1] + old.col_offset, starts[old.end_lineno - 1] + old.end_col_offset
-            yield Mutant(start, end, operator, text if isinstance(new, ast.stmt) else f"({text})")
-
-
-# C and Rust, by their tokens.
-
-TOKEN = re.compile(
-    r"(?P<gap>\s+|//[^\n]*|/\*.*?\*/|^[ \t]*#(?:\\\n|[^\n])*)"
-    r"|(?P<text>\w?\"(?:\\.|[^\"\\])*\"|b?'(?:\\[^']+|[^'\\])')|(?P<number>\d\w*)|(?P<word>[A-Za-z_]\w*)"
-    r"|(?P<sign><<=|>>=|\.\.=|->|=>|::|&&|\|\||<<|>>|[-+*/%&|^=<>!]=|.)",
-    re.S | re.M,
-)
-SWAPPED = {"<": "<=", ">": ">=", "==": "!=", "&&": "||", "+": "-", "*": "/", "<<": ">>", "&": "|"}
+SIGN = r"<<=|>>=|\*\*|\.\.=|->|=>|::|&&|\|\||<<|>>|[-+*/%&|^=<>!:]=|//|\n\s*|."
+SWAPPED = {"<": "<=", ">": ">=", "==": "!=", "&&": "||", "and": "or", "+": "-", "*": "/", "<<": ">>", "&": "|"}
 SWAPPED |= {new: old for old, new in SWAPPED.items()}
+LOGIC = {"&&", "||", "and", "or"}
+NEGATED = {"in": "not in", "is": "is not"}
+FLIPPED = {"true": "false", "True": "False"}
+FLIPPED |= {new: old for old, new in FLIPPED.items()}
 OPENING = {")": "(", "]": "[", "}": "{"}
-ENDS = {"&&", "||", ",", ";", "?", ":", "{", "}", "=", "=>", "return", "if", "while", "let", "else"}
-NO_STATEMENT = {"let", "use", "typedef", "static", "extern", "pub", "struct", "const", "type", "else"}
-NO_CALL = {"if", "while", "for", "switch", "sizeof", "return", "match", "pub"}
+TESTED = {"if", "while", "elif", "assert"}
+AFTER_A_TEST = {"{", ":", "else", "for", "if", ",", "\n"}
+ENDS = LOGIC | TESTED | AFTER_A_TEST | {";", "?", "}", "=", "=>", "return", "let", "not", "in", "is", "+=", "-=", "*=", "|="}
+NO_STATEMENT = {"let", "use", "typedef", "static", "extern", "pub", "struct", "const", "type", "else", "import", "from"}
+NO_CALL = TESTED | {"for", "switch", "sizeof", "return", "match", "pub", "in", "import", "except"}
 
 
 class Tokens:
-    """The tokens of a file in C or Rust and, of each, the bracket that it stands in."""
+    """The tokens of a file and, of each, the bracket that it stands in."""
 
-    def __init__(self, source, is_rust):
-        self.source, self.is_rust = source.decode("latin-1"), is_rust
-        self.found = [it for it in TOKEN.finditer(self.source) if it.lastgroup != "gap"]
-        self.texts = [it.group() for it in self.found]
-        self.pair, self.within, opened = {}, [], []
-        for at, text in enumerate(self.texts):
+    def __init__(self, source, language):
+        self.source, self.language = source.decode("latin-1"), language
+        kinds = {"gap": language.gap, "text": language.text, "number": r"\d\w*", "logic": r"\b(?:and|or|not)\b"}
+        kinds |= {"word": r"[A-Za-z_]\w*", "sign": SIGN}
+        form = "|".join(f"(?P<{kind}>{it})" for kind, it in kinds.items())
+        self.found, self.texts, self.pair, self.within, opened = [], [], {}, [], []
+        for it in re.finditer(form, self.source, re.S | re.M):
+            at, text = len(self.found), it.group()
+            # only outside of brackets the end of a line means something
+            if it.lastgroup == "gap" or text[0] == "\n" and opened:
+                continue
             if text in OPENING and opened:
                 self.pair[at] = opened.pop()
                 self.pair[self.pair[at]] = at
+            self.found.append(it)
+            self.texts.append("\n" if text[0] == "\n" else text)
             self.within.append(opened[-1] if opened else -1)
             if text in OPENING.values():
                 opened.append(at)
 
     def mutant(self, operator, first, last, new):
         return Mutant(self.found[first].start(), self.found[last].end(), operator, new)
+
+    def constant(self, first, last):
+        return self.mutant("expression made a constant", first, last, self.language.value)
 
     def text(self, first, last):
         return self.source[self.found[first].start() : self.found[last].end()]
@@ -193,8 +127,9 @@ class Tokens:
         return [(low + 1, high - 1) for low, high in zip(edges, edges[1:]) if low + 1 < high]
 
     def mutants(self):
+        made = {"number": self.of_number, "text": self.of_text, "word": self.of_word}
         for at, it in enumerate(self.found):
-            yield from getattr(self, f"of_{it.lastgroup}")(at, it.group())
+            yield from made.get(it.lastgroup, self.of_sign)(at, it.group())
 
     def of_number(self, at, text):
         digits = re.match(r"0[xX][0-9a-fA-F]+|\d+", text)[0]
@@ -202,42 +137,54 @@ class Tokens:
         yield self.mutant("constant changed", at, at, more + text[len(digits) :])
 
     def of_text(self, at, text):
-        new = "'~'" if text[-1] == "'" else '"x"' if text.endswith('""') else '""'
-        yield self.mutant("constant changed", at, at, text[: text.index(text[-1])] + new)
+        front = text[: text.index(text[-1])]
+        new = '"x"' if len(text) == len(front) + 2 else '""'
+        is_doc = self.language is PYTHON and {*self.texts[max(at - 1, 0) : at], *self.texts[at + 1 : at + 2]} <= {"\n"}
+        if not is_doc:
+            is_letter = text[-1] == "'" and self.language is not PYTHON
+            yield self.mutant("constant changed", at, at, front + ("'~'" if is_letter else new))
 
     def of_word(self, at, text):
-        if text in ("true", "false"):
-            yield self.mutant("constant changed", at, at, "false" if text == "true" else "true")
-        if text in ("if", "while") and self.texts[at + 1] != "let":
-            last = self.edge(at, 1, {"{"}) if self.is_rust else self.pair[at + 1]
-            test = self.text(at + 1, last)
-            yield self.mutant("condition negated", at + 1, last, f"!({test})" if self.is_rust else f"(!{test})")
-            for constant in (["false", "true"] if self.is_rust else ["(0)", "(1)"])[: 2 if text == "if" else 1]:
+        if text in FLIPPED:
+            yield self.mutant("constant changed", at, at, FLIPPED[text])
+        if text in TESTED and self.texts[at + 1] != "let":
+            last = self.pair[at + 1] if self.language is C else self.edge(at, 1, AFTER_A_TEST)
+            yield self.mutant("condition negated", at + 1, last, self.language.negation.format(self.text(at + 1, last)))
+            for constant in self.language.constants[: 1 if text == "while" else 2]:
                 yield self.mutant("expression made a constant", at + 1, last, constant)
-        if text == "return" and self.texts[at + 1] != ";":
-            yield self.constant(at + 1, self.edge(at, 1, {";", "}"}))
+        if text == "return" and self.texts[at + 1] not in ";\n":
+            yield self.constant(at + 1, self.edge(at, 1, {";", "}", "\n"}))
+        if text in NEGATED and self.language is PYTHON and "not" not in self.texts[at - 1 : at + 2]:
+            if self.texts[self.edge(at, -1, ENDS - {","}) - 1] != "for":
+                yield self.mutant("comparison swapped", at, at, NEGATED[text])
+            else:
+                yield self.mutant("expression made a constant", at + 1, self.edge(at, 1, AFTER_A_TEST), "()")
 
     def of_sign(self, at, text):
-        before, inside = self.found[at - 1], self.texts[self.within[at]]
-        around = self.source[before.end() : self.found[at].start()], self.source[self.found[at].end() :][:1]
+        around = self.source[self.found[at - 1].end() : self.found[at].start()], self.source[self.found[at].end() :][:1]
+        is_name = self.found[at - 1].lastgroup == "word" and self.texts[at - 1] not in NO_CALL
         if text in SWAPPED and all(map(str.isspace, around)):
             yield from self.of_operator(at, text)
-        if text == "!" and before.lastgroup != "word":
+        if text in ("!", "not") and not is_name:
             yield self.mutant("condition negated", at, at, "")
-        if text == ";" and inside == "{":
-            first = self.edge(at, -1, {";", "{", "}"})
-            if first < at and self.texts[first] not in NO_STATEMENT:
-                yield self.mutant("statement dropped", first, at, ";")
-        if text == "(" and self.within[at] >= 0 and before.lastgroup == "word" and self.texts[at - 1] not in NO_CALL:
-            yield from self.of_call(self.parts(at) if self.texts[at - 2] != "fn" else [])
-        if text == ("[" if self.is_rust else "{") and len(self.parts(at)) > 1:
-            for first, last in self.parts(at):
-                if ";" not in self.texts[first:last]:
-                    yield self.mutant("element dropped", first, last + (self.texts[last + 1] == ","), "")
+        if text == ";" and self.texts[self.within[at]] == "{" or text[0] == "\n" and self.texts[at - 1] != ":":
+            first = self.edge(at, -1, {";", "{", "}", "\n", ":"})
+            if first < at and self.texts[first] not in NO_STATEMENT and not self.found[first].lastgroup == "text":
+                yield self.mutant("statement dropped", first, at - 1, self.language.statement)
+        if text == "[" and is_name and ":" in self.texts[at : self.pair.get(at, at)]:
+            yield self.mutant("operand dropped", at, self.pair[at], "")
+        if text == "(" and is_name and self.texts[at - 2] not in ("fn", "def", "class"):
+            # outside of all brackets C and Rust have parameters
+            yield from self.of_call(self.parts(at) if self.language is PYTHON or self.within[at] >= 0 else [])
+        elif text in self.language.lists and not is_name and len(self.parts(at)) > 1:
+            yield from (self.without("element dropped", *it) for it in self.parts(at) if ";" not in self.texts[it[0] : it[1]])
+
+    def without(self, operator, first, last):
+        return self.mutant(operator, first, last + (self.texts[last + 1] == ","), "")
 
     def of_operator(self, at, text):
         yield self.mutant("comparison swapped" if text in "<= >= == !=" else "operator swapped", at, at, SWAPPED[text])
-        ends = ENDS if text in ("&&", "||") else ENDS | SWAPPED.keys()
+        ends = ENDS if text in LOGIC else ENDS | SWAPPED.keys()
         first, last = self.edge(at, -1, ends), self.edge(at, 1, ends)
         if first < at < last:
             left, right = self.text(first, at - 1), self.text(at + 1, last)
@@ -249,25 +196,19 @@ class Tokens:
     def of_call(self, arguments):
         for (first, end), (second, last) in zip(arguments, arguments[1:]):
             yield self.mutant("operands swapped", first, last, f"{self.text(second, last)}, {self.text(first, end)}")
-        yield from (self.constant(*it) for it in arguments)
-
-    def constant(self, first, last):
-        return self.mutant("expression made a constant", first, last, "Default::default()" if self.is_rust else "0")
+        for it in arguments:
+            yield self.without("argument dropped", *it) if self.language is PYTHON else self.constant(*it)
 
 
 def mutants_of(path):
     """The mutants of a file, each once, and none that leaves it as it is."""
     source = path.read_bytes()
-    found = Tokens(source, path.suffix == ".rs").mutants() if path.suffix in (".c", ".h", ".rs") else python_mutants(source)
-    places = {(it.start, it.end, it.new.strip("()")): it for it in found}
-    return sorted(it for it in places.values() if it.new.strip("()").encode() != source[it.start : it.end].strip(b"()"))
-
-
-# The runs.
+    places = {(it.start, it.end, it.new): it for it in Tokens(source, LANGUAGES[path.suffix]).mutants()}
+    return sorted(it for it in places.values() if it.new.encode() != source[it.start : it.end])
 
 
 def output(folder, *command):
-    return subprocess.run(command, cwd=folder, stdout=subprocess.PIPE, check=True).stdout
+    return os.fsdecode(subprocess.run(command, cwd=folder, stdout=subprocess.PIPE, check=True).stdout)
 
 
 class Copy:
@@ -276,7 +217,7 @@ class Copy:
     def __init__(self, top, room, file):
         self.top, self.file, self.original = room, room / file, (top / file).read_bytes()
         room.mkdir()
-        listed = os.fsdecode(output(top, "git", "ls-files", "-zco", "--exclude-standard")).split("\0")
+        listed = output(top, "git", "ls-files", "-zco", "--exclude-standard").split("\0")
         files = [it for it in listed if it and os.path.lexists(top / it)]
         files += [it.relative_to(top) for at in ("*/out", "*/*/out") for it in top.glob(at) if it.parent.parent.name != "crates"]
         # of a crate only the program: what was proved is large
@@ -293,37 +234,29 @@ class Copy:
             except subprocess.TimeoutExpired:
                 return False
             finally:
-                try:
+                with contextlib.suppress(ProcessLookupError):
                     os.killpg(running.pid, signal.SIGKILL)
-                except ProcessLookupError:
-                    pass
 
     def verdict(self, data, asked, limit):
         """What becomes of the file with this text."""
         self.file.unlink()
         self.file.write_bytes(data)
         shutil.rmtree(self.file.parent / "__pycache__", ignore_errors=True)
-        if asked.build and not self.passes(asked.build, limit) or not asked.build and not is_python(data):
+        if not self.passes(asked.build, limit):
             return "not compiled"
         return "survived" if self.passes(asked.tests, limit) else "refused"
 
 
-def is_python(data):
-    try:
-        compile(data, "mutant", "exec")
-    except (SyntaxError, ValueError):
-        return False
-    return True
-
-
 def builder(top, file):
-    """The command that compiles a file in C or Rust."""
+    """The command that compiles a file."""
+    if file.suffix == ".py":
+        return [sys.executable, "-c", f"compile(open({str(file)!r}, 'rb').read(), 'mutant', 'exec')"]
     for folder in file.parents:
         if file.suffix == ".rs" and (top / folder / "Cargo.toml").is_file():
             return ["cargo", "test", "--no-run", "--offline", "--manifest-path", str(folder / "Cargo.toml")]
-        if file.suffix in (".c", ".h") and (top / folder / "Makefile").is_file():
+        if file.suffix != ".rs" and (top / folder / "Makefile").is_file():
             return ["make", "-s", "-C", str(folder)]
-    return None
+    sys.exit(f"{file} has no Makefile or Cargo.toml above it: name a command by --build")
 
 
 def verdicts(top, file, mutants, asked):
@@ -363,10 +296,9 @@ def asked_by(words):
 
 
 def main():
-    warnings.simplefilter("ignore", SyntaxWarning)
     asked = asked_by(sys.argv[1:])
     path = asked.file.resolve()
-    top = pathlib.Path(os.fsdecode(output(path.parent, "git", "rev-parse", "--show-toplevel")).rstrip("\n"))
+    top = pathlib.Path(output(path.parent, "git", "rev-parse", "--show-toplevel").rstrip("\n"))
     file, source, mutants = path.relative_to(top), path.read_bytes(), mutants_of(path)
     asked.build = asked.build or builder(top, file)
     chosen = sorted(random.Random(asked.seed).sample(mutants, min(asked.sample or len(mutants), len(mutants))))

@@ -3,42 +3,28 @@
 
     python3 tools/pages.py
 
-- README.md and docs/BUILDING.md name the logic of the toolchain that is here.
-- README.md says how many crates the gate proves, how many wrong bodies it tries and how many tests it runs: the tree's figures. A
-  time in it that nobody filled in (`.._MINUTES`) fails.
-- docs/PLANTED.md names each wrong body that the gate has to try, with the file or the test that it stands in: each is there.
-- docs/PLANTED.md says how many bugs there are in how many lists: those of plants/. Each fits the code (tools/plant.py --fits),
-  and what is said to refuse each that no clause refuses is there.
-- docs/PROMISES.md names calls, clauses, wrong bodies, tests and files (tools/promises.py).
-- Each link between pages leads to a file, and each picture has a text for those who can't see it.
-- docs/DEFINITIONS.md names each file of specs/ in its crate's section.
-- Each library and program of crates.txt has a page, crates/NAME/README.md, and stands in docs/pictures/crates.svg.
-- Code after a line `<!-- from FILE -->` stands in that file, word for word but for what is left out at a line of two dots.
-- A proof by hand, which may give a ghost field any value, stands in a folder that is named here.
-- The files that say a version say that of VERSION.
+The figures, versions and places that pages name, their links and pictures, the code that they have from files, and the names that
+docs/PROMISES.md and docs/PLANTED.md give: each check below says what it compares. Each link leads to a file, and each picture has a
+text for those who can't see it.
 
 The last line is `N passed, M failed`, and the status is 1 if anything failed.
 """
 
 import os
-import pathlib
 import re
 import subprocess
 import sys
-import textwrap
 
 import plant
 import promises
+from tree import CRATES, TOP, has_edit, has_test, listed, report, source
 
-TOP = pathlib.Path(__file__).resolve().parent.parent
-CRATES = TOP / "crates"
 PAGES = [
     *sorted(TOP.glob("*.md")),
     *sorted(TOP.glob("docs/*.md")),
     *sorted(CRATES.glob("*/README.md")),
     *(TOP / it for it in ("interop/README.md", "bench/RESULTS.md", "examples/login_page/README.md")),
 ]
-
 
 # The folders of proofs by hand: each makes values of one struct with ghost data, and its page says what is trusted of that.
 WALKS = {"cred_cli/proofs/call_log", "cred_cli/proofs/transcript"}
@@ -63,9 +49,9 @@ def versions():
 
 
 def figures():
-    """What README counts: what is wrong with each figure."""
+    """What README counts: the crates that the gate proves, the wrong bodies that it tries, and its tests. No time is left open."""
     tests = sum(len(re.findall(r"^\s*#\[test\]", it.read_text(), re.M)) for it in CRATES.glob("*/src/**/*.rt"))
-    there = {"crates": len(promises.listed()), "wrong bodies": len([*CRATES.glob("*/must-fail/*.edit")]), "tests": tests}
+    there = {"crates": len(listed()), "wrong bodies": len([*CRATES.glob("*/must-fail/*.edit")]), "tests": tests}
     readme = (TOP / "README.md").read_text()
     for word, count in there.items():
         said = re.findall(rf"(\d+) {word}", readme)
@@ -75,7 +61,7 @@ def figures():
 
 
 def logic():
-    """The logic that the toolchain here proves in, and each page that names another."""
+    """The logic that the toolchain here proves in, and each page that doesn't name it."""
     told = subprocess.run([os.environ.get("RT", "rt"), "version"], capture_output=True, text=True, check=True).stdout
     here = re.search(r"\blogic (\w+)", told)[1]
     for page in ("README.md", "docs/BUILDING.md"):
@@ -85,12 +71,12 @@ def logic():
 def stands(place):
     """Whether a place is a wrong body of the gate, `CRATE/NAME`, a test, `CRATE::TEST`, or a list, `plants/CRATE.txt`."""
     if "::" in place:
-        return promises.has_test(*place.split("::"))
-    return (TOP / place).is_file() if place.startswith("plants/") else promises.has_edit(*place.split("/"))
+        return has_test(*place.split("::"))
+    return (TOP / place).is_file() if place.startswith("plants/") else has_edit(*place.split("/"))
 
 
 def planted():
-    """The named wrong bodies of docs/PLANTED.md, `NAME | .. | PLACES |`, in the table whose head begins with "Wrong body"."""
+    """The wrong bodies of docs/PLANTED.md, `NAME | .. | PLACES |`, in the table whose head begins with "Wrong body": each is there."""
     table = (TOP / "docs/PLANTED.md").read_text().partition("| Wrong body |")[2].partition("\n\n")[0]
     rows = table.splitlines()[2:]
     yield None if rows else "docs/PLANTED.md has no table of named wrong bodies"
@@ -103,30 +89,31 @@ def planted():
 
 def bugs():
     """The bugs of plants/: their number, and each that doesn't fit the code."""
-    there = sum(len(plant.list_of(it)) for it in plant.lists()), len(plant.lists())
-    said = re.findall(r"(\d+) bugs in (\d+) lists", (TOP / "docs/PLANTED.md").read_text())
-    is_said = said == [(str(there[0]), str(there[1]))]
-    yield None if is_said else "docs/PLANTED.md: there are {} bugs in {} lists".format(*there)
-    for name in plant.lists():
+    lists = {name: plant.list_of(name) for name in plant.lists()}
+    there = f"{sum(map(len, lists.values()))} bugs in {len(lists)} lists"
+    said = re.findall(r"\d+ bugs in \d+ lists", source(TOP / "docs/PLANTED.md"))
+    yield None if said == [there] else f"docs/PLANTED.md: there are {there}"
+    for name, found in lists.items():
         yield from [*plant.misfits(name)] or [None]
+        for reason in (it.passes for it in found if it.passes):
+            lost = refuted(reason)
+            yield None if lost == "" else f"plants/{name}.txt: {lost or reason}"
 
 
-def let_through():
-    """Each bug that a list says no clause refuses: the tests and files that refuse it are there, or it is said that nothing does."""
-    for name in plant.lists():
-        for reason in filter(None, (it.passes for it in plant.list_of(name))):
-            tests = re.findall(r"`(\w+)::(\w+)`", reason)
-            files = re.findall(r"((?:tools|tests|crates)/[\w/]+(?:\.py|/stdout))(?: \(`(\w+)`\))?", reason)
-            lost = ["::".join(it) for it in tests if not promises.has_test(*it)]
-            lost += [path for path, word in files if f"def {word}" not in promises.source(TOP / path) and word]
-            lost += [path for path, _ in files if not (TOP / path).is_file()]
-            is_said = tests or files or "nothing refuses it" in reason or "harmless" in reason
-            yield f"plants/{name}.txt: {', '.join(lost) or reason}" if lost or not is_said else None
+def refuted(reason):
+    """Which tests and files aren't there that are said to refuse a bug that no clause refuses; None if none is named, and the
+    reason doesn't say either that nothing refuses it."""
+    tests = re.findall(r"`(\w+)::(\w+)`", reason)
+    files = re.findall(r"((?:tools|tests|crates)/[\w/]+(?:\.py|/stdout))(?: \(`(\w+)`\))?", reason)
+    lost = ["::".join(it) for it in tests if not has_test(*it)]
+    lost += [path for path, word in files if not (TOP / path).is_file() or word and f"def {word}" not in source(TOP / path)]
+    is_said = tests or files or "nothing refuses it" in reason or "harmless" in reason
+    return ", ".join(lost) if is_said else None
 
 
 def anchors(page):
     """The anchors of a page's headings, as forges make them."""
-    heads = re.findall(r"^#+ (.*)$", re.sub(r"```.*?```", "", promises.source(page), flags=re.S), re.M)
+    heads = re.findall(r"^#+ (.*)$", re.sub(r"```.*?```", "", source(page), flags=re.S), re.M)
     return {re.sub(r"[^\w -]", "", it.lower()).replace(" ", "-") for it in heads}
 
 
@@ -146,20 +133,23 @@ def links(page):
             yield None
 
 
+def plain(code):
+    """Code without what sets it in."""
+    return re.sub(r"[ \t]+", " ", re.sub(r"^[ \t]+", "", code, flags=re.M)).strip("\n")
+
+
 def callers(page):
-    """Each piece of code that is said to stand in a file."""
+    """Code after a line `<!-- from FILE -->`: it stands there word for word, but for what is left out at a line of two dots."""
     for name, code in re.findall(r"^<!-- from (\S+) -->\n```\w+\n(.*?)^```$", page.read_text(), re.S | re.M):
-        there = textwrap.dedent(promises.source(TOP / name))
-        plain = re.sub(r"[ \t]+", " ", re.sub(r"^[ \t]+", "", there, flags=re.M))
         parts = [it for it in re.split(r"^\s*(?://\s*)?\.\.\s*$", code, flags=re.M) if it.strip()]
-        lost = [it for it in parts if re.sub(r"[ \t]+", " ", re.sub(r"^[ \t]+", "", it, flags=re.M)).strip("\n") not in plain]
+        lost = [it for it in parts if plain(it) not in plain(source(TOP / name))]
         yield f"{page.relative_to(TOP)}: code that isn't in {name}: {lost[0].strip().splitlines()[0]}" if lost else None
 
 
 def rooms():
     """A page for each crate, and its place in the picture."""
     picture = (TOP / "docs/pictures/crates.svg").read_text()
-    for name in sorted(promises.listed()):
+    for name in sorted(listed()):
         yield None if (CRATES / name / "README.md").is_file() else f"crates/{name}/README.md isn't there"
         if not re.match(r"(test|bench|example|hello)_|\w+_tests$", name):
             yield None if f">{name}</text>" in picture else f"docs/pictures/crates.svg lacks {name}: run tools/pictures.py"
@@ -167,7 +157,7 @@ def rooms():
 
 def definitions():
     """Each file of definitions, in its crate's section of docs/DEFINITIONS.md."""
-    page = promises.source(TOP / "docs/DEFINITIONS.md")
+    page = source(TOP / "docs/DEFINITIONS.md")
     sections = dict(re.findall(r"^## (\w+)\n(.*?)(?=^## |\Z)", page, re.S | re.M))
     for file in sorted(CRATES.glob("*/specs/**/*.antt")):
         crate, name = file.relative_to(CRATES).parts[0], file.stem
@@ -177,7 +167,7 @@ def definitions():
 
 
 def walks():
-    """The proofs by hand."""
+    """The proofs by hand, which may give a ghost field any value: each stands in a folder that is named here."""
     for proof in CRATES.glob("*/proofs/**/Proof.antt"):
         place = proof.relative_to(CRATES).as_posix()
         is_known = any(place.startswith(f"{it}/") for it in WALKS)
@@ -185,23 +175,9 @@ def walks():
 
 
 def main():
-    found = [
-        *figures(),
-        *logic(),
-        *planted(),
-        *bugs(),
-        *let_through(),
-        *rooms(),
-        *definitions(),
-        *walks(),
-        *versions(),
-    ]
-    for page in PAGES:
-        found += [*links(page), *callers(page)]
-    passed, failures = promises.check()
-    passed, failures = passed + found.count(None), [*(it for it in found if it), *failures]
-    print("\n".join([*failures, f"{passed} passed, {len(failures)} failed"]))
-    return 1 if failures else 0
+    of_tree = (figures, logic, planted, bugs, rooms, definitions, walks, versions, promises.check)
+    of_page = [it(page) for page in PAGES for it in (links, callers)]
+    return report([it for found in [*(check() for check in of_tree), *of_page] for it in found])
 
 
 if __name__ == "__main__":

@@ -3,8 +3,8 @@
 
     python3 tools/peak_memory.py
 
-It runs tests of outside vectors, in the programs that `rt test` or `rt ci` built last (crates/CRATE/out/CRATE_tests), each in a
-process of its own, where a shim before the C library's allocator adds up what was asked for and not yet given back.
+It runs tests of outside vectors, in the program that `rt test` or `rt ci` built last (crates/hash_tests/out/hash_tests_tests), each
+in a process of its own, where a shim before the C library's allocator adds up what was asked for and not yet given back.
 The most at any time is to be the memory of the parameters of the largest hash among them and at most SOME_KIB more. In tests of hashes
 that are made one after another in memory that is kept, all that was ever asked for is to be no more than that of one hash and SOME_KIB.
 A line for each test; the last line is `N passed, M failed`. It needs the toolchain alone, whose compiler builds the shim.
@@ -12,46 +12,38 @@ A line for each test; the last line is `N passed, M failed`. It needs the toolch
 
 import os
 import re
-import subprocess
 import sys
 
-from refuse_memory import SECONDS, shim, tests_of
+from refuse_memory import tests_of
+from tests.helpers import ended, shim
 
-# The crate, the end of the test's name, and the memory of its largest hash in KiB: m of Argon2, 128 * r * N bytes of scrypt.
+# scrypt's memory of N = 2^14 and r = 8 in KiB.
+TABLE = 128 * 8 * 2**14 // 1024
+# The end of the test's name, the word that the shim says, and the memory of the largest hash in KiB. The last two make several
+# hashes of one memory, in memory that is kept.
 SAID = [
-    ("hash_tests", "::large_vectors", 65536),
-    ("hash_tests", "::scrypt_vectors", 128 * 8 * 2**14 // 1024),
+    ("::large_vectors", "PEAK", 65536),
+    ("::scrypt_vectors", "PEAK", TABLE),
+    ("::memory_taken_once", "ASKED", 256),
+    ("::table_taken_once", "ASKED", TABLE),
 ]
-
-# The same for tests of several hashes of one memory, in memory that is kept.
-KEPT = [
-    ("hash_tests", "::memory_taken_once", 256),
-    ("hash_tests", "::table_taken_once", 128 * 8 * 2**14 // 1024),
-]
+HOW = {"PEAK": "at once", "ASKED": "in all"}
 
 # The pieces of scrypt, the tests' own texts and the allocator's rounding.
 SOME_KIB = 64
 
 
-def bytes_of(program, test, word):
-    """The most bytes at once in a run of the test, PEAK, or all that were asked for, ASKED, and whether it passed."""
-    env = {**os.environ, "LD_PRELOAD": shim("peak")}
-    done = subprocess.run([program, test], env=env, capture_output=True, text=True, timeout=SECONDS)
-    found = re.findall(rf"(?m)^{word} (\d+)$", done.stderr)
-    return max(map(int, found), default=0), done.returncode == 0
-
-
 def main():
     passed = 0
-    rows = [("PEAK", "at once", *it) for it in SAID] + [("ASKED", "in all", *it) for it in KEPT]
-    for word, how, crate, ending, said in rows:
-        [(_, program, test)] = tests_of(crate, ending)
-        found, is_well = bytes_of(program, test, word)
-        is_well = is_well and 1024 * said <= found <= 1024 * (said + SOME_KIB)
+    for ending, word, said in SAID:
+        [test] = tests_of("hash_tests", ending)
+        done = ended(test, env={**os.environ, "LD_PRELOAD": shim("peak")})
+        found = max(map(int, re.findall(rf"(?m)^{word} (\d+)$", done.faults)), default=0)
+        is_well = done.status == 0 and 1024 * said <= found <= 1024 * (said + SOME_KIB)
         passed += is_well
-        print(f"{crate} {test}: {said} KiB said, {found / 1024:.0f} KiB {how}{'' if is_well else ': FAILED'}", flush=True)
-    print(f"{passed} passed, {len(rows) - passed} failed")
-    sys.exit(passed < len(rows))
+        print(f"hash_tests {test[1]}: {said} KiB said, {found / 1024:.0f} KiB {HOW[word]}{'' if is_well else ': FAILED'}", flush=True)
+    print(f"{passed} passed, {len(SAID) - passed} failed")
+    sys.exit(passed < len(SAID))
 
 
 if __name__ == "__main__":

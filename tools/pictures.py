@@ -10,12 +10,12 @@ graphviz's dot, and bench.svg from the tables of bench/RESULTS.md by matplotlib 
 
 import html
 import io
-import pathlib
 import re
 import subprocess
 import sys
 
-TOP = pathlib.Path(__file__).resolve().parent.parent
+from tree import CRATES, TOP, all_below, below, listed
+
 PICTURES = TOP / "docs/pictures"
 FONT = 'font-family="Helvetica, Arial, sans-serif" font-size="14"'
 INK, PALE, SHADE = "#1f2a37", "#8793a3", "#eef2f7"
@@ -88,15 +88,8 @@ def steps(name):
 
 def crates():
     """Each crate of crates.txt but tests and benches, with the crates that it uses directly."""
-    listed = [it.split("#")[0].partition(":") for it in (TOP / "crates.txt").read_text().splitlines()]
-    below = {head.split()[0]: rest.split() for head, _, rest in listed if head.strip()}
-    shown = {it for it in below if not re.search(r"_tests$|^test_|^bench_|^example_|^hello_", it)}
-    below = {it: {low for low in below[it] if low in shown} for it in shown}
-
-    def all_below(it):
-        return below[it].union(*(all_below(low) for low in below[it])) if below[it] else set()
-
-    return {it: sorted(low for low in below[it] if not any(low in all_below(other) for other in below[it])) for it in sorted(shown)}
+    shown = sorted(it for it in listed() if not re.search(r"_tests$|^test_|^bench_|^example_|^hello_", it))
+    return {it: sorted(low for low in below(it) if not any(low in all_below(other) for other in below(it))) for it in shown}
 
 
 def crate_layers():
@@ -110,7 +103,7 @@ def crate_layers():
     out += [f'subgraph cluster_tested {{ label="tested, not proved"; labeljust=l; style="dashed,rounded,filled"; fillcolor="{TESTED}";']
     out += [f'"{name.strip()}" [label="{name.strip()}\\n{words.strip()}"];' for _, name, words, _ in tested] + ["}"]
     out += [f'subgraph cluster_proved {{ label="proved"; labeljust=l; style="rounded,filled"; penwidth=2; fillcolor="{PROVED}";']
-    programs = {it for it in graph if (TOP / "crates" / it / "src/main.rt").is_file()}
+    programs = {it for it in graph if (CRATES / it / "src/main.rt").is_file()}
     out += [f'"{it}" [label="{it}\\nproved safe; its words are tested"];' if it in programs else f'"{it}";' for it in graph] + ["}"]
     out += [f'subgraph cluster_trusted {{ label="trusted"; labeljust=l; style="dotted,rounded,filled"; fillcolor="{TRUSTED}";']
     out += [f'"{name.strip()}" [label="{name.strip()}\\n{words.strip()}"];' for _, name, words, _ in trusted] + ["}"]

@@ -7,14 +7,13 @@
 With --fits it asks no prover. It names each bug of any list that can't be planted, since the code has changed. The last line is
 `N bugs in M lists, K of them can't be planted`, and the status is 1 if K isn't 0.
 
-A file of bugs is a list of paragraphs. `call:` names the public call whose meaning the next bugs turn, and `fn:` the function
+A file of bugs is a list of paragraphs. `call:` names the public call whose meaning the next bugs turn, and `fn:` another function
 that they stand in, as `module::Type::function`; each holds until the next such line. A bug is pairs of lines `old:`, a text that
 stands once in that function, and `new:`, the text in its place. Or it is one line `body:`, the whole body. A line `passes:` in it
 says why the contract rightly lets it through, and which test refuses it.
 
-Bugs stand in many functions at a time, in a copy under /tmp. `rt check --allow-holes --only ..` tries the goals of these functions, by
-the contracts of those that they call; saidN.log keeps what the Nth check said. `refused`: a goal of the bug's function isn't proved.
-`by its proof`: no goal is open, and a written proof names what the bug took away. `let through`: each goal is proved with the bug in."""
+Each bug stands alone in a copy under /tmp. `rt check --allow-holes --only ..` tries the goals of its function, by the contracts of
+those that it calls; saidN.log keeps what the Nth check said. docs/PLANTED.md has the verdicts."""
 
 import argparse
 import dataclasses
@@ -25,7 +24,7 @@ import shutil
 import subprocess
 import sys
 
-TOP = pathlib.Path(__file__).resolve().parent.parent
+from tree import CRATES, TOP, all_below, listed
 
 # What a proof says that names what a bug took away: it says little of the contract.
 GONE = re.compile(r"has no field|is not in scope|has no `|was not admitted")
@@ -33,7 +32,6 @@ GONE = re.compile(r"has no field|is not in scope|has no `|was not admitted")
 
 @dataclasses.dataclass(eq=False)
 class Bug:
-    call: str
     function: str
     line: int
     changes: list = dataclasses.field(default_factory=list)
@@ -54,17 +52,17 @@ def lists():
 def list_of(name):
     """The bugs of a crate's list."""
     path = TOP / "plants" / f"{name}.txt"
-    bugs, call, function, bug = [], None, None, None
+    bugs, function, bug = [], None, None
     for number, line in enumerate(path.read_text().splitlines(), 1):
         word, _, text = line.partition(":")
         text = text[1:]
         if not line.strip() or line.startswith("#"):
             bug = None
         elif word in ("call", "fn"):
-            call, function, bug = text if word == "call" else call, text, None
+            function, bug = text, None
         elif word in ("old", "new", "body", "passes"):
             if bug is None:
-                bug = Bug(call, function, number)
+                bug = Bug(function, number)
                 bugs.append(bug)
             if word == "old":
                 bug.changes.append([text, None])
@@ -122,31 +120,27 @@ def misfits(name):
     """Why a bug of a list can't be planted in the crate as it stands, for each that can't."""
     for bug in list_of(name):
         try:
-            text_with(TOP / "crates" / name, bug)
+            text_with(CRATES / name, bug)
         except ValueError as why:
             yield f"plants/{name}.txt:{bug.line}: {why}"
 
 
 class Copy:
-    """A copy of the crate and of those below it, to which each round comes back."""
+    """A copy of the crate and of those below it, to which each bug comes back."""
 
     def __init__(self, name, jobs):
         self.at, self.jobs, self.checks = pathlib.Path(f"/tmp/plant-{name}"), str(jobs), 0
         shutil.rmtree(self.at, ignore_errors=True)
-        lines = [it.split("#")[0].partition(":") for it in (TOP / "crates.txt").read_text().splitlines()]
-        below = {it[0].split()[0]: it[2].split() for it in lines if it[1]}
-        heads = {it[0].split()[0]: it[0] for it in lines if it[1]}
-        needed = [name]
-        for it in needed:
-            needed += [other for other in below[it] if other in below and other not in needed]
+        needed = [*all_below(name), name]
         (self.at / "crates").mkdir(parents=True)
-        (self.at / "crates.txt").write_text("".join(f"{heads[it]}: {' '.join(below[it])}\n" for it in needed))
+        lines = ((head, " ".join(rest)) for head, rest in map(listed().get, needed))
+        (self.at / "crates.txt").write_text("".join(f"{head}: {rest}\n" for head, rest in lines))
         shutil.copy(TOP / "HANDLES", self.at)
         link = os.link if self.at.stat().st_dev == TOP.stat().st_dev else shutil.copy2
         for it in needed:
             # A check only reads what stands below its crate.
             how = shutil.copy2 if it == name else link
-            shutil.copytree(TOP / "crates" / it, self.at / "crates" / it, symlinks=True, copy_function=how)
+            shutil.copytree(CRATES / it, self.at / "crates" / it, symlinks=True, copy_function=how)
         self.name, self.crate, self.kept = name, self.at / "crates" / name, self.at / "kept"
         shutil.rmtree(self.crate / "must-fail", ignore_errors=True)
         said = self.check()
@@ -164,16 +158,15 @@ class Copy:
         self.checks += 1
         return said
 
-    def planted(self, bugs):
-        """What the goals of the functions say where these bugs stand in the crate as it was kept. Their callers aren't tried: they
-        would all be checked again, and say nothing of the bugs."""
+    def planted(self, bug):
+        """What the goals of a bug's function say where it stands in the crate as it was kept. Its callers aren't tried: they would
+        all be checked again, and say nothing of the bug."""
         for part in ("src", "out"):
             shutil.rmtree(self.crate / part)
             shutil.copytree(self.kept / part, self.crate / part, symlinks=True)
-        for bug in bugs:
-            file, text = text_with(self.crate, bug)
-            file.write_text(text)
-        chosen = [it for it in self.paths if any(is_of(it, self.name, bug.function) for bug in bugs)]
+        file, text = text_with(self.crate, bug)
+        file.write_text(text)
+        chosen = [it for it in self.paths if is_of(it, self.name, bug.function)]
         return self.check("--allow-holes", *(f"--only={it.partition('::')[2]}" for it in chosen))
 
 
@@ -182,19 +175,11 @@ def is_of(path, name, function):
     impl stands in a module below the type's."""
     *above, last = function.split("::")
     above = above[1:] if above[:1] in (["lib"], ["main"]) else above
-    module, owner = (above[:-1], above[-1]) if above and above[-1][:1].isupper() else (above, "")
-    modules = [module[:n] for n in range(len(module) + 1)] if owner else [module]
-    return any(is_in(path, "::".join([name, *it]) + "::", owner, last) for it in modules)
-
-
-def is_in(path, module, owner, last):
-    """Whether a path is that of a function in this module, or of a closure in it. An impl of a trait has both names in one."""
-    if not path.startswith(module):
-        return False
-    rest = path[len(module):].removeprefix("fn::").replace("+", "").split("::")
-    if owner:
-        return rest[0].startswith(owner) and (rest[1:2] == [last] or rest[1:3] == ["fn", last])
-    return rest[:1] == [last]
+    if not above or not above[-1][:1].isupper():
+        return re.match("::".join([name, *above, rf"(fn::)?\+?{last}\+?(::|$)"]), path) is not None
+    # An impl of a trait has both names in one.
+    modules = "".join(f"({it}::" for it in above[:-1]) + ")?" * len(above[:-1])
+    return re.match(rf"{name}::{modules}(fn::)?\+?{above[-1]}[^:]*::(fn::)?\+?{last}\+?(::|$)", path) is not None
 
 
 def verdict_of(function, name, said):
@@ -224,46 +209,13 @@ def verdict_of(function, name, said):
     return next((it for it in ("refused", "by its proof", "none", "let through") if it in verdicts), None)
 
 
-def judge(copy, bugs):
-    """A round has at most one bug of each function. A bug that its round leaves open is tried again alone."""
-    rounds = []
-    for bug in bugs:
-        free = next((it for it in rounds if bug.function not in it), None)
-        if free is None:
-            rounds.append(free := {})
-        free[bug.function] = bug
-    for chosen in [list(it.values()) for it in rounds]:
-        try_together(copy, chosen)
-        for bug in [it for it in chosen if it.verdict is None]:
-            try_together(copy, [bug])
-        print(f"# {sum(it.verdict is not None for it in bugs)} of {len(bugs)} judged", file=sys.stderr, flush=True)
-
-
-def try_together(copy, chosen):
-    """What is open afterwards calls a function whose proof was refused, or stands in a cycle of calls: that has one proof, in a folder
-    whose name begins with `+`, so what refuses one of its functions is told of each."""
-    said = copy.planted(chosen)
-    if not re.search(r"(?m)^only=\d+ holes=", said):
-        blame(copy, said, chosen)
-        return try_together(copy, [it for it in chosen if it.verdict is None]) if len(chosen) > 1 else None
-    for bug in chosen:
-        own = [it for it in re.findall(r"(?m)^fn (\S+): (.*)$", said) if is_of(it[0], copy.name, bug.function)]
-        is_in_cycle = any(re.search(r"\./proofs/(\S+/)?\+", what) for _, what in own)
-        verdict = verdict_of(bug.function, copy.name, said) or "no verdict"
-        if len(chosen) == 1 or not is_in_cycle and verdict not in ("none", "not reached"):
-            bug.verdict = verdict
-
-
-def blame(copy, said, bugs):
-    """Not one function was judged, since a bug doesn't compile. The compiler names its file and line."""
-    for bug in bugs:
-        file, first, last = place_of(copy.crate, bug)
-        places = re.findall(rf"{re.escape(str(file.relative_to(copy.crate)))}:(\d+)", said)
-        if len(bugs) == 1 or any(first < int(it) <= last + 1 for it in places):
-            bug.verdict = "doesn't compile"
-    if not any(it.verdict for it in bugs):
-        sys.exit(f"no verdict, and no line that names a bug:\n{said[-3000:]}")
+def judge(copy, bug):
+    """The verdict on a bug that stands alone in the crate."""
+    said = copy.planted(bug)
+    if re.search(r"(?m)^only=\d+ holes=", said):
+        return verdict_of(bug.function, copy.name, said) or "no verdict"
     print("\n".join(it for it in said.splitlines() if ": error" in it)[:1000], flush=True)
+    return "doesn't compile"
 
 
 def main():
@@ -281,7 +233,10 @@ def main():
     if lost := "\n".join(misfits(asked.name)):
         sys.exit(lost)
     bugs = list_of(asked.name)
-    judge(Copy(asked.name, asked.jobs), bugs)
+    copy = Copy(asked.name, asked.jobs)
+    for count, bug in enumerate(bugs, 1):
+        bug.verdict = judge(copy, bug)
+        print(f"# {count} of {len(bugs)} judged", file=sys.stderr, flush=True)
     for bug in bugs:
         if bug.verdict not in ("refused", "by its proof") and not (bug.verdict == "let through" and bug.passes):
             print(f"{bug.verdict}: {bug}")

@@ -19,38 +19,14 @@ The wrong bodies that docs/PLANTED.md names count by themselves. The status is 1
 its names alone, or if the log has a wrong body that wasn't refused.
 """
 
-import functools
 import pathlib
 import re
 import sys
 
-TOP = pathlib.Path(__file__).resolve().parent.parent
-CRATES = TOP / "crates"
+from tree import CRATES, TOP, has_test, listed, report, source
+
 PAGE = TOP / "docs/PROMISES.md"
 FILES = re.compile(r"(?<![\w/.-])((?:plants|crates|tools|tests|c|docs|interop|bench)/[\w/.-]*\.(?:txt|rt|antt|py|c|md|h))")
-
-
-@functools.cache
-def listed():
-    """The crates of crates.txt."""
-    lines = (TOP / "crates.txt").read_text().splitlines()
-    return {it.split("#")[0].partition(":")[0].split()[0] for it in lines if it.split("#")[0].strip()}
-
-
-@functools.cache
-def source(path):
-    return path.read_text() if path.is_file() else ""
-
-
-def has_test(crate, test):
-    """Whether a crate has a test of this name."""
-    form = re.compile(rf"#\[test\](\s*#\[[^\n]*\])*\s*fn {re.escape(test)}\b")
-    return any(form.search(source(it)) for it in (CRATES / crate / "src").glob("**/*.rt"))
-
-
-def has_edit(crate, name):
-    """Whether a wrong body stands in the gate."""
-    return (CRATES / crate / "must-fail" / f"{name}.edit").is_file()
 
 
 def contract_of(text):
@@ -115,19 +91,20 @@ def cells(text):
         yield from (f"a cell of over 120 characters: {it.strip()[:60]}.." for it in row.split("|") if len(it.strip()) > 120)
 
 
-KINDS = ("shown false", "not proved", "no proof of it", "names")
+# What the prover says of each kind of refusal.
+KINDS = {
+    "shown false": "at which this goal is false|does not follow from what it read",
+    "not proved": r"note: \S+: it is not proved that|`search`: no proof",
+    "no proof of it": "",
+    "names": "only because a proof file names what the edit took away",
+}
 TRIED = re.compile(r"(?m)^(?:rt: )?must-fail (\w+)/([\w.-]+)\.edit: (refused, as it must be|NOT REFUSED|BAD EDIT)(.*)$")
 
 
 def kind_of(said):
     """Which kind of refusal this is, by the first line that the prover printed of it."""
-    if "only because a proof file names what the edit took away" in said:
-        return "names"
-    if re.search(r"at which this goal is false|does not follow from what it read", said):
-        return "shown false"
-    if re.search(r"note: \S+: it is not proved that|`search`: no proof", said):
-        return "not proved"
-    return "no proof of it"
+    found = [kind for kind, form in KINDS.items() if re.search(form, said)]
+    return "names" if "names" in found else found[0]
 
 
 def refusals(logs):
@@ -148,19 +125,11 @@ def say_refusals(logs):
 
 
 def check():
-    """How many names are right, and what is wrong."""
+    """What is wrong with each name of the page."""
     text = PAGE.read_text()
-    found = [*calls(text), *words(text), *files(text), *cells(text)]
-    return found.count(None), [f"docs/PROMISES.md: {it}" for it in found if it]
-
-
-def main():
-    if "--refused" in sys.argv:
-        return say_refusals(sys.argv[sys.argv.index("--refused") + 1 :])
-    passed, failures = check()
-    print("\n".join([*failures, f"{passed} passed, {len(failures)} failed"]))
-    return 1 if failures or not passed else 0
+    return [it and f"docs/PROMISES.md: {it}" for it in (*calls(text), *words(text), *files(text), *cells(text))]
 
 
 if __name__ == "__main__":
-    sys.exit(main())
+    is_log = sys.argv[1:2] == ["--refused"]
+    sys.exit(say_refusals(sys.argv[2:]) if is_log else report(check()))

@@ -19,7 +19,8 @@ import subprocess
 import sys
 import tempfile
 
-TOP = pathlib.Path(__file__).resolve().parent.parent
+from tree import TOP
+
 BLOCK = re.compile(r"^```(\w+)\n(.*?)^```$", re.M | re.S)
 MARK = "-- the end of session"
 
@@ -29,8 +30,8 @@ LIBRARIES = {"rigzumal": "c/out/librigzumal.so", "LD_LIBRARY_PATH=c/out": "c/out
 
 
 def pages():
-    named = sys.argv[1:] or ["README.md", *sorted(str(it.relative_to(TOP)) for it in TOP.glob("docs/*.md"))]
-    return named if sys.argv[1:] else [*named, *sorted(str(it.relative_to(TOP)) for it in TOP.glob("crates/*/README.md"))]
+    every = [it for form in ("README.md", "docs/*.md", "crates/*/README.md") for it in sorted(TOP.glob(form))]
+    return sys.argv[1:] or [str(it.relative_to(TOP)) for it in every]
 
 
 def sessions_of(page):
@@ -41,15 +42,6 @@ def sessions_of(page):
             yield line, script, below[1] if below[0] == "text" else None
 
 
-def path_of(room):
-    """The path of a session: this Python, the built programs, and what was there."""
-    own = room / "bin"
-    own.mkdir()
-    (own / "python3").symlink_to(sys.executable)
-    built = [str(it) for it in TOP.glob("crates/*/out") if it.is_dir()]
-    return os.pathsep.join([str(own), *built, os.environ["PATH"]])
-
-
 def missing(script, path):
     """What a session needs and this machine doesn't have."""
     for name in PROGRAMS:
@@ -58,10 +50,8 @@ def missing(script, path):
     return next((f"{file} isn't built" for word, file in LIBRARIES.items() if word in script and not (TOP / file).exists()), None)
 
 
-def printed(scripts, path, room):
+def printed(scripts, path, folder):
     """What each of these scripts prints, in one bash and one folder."""
-    folder = room / "sessions"
-    folder.mkdir()
     for name in ("crates", "c", "python"):
         (folder / name).symlink_to(TOP / name)
     whole = "".join(f"{script}\nprintf '%s\\n' '{MARK}'\n" for script in scripts)
@@ -72,16 +62,17 @@ def printed(scripts, path, room):
 
 def run(name):
     """How many sessions of a page print what they have to, and how many don't."""
-    with tempfile.TemporaryDirectory(prefix="readme-") as folder:
-        room = pathlib.Path(folder)
-        path, taken = path_of(room), []
+    with tempfile.TemporaryDirectory(prefix="readme-") as own, tempfile.TemporaryDirectory(prefix="readme-") as folder:
+        pathlib.Path(own, "python3").symlink_to(sys.executable)
+        built = [str(it) for it in TOP.glob("crates/*/out") if it.is_dir()]
+        path, taken = os.pathsep.join([own, *built, os.environ["PATH"]]), []
         for line, script, wanted in sessions_of((TOP / name).read_text()):
             lacks = "no text below it" if wanted is None else missing(script, path)
             if lacks:
                 print(f"{name}:{line}: not run: {lacks}")
             else:
                 taken.append((line, script, wanted))
-        found = printed([script for _, script, _ in taken], path, room) if taken else []
+        found = printed([script for _, script, _ in taken], path, pathlib.Path(folder)) if taken else []
     failed = len(taken) - len(found)
     for (line, _, wanted), text in zip(taken, found):
         differs = list(difflib.unified_diff(wanted.splitlines(), text.splitlines(), "page", "printed", lineterm="", n=0))

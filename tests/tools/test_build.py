@@ -12,7 +12,7 @@ import sys
 import tempfile
 import unittest
 
-BUILD = pathlib.Path(__file__).resolve().parents[2] / "tools/build.py"
+TOOLS = pathlib.Path(__file__).resolve().parents[2] / "tools"
 CRATES = """# lowest first
 low:
 other:
@@ -39,7 +39,8 @@ class Build(unittest.TestCase):
         for name in ("low", "other", "high", "program"):
             (self.top / "crates" / name / "src").mkdir(parents=True)
         (self.top / "tools").mkdir()
-        shutil.copy(BUILD, self.top / "tools")
+        for tool in ("build.py", "tree.py"):
+            shutil.copy(TOOLS / tool, self.top / "tools")
         (self.top / "crates.txt").write_text(CRATES)
         (self.top / "HANDLES").write_text("")
         (self.top / "rt").write_text(RT)
