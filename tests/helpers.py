@@ -9,6 +9,7 @@ import functools
 import itertools
 import os
 import pathlib
+import re
 import resource
 import shlex
 import shutil
@@ -130,6 +131,10 @@ def small_files(size: int) -> dict[str, Any]:
     return {"preexec_fn": limited(resource.RLIMIT_FSIZE, size), "restore_signals": False}
 
 
+# How a run of a command ended that was stopped at its call of a number, or nothing if it made fewer.
+Stop = Callable[..., Ended | None]
+
+
 def in_turn(attempt: Callable[[int], Found | None]) -> Iterator[Found]:
     """What comes of an attempt with its first call refused, then its second, and so on, several at
     once, up to the first number at which nothing was refused and there is no result."""
@@ -169,21 +174,18 @@ def built_shim(name: str) -> str:
 
 
 def counts(command: list[str], given: str = "") -> tuple[Ended, dict[str, int]]:
-    """How a run ended, with its counts of SYNCS and THREADS (tests/shims/counts.c)."""
+    """How a run ended, with its counts of SYNCS, THREADS and memory (tests/shims/counts.c)."""
     done = ended(command, given, env={**os.environ, "LD_PRELOAD": shim("counts")})
-    *faults, syncs, threads = done.faults.splitlines(keepends=True)
-    found = {it.split()[0]: int(it.split()[1]) for it in (syncs, threads)}
-    return done._replace(faults="".join(faults)), found
+    told = r"(?m)^(SYNCS|THREADS|PEAK|ASKED) (\d+)\n"
+    found = {word: int(count) for word, count in re.findall(told, done.faults)}
+    return done._replace(faults=re.sub(told, "", done.faults)), found
 
 
-def without_request(nth: int, command: list[str], given: str = "") -> Ended | None:
+def without_request(nth: int, command: list[str], given: str = "", **options: Any) -> Ended | None:
     """How a run ended whose request for memory of this number was refused, or nothing if it made
     fewer requests."""
-    done = ended(
-        command,
-        given,
-        env={**os.environ, "LD_PRELOAD": shim("refuse"), "REFUSE_NTH": str(nth)},
-    )
+    env = {**os.environ, "LD_PRELOAD": shim("refuse"), "REFUSE_NTH": str(nth)}
+    done = ended(command, given, env=env, **options)
     if "REFUSED\n" not in done.faults:
         return None
     return done._replace(faults=done.faults.replace("REFUSED\n", ""))

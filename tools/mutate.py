@@ -194,7 +194,9 @@ class Tokens:
                 yield self.mutant("operands swapped", first, last, f"{right} {text} {left}")
 
     def of_call(self, arguments):
-        for (first, end), (second, last) in zip(arguments, arguments[1:]):
+        # the order of arguments with names says nothing
+        plain = [it for it in arguments if "=" not in self.texts[it[0] : it[1]]]
+        for (first, end), (second, last) in zip(plain, plain[1:]):
             yield self.mutant("operands swapped", first, last, f"{self.text(second, last)}, {self.text(first, end)}")
         for it in arguments:
             yield self.without("argument dropped", *it) if self.language is PYTHON else self.constant(*it)

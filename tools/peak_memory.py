@@ -10,12 +10,10 @@ that are made one after another in memory that is kept, all that was ever asked 
 A line for each test; the last line is `N passed, M failed`. It needs the toolchain alone, whose compiler builds the shim.
 """
 
-import os
-import re
 import sys
 
 from refuse_memory import tests_of
-from tests.helpers import ended, shim
+from tests.helpers import counts
 
 # scrypt's memory of N = 2^14 and r = 8 in KiB.
 TABLE = 128 * 8 * 2**14 // 1024
@@ -37,8 +35,8 @@ def main():
     passed = 0
     for ending, word, said in SAID:
         [test] = tests_of("hash_tests", ending)
-        done = ended(test, env={**os.environ, "LD_PRELOAD": shim("peak")})
-        found = max(map(int, re.findall(rf"(?m)^{word} (\d+)$", done.faults)), default=0)
+        done, counted = counts(test)
+        found = counted.get(word, 0)
         is_well = done.status == 0 and 1024 * said <= found <= 1024 * (said + SOME_KIB)
         passed += is_well
         print(f"hash_tests {test[1]}: {said} KiB said, {found / 1024:.0f} KiB {HOW[word]}{'' if is_well else ': FAILED'}", flush=True)

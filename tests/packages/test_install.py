@@ -1,9 +1,5 @@
-"""What `make install` and `make deb` put where, and that it works there. It needs root, and what `make build` builds.
+"""What `make install` and `make deb` put where, and that it works there. It needs root, and what `make build` builds."""
 
-    python3 -m unittest tests/packages/test_install.py
-"""
-
-import os
 import pathlib
 import re
 import shutil
@@ -12,7 +8,8 @@ import sys
 import tempfile
 import unittest
 
-TOP = pathlib.Path(__file__).resolve().parents[2]
+from tests.helpers import TOP, need, need_root, run
+
 PROGRAMS = ("credbook", "credkeep")
 VERSION = (TOP / "VERSION").read_text().strip()
 # A page's C that is no program by itself: its lines after the first, over a password of their own.
@@ -83,46 +80,46 @@ def sample(page, language, word):
     return next(it for it in found if word in it)
 
 
-@unittest.skipUnless(os.geteuid() == 0, "needs root, for a mount namespace")
-@unittest.skipUnless((TOP / "c/out/librigzumal.so.1").exists() and all(map(levels, PROGRAMS)), "needs what make build builds")
+IS_BUILT = (TOP / "c/out/librigzumal.so.1").exists()
+
+
+@unittest.skipUnless(IS_BUILT and all(map(levels, PROGRAMS)), "needs what make build builds")
 class Install(unittest.TestCase):
     def test_install_and_uninstall(self):
         """All that is installed below /usr/local is found and works, and uninstall leaves nothing."""
+        need_root()
         room = tempfile.TemporaryDirectory()
         self.addCleanup(room.cleanup)
         code = sample("README.md", "c", "rigzumal.h")
         if "main(" not in code:
             code = MAIN % code.partition("\n")[2].replace("...", "return 0;")
         samples = {"SAMPLE": sample("python/README.md", "python", "PasswordHasher"), "C_SAMPLE": code}
-        env = {**os.environ, "ROOM": room.name, "TOP": str(TOP), "CPU": levels("credkeep")[0], **samples}
-        env.pop("PYTHONPATH", None)
+        env = {"ROOM": room.name, "TOP": str(TOP), "CPU": levels("credkeep")[0], "PYTHONPATH": "", **samples}
         words = ["unshare", "--mount", "--propagation", "private", "sh", "-c", NAMESPACE + USED]
-        done = subprocess.run(words, env=env, capture_output=True, text=True, timeout=600)
-        self.assertEqual((done.returncode, done.stderr), (0, ""), done.stdout)
-        self.assertRegex(done.stdout, f"^{USES}$")
+        self.assertRegex(run(*words, env=env), f"^{USES}$")
 
 
-@unittest.skipUnless(shutil.which("dpkg-shlibdeps"), "needs dpkg-dev")
-@unittest.skipUnless((TOP / "c/out/librigzumal.so.1").exists(), "needs what make -C c builds")
+@unittest.skipUnless(IS_BUILT, "needs what make -C c builds")
 class Debs(unittest.TestCase):
+    def setUp(self):
+        need("dpkg-shlibdeps")
+
     def debs(self, folder, *words):
-        done = subprocess.run(["make", "-s", "-C", TOP / folder, "deb", *words], capture_output=True, text=True, timeout=600)
-        self.assertEqual(done.returncode, 0, done.stdout + done.stderr)
-        return [pathlib.Path(it) for it in done.stdout.splitlines() if it.endswith(".deb")]
+        said = run("make", "-s", "-C", TOP / folder, "deb", *words)
+        return [pathlib.Path(it) for it in said.splitlines() if it.endswith(".deb")]
 
     def check(self, debs, names):
         self.assertEqual([it.name for it in debs], [f"{name}_{VERSION}_{arch}.deb" for name, arch in names])
         for deb in debs:
             with self.subTest(deb=deb.name), tempfile.TemporaryDirectory() as room:
-                subprocess.run(["dpkg-deb", "-x", deb, room], check=True)
+                run("dpkg-deb", "-x", deb, room)
                 (copyright_,) = pathlib.Path(room).glob("usr/share/doc/*/copyright")
                 self.assertIn("There is no licence yet", copyright_.read_text())
-                said = subprocess.run(["dpkg-deb", "-f", deb, "Version", "Depends"], capture_output=True, text=True, check=True).stdout
+                said = run("dpkg-deb", "-f", deb, "Version", "Depends")
                 self.assertIn(f"Version: {VERSION}\n", said)
                 self.assertNotIn("@", said)
         if shutil.which("lintian"):
-            done = subprocess.run(["lintian", "--fail-on", "error,warning", *debs], capture_output=True, text=True)
-            self.assertEqual(done.returncode, 0, done.stdout)
+            run("lintian", "--fail-on", "error,warning", *debs)
 
     def test_library(self):
         self.check(self.debs("c"), [("librigzumal1", "amd64"), ("librigzumal-dev", "amd64")])
@@ -137,13 +134,6 @@ class Debs(unittest.TestCase):
 
     def test_programs_of_another_level(self):
         """Programs that don't run on every processor aren't packed without a word."""
-        words = ["make", "-s", "-C", TOP / "c/pam", "deb"]
-        if "x86-64" in levels("credbook"):
-            words.append("CPU=x86-64-v2")
-        done = subprocess.run(words, capture_output=True, text=True, timeout=600)
-        self.assertNotEqual(done.returncode, 0)
-        self.assertRegex(done.stderr, r"credbook isn't built for x86-64(-v2)?: make programs CPU=")
-
-
-if __name__ == "__main__":
-    unittest.main()
+        words = ["CPU=x86-64-v2"] if "x86-64" in levels("credbook") else []
+        said = run("make", "-s", "-C", TOP / "c/pam", "deb", *words, status=2)
+        self.assertRegex(said, r"credbook isn't built for x86-64(-v2)?: make programs CPU=")

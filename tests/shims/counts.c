@@ -1,6 +1,9 @@
-/* Before the C library: counts the syncs of a program, and the most threads that it started and
- * hadn't joined yet. It tells both as the program ends. A list of /proc's may name an ended thread.
- * The toolchain has no headers. */
+/* Before the C library: counts the syncs of a program, the most threads that it started and hadn't
+ * joined yet, and the memory in bytes: the most that was asked for at any time and not yet given
+ * back, and all that was ever asked for. It tells them as the program ends. A list of /proc's may
+ * name an ended thread. The toolchain has no headers. */
+typedef __SIZE_TYPE__ size_t;
+
 #ifdef __aarch64__
 enum { FSYNC = 82, FDATASYNC = 83, EXIT_GROUP = 94 };
 #else
@@ -10,47 +13,94 @@ enum { FSYNC = 74, FDATASYNC = 75, EXIT_GROUP = 231 };
 extern long syscall(long number, ...);
 extern int dprintf(int fd, const char *form, ...);
 extern void *dlsym(void *handle, const char *name);
+extern size_t malloc_usable_size(void *held);
 
-static int syncs, live, most;
+#define NEXT(name) ((__typeof__(&name))dlsym((void *)-1, #name))
+#define ADD(count, more) __atomic_add_fetch(&count, more, __ATOMIC_SEQ_CST)
+
+static long syncs, threads, most_threads, held, most_held, asked;
+
+/* Raises the most to what there is now. */
+static void raise_to(long *most, long now) {
+    long seen = __atomic_load_n(most, __ATOMIC_SEQ_CST);
+
+    while (seen < now &&
+           !__atomic_compare_exchange_n(most, &seen, now, 0, __ATOMIC_SEQ_CST, __ATOMIC_SEQ_CST))
+        ;
+}
 
 int fsync(int fd) {
-    __atomic_add_fetch(&syncs, 1, __ATOMIC_SEQ_CST);
+    ADD(syncs, 1);
     return (int)syscall(FSYNC, fd);
 }
 
 int fdatasync(int fd) {
-    __atomic_add_fetch(&syncs, 1, __ATOMIC_SEQ_CST);
+    ADD(syncs, 1);
     return (int)syscall(FDATASYNC, fd);
 }
 
 int pthread_create(unsigned long *thread, const void *attributes, void *(*start)(void *),
                    void *argument) {
-    int (*create)(unsigned long *, const void *, void *(*)(void *), void *) =
-        dlsym((void *)-1, "pthread_create");
-    int now = __atomic_add_fetch(&live, 1, __ATOMIC_SEQ_CST);
-    int seen = __atomic_load_n(&most, __ATOMIC_SEQ_CST);
-    int fault = create(thread, attributes, start, argument);
+    long now = ADD(threads, 1);
+    int fault = NEXT(pthread_create)(thread, attributes, start, argument);
 
-    while (now > seen &&
-           !__atomic_compare_exchange_n(&most, &seen, now, 0, __ATOMIC_SEQ_CST, __ATOMIC_SEQ_CST))
-        ;
+    raise_to(&most_threads, now);
     if (fault)
-        __atomic_sub_fetch(&live, 1, __ATOMIC_SEQ_CST);
+        ADD(threads, -1);
     return fault;
 }
 
 int pthread_join(unsigned long thread, void **value) {
-    int (*join)(unsigned long, void **) = dlsym((void *)-1, "pthread_join");
-    int fault = join(thread, value);
+    int fault = NEXT(pthread_join)(thread, value);
 
     if (!fault)
-        __atomic_sub_fetch(&live, 1, __ATOMIC_SEQ_CST);
+        ADD(threads, -1);
     return fault;
+}
+
+static void *made(void *made, size_t size) {
+    ADD(asked, (long)size);
+    if (made)
+        raise_to(&most_held, ADD(held, (long)malloc_usable_size(made)));
+    return made;
+}
+
+static void given_back(void *old) {
+    if (old)
+        ADD(held, -(long)malloc_usable_size(old));
+}
+
+void *malloc(size_t size) {
+    return made(NEXT(malloc)(size), size);
+}
+
+void *realloc(void *old, size_t size) {
+    given_back(old);
+    void *new = NEXT(realloc)(old, size);
+    made(new ? new : old, size);
+    return new;
+}
+
+void *aligned_alloc(size_t alignment, size_t size) {
+    return made(NEXT(aligned_alloc)(alignment, size), size);
+}
+
+int posix_memalign(void **at, size_t alignment, size_t size) {
+    int fault = NEXT(posix_memalign)(at, alignment, size);
+
+    made(fault ? 0 : *at, size);
+    return fault;
+}
+
+void free(void *old) {
+    given_back(old);
+    NEXT(free)(old);
 }
 
 /* The program ends by this, and runs no destructors. */
 void _exit(int code) {
-    dprintf(2, "SYNCS %d\nTHREADS %d\n", syncs, most);
+    dprintf(2, "SYNCS %ld\nTHREADS %ld\nPEAK %ld\nASKED %ld\n", syncs, most_threads, most_held,
+            asked);
     for (;;)
         syscall(EXIT_GROUP, code);
 }

@@ -1,7 +1,4 @@
-"""tools/build.py: what it builds, in which order, and what it says meanwhile.
-
-    python3 -m unittest tests/tools/test_build.py
-"""
+"""tools/build.py: what it builds, in which order, and what it says meanwhile."""
 
 import os
 import pathlib
@@ -97,7 +94,3 @@ class Build(unittest.TestCase):
         self.assertEqual(said.returncode, 1)
         self.assertIn("high: not proved\na goal stands open\n", said.stderr)
         self.assertNotIn("program", self.asked())
-
-
-if __name__ == "__main__":
-    unittest.main()

@@ -1,7 +1,4 @@
-"""tools/completions.py: what the shells complete, over programs that show clap's help.
-
-    python3 -m unittest tests/tools/test_completions.py
-"""
+"""tools/completions.py: what the shells complete, over programs that show clap's help."""
 
 import os
 import pathlib
@@ -22,8 +19,10 @@ Usage: credkeep [--wait <SECONDS>] <FILE> <COMMAND>
 
 Commands:
   init     Begins a book: an empty one
+  add      Adds one
   check    Says whether it's right
   backup   Writes a copy
+  restore  Puts it back
 
 Options:
       --wait <SECONDS>  Tries for so many seconds [default: 0]
@@ -32,6 +31,8 @@ TEXT
 ;;
 '- init --help') printf 'Usage: credkeep <FILE> init\n\nOptions:\n  -h, --help  Print help\n' ;;
 '- check --help') printf 'Usage: credkeep <FILE> check [OPTIONS] <NAME>\n\nOptions:\n      --echo  Asks at a terminal\n' ;;
+'- add --help') printf 'Usage: credkeep <FILE> add <NAME>\n\nOptions:\n  -h, --help  Print help\n' ;;
+'- restore --help') printf 'Usage: credkeep <FILE> restore <FROM>\n' ;;
 '- backup --help') printf 'Usage: credkeep <FILE> backup <TO>\n\nOptions:\n      --most <SIZE>\n          At most this\n' ;;
 'users.db list') printf 'ada\nann\n' ;;
 *) exit 1 ;;
@@ -48,12 +49,14 @@ exit 1
 # The line before the cursor, and what is offered there.
 CASES = [
     ("credkeep ", {"users.db"}),
-    ("credkeep users.db ", {"init", "check", "backup"}),
+    ("credkeep users.db ", {"init", "add", "check", "backup", "restore"}),
     ("credkeep users.db ch", {"check"}),
     ("credkeep --wait 5 users.db ch", {"check"}),
     ("credkeep-ask users.db ch", {"check"}),
     ("credkeep users.db check a", {"ada", "ann"}),
     ("credkeep users.db check ada ", set()),
+    ("credkeep users.db add a", set()),
+    ("credkeep users.db restore u", {"users.db"}),
     ("credkeep users.db check --", {"--echo"}),
     ("credkeep users.db backup u", {"users.db"}),
     ("credkeep users.db backup --", {"--most"}),
@@ -127,7 +130,3 @@ class Completions(unittest.TestCase):
         self.assertEqual([[it.name for it in room.iterdir()] for room in rooms], [["of-another"]] * 3)
         for it in others:
             it.unlink()
-
-
-if __name__ == "__main__":
-    unittest.main()

@@ -1,7 +1,4 @@
-"""tools/english.py: which sentences it finds, where, and which habits it counts.
-
-    python3 -m unittest tests/tools/test_english.py
-"""
+"""tools/english.py: which sentences it finds, where, and which habits it counts."""
 
 import pathlib
 import re
@@ -113,7 +110,3 @@ class EnglishTest(unittest.TestCase):
             self.assertEqual(len(self.run_it("--show", habit, "docs/SERVING.md").splitlines()), counts[habit], habit)
         self.assertEqual(self.run_it("--draw", "5", "7"), self.run_it("--draw", "5", "7"))
         self.assertEqual(len(self.run_it("--draw", "5", "7").splitlines()), 5)
-
-
-if __name__ == "__main__":
-    unittest.main()

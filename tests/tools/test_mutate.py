@@ -1,7 +1,4 @@
-"""tools/mutate.py: each operator makes a mutant that a weak test lets through and a better one refuses.
-
-    python3 -m unittest tests/tools/test_mutate.py
-"""
+"""tools/mutate.py: each operator makes a mutant that a weak test lets through and a better one refuses."""
 
 import pathlib
 import re
@@ -136,7 +133,3 @@ class Mutate(unittest.TestCase):
         first, second = (it.partition("\n")[2] for it in drawn)
         self.assertEqual(first, second)
         self.assertIn(" 5 tried", first)
-
-
-if __name__ == "__main__":
-    unittest.main()
