@@ -1,4 +1,4 @@
-"""The program that is timed, of the crate bench_hashes."""
+"""The programs that are timed, of the crates bench_hashes and bench_desk."""
 
 import os
 import pathlib
@@ -6,17 +6,22 @@ import shutil
 import subprocess
 import sys
 
-CRATE = pathlib.Path(__file__).resolve().parent.parent / "crates/bench_hashes"
+CRATES = pathlib.Path(__file__).resolve().parent.parent / "crates"
 HUGE_PAGES = {**os.environ, "GLIBC_TUNABLES": "glibc.malloc.hugetlb=1"}
 
 
-def built(room, level, *words):
-    """Proves and builds the program for a level of processors, and gives the path of a copy. The words
-    are some work that it does at once."""
-    program = CRATE / "out/bench_hashes"
-    command = ["rt", "run", f"--cpu={level}", "--", *words]
+def built(crate, *words):
+    """Proves and builds a crate's program, and gives its path. The words are rt's, and some work that
+    the program does at once."""
+    program = CRATES / crate / "out" / crate
     nothing = {"stdin": subprocess.DEVNULL, "capture_output": True, "text": True}
-    done = subprocess.run(command, cwd=CRATE, **nothing)
+    done = subprocess.run(["rt", "run", *words], cwd=CRATES / crate, **nothing)
     if done.returncode != 0 or not program.exists():
         sys.exit(done.stdout + done.stderr)
+    return program
+
+
+def hashes_for(level, room, *work):
+    """A copy of the program of hashes, built for a level of processors."""
+    program = built("bench_hashes", f"--cpu={level}", "--", *work)
     return shutil.copy(program, pathlib.Path(room) / level)

@@ -18,19 +18,13 @@ from typing import NamedTuple
 import passlib.hash
 from argon2 import Type, exceptions, low_level
 
-from cases import (
-    KINDS,
-    Case,
-    all_cases,
-    argon2_by_passlib,
-    numbers_of,
-    padded,
-    scrypt_by_passlib,
-    unpadded,
-)
+from cases import KINDS, Case, all_cases, argon2_by_passlib, numbers_of, padded, scrypt_by_passlib, unpadded
 from writers import PASSWORD, all_writers
 
-PROGRAM = pathlib.Path(__file__).resolve().parent.parent / "crates/credbook/out/credbook"
+TOP = pathlib.Path(__file__).resolve().parent.parent
+sys.path.insert(1, str(TOP / "bench"))
+from turns import print_head, print_row  # noqa: E402
+
 WORKERS = "4"
 TAG = 32
 
@@ -50,15 +44,13 @@ REFUSED_SETTINGS = [
 class Answer(NamedTuple):
     status: int
     written: str
-    faults: str
+    faults: str = ""
 
     def __str__(self):
         return (self.written + self.faults.replace("credbook: ", "", 1)).strip() or f"status {self.status}"
 
 
-def credbook(program, words, script=""):
-    done = subprocess.run([program, *words], input=script.encode(), stdout=subprocess.PIPE, stderr=subprocess.PIPE)
-    return Answer(done.returncode, done.stdout.decode(), done.stderr.decode())
+YES, NO = Answer(0, "yes\n"), Answer(4, "no\n")
 
 
 def fault_answer(fault):
@@ -70,29 +62,28 @@ def other(password):
     return password[:-1] + bytes([password[-1] ^ 1]) if password else b"x"
 
 
-def password_words(password):
-    """On the command line the empty password is left away."""
-    return [unpadded(password)] if password else []
+class Credbook:
+    """The program, and what it answered otherwise than it has to."""
 
+    def __init__(self, program):
+        self.program, self.mismatches = program, []
 
-def expected_check(case, right):
-    if case.fault:
-        return fault_answer(case.fault)
-    return Answer(0, "yes\n", "") if right else Answer(4, "no\n", "")
+    def __call__(self, *words, password=b"", script=""):
+        """On the command line the empty password is left away."""
+        command = [self.program, *words, *([unpadded(password)] if password else [])]
+        done = subprocess.run(command, input=script.encode(), capture_output=True)
+        return Answer(done.returncode, done.stdout.decode(), done.stderr.decode())
+
+    def compare(self, what, expected, answered):
+        if answered != expected:
+            self.mismatches.append(f"{what}: expected {expected!r}, answered {answered!r}")
 
 
 def script_lines(name, case):
     """An account, its record, and two tries that are open at once: the right password and another."""
     right, wrong = (unpadded(password) or "-" for password in [case.password, other(case.password)])
-    return [
-        f"account {name}",
-        f"load {name} {case.text}",
-        f"show {name}",
-        f"begin 1 verify {name} {right}",
-        f"begin 64 verify {name} {wrong}",
-        "commit 1",
-        "commit 64",
-    ]
+    lines = [f"account {name}", f"load {name} {case.text}", f"show {name}"]
+    return [*lines, f"begin 1 verify {name} {right}", f"begin 64 verify {name} {wrong}", "commit 1", "commit 64"]
 
 
 def expected_script(case):
@@ -105,14 +96,13 @@ def expected_script(case):
     return ["ok", "ok", shown, "begun", "begun", "yes", "no"]
 
 
-def in_a_script(program, cases, mismatches):
+def in_a_script(credbook, cases):
     """The answers of one script, seven for each case."""
     lines = [line for i, case in enumerate(cases) for line in script_lines(f"user-{i}", case)]
-    run = credbook(program, ["run", "--workers", WORKERS], "".join(line + "\n" for line in lines))
+    run = credbook("run", "--workers", WORKERS, script="".join(line + "\n" for line in lines))
     answers = run.written.splitlines()
-    if (run.status, run.faults, len(answers)) != (0, "", len(lines)):
-        mismatches.append(f"the script: status {run.status}, {run.faults!r}, {len(answers)} of {len(lines)} answers")
-    return [answers[i:i + 7] for i in range(0, len(lines), 7)]
+    credbook.compare("the script", (0, "", len(lines)), (run.status, run.faults, len(answers)))
+    return [answers[i : i + 7] for i in range(0, len(lines), 7)]
 
 
 def scheme(text):
@@ -124,47 +114,39 @@ def ranges(cases):
     found = {}
     for case in cases:
         *_, costs, salt, tag = case.text.split("$")
-        numbers = [pair.split("=") for pair in costs.split(",")]
-        sizes = zip(("salt", "tag"), map(len, map(padded, (salt, tag))))
-        for name, number in (*numbers, *sizes, ("password", len(case.password))):
+        sizes = {"salt": len(padded(salt)), "tag": len(padded(tag)), "password": len(case.password)}
+        for name, number in [*(pair.split("=") for pair in costs.split(",")), *sizes.items()]:
             found.setdefault(name, set()).add(int(number))
-    spans = []
-    for name, numbers in found.items():
-        ends = sorted({min(numbers), max(numbers)})
-        spans.append(f"{name} {' to '.join(map(str, ends))}")
+    spans = (f"{name} {' to '.join(map(str, sorted({min(it), max(it)})))}" for name, it in found.items())
     return f"{', '.join(sorted({scheme(it.text) for it in cases}))}: {', '.join(spans)}"
 
 
-def print_groups(rows):
-    """One row for all cases of a maker that are answered alike."""
+def grouped(rows):
+    """The cases of a table's rows that are alike but for them."""
     groups = {}
-    for case, answers in rows:
-        key = (case.maker, scheme(case.text) == "scrypt", case.fault or "inside", *answers)
-        groups.setdefault(key, []).append(case)
-    for (maker, _, expected, *answers), cases in groups.items():
-        what = ranges(cases) if expected == "inside" else "; ".join(it.what for it in cases)
-        print(f"| {maker} | {len(cases)} | {what} | {expected} | {' | '.join(answers)} |", flush=True)
+    for case, row in rows:
+        groups.setdefault(row, []).append(case)
+    return groups.items()
 
 
-def taken(program, mismatches):
-    """The first table: each string on the command line and in the script."""
+def taken(credbook):
+    """The first table: each string on the command line and in the script. One row for all of a maker that are answered alike."""
     cases, rows = all_cases(), []
     print("## Strings that credbook reads\n")
-    print("| Maker | Strings | Which; bytes of salt, tag, password | Expected | Right one | Another | In a script: load, both |")
-    print("|---|---|---|---|---|---|---|")
-    for case, answers in zip(cases, in_a_script(program, cases, mismatches)):
-        right = credbook(program, ["check", case.text, *password_words(case.password)])
-        wrong = credbook(program, ["check", case.text, *password_words(other(case.password))])
-        for what, expected, answered in [
-            ("check, right password", expected_check(case, True), right),
-            ("check, another password", expected_check(case, False), wrong),
-            ("script", expected_script(case), answers),
-        ]:
-            if answered != expected:
-                mismatches.append(f"{case.maker}, {what}: {case.text}: expected {expected!r}, answered {answered!r}")
+    print_head("Maker|Strings|Which; bytes of salt, tag, password|Expected|Right one|Another|In a script: load, both".split("|"))
+    for case, answers in zip(cases, in_a_script(credbook, cases)):
+        right = credbook("check", case.text, password=case.password)
+        wrong = credbook("check", case.text, password=other(case.password))
+        fault = case.fault and fault_answer(case.fault)
+        credbook.compare(f"{case.maker}, check, right password: {case.text}", fault or YES, right)
+        credbook.compare(f"{case.maker}, check, another password: {case.text}", fault or NO, wrong)
+        credbook.compare(f"{case.maker}, script: {case.text}", expected_script(case), answers)
         tries = [answer if begun == "begun" else begun for begun, answer in zip(answers[3:5], answers[5:7])]
-        rows.append((case, (str(right), str(wrong), ", ".join(answers[1:2] + tries))))
-    print_groups(rows)
+        said = (str(right), str(wrong), ", ".join(answers[1:2] + tries))
+        rows.append((case, (case.maker, scheme(case.text) == "scrypt", case.fault or "inside", *said)))
+    for (maker, _, expected, *answers), found in grouped(rows):
+        what = ranges(found) if expected == "inside" else "; ".join(it.what for it in found)
+        print_row([maker, len(found), what, expected, *answers])
 
 
 def argon2_cffi_says(text, password):
@@ -202,78 +184,68 @@ def judged(says, text, password):
         return f"refused: {error}"
 
 
-def written(program, mismatches):
+def written(credbook):
     """The second table: what credbook writes, judged by others."""
     print("\n## Strings that credbook writes\n")
-    print("| Reference | Strings | Which; bytes of salt, tag, password | Right, another one | passlib on both | passlib's string |")
-    print("|---|---|---|---|---|---|")
-    groups = {}
+    print_head("Reference|Strings|Which; bytes of salt, tag, password|Right, another one|passlib on both|passlib's string".split("|"))
+    rows = []
     for made, password, name, says in to_write():
         setting = made.rpartition("$")[0]
-        answer = credbook(program, ["hash", setting, *password_words(password), "--workers", WORKERS])
+        answer = credbook("hash", setting, "--workers", WORKERS, password=password)
         text = answer.written.removesuffix("\n")
         handler = passlib.hash.scrypt if name == "OpenSSL" else passlib.hash.argon2
         reference = judged(says, text, password)
         theirs = judged(lambda text, tried: handler.verify(tried, text), text, password)
-        if (answer, reference, theirs) != (Answer(0, made + "\n", ""), "yes, no", "yes, no"):
-            judges = f"{name} {reference}; passlib {theirs}"
-            mismatches.append(f"hash {setting}: expected {made}, answered {answer!r}; {judges}")
+        found = (answer, reference, theirs)
+        credbook.compare(f"hash {setting}, {name}, passlib", (Answer(0, made + "\n"), "yes, no", "yes, no"), found)
         said = (reference, theirs, "the same" if text == made else "another")
-        groups.setdefault((name, *said), []).append(Case(name, setting, made, password))
-    for (name, *said), cases in groups.items():
-        print(f"| {name} | {len(cases)} | {ranges(cases)} | {' | '.join(said)} |", flush=True)
+        rows.append((Case(name, setting, made, password), (name, *said)))
+    for (name, *said), cases in grouped(rows):
+        print_row([name, len(cases), ranges(cases), *said])
 
 
-def settings_refused(program, mismatches):
+def settings_refused(credbook):
     """The third table: texts that are no settings."""
     print("\n## Texts that are no settings\n")
-    print("| Text | Expected | Answered |")
-    print("|---|---|---|")
+    print_head(["Text", "Expected", "Answered"])
     for setting, fault in REFUSED_SETTINGS:
-        answer = credbook(program, ["hash", setting, unpadded(b"password")])
-        if answer != fault_answer(fault):
-            mismatches.append(f"hash {setting}: expected {fault_answer(fault)!r}, answered {answer!r}")
-        print(f"| `{setting}` | {fault} | {answer} |", flush=True)
+        answer = credbook("hash", setting, password=b"password")
+        credbook.compare(f"hash {setting}", fault_answer(fault), answer)
+        print_row([f"`{setting}`", fault, answer])
 
 
-def others(program, mismatches):
+def others(credbook):
     """The fourth table: strings of further programs as they are and without their prefix, and what these say of credbook's."""
     print("\n## Further programs, both ways\n")
-    print("| Writer | String | As written | Without its prefix: right, another one | The writer on credbook's: right, another one |")
-    print("|---|---|---|---|---|")
+    head = "Writer|String|As written|Without its prefix: right, another one|The writer on credbook's: right, another one"
+    print_head(head.split("|"))
     found, missing = all_writers()
-    for writer in found:
-        for text in writer.texts:
-            bare = text[text.index("$"):]
-            word = unpadded(PASSWORD)
-            as_written = credbook(program, ["check", text, word])
-            read = ", ".join(str(credbook(program, ["check", bare, unpadded(it)])) for it in [PASSWORD, other(PASSWORD)])
-            made = credbook(program, ["hash", bare.rpartition("$")[0], word]).written.strip()
-            theirs = judged(writer.says, made, PASSWORD)
-            wanted = fault_answer("1 shape") if writer.prefix else Answer(0, "yes\n", "")
-            if (as_written, read, theirs) != (wanted, "yes, no", "yes, no"):
-                mismatches.append(f"{writer.name}: {text}: as written {as_written}, read {read}, {made}: {theirs}")
-            print(f"| {writer.name} | {numbers_of(text)} | {as_written} | {read} | {theirs} |", flush=True)
-            trailing = credbook(program, ["check", bare + "\r", word])
-            if trailing != fault_answer("7 tag"):
-                mismatches.append(f"{writer.name}: a carriage return behind {bare}: {trailing}")
+    for writer, text in ((writer, text) for writer in found for text in writer.texts):
+        bare = text[text.index("$") :]
+        as_written = credbook("check", text, password=PASSWORD)
+        read = ", ".join(str(credbook("check", bare, password=it)) for it in [PASSWORD, other(PASSWORD)])
+        made = credbook("hash", bare.rpartition("$")[0], password=PASSWORD).written.strip()
+        theirs = judged(writer.says, made, PASSWORD)
+        wanted = fault_answer("1 shape") if writer.prefix else YES
+        credbook.compare(f"{writer.name}: {text}, {made}", (wanted, "yes, no", "yes, no"), (as_written, read, theirs))
+        print_row([writer.name, numbers_of(text), as_written, read, theirs])
+        trailing = credbook("check", bare + "\r", password=PASSWORD)
+        credbook.compare(f"{writer.name}: a carriage return behind {bare}", fault_answer("7 tag"), trailing)
     if missing:
         print(f"\nNot tried, since they aren't there: {', '.join(missing)}.")
 
 
 def main():
-    program = pathlib.Path(sys.argv[1]).resolve() if len(sys.argv) > 1 else PROGRAM
+    program = pathlib.Path(sys.argv[1]).resolve() if len(sys.argv) > 1 else TOP / "crates/credbook/out/credbook"
     if not program.is_file():
         sys.exit(f"{program} isn't there: build it with `rt run` in crates/credbook, or name another")
-    mismatches = []
-    taken(program, mismatches)
-    written(program, mismatches)
-    settings_refused(program, mismatches)
-    others(program, mismatches)
-    print(f"\nMismatches: {len(mismatches)}.")
-    for mismatch in mismatches:
+    credbook = Credbook(program)
+    for table in (taken, written, settings_refused, others):
+        table(credbook)
+    print(f"\nMismatches: {len(credbook.mismatches)}.")
+    for mismatch in credbook.mismatches:
         print(f"- {mismatch}")
-    return 1 if mismatches else 0
+    return 1 if credbook.mismatches else 0
 
 
 if __name__ == "__main__":

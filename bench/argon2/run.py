@@ -14,8 +14,8 @@ and a build for newer processors.
 
 import argparse
 import functools
-import os
 import pathlib
+import resource
 import shutil
 import subprocess
 import sys
@@ -24,7 +24,7 @@ import time
 
 sys.path.insert(1, str(pathlib.Path(__file__).resolve().parents[1]))
 
-from programs import HUGE_PAGES, built
+from programs import HUGE_PAGES, hashes_for
 from turns import best, print_head, print_row, ratio, take_turns
 
 # Memory in KiB, passes, lanes, workers. The last lies in the processor's own cache, so no memory is
@@ -46,38 +46,23 @@ CHOSEN = [(65536, 3, 1, 1), (65536, 3, 4, 4)]
 WAYS = {"as built": None, "with huge pages": HUGE_PAGES}
 
 
-def reference_program():
-    missing = [it for it in ("argon2", "/usr/bin/time") if shutil.which(it) is None]
-    if missing:
-        sys.exit(f"not there: {', '.join(missing)} (Debian's packages argon2 and time have them)")
-    return shutil.which("argon2")
-
-
 def ran(command, given=b"", env=None):
     """Wall and processor milliseconds, the part of them that the system took, and what was written."""
-    start = time.perf_counter()
-    pipes = {"stdin": subprocess.PIPE, "stdout": subprocess.PIPE}
-    process = subprocess.Popen(command, env=env, **pipes)
-    process.stdin.write(given)
-    process.stdin.close()
-    written = process.stdout.read()
-    _, process.returncode, usage = os.wait4(process.pid, 0)
-    wall = time.perf_counter() - start
-    process.stdout.close()
-    if process.returncode != 0:
-        sys.exit(f"{command[0]} ended with status {process.returncode}")
-    cpu = usage.ru_utime + usage.ru_stime
-    return (1000 * wall, 1000 * cpu, usage.ru_stime / max(cpu, 0.001)), written.strip()
+    before, start = resource.getrusage(resource.RUSAGE_CHILDREN), time.perf_counter()
+    written = subprocess.run(command, input=given, env=env, stdout=subprocess.PIPE, check=True).stdout
+    wall, after = time.perf_counter() - start, resource.getrusage(resource.RUSAGE_CHILDREN)
+    system = after.ru_stime - before.ru_stime
+    cpu = after.ru_utime - before.ru_utime + system
+    return (1000 * wall, 1000 * cpu, system / max(cpu, 0.001)), written.strip()
 
 
 def our_words(program, setting):
     return [program, "argon2", *map(str, setting)]
 
 
-def their_words(reference, setting):
+def their_words(setting):
     memory, passes, lanes, _ = map(str, setting)
-    costs = ["-id", "-t", passes, "-k", memory, "-p", lanes]
-    return [reference, "somesalt", *costs, "-l", "32", "-r"]
+    return ["argon2", "somesalt", "-id", "-t", passes, "-k", memory, "-p", lanes, "-l", "32", "-r"]
 
 
 def resident(program, setting):
@@ -87,12 +72,12 @@ def resident(program, setting):
     return int(subprocess.run(command, check=True, **streams).stderr)
 
 
-def compare(program, reference, settings, times):
+def compare(program, settings, times):
     """The first table."""
     rows = {
         setting: {
             "ours": functools.partial(ran, our_words(program, setting)),
-            "theirs": functools.partial(ran, their_words(reference, setting), b"password"),
+            "theirs": functools.partial(ran, their_words(setting), b"password"),
         }
         for setting in settings
     }
@@ -135,12 +120,13 @@ def main():
     words.add_argument("--times", type=int, default=15, help="runs of each (a third of it at 1 GiB)")
     words.add_argument("--quick", action="store_true", help="leave out the setting of 1 GiB")
     given = words.parse_args()
-    reference = reference_program()
+    if missing := [it for it in ("argon2", "/usr/bin/time") if shutil.which(it) is None]:
+        sys.exit(f"not there: {', '.join(missing)} (Debian's packages argon2 and time have them)")
     settings = [it for it in SETTINGS if not (given.quick and it[0] > LARGE)]
     work = ("argon2", "8", "1", "1", "1")
     with tempfile.TemporaryDirectory(prefix="argon2-") as room:
-        programs = {it: built(room, it, *work) for it in ("x86-64-v3", "x86-64")}
-        compare(programs["x86-64"], reference, settings, given.times)
+        programs = {it: hashes_for(it, room, *work) for it in ("x86-64-v3", "x86-64")}
+        compare(programs["x86-64"], settings, given.times)
         print()
         choose(dict(reversed(programs.items())), given.times)
 

@@ -20,50 +20,60 @@ import statistics
 import subprocess
 import sys
 import tempfile
-import threading
 import time
 from collections.abc import Callable, Iterable
-from typing import IO
+
+from service import Service, peak_mb
 
 TOP = pathlib.Path(__file__).resolve().parent.parent.parent
 CHEAP = "$argon2id$v=19$m=8,t=1,p=1"
 PASSWORD = "secret"
 PASSWORD_WORD = "c2VjcmV0"
-READ_ALL = (
-    "import sqlite3, sys\n" "rows = dict(sqlite3.connect(sys.argv[1]).execute('SELECT name, record FROM account'))"
-)
+READ_ALL = "import sqlite3, sys\nrows = dict(sqlite3.connect(sys.argv[1]).execute('SELECT name, record FROM account'))"
 TABLE = "CREATE TABLE account (name TEXT NOT NULL PRIMARY KEY, record TEXT) STRICT"
+BCRYPT = ("htpasswd", "-b", "-B", "-C", "4")
 # How many lines of a kind are timed at once.
 LINES = 1000
 SHOWN = 200_000
 
 
-def run(*words: str | pathlib.Path, given: pathlib.Path | str | None = None, status: int = 0) -> float:
-    """The seconds of a program on a file or a text. It has to end with this status."""
-    with tempfile.TemporaryFile() as text, open(os.devnull, "rb") as nothing:
-        if isinstance(given, str):
-            text.write(given.encode())
-            text.seek(0)
-        source = open(given, "rb") if isinstance(given, pathlib.Path) else text if given else nothing
+def run(*words: str | pathlib.Path, given: str = "", status: int = 0) -> float:
+    """The seconds of a program with this input. It has to end with this status."""
+    nothing = subprocess.DEVNULL
+    with tempfile.TemporaryFile() as text:
+        text.write(given.encode())
+        text.seek(0)
         start = time.perf_counter()
-        ended = subprocess.run(words, stdin=source, stdout=subprocess.DEVNULL, stderr=subprocess.DEVNULL)
+        ended = subprocess.run(words, stdin=text, stdout=nothing, stderr=nothing)
         seconds = time.perf_counter() - start
     if ended.returncode != status:
         sys.exit(f"{words}: status {ended.returncode}")
     return seconds
 
 
-def best(turns: int, work: Callable[[], float]) -> float:
-    """The least time of a call."""
-    return min(work() for _ in range(turns))
+def run_with_peak(*words: str | pathlib.Path, given: str) -> tuple[float, float]:
+    """The seconds of a program with this input, and the most memory that it held, in MB, as was seen each hundredth second."""
+    peak = 0.0
+    with tempfile.TemporaryFile() as text:
+        text.write(given.encode())
+        text.seek(0)
+        start = time.perf_counter()
+        process = subprocess.Popen(words, stdin=text, stdout=subprocess.DEVNULL)
+        while process.poll() is None:
+            peak = max(peak, peak_mb(process.pid))
+            time.sleep(0.01)
+        seconds = time.perf_counter() - start
+    if process.returncode:
+        sys.exit(f"{words}: status {process.returncode}")
+    return seconds, peak
 
 
-def peak_mb(process: int) -> float:
-    """The most memory that a process held since it began its program: what wait4 says counts its parent's too."""
-    for line in pathlib.Path(f"/proc/{process}/status").read_text().splitlines():
-        if line.startswith("VmHWM:"):
-            return int(line.split()[1]) / 1024
-    sys.exit(f"no peak of process {process}")
+def each_timed(work: Callable[[str], object], given: list[str]) -> float:
+    """The seconds of one of these calls."""
+    start = time.perf_counter()
+    for it in given:
+        work(it)
+    return (time.perf_counter() - start) / len(given)
 
 
 def disk_sync(folder: pathlib.Path) -> float:
@@ -81,148 +91,63 @@ def disk_sync(folder: pathlib.Path) -> float:
     return statistics.median(seconds)
 
 
-def run_with_peak(*words: str | pathlib.Path, given: pathlib.Path) -> tuple[float, float]:
-    """The seconds of a program on a file, and the most memory that it held, in MB, as was seen each hundredth second."""
-    peak = 0.0
-    with open(given, "rb") as source:
-        start = time.perf_counter()
-        process = subprocess.Popen(words, stdin=source, stdout=subprocess.DEVNULL)
-        while process.poll() is None:
-            try:
-                peak = max(peak, peak_mb(process.pid))
-            except (OSError, SystemExit):
-                # It ended meanwhile.
-                pass
-            time.sleep(0.01)
-        seconds = time.perf_counter() - start
-    if process.returncode:
-        sys.exit(f"{words}: status {process.returncode}")
-    return seconds, peak
-
-
-class Service:
-    """A credkeep that serves lines."""
-
-    def __init__(self, program: pathlib.Path, book: pathlib.Path) -> None:
-        command = [str(program), str(book), "serve"]
-        self.process = subprocess.Popen(command, stdin=subprocess.PIPE, stdout=subprocess.PIPE)
-        self.ask(["show nobody"])
-
-    def ask(self, lines: list[str]) -> float:
-        """The seconds of lines, each of which is written once the one before it is answered."""
-        assert self.process.stdin and self.process.stdout
-        start = time.perf_counter()
-        for line in lines:
-            self.process.stdin.write(line.encode() + b"\n")
-            self.process.stdin.flush()
-            if not self.process.stdout.readline():
-                sys.exit(f"the service ended at {line}")
-        return time.perf_counter() - start
-
-    def ask_at_once(self, lines: list[str]) -> float:
-        """The seconds of lines that don't wait for answers."""
-        asked, answers = self.process.stdin, self.process.stdout
-        if not asked or not answers:
-            sys.exit("the service has no pipes")
-        text = "".join(line + "\n" for line in lines).encode()
-        writer = threading.Thread(target=send, args=(asked, text))
-        left = len(lines)
-        start = time.perf_counter()
-        writer.start()
-        while left > 0:
-            piece = os.read(answers.fileno(), 1 << 16)
-            if not piece:
-                sys.exit("the service ended")
-            left -= piece.count(b"\n")
-        seconds = time.perf_counter() - start
-        writer.join()
-        return seconds
-
-    def end(self) -> float:
-        """Ends it, and gives the most memory that it held in MB."""
-        assert self.process.stdin and self.process.stdout
-        peak = peak_mb(self.process.pid)
-        self.process.stdin.close()
-        self.process.stdout.close()
-        self.process.wait()
-        return peak
-
-
-def send(pipe: IO[bytes], text: bytes) -> None:
-    """Writes it all."""
-    pipe.write(text)
-    pipe.flush()
+def fill(path: pathlib.Path, rows: Iterable[tuple[str, str]], *texts: str) -> None:
+    """Puts rows into the table of a book, after these statements."""
+    with sqlite3.connect(path) as connection:
+        for text in texts:
+            connection.execute(text)
+        connection.executemany("INSERT INTO account VALUES (?, ?)", rows)
+    connection.close()
 
 
 class Sample:
     """Accounts in random order, in each of the files."""
 
-    def __init__(
-        self, program: pathlib.Path, folder: pathlib.Path, accounts: int, records: tuple[str, str, str]
-    ) -> None:
+    def __init__(self, program: pathlib.Path, folder: pathlib.Path, accounts: int) -> None:
         self.program, self.count = program, accounts
-        # A change puts the second: SQLite writes nothing if a row stays as it is.
-        self.record, self.changed, bcrypt = records
-        self.book, self.other = folder / "users.db", folder / "other.db"
-        self.users, self.lines = folder / "users", folder / "lines"
-        chance = random.Random(accounts)
-        numbers = chance.sample(range(16**8), accounts + 2 * LINES)
+        self.book, self.other, self.users = (folder / it for it in ("users.db", "other.db", "users"))
+        numbers = random.Random(accounts).sample(range(16**8), accounts + 2 * LINES)
         names = [f"n{number:08x}" for number in numbers]
         self.names, self.new = names[:accounts], names[accounts:]
         run(program, self.book, "init")
-        fill(self.book, ((name, self.record) for name in self.names))
+        for name, salt in (("n0", "c29tZXNhbHQ"), ("n1", "b3RoZXJzYWx0")):
+            run(program, self.book, "add", name, "--setting", f"{CHEAP}${salt}", given=PASSWORD)
+        exported = subprocess.run([program, self.book, "export"], capture_output=True, text=True, check=True).stdout
+        # A change puts the second: SQLite writes nothing if a row stays as it is.
+        self.record, self.changed = (line.split(":")[1] for line in exported.split())
+        run(*BCRYPT, "-c", self.users, "n0", PASSWORD)
+        bcrypt = self.users.read_text().strip().split(":")[1]
+        self.rows = [(name, self.record) for name in self.names]
+        fill(self.book, self.rows, "DELETE FROM account")
         shutil.copy(self.book, self.other)
-        with sqlite3.connect(self.other) as connection:
-            connection.execute("CREATE TABLE other (note TEXT)")
-        connection.close()
+        fill(self.other, [], "CREATE TABLE other (note TEXT)")
         self.users.write_text("".join(f"{name}:{bcrypt}\n" for name in self.names))
-        self.lines.write_text("".join(f"{name}:{self.record}\n" for name in self.names))
 
     def some(self, count: int) -> list[str]:
         """So many names out of all, in random order."""
         return random.Random(7).choices(self.names, k=count)
 
 
-def fill(path: pathlib.Path, rows: Iterable[tuple[str, str]]) -> None:
-    """Puts rows into the table of a book."""
-    with sqlite3.connect(path) as connection:
-        connection.executemany("INSERT INTO account VALUES (?, ?)", rows)
-    connection.close()
-
-
-def records_of(program: pathlib.Path, folder: pathlib.Path) -> tuple[str, str, str]:
-    """Two records of credkeep and one of htpasswd, of the same password."""
-    first, users = folder / "first.db", folder / "first"
-    run(program, first, "init")
-    for name, salt in (("n0", "c29tZXNhbHQ"), ("n1", "b3RoZXJzYWx0")):
-        run(program, first, "add", name, "--setting", f"{CHEAP}${salt}", given=PASSWORD)
-    exported = subprocess.run([program, first, "export"], capture_output=True, text=True, check=True).stdout
-    record, changed = (line.split(":")[1] for line in exported.split())
-    run("htpasswd", "-c", "-b", "-B", "-C", "4", users, "n0", PASSWORD)
-    return record, changed, users.read_text().strip().split(":")[1]
-
-
 def ours(sample: Sample, turns: int) -> dict[str, str]:
     """The figures of credkeep."""
-    program, book = sample.program, sample.book
-    opened = best(turns, lambda: run(program, book, "show", "nobody", status=4))
+    program, book, one = sample.program, sample.book, sample.names[0]
+    best = lambda *words, **given: min(run(program, *words, **given) for _ in range(turns))
+    opened = best(book, "show", "nobody", status=4)
     # A database with a table too many is refused once sqlite has looked at it, before a row is read.
-    refused = best(turns, lambda: run(program, sample.other, "list", status=5))
-    service = Service(program, book)
-    shown = [f"show {name}" for name in sample.some(SHOWN)]
-    pairs = [line for name in sample.some(LINES) for line in (f"begin 1 verify {name} {PASSWORD_WORD}", "commit 1")]
-    changes = [f"load {name} {sample.changed}" for name in sample.some(LINES)]
-    blank_s = min(service.ask_at_once([""] * SHOWN) for _ in range(turns)) / SHOWN
-    show_s = min(service.ask_at_once(shown) for _ in range(turns)) / SHOWN
-    verify_s = min(service.ask(pairs) for _ in range(turns)) / LINES
-    change_s = min(service.ask(changes) for _ in range(turns)) / LINES
-    new_s = service.ask([f"account {name}" for name in sample.new[:LINES]]) / LINES
-    peak = service.end()
-    one = sample.names[0]
-    two = f"{PASSWORD}\n{PASSWORD}\n"
-    change = best(turns, lambda: run(program, book, "change", one, "--setting", CHEAP, given=two))
-    check = best(turns, lambda: run(program, book, "check", one, given=PASSWORD))
-    listed = best(turns, lambda: run(program, book, "export"))
+    refused = best(sample.other, "list", status=5)
+    with Service(program, book, "serve") as service:
+        service.ask("show nobody")
+        blank, shown = [""] * SHOWN, [f"show {name}" for name in sample.some(SHOWN)]
+        blank_s, show_s = (min(service.seconds_at_once(it) for _ in range(turns)) / SHOWN for it in (blank, shown))
+        pairs = [line for it in sample.some(LINES) for line in (f"begin 1 verify {it} {PASSWORD_WORD}", "commit 1")]
+        verify_s = 2 * min(each_timed(service.ask, pairs) for _ in range(turns))
+        changes = [f"load {name} {sample.changed}" for name in sample.some(LINES)]
+        change_s = min(each_timed(service.ask, changes) for _ in range(turns))
+        new_s = each_timed(service.ask, [f"account {name}" for name in sample.new[:LINES]])
+        peak = service.peak_mb()
+    change = best(book, "change", one, "--setting", CHEAP, given=f"{PASSWORD}\n{PASSWORD}\n")
+    check = best(book, "check", one, given=PASSWORD)
+    listed = best(book, "export")
     return {
         "the disk: 4 KiB and a sync, us": f"{disk_sync(book.parent) * 1e6:.0f}",
         "open, ms": f"{opened * 1e3:.1f}",
@@ -245,8 +170,9 @@ def imported(sample: Sample) -> dict[str, str]:
     """How many lines a second an import takes in, and what memory it takes; the same of a copy."""
     fresh, copy = sample.book.with_name("fresh.db"), sample.book.with_name("copy.db")
     run(sample.program, fresh, "init")
-    seconds, peak = run_with_peak(sample.program, fresh, "import", given=sample.lines)
-    copied, copy_peak = run_with_peak(sample.program, fresh, "backup", copy, given=pathlib.Path(os.devnull))
+    lines = "".join(f"{name}:{record}\n" for name, record in sample.rows)
+    seconds, peak = run_with_peak(sample.program, fresh, "import", given=lines)
+    copied, copy_peak = run_with_peak(sample.program, fresh, "backup", copy, given="")
     for path in [*fresh.parent.glob("fresh.db*"), *fresh.parent.glob("copy.db*")]:
         path.unlink()
     return {
@@ -259,65 +185,38 @@ def imported(sample: Sample) -> dict[str, str]:
 
 def theirs(sample: Sample, turns: int) -> dict[str, str]:
     """The figures of Python's sqlite3 on the same file, and of htpasswd."""
+    one, fresh = sample.names[0], sample.book.with_name("fresh.db")
+    best = lambda more, *words: min(run(*words) for _ in range(turns + more))
     # The difference of two starts of Python: of a few rows one turn shows nothing.
-    read = best(turns + 2, lambda: run(sys.executable, "-c", READ_ALL, sample.book))
-    empty = best(turns + 2, lambda: run(sys.executable, "-c", "import sqlite3, sys"))
+    read = best(2, sys.executable, "-c", READ_ALL, sample.book)
+    empty = best(2, sys.executable, "-c", "import sqlite3, sys")
     connection = sqlite3.connect(sample.book, isolation_level=None)
     connection.execute("PRAGMA journal_mode = WAL")
     connection.execute("PRAGMA synchronous = FULL")
     select, update = "SELECT record FROM account WHERE name = ?", "UPDATE account SET record = ? WHERE name = ?"
-    show_s = timed(lambda name: connection.execute(select, (name,)).fetchone(), sample.some(SHOWN))
-    change_s = timed(
-        lambda name: connection.execute(update, (sample.record, name)), list(dict.fromkeys(sample.some(LINES)))
-    )
+    show_s = each_timed(lambda name: connection.execute(select, (name,)).fetchone(), sample.some(SHOWN))
+    changed = list(dict.fromkeys(sample.some(LINES)))
+    change_s = each_timed(lambda name: connection.execute(update, (sample.record, name)), changed)
     insert = "INSERT INTO account VALUES (?, NULL)"
-    new_s = timed(lambda name: connection.execute(insert, (name,)), sample.new[LINES:])
+    new_s = each_timed(lambda name: connection.execute(insert, (name,)), sample.new[LINES:])
     connection.close()
-    one = sample.names[0]
-    words = ("htpasswd", "-b", "-B", "-C", "4", sample.users, one, PASSWORD)
-    change = best(turns, lambda: run(*words))
-    check = best(turns, lambda: run("htpasswd", "-v", "-b", sample.users, one, PASSWORD))
+    filled_s = each_timed(lambda _: fill(fresh, sample.rows, TABLE), [""])
+    fresh.unlink()
+    change = best(0, *BCRYPT, sample.users, one, PASSWORD)
+    check = best(0, "htpasswd", "-v", "-b", sample.users, one, PASSWORD)
+    with Service(sys.executable, "-c", f"{READ_ALL}\nprint(1, flush=True); sys.stdin.read()", sample.book) as reader:
+        reader.answer()
+        peak = reader.peak_mb()
     return {
         "sqlite3: read all rows, ms": f"{(read - empty) * 1e3:.1f}",
         "sqlite3: SELECT of one, us": f"{show_s * 1e6:.1f}",
         "sqlite3: UPDATE with its sync, us": f"{change_s * 1e6:.0f}",
         "sqlite3: INSERT with its sync, us": f"{new_s * 1e6:.0f}",
-        "sqlite3: INSERTs in one transaction, a second": filled(sample),
-        "sqlite3: peak memory with all rows, MB": peak_of_all_rows(sample),
+        "sqlite3: INSERTs in one transaction, a second": f"{sample.count / filled_s:.0f}",
+        "sqlite3: peak memory with all rows, MB": f"{peak:.0f}",
         "htpasswd: one change by a process, ms": f"{change * 1e3:.1f}",
         "htpasswd: one check by a process, ms": f"{check * 1e3:.1f}",
     }
-
-
-def peak_of_all_rows(sample: Sample) -> str:
-    """The most memory of a Python that has all rows in a dict, in MB."""
-    text = READ_ALL + "\nprint(); sys.stdin.read()"
-    command = [sys.executable, "-c", text, str(sample.book)]
-    with subprocess.Popen(command, stdin=subprocess.PIPE, stdout=subprocess.PIPE) as reader:
-        assert reader.stdout
-        reader.stdout.readline()
-        return f"{peak_mb(reader.pid):.0f}"
-
-
-def timed(work: Callable[[str], object], names: list[str]) -> float:
-    """The seconds of one of these calls."""
-    start = time.perf_counter()
-    for name in names:
-        work(name)
-    return (time.perf_counter() - start) / len(names)
-
-
-def filled(sample: Sample) -> str:
-    """How many rows a second Python's sqlite3 puts into a new table."""
-    fresh = sample.book.with_name("fresh.db")
-    with sqlite3.connect(fresh) as connection:
-        connection.execute(TABLE)
-    connection.close()
-    start = time.perf_counter()
-    fill(fresh, ((name, sample.record) for name in sample.names))
-    seconds = time.perf_counter() - start
-    fresh.unlink()
-    return f"{sample.count / seconds:.0f}"
 
 
 def main() -> None:
@@ -331,9 +230,8 @@ def main() -> None:
         sys.exit("htpasswd isn't installed (Debian's apache2-utils)")
     columns = []
     for accounts in words.accounts:
-        with tempfile.TemporaryDirectory(prefix="keep-") as name:
-            folder = pathlib.Path(name)
-            sample = Sample(words.program, folder, accounts, records_of(words.program, folder))
+        with tempfile.TemporaryDirectory(prefix="keep-") as folder:
+            sample = Sample(words.program, pathlib.Path(folder), accounts)
             columns.append(ours(sample, words.turns) | theirs(sample, words.turns))
         print(f"{accounts}: {columns[-1]}", file=sys.stderr, flush=True)
     print("| Accounts | " + " | ".join(f"{accounts}" for accounts in words.accounts) + " |")

@@ -15,13 +15,14 @@ they do (4 if it isn't said): a library before the C library's adds that, so it 
 import argparse
 import base64
 import concurrent.futures
-import os
 import pathlib
 import resource
 import statistics
 import subprocess
 import tempfile
 import time
+
+from service import Service
 
 TOP = pathlib.Path(__file__).resolve().parent.parent.parent
 WORD = base64.b64encode(b"secret").decode()
@@ -47,20 +48,6 @@ int fdatasync(int file) {
 """
 
 
-def started(program: pathlib.Path, path: pathlib.Path, *words: str, preload: str = "") -> "subprocess.Popen[bytes]":
-    command = [program, path, "serve", *words]
-    environment = {**os.environ, "LD_PRELOAD": preload} if preload else None
-    return subprocess.Popen(command, stdin=subprocess.PIPE, stdout=subprocess.PIPE, env=environment)
-
-
-def ask(run: "subprocess.Popen[bytes]", line: str) -> str:
-    """Sends a line and reads the next answer."""
-    assert run.stdin and run.stdout
-    run.stdin.write(line.encode() + b"\n")
-    run.stdin.flush()
-    return run.stdout.readline().decode()
-
-
 def hashes(program: pathlib.Path, setting: str, seconds: float, at_once: int) -> float:
     """Hashes a second of a process each, of which so many run side by side."""
     end = time.perf_counter() + seconds
@@ -78,105 +65,96 @@ def hashes(program: pathlib.Path, setting: str, seconds: float, at_once: int) ->
     return count / (time.perf_counter() - start)
 
 
-def one_at_a_time(program: pathlib.Path, path: pathlib.Path, seconds: float) -> float:
-    """Verifies a second of `serve`."""
-    with started(program, path) as run:
-        start, count = time.perf_counter(), 0
-        while time.perf_counter() - start < seconds:
-            assert ask(run, f"begin 1 verify ann {WORD}") == "begun\n"
-            assert ask(run, "commit 1") == "yes\n"
-            count += 1
-        rate = count / (time.perf_counter() - start)
-        run.communicate()
-        return rate
+class Book:
+    """A book of ann and bob with these costs, and what is timed on it."""
 
+    def __init__(self, program: pathlib.Path, path: pathlib.Path, setting: str, seconds: float) -> None:
+        self.words, self.seconds = (program, path), seconds
+        subprocess.run([*self.words, "init"], check=True)
+        for name in ("ann", "bob"):
+            command = [*self.words, "add", name, "--setting", setting]
+            subprocess.run(command, input=b"secret\n", check=True, stdout=subprocess.DEVNULL)
 
-def many(program: pathlib.Path, path: pathlib.Path, threads: int, seconds: float) -> float:
-    """Verifies a second of `serve --tagged`."""
-    with started(program, path, "--tagged", "--at-once", str(threads), "--memory", "8G") as run:
-        assert run.stdin and run.stdout
-        for at in range(4 * threads):
-            run.stdin.write(f"t{at} verify ann {WORD}\n".encode())
-        run.stdin.flush()
-        start, count = time.perf_counter(), 0
-        while time.perf_counter() - start < seconds:
-            tag, answer = run.stdout.readline().split()
-            assert answer == b"yes"
-            run.stdin.write(tag + f" verify ann {WORD}\n".encode())
-            run.stdin.flush()
-            count += 1
-        rate = count / (time.perf_counter() - start)
-        run.communicate()
-        return rate
+    def one_at_a_time(self) -> float:
+        """Verifies a second of `serve`."""
+        with Service(*self.words, "serve") as run:
+            start, count = time.perf_counter(), 0
+            while time.perf_counter() - start < self.seconds:
+                assert run.ask(f"begin 1 verify ann {WORD}") == "begun"
+                assert run.ask("commit 1") == "yes"
+                count += 1
+            return count / (time.perf_counter() - start)
 
+    def many(self, threads: int) -> float:
+        """Verifies a second of `serve --tagged`."""
 
-def changes(program: pathlib.Path, path: pathlib.Path, threads: int, seconds: float) -> list[float]:
-    """The seconds of each change, one after another, while three lines a thread verify."""
-    times = []
-    with started(
-        program,
-        path,
-        "--tagged",
-        "--at-once",
-        str(threads),
-        "--setting",
-        "$argon2id$v=19$m=8,t=1,p=1",
-    ) as run:
-        assert run.stdin and run.stdout
-        for at in range(3 * threads):
-            run.stdin.write(f"t{at} verify ann {WORD}\n".encode())
-        begun = time.perf_counter()
-        run.stdin.write(b"c reset bob -\n")
-        run.stdin.flush()
-        end = begun + seconds
-        while begun < end:
-            tag, _answer = run.stdout.readline().split()
-            if tag == b"c":
-                times.append(time.perf_counter() - begun)
-                begun = time.perf_counter()
-                run.stdin.write(b"c reset bob -\n")
-            else:
-                run.stdin.write(tag + f" verify ann {WORD}\n".encode())
-            run.stdin.flush()
-        run.communicate()
-    return times
+        def after(tag: str, answer: str) -> str:
+            assert answer == "yes"
+            return f"{tag} verify ann {WORD}"
 
+        with Service(*self.words, "serve", "--tagged", "--at-once", str(threads), "--memory", "8G") as run:
+            return run.rate([after(f"t{at}", "yes") for at in range(4 * threads)], after, self.seconds)
 
-def changes_a_second(program: pathlib.Path, path: pathlib.Path, clients: int, seconds: float, shim: str) -> float:
-    """Of so many clients, each with an account of its own, who send a line once the one before it is answered."""
-    with started(program, path, "--tagged", "--setting", CHEAPEST, preload=shim) as run:
-        assert run.stdin and run.stdout
-        for at in range(clients):
-            ask(run, f"a account c{clients}x{at}")
-        run.stdin.write("".join(f"{at} enrol c{clients}x{at} {WORD}\n" for at in range(clients)).encode())
-        run.stdin.flush()
-        start, count = time.perf_counter(), 0
-        while time.perf_counter() - start < seconds:
-            tag, answer = run.stdout.readline().decode().split()
+    def changes(self, threads: int) -> list[float]:
+        """The seconds of each change, one after another, while three lines a thread verify."""
+        moments: list[float] = []
+
+        def after(tag: str, _answer: str) -> str:
+            if tag != "c":
+                return f"{tag} verify ann {WORD}"
+            moments.append(time.perf_counter())
+            return "c reset bob -"
+
+        words = ("serve", "--tagged", "--at-once", str(threads), "--setting", CHEAPEST)
+        with Service(*self.words, *words) as run:
+            lines = [after(f"t{at}", "") for at in range(3 * threads)]
+            run.rate([*lines, "c reset bob -"], after, self.seconds)
+        return [later - earlier for earlier, later in zip(moments, moments[1:])]
+
+    def changes_a_second(self, clients: int, shim: str) -> float:
+        """Of so many clients, each with an account of its own, who send a line once the one before it is answered."""
+
+        def after(tag: str, answer: str) -> str:
             assert answer in ("enrolled", "removed")
             word = "remove" if answer == "enrolled" else "enrol"
-            run.stdin.write(f"{tag} {word} c{clients}x{tag} {WORD}\n".encode())
-            run.stdin.flush()
-            count += 1
-        rate = count / (time.perf_counter() - start)
-        run.communicate()
-        return rate
+            return f"{tag} {word} c{clients}x{tag} {WORD}"
+
+        with Service(*self.words, "serve", "--tagged", "--setting", CHEAPEST, preload=shim) as run:
+            for at in range(clients):
+                run.ask(f"a account c{clients}x{at}")
+            return run.rate([after(str(at), "removed") for at in range(clients)], after, self.seconds)
 
 
 def changes_together(program: pathlib.Path, seconds: float, pause: float) -> None:
     """Prints the changes a second of each number of clients."""
     with tempfile.TemporaryDirectory() as folder:
-        source, shim = pathlib.Path(folder) / "slow_sync.c", pathlib.Path(folder) / "slow_sync.so"
+        source, shim, path = (pathlib.Path(folder) / it for it in ("slow_sync.c", "slow_sync.so", "users.db"))
         source.write_text(SLOW_SYNC.replace("PAUSE", str(round(pause * 1000))))
         subprocess.run(["cc", "-shared", "-fPIC", "-o", shim, source, "-ldl"], check=True)
-        path = pathlib.Path(folder) / "users.db"
-        subprocess.run([program, path, "init"], check=True)
+        book = Book(program, path, CHEAPEST, seconds)
         print(f"changes a second, {CHEAPEST}, a sync takes {pause:g} ms more:")
         alone = 0.0
         for clients in CLIENTS:
-            rate = changes_a_second(program, path, clients, seconds, str(shim))
+            rate = book.changes_a_second(clients, str(shim))
             alone = alone or rate
             print(f"  {clients} clients: {rate:.0f}, {rate / alone:.1f} times those of one", flush=True)
+
+
+def verifies(words: argparse.Namespace, setting: str, path: pathlib.Path) -> None:
+    """Prints the verifies a second of these costs, and the time of a change beside them."""
+    book, most = Book(words.program, path, setting, words.seconds), max(words.threads)
+    alone, beside = (hashes(words.hash, setting, words.seconds, at_once) for at_once in (1, most))
+    print(f"{setting}: credbook hash {alone:.1f} a second, {beside:.1f} with {most} side by side")
+    print(f"{setting}: serve {book.one_at_a_time():.1f} verifies a second", flush=True)
+    single = 0.0
+    for threads in words.threads:
+        rate = book.many(threads)
+        single = single or rate / threads
+        over = f"{rate / (threads * alone):.2f} of credbook's and {rate / (threads * single):.2f} of one thread's"
+        print(f"  --at-once {threads}: {rate:.1f} a second, {over} as many times", flush=True)
+    times = book.changes(most)
+    cuts = statistics.quantiles(times, n=100) if len(times) > 1 else [0.0] * 99
+    print(f"  changes beside verifies: p50 {cuts[49] * 1000:.1f} ms, p99 {cuts[98] * 1000:.1f} ms of {len(times)}")
 
 
 def main() -> None:
@@ -185,44 +163,14 @@ def main() -> None:
     parser.add_argument("--threads", type=int, nargs="+", default=[1, 2, 4])
     parser.add_argument("--costs", nargs="*", default=["65536,1,1", "4096,1,1"])
     parser.add_argument("--sync", type=float, default=4, metavar="MS")
-    parser.add_argument(
-        "program",
-        nargs="?",
-        type=pathlib.Path,
-        default=TOP / "crates/credkeep/out/credkeep",
-    )
-    parser.add_argument("--hash", type=pathlib.Path, default=TOP / "crates/credbook/out/credbook", metavar="PROGRAM")
+    credkeep, credbook = (TOP / "crates" / it / "out" / it for it in ("credkeep", "credbook"))
+    parser.add_argument("program", nargs="?", type=pathlib.Path, default=credkeep)
+    parser.add_argument("--hash", type=pathlib.Path, default=credbook, metavar="PROGRAM")
     words = parser.parse_args()
     for costs in words.costs:
         m, t, p = costs.split(",")
-        setting = f"$argon2id$v=19$m={m},t={t},p={p}"
         with tempfile.TemporaryDirectory() as folder:
-            path = pathlib.Path(folder) / "users.db"
-            subprocess.run([words.program, path, "init"], check=True)
-            for name in ["ann", "bob"]:
-                command = [words.program, path, "add", name, "--setting", setting]
-                subprocess.run(command, input=b"secret\n", check=True, stdout=subprocess.DEVNULL)
-            alone = hashes(words.hash, setting, words.seconds, 1)
-            beside = hashes(words.hash, setting, words.seconds, max(words.threads))
-            print(f"{setting}: credbook hash {alone:.1f} a second, {beside:.1f} with {max(words.threads)} side by side")
-            print(
-                f"{setting}: serve {one_at_a_time(words.program, path, words.seconds):.1f} verifies a second",
-                flush=True,
-            )
-            single = 0.0
-            for threads in words.threads:
-                rate = many(words.program, path, threads, words.seconds)
-                single = single or rate / threads
-                print(
-                    f"  --at-once {threads}: {rate:.1f} a second, {rate / (threads * alone):.2f} of credbook's and"
-                    f" {rate / (threads * single):.2f} of one thread's as many times",
-                    flush=True,
-                )
-            times = changes(words.program, path, max(words.threads), words.seconds)
-            cuts = statistics.quantiles(times, n=100) if len(times) > 1 else [0.0] * 99
-            print(
-                f"  changes beside verifies: p50 {cuts[49] * 1000:.1f} ms, p99 {cuts[98] * 1000:.1f} ms of {len(times)}"
-            )
+            verifies(words, f"$argon2id$v=19$m={m},t={t},p={p}", pathlib.Path(folder) / "users.db")
     changes_together(words.program, words.seconds, words.sync)
     peak = resource.getrusage(resource.RUSAGE_CHILDREN).ru_maxrss
     print(f"peak of memory of one process: {peak / 1024:.0f} MiB")

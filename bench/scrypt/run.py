@@ -19,9 +19,7 @@ next to nothing.
 
 import argparse
 import base64
-import contextlib
 import hashlib
-import os
 import pathlib
 import subprocess
 import sys
@@ -31,7 +29,7 @@ TOP = pathlib.Path(__file__).resolve().parents[2]
 sys.path[1:1] = [str(TOP / "bench"), str(TOP / "tools")]
 
 from build import level_of
-from programs import HUGE_PAGES, built
+from programs import HUGE_PAGES, hashes_for
 from turns import best, print_head, print_row, take_turns, timed
 
 # ln, r, p, workers
@@ -47,22 +45,18 @@ def openssl(costs, salt, size):
     return timed(lambda: hashlib.scrypt(PASSWORD, salt=salt, dklen=size, **numbers))
 
 
-@contextlib.contextmanager
 def running(program, costs, env):
-    """A call that has a key worked by the program, which runs on, and gives the milliseconds and the
-    key."""
+    """The program, which runs on at these costs."""
     command = [program, "scrypt", *map(str, costs)]
     pipes = {"stdin": subprocess.PIPE, "stdout": subprocess.PIPE, "text": True, "bufsize": 1}
-    ours = subprocess.Popen(command, env=env, **pipes)
+    return subprocess.Popen(command, env=env, **pipes)
 
-    def work():
-        ours.stdin.write("next\n")
-        nanoseconds, key = ours.stdout.readline().split()
-        return (int(nanoseconds) / 1e6,), bytes.fromhex(key)
 
-    yield work
-    ours.stdin.close()
-    ours.wait()
+def worked(ours):
+    """The milliseconds that a running program takes for a key, and the key."""
+    ours.stdin.write("next\n")
+    nanoseconds, key = ours.stdout.readline().split()
+    return (int(nanoseconds) / 1e6,), bytes.fromhex(key)
 
 
 def unpadded(data):
@@ -90,13 +84,10 @@ def compare(turns, any_processor, this_processor, level):
     names = ["N", "r", "p", "workers", "for any x86-64, ms", installed, "OpenSSL, ms"]
     print_head([*names, "any over OpenSSL's", "installed over OpenSSL's"])
     for costs in ROWS:
-        plain = running(any_processor, costs, None)
-        chosen = running(this_processor, costs, HUGE_PAGES)
-        with plain as any_way, chosen as this_way:
+        with running(any_processor, costs, None) as plain, running(this_processor, costs, HUGE_PAGES) as chosen:
             theirs = lambda: openssl(costs, SALT, KEY_LEN)
-            ways = {"any": any_way, "this": this_way, "OpenSSL": theirs}
-            found = take_turns({costs: ways}, turns)[costs]
-        times = [best(found[name]) for name in ways]
+            ways = {"any": lambda: worked(plain), "this": lambda: worked(chosen), "OpenSSL": theirs}
+            times = [best(it) for it in take_turns({costs: ways}, turns)[costs].values()]
         print_costs(costs, times, [it / times[2] for it in times[:2]])
 
 
@@ -108,8 +99,7 @@ def compare_command(turns, credbook):
         start = best([record(credbook, (1, 8, 1, 1))[0] for _ in range(turns)])
         theirs = lambda: openssl(costs, SETTING_SALT, TAG_LEN)
         ways = {"ours": lambda: record(credbook, costs), "OpenSSL": theirs}
-        found = take_turns({costs: ways}, turns)[costs]
-        ours, other = best(found["ours"]), best(found["OpenSSL"])
+        ours, other = (best(it) for it in take_turns({costs: ways}, turns)[costs].values())
         print_costs(costs, [ours, start, other], [ours / other, (ours - start) / other])
 
 
@@ -121,7 +111,7 @@ def main():
     level = level_of(pathlib.Path("/proc/cpuinfo").read_text())
     work = ("scrypt", "14", "8", "1", "1")
     with tempfile.TemporaryDirectory(prefix="scrypt-") as room:
-        programs = [built(room, it, *work) for it in ("x86-64", level)]
+        programs = [hashes_for(it, room, *work) for it in ("x86-64", level)]
         compare(given.times, *programs, level)
     if given.installed:
         print()
