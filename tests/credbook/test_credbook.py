@@ -8,17 +8,8 @@ import tempfile
 import unittest
 from typing import Any
 
-from tests.helpers import (
-    TOP,
-    Ended,
-    counts,
-    ended,
-    in_turn,
-    instructions,
-    need,
-    program,
-    without_request,
-)
+from tests import helpers
+from tests.helpers import TOP, Ended, counts, ended, in_turn, instructions, program
 
 SETTING = "$argon2id$v=19$m=256,t=2,p=1$c29tZXNhbHQ"
 # Of `password`, by the reference program of Argon2.
@@ -88,7 +79,7 @@ class RunsTest(unittest.TestCase):
             (["check", RECORD, PASSWORD], "", "yes\n"),
         ):
             command = [program("credbook"), *words]
-            ends = [*in_turn(lambda nth: without_request(nth, command, given))]
+            ends = [*in_turn(lambda nth: helpers.without_request(nth, command, given))]
             self.assertIn(3, {done.status for done in ends})
             for nth, done in enumerate(ends, 1):
                 with self.subTest(words=words, request=nth):
@@ -111,7 +102,7 @@ class RunsTest(unittest.TestCase):
     def test_instructions(self) -> None:
         """A check takes as many instructions whichever byte of the tag differs, and if none does:
         so its time doesn't tell which."""
-        need("valgrind")
+        helpers.need("valgrind")
         done, right = instructions([program("credbook"), "check", RECORD, PASSWORD])
         self.assertEqual(done[:2], (0, "yes\n"))
         for byte in (0, 1, 15, 30, 31):

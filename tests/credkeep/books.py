@@ -4,16 +4,17 @@ import contextlib
 import pathlib
 import random
 import shutil
+import signal
 import sqlite3
 import subprocess
 import tempfile
 import threading
 import time
 import unittest
-from collections.abc import Callable, Iterable, Iterator
-from typing import Any
+from collections.abc import Callable, Iterable
+from typing import Any, NamedTuple
 
-from tests.helpers import LONGEST, Ended, Found, ended, program, text_of
+from tests.helpers import LONGEST, Ended, Found, Stop, ended, in_turn, program, text_of
 
 # Costs that a test can afford, and a salt.
 CHEAP = "$argon2id$v=19$m=8,t=1,p=1"
@@ -36,11 +37,20 @@ EMPTY_LOG = 41
 
 Accounts = dict[str, str]
 
-# A book, an order on it that reads nothing, and the book after it.
-EDITS: list[tuple[Accounts, list[str], Accounts]] = [
-    ({"ann": RECORD, "cat": ""}, ["rename", "ann", "bob"], {"bob": RECORD, "cat": ""}),
-    ({"ann": RECORD, "cat": ""}, ["disable", "ann"], {"ann": "", "cat": ""}),
-    ({"ann": RECORD, "cat": ""}, ["delete", "ann"], {"cat": ""}),
+
+class Change(NamedTuple):
+    """A book, an order on it, the book after it, and the order's input."""
+
+    before: Accounts
+    words: list[str]
+    after: Accounts
+    given: str = ""
+
+
+EDITS = [
+    Change({"ann": RECORD, "cat": ""}, ["rename", "ann", "bob"], {"bob": RECORD, "cat": ""}),
+    Change({"ann": RECORD, "cat": ""}, ["disable", "ann"], {"ann": "", "cat": ""}),
+    Change({"ann": RECORD, "cat": ""}, ["delete", "ann"], {"cat": ""}),
 ]
 
 DONE = Ended(0)
@@ -62,9 +72,14 @@ def fails(status: int, text: str) -> Ended:
     return Ended(status, "", f"credkeep: {text}\n")
 
 
+def lined(lines: Iterable[str]) -> str:
+    """The text of these lines."""
+    return "".join(f"{line}\n" for line in lines)
+
+
 def lines_of(accounts: Accounts) -> str:
     """The lines that an import takes, and an export writes."""
-    return "".join(f"{name}:{record}\n" for name, record in accounts.items())
+    return lined(f"{name}:{record}" for name, record in accounts.items())
 
 
 class Book:
@@ -91,6 +106,12 @@ class Book:
         """Starts a service of tagged lines, whose own costs are cheap if the words name none."""
         costs = [] if "--setting" in words else ["--setting", CHEAP]
         return self.start("serve", "--tagged", *costs, *words, **options)
+
+    def script(self, words: Iterable[str], lines: Iterable[str], **options: Any) -> list[str]:
+        """The answers of a run to lines that are given at once."""
+        done = self(*words, given=lined(lines), **options)
+        assert done._replace(written="") == DONE, done
+        return done.written.splitlines()
 
     def answers(self, *lines: str, words: Iterable[str] = ()) -> list[str]:
         """A service's answers to tagged lines, each of which waits for the one before."""
@@ -125,13 +146,13 @@ class Book:
     def move_to(self, target: "Book") -> None:
         """Copies the file and its log as `cp` does, over what is there."""
         target.remove()
-        shutil.copy(self.path, target.path)
-        if self.log.exists():
-            shutil.copy(self.log, target.log)
+        for source, copy in ((self.path, target.path), (self.log, target.log)):
+            if source.exists():
+                shutil.copy(source, copy)
 
 
 class Service:
-    """A program that answers lines, and is killed if it is there for too long."""
+    """A program that answers lines. It is killed if it is there for too long."""
 
     def __init__(self, command: list[str], **options: Any) -> None:
         pipe = subprocess.PIPE
@@ -187,10 +208,35 @@ class Service:
         self.process.wait()
 
 
+def contents(folder: pathlib.Path) -> dict[str, bytes | None]:
+    """What the files of a folder hold; a file's log without a change counts as none."""
+    logs = {f"{it.name}-wal" for it in folder.iterdir()}
+    return {
+        file.name: file.read_bytes() if file.is_file() else None
+        for file in folder.iterdir()
+        if not (file.name in logs and file.stat().st_size <= EMPTY_LOG)
+    }
+
+
 def rows(path: pathlib.Path, text: str) -> list[Any]:
     """What SQLite itself answers to a statement."""
     with contextlib.closing(sqlite3.connect(path, isolation_level=None)) as connection:
         return connection.execute(text).fetchall()
+
+
+def frame_of(log: bytes) -> int:
+    """The size of a frame of the log, by SQLite's file format alone."""
+    return 24 + int.from_bytes(log[8:12], "big")
+
+
+def commits_in(log: bytes) -> list[int]:
+    """Where the frames begin that end a transaction: each has the database's size beside it."""
+    frames = range(32, len(log) - frame_of(log) + 1, frame_of(log))
+    return [
+        at
+        for at in frames
+        if log[at + 8 : at + 16] == log[16:24] and log[at + 4 : at + 8] != bytes(4)
+    ]
 
 
 class BookTest(unittest.TestCase):
@@ -225,13 +271,53 @@ class BookTest(unittest.TestCase):
                 self.assertEqual(service.ask(line), "ok")
         self.assertGreater(book.log.stat().st_size, EMPTY_LOG)
 
-    def once(self, folder: pathlib.Path, look: Callable[[], Found]) -> Found:
+    def once(self, folder: pathlib.Path, look: Callable[[Book], Found]) -> Found:
         """What a look finds that depends on a folder's files alone: the same are looked at once."""
         files = [(it.name, it.stat().st_mode, it.read_bytes()) for it in folder.iterdir()]
         key = tuple(sorted(files))
         if key not in self.seen:
-            self.seen[key] = look()
+            self.seen[key] = look(Book(folder / "users.db"))
         return self.seen[key]
+
+    def stopped(
+        self,
+        stop: Stop,
+        change: Change,
+        look: Callable[[Book], Found],
+        judge: Callable[[Ended, Found], None],
+    ) -> list[Ended]:
+        """How each run of an order ended that was stopped at its first call, its second and so on,
+        each in a copy of the folder `base`. The judge sees what a look finds there afterwards."""
+
+        def attempt(nth: int) -> tuple[Ended, Found] | None:
+            with tempfile.TemporaryDirectory(dir=self.room) as room:
+                folder = pathlib.Path(shutil.copytree(self.room / "base", f"{room}/base"))
+                command = Book(folder / "users.db").command(*change.words)
+                done = stop(nth, command, change.given, cwd=folder)
+                return done and (done, self.once(folder, look))
+
+        ends = []
+        for nth, (done, found) in enumerate(in_turn(attempt), 1):
+            with self.subTest(nth=nth, done=done):
+                judge(done, found)
+            ends.append(done)
+        return ends
+
+    def assertRows(self, ask: Callable[[str], Any], rows: Iterable[tuple[str, Any]]) -> None:
+        """Each of these lines or words has this answer or end."""
+        self.assertEqual([(it, ask(it)) for it, _ in rows], [*rows])
+
+    def assertStopped(self, change: Change, done: Ended, found: Accounts) -> None:
+        """A change that was stopped left the book before it or the one after it; status 0, and an
+        answer, say that it was made."""
+        self.assertTrue(found in (change.before, change.after), f"a mixture: {done}")
+        is_said = done.status == 0 or done.written
+        self.assertTrue(found == change.after or not is_said, f"an answered change is gone: {done}")
+
+    def assertKept(self, answered: int, names: list[str], found: Iterable[str]) -> None:
+        """Of new names those that were answered are there, and at most the next one."""
+        may = (set(names[:answered]), set(names[: answered + 1]))
+        self.assertTrue({*found} in may, f"{answered} were answered, and not those are there")
 
     def assertFails(self, done: Ended, status: int, *texts: str) -> None:
         """It wrote nothing, and each of these texts stands in what it told."""
@@ -263,23 +349,14 @@ class BookTest(unittest.TestCase):
         self.assertTrue(not book.log.exists() or book.log.stat().st_size <= EMPTY_LOG)
 
 
-def killed(book: Book, *words: str, given: str = "", within: float) -> str:
-    """What an order wrote that is killed at a random moment of so many seconds."""
+def killed(
+    book: Book, *words: str, given: str = "", within: float, how: int = signal.SIGKILL
+) -> Ended:
+    """How an order ended that is killed at a random moment of so many seconds."""
     with book.start(*words) as run:
         feeder = run.feed(given)
         time.sleep(random.random() * within)
-        run.process.kill()
+        run.process.send_signal(how)
+        written = text_of(run.stdout.read())
         feeder.join()
-        return text_of(run.stdout.read())
-
-
-@contextlib.contextmanager
-def small_disk(folder: pathlib.Path, size: int) -> Iterator[pathlib.Path]:
-    """A disk of so many bytes, which only root can make."""
-    folder.mkdir()
-    options = ["-t", "tmpfs", "-o", f"size={size}"]
-    subprocess.run(["mount", *options, "tmpfs", str(folder)], check=True)
-    try:
-        yield folder
-    finally:
-        subprocess.run(["umount", str(folder)], check=True)
+        return Ended(run.process.wait(), written)

@@ -8,20 +8,13 @@ import base64
 import itertools
 import unittest
 from collections.abc import Iterable
-from typing import NamedTuple, Protocol
+from typing import NamedTuple
 
-from tests.credkeep.books import CHEAP, DONE, SALT, Book, says
+from tests.credkeep.books import CHEAP, SALT, Book, says
 
 # How many passwords an operation has, and whether the last of them makes a record.
-PASSWORDS = {
-    "verify": 1,
-    "login": 1,
-    "enrol": 1,
-    "change": 2,
-    "upgrade": 1,
-    "remove": 1,
-    "reset": 1,
-}
+PASSWORDS = dict.fromkeys(("verify", "login", "enrol", "upgrade", "remove", "reset"), 1)
+PASSWORDS["change"] = 2
 MAKING = {"enrol", "change", "upgrade", "reset"}
 
 # An operation, and the answer to it.
@@ -48,13 +41,6 @@ class Operation(NamedTuple):
     def line(self) -> str:
         """The line of a service of tagged lines, without its tag."""
         return " ".join([self.verb, self.name, *map(in_base64, self.passwords), *self.rest])
-
-
-class Door(Protocol):
-    verbs: set[str]
-
-    def perform(self, test: unittest.TestCase, book: Book, rows: list[Row]) -> None:
-        """Performs the operations one by one, and compares the answers."""
 
 
 class Orders:
@@ -100,26 +86,24 @@ class Script:
 
     def perform(self, test: unittest.TestCase, book: Book, rows: list[Row]) -> None:
         dialogue = [it for row in rows for it in self.dialogue(row)]
-        done = book(*self.words, given="".join(f"{line}\n" for line, _ in dialogue))
-        found = [(line, answer) for (line, _), answer in zip(dialogue, done.written.splitlines())]
-        test.assertEqual(found, dialogue)
-        test.assertEqual(done._replace(written=""), DONE)
+        lines = [line for line, _ in dialogue]
+        test.assertEqual([*zip(lines, book.script(self.words, lines))], dialogue)
 
 
 class Tagged:
     """A service of tagged lines, each of which waits for the answer to the one before."""
 
-    verbs = {*PASSWORDS, "account", "load", "show", "disable", "delete", "rename"}
+    verbs = {*PASSWORDS, "account", "load", "show", "disable", "delete", "rename", "list"}
 
     def __init__(self, *words: str) -> None:
         self.words = words
 
     def perform(self, test: unittest.TestCase, book: Book, rows: list[Row]) -> None:
-        lines = [f"t1 {Operation.of(text).line()}" for text, _ in rows]
-        found = zip(lines, book.answers(*lines, words=self.words))
-        test.assertEqual(list(found), [(line, f"t1 {it}") for line, (_, it) in zip(lines, rows)])
+        found = book.answers(*(f"t1 {Operation.of(it).line()}" for it, _ in rows), words=self.words)
+        test.assertEqual([*zip(rows, found)], [(row, f"t1 {row[1]}") for row in rows])
 
 
+Door = Orders | Script | Tagged
 DOORS: dict[str, Door] = {
     "orders": Orders(),
     "run": Script("run"),

@@ -9,7 +9,7 @@ import threading
 import time
 from typing import Any
 
-from tests.credkeep.books import DONE, EMPTY_LOG, RECORD, SALT, Accounts, Book, BookTest, rows
+from tests.credkeep.books import DONE, RECORD, SALT, Accounts, Book, BookTest, contents, rows
 from tests.helpers import LONGEST, Ended, need_root
 
 NOBODY = 65534
@@ -27,18 +27,10 @@ def counted(accounts: int, changes: int) -> Ended:
     return Ended(0, f"{accounts} account{these}, {changes} change{those} in the log\n")
 
 
-def pair_of(book: Book) -> tuple[bytes, bytes | None]:
-    """The bytes of the file and of its log, if there is one."""
-    return book.path.read_bytes(), book.log.read_bytes() if book.log.exists() else None
-
-
 class CopyTest(BookTest):
     def assertLeft(self, *names: str) -> None:
-        """The folder has these files and logs without changes beside them, and nothing else."""
-        for file in self.room.iterdir():
-            is_log = file.name.endswith("-wal") and file.name.removesuffix("-wal") in names
-            is_empty = is_log and file.stat().st_size <= EMPTY_LOG
-            self.assertTrue(file.name in names or is_empty, f"{file.name} is left")
+        """The folder has these files, and logs without changes beside them alone."""
+        self.assertEqual(contents(self.room).keys(), {*names})
 
     def assertWhole(self, book: Book, accounts: Accounts) -> None:
         """The file alone is this book, and has no log; so says SQLite, and so does the program."""
@@ -57,37 +49,23 @@ class BackupTest(CopyTest):
         for count in (0, 1, 2, 300, 5000):
             accounts = {f"u{at:05}": record(chance) if at % 3 else "" for at in range(count)}
             book, copy = self.begun(accounts), self.file("copy.db")
-            copy.remove()
-            before = pair_of(book)
+            before = contents(self.room)
             self.assertEqual(book("backup", str(copy.path)), counted(count, 0))
-            self.assertEqual(pair_of(book), before)
             self.assertWhole(copy, accounts)
             self.assertTrue(copy.accounts() == accounts)
-            self.assertLeft("users.db", "copy.db")
-
-    def test_log(self) -> None:
-        """A killed service's changes are in the copy, and stay in the log."""
-        book, copy = self.begun({"ann": RECORD}), self.file("copy.db")
-        self.killed_after(book, "account k1", "account k2", f"load k2 {RECORD}")
-        before, after = pair_of(book), {"ann": RECORD, "k1": "", "k2": RECORD}
-        self.assertEqual(book("backup", str(copy.path)), counted(3, 3))
-        self.assertWhole(copy, after)
-        self.assertEqual(pair_of(book), before)
-        self.assertEqual(book.accounts(), after)
+            after = contents(self.room)
+            self.assertTrue(after == {**before, "copy.db": copy.path.read_bytes()})
+            copy.remove()
 
     def test_service(self) -> None:
         """While a service adds accounts one by one, each copy has the first so many, and all that
         were answered before."""
-        total, answered = 1500, [0]
-        copies: list[tuple[int, int, Ended, Book]] = []
+        answered, copies = [0], []
 
         def add() -> None:
-            for at in range(total):
-                if service.ask(f"account n{at:05}") != "ok":
-                    return
-                answered[0] = at + 1
-                if at < 900:
-                    time.sleep(0.0005)
+            while answered[0] < 1500 and service.ask(f"account n{answered[0]:05}") == "ok":
+                answered[0] += 1
+                time.sleep(0.0005)
 
         with self.book.start("serve") as service:
             adding = threading.Thread(target=add)
@@ -96,16 +74,15 @@ class BackupTest(CopyTest):
                 before, copy = answered[0], self.file(f"copy{len(copies)}.db")
                 done = self.book("backup", str(copy.path))
                 copies.append((before, answered[0], done, copy))
-            self.assertEqual(answered[0], total)
+            self.assertEqual(answered[0], 1500)
             self.assertEqual(service.end(), DONE)
         self.assertGreater(len(copies), 3)
         for before, after, done, copy in copies:
-            self.assertEqual((done.status, done.faults), (0, ""))
             names = [name for name, in rows(copy.path, "SELECT name FROM account ORDER BY name")]
             self.assertEqual(names, [f"n{at:05}" for at in range(len(names))])
             self.assertTrue(before <= len(names) <= after + 1, f"{before}, {len(names)}, {after}")
-            self.assertEqual(done.written.split()[0], str(len(names)))
-        self.assertEqual(len(self.book.names()), total)
+            self.assertEqual((done.status, done.written.split()[0]), (0, str(len(names))))
+        self.assertEqual(len(self.book.names()), 1500)
 
     def test_refused(self) -> None:
         """What may not be overwritten isn't, and nothing is left beside it."""
@@ -113,15 +90,10 @@ class BackupTest(CopyTest):
         link, text = self.room / "link.db", self.room / "text"
         link.symlink_to(book.path)
         text.write_text("hello\n")
-        for path, why in (
-            (book.path, "it is the database itself"),
-            (link, "it is the database itself"),
-            (text, " "),
-            (self.room, " "),
-            (self.room / "none/copy.db", " "),
-        ):
-            with self.subTest(path=path):
-                self.assertFails(book("backup", str(path)), 5, why)
+        for path in (book.path, link):
+            self.assertFails(book("backup", str(path)), 5, "it is the database itself")
+        for path in (text, self.room, self.room / "none/copy.db"):
+            self.assertFails(book("backup", str(path)), 5)
         with other.start("serve") as service:
             self.assertEqual(service.ask("account late"), "ok")
             self.assertFails(book("backup", str(other.path)), 5, "busy")
@@ -133,17 +105,21 @@ class BackupTest(CopyTest):
         self.assertLeft("users.db", "other.db", "link.db", "text")
 
     def test_later(self) -> None:
-        """A copy that is there is replaced, also one that was looked at."""
-        book, copy = self.begun({"ann": RECORD}), self.file("copy.db")
-        self.assertEqual(book("backup", str(copy.path)), counted(1, 0))
-        for at, name in enumerate(("bob", "cid", "dan"), 2):
-            self.assertEqual(len(copy.names()), at - 1)
-            old = copy.path.stat().st_ino
-            self.assertEqual(book("serve", given=f"account {name}\n"), Ended(0, "ok\n"))
-            self.assertEqual(book("backup", str(copy.path)), counted(at, 0))
+        """A copy that is there is replaced, also one that was looked at; so is that of a link's
+        file, which comes back through the link, and the link stays."""
+        book, copy, link = self.begun(), self.file("copy.db"), self.file("link.db")
+        link.path.symlink_to(book.path)
+        for at, name in enumerate(("ann", "bob", "cid"), 1):
+            old = copy.path.stat().st_ino if copy.path.exists() else 0
+            book.add(name)
+            self.assertEqual(link("backup", str(copy.path)), counted(at, 0))
             self.assertNotEqual(copy.path.stat().st_ino, old)
             self.assertFalse(copy.log.exists())
             self.assertEqual(copy.accounts(), book.accounts())
+        book.add("late")
+        self.assertEqual(link("restore", str(copy.path)), counted(3, 0))
+        self.assertTrue(link.path.is_symlink())
+        self.assertEqual(book.names(), ["ann", "bob", "cid"])
 
     def test_parts_of_others(self) -> None:
         """Links and foreign files at the names of what is written beside a copy are neither
@@ -173,8 +149,7 @@ class RestoreTest(CopyTest):
         self.assertEqual(book("backup", str(copy.path)), counted(400, 0))
         for how in ("ended", "killed", "gone", "gone with its log", "empty", "damaged"):
             changes = [f"load {it} {record(chance)}" for it in chance.sample(sorted(old), 200)]
-            done = book("serve", given="".join(f"{it}\n" for it in changes))
-            self.assertEqual(done, Ended(0, "ok\n" * 200))
+            self.assertEqual(book.script(["serve"], changes), ["ok"] * 200)
             if how != "ended":
                 names = chance.sample(sorted(old), 5)
                 self.killed_after(book, *(f"load {it} {record(chance)}" for it in names))
@@ -193,14 +168,19 @@ class RestoreTest(CopyTest):
             self.assertEqual(copy.path.read_bytes(), before)
             self.assertLeft("users.db", "copy.db")
 
-    def test_pair(self) -> None:
-        """A file and its log that were copied together come back as one book; so does one that is
-        served."""
-        book, pair = self.begun({"ann": RECORD}), self.file("pair.db")
-        self.killed_after(book, "account k1", "account k2")
+    def test_log(self) -> None:
+        """A killed service's changes are in a copy, and stay in the log. A file and its log that
+        were copied together come back as one book; so does one that is served."""
+        book, copy, pair = self.begun({"ann": RECORD}), self.file("copy.db"), self.file("pair.db")
+        self.killed_after(book, "account k1", "account k2", f"load k2 {RECORD}")
+        before, after = contents(self.room), {"ann": RECORD, "k1": "", "k2": RECORD}
+        self.assertEqual(book("backup", str(copy.path)), counted(3, 3))
+        self.assertWhole(copy, after)
+        copied = copy.path.read_bytes()
+        self.assertEqual(contents(self.room), {**before, "copy.db": copied})
         book.move_to(pair)
-        self.assertEqual(book("restore", str(pair.path)), counted(3, 2))
-        self.assertWhole(book, {"ann": RECORD, "k1": "", "k2": ""})
+        self.assertEqual(book("restore", str(pair.path)), counted(3, 3))
+        self.assertWhole(book, after)
         with pair.start("serve") as service:
             self.assertEqual(service.ask("account k3"), "ok")
             self.assertEqual(book("restore", str(pair.path)).status, 0)
@@ -221,15 +201,12 @@ class RestoreTest(CopyTest):
         rows(other.path, "CREATE TABLE places (id INTEGER, url TEXT)")
         copy.move_to(bad)
         rows(bad.path, "INSERT INTO account VALUES ('Ann', NULL)")
-        for source, texts in (
-            (text, ()),
-            (other, ()),
-            (self.file("none.db"), (f"{self.room}/none.db: there is no such file\n",)),
-            (self.file("."), ()),
-            (bad, ("row 2: there is no name", str(bad.path))),
-        ):
-            with self.subTest(source=source.path.name):
-                self.assertFails(book("restore", str(source.path)), 5, *texts)
+        for source in (text, other, self.file(".")):
+            self.assertFails(book("restore", str(source.path)), 5)
+        none = self.file("none.db").path
+        self.assertFails(book("restore", str(none)), 5, f"{none}: there is no such file\n")
+        done = book("restore", str(bad.path))
+        self.assertFails(done, 5, "row 2: there is no name", str(bad.path))
         self.assertFails(text("restore", str(copy.path)), 5)
         self.assertFails(other("restore", str(copy.path)), 5, "the database holds no book")
         self.assertEqual(text.path.read_text(), "hello\n" * 100)
@@ -280,13 +257,3 @@ class RestoreTest(CopyTest):
         done = book("restore", str(copy.path), user=NOBODY, group=NOBODY)
         self.assertFails(done, 5, "another user owns it")
         self.assertEqual((book.path.read_bytes(), book.path.stat().st_uid), (before, 0))
-
-    def test_links(self) -> None:
-        """Through a link the file itself is copied and replaced, and the link stays."""
-        book, copy, link = self.begun({"ann": RECORD}), self.file("copy.db"), self.file("link.db")
-        link.path.symlink_to(book.path)
-        self.assertEqual(link("backup", str(copy.path)), counted(1, 0))
-        self.assertEqual(book("serve", given="account late\n"), Ended(0, "ok\n"))
-        self.assertEqual(link("restore", str(copy.path)), counted(1, 0))
-        self.assertTrue(link.path.is_symlink())
-        self.assertEqual(book.accounts(), {"ann": RECORD})

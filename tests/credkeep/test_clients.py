@@ -1,17 +1,14 @@
 """64 clients at once: the answers of a service of tagged lines are those of one history, and what
 was answered before a kill stands."""
 
-import importlib.util
 import random
 import signal
-import sys
 import threading
-import time
-from typing import Any, NamedTuple
+from typing import NamedTuple
 
-from tests.credkeep.books import CHEAP, DONE, BookTest, Service
+from tests.credkeep.books import CHEAP, DONE, BookTest, Service, lined
 from tests.credkeep.doors import Operation
-from tests.helpers import TIMES, TOP
+from tests.helpers import TIMES
 
 CLIENTS = 64
 OPERATIONS = 4000 * TIMES
@@ -20,20 +17,7 @@ PASSWORDS = ["-", "one", "two"]
 WIDER = "$argon2id$v=19$m=16,t=1,p=1"
 VERBS = ["verify"] * 6 + ["login"] * 4 + ["change"] * 2
 VERBS += ["enrol", "upgrade", "remove", "reset", "disable"]
-
-
-def checker() -> Any:
-    """The checker of histories alone: its package needs the built library."""
-    for name in ("_order", "history"):
-        path = TOP / "python" / "rigzumal" / "accounts" / "torture" / f"{name}.py"
-        spec = importlib.util.spec_from_file_location(f"rigzumal.accounts.torture.{name}", path)
-        assert spec and spec.loader
-        module = sys.modules[spec.name] = importlib.util.module_from_spec(spec)
-        spec.loader.exec_module(module)
-    return module
-
-
-history = checker()
+CHANGED = {"enrolled", "replaced", "upgraded", "removed", "disabled"}
 
 
 class Stored(NamedTuple):
@@ -41,30 +25,24 @@ class Stored(NamedTuple):
 
     password: str
     costs: str
-    salt: str
+    salt: str | None
 
 
 class Line:
-    """A line of a client, and what became of it."""
+    """A line of a client, and its answer."""
 
     def __init__(self, tag: str, chance: random.Random, number: int) -> None:
-        self.tag = tag
-        verb, self.name = chance.choice(VERBS), chance.choice(NAMES)
-        passwords = [chance.choice(PASSWORDS) for _ in range(2)]
-        costs = CHEAP if verb == "login" else chance.choice([CHEAP, WIDER])
-        self.salt = f"{number:012}"
-        words = passwords[: {"disable": 0, "change": 2}.get(verb, 1)]
-        if verb in ("enrol", "change", "upgrade", "reset"):
-            words.append(f"{costs}${self.salt}")
-        self.verb, self.password, self.made = (
-            verb,
-            passwords[0],
-            Stored(passwords[0], costs, self.salt),
-        )
-        if verb == "change":
-            self.made = self.made._replace(password=passwords[1])
-        self.text = f"{tag} {Operation.of(' '.join([verb, self.name, *words])).line()}"
-        self.called, self.answered, self.reply = time.perf_counter(), 0.0, ""
+        self.tag, self.number, self.reply = tag, number, ""
+        self.verb, self.name = chance.choice(VERBS), chance.choice(NAMES)
+        self.password, new = (chance.choice(PASSWORDS) for _ in range(2))
+        costs = CHEAP if self.verb == "login" else chance.choice([CHEAP, WIDER])
+        # What it makes; the salt of a login is drawn.
+        made_of = new if self.verb == "change" else self.password
+        self.made = Stored(made_of, costs, None if self.verb == "login" else f"{number:012}")
+        words = [self.verb, self.name, *([] if self.verb == "disable" else [self.password])]
+        words += [new] * (self.verb == "change")
+        words += [f"{costs}${number:012}"] * (self.verb in ("enrol", "change", "upgrade", "reset"))
+        self.text = f"{tag} {Operation.of(' '.join(words)).line()}"
 
     def done(self, stored: Stored | None) -> tuple[str, Stored | None]:
         """The reply that one thread has for it, and the record that is there afterwards."""
@@ -87,29 +65,9 @@ class Line:
             return ("upgraded", self.made) if is_new else ("kept", stored)
         return ("removed", None) if self.verb == "remove" else ("replaced", self.made)
 
-    def event(self, place: int, before: Stored | None, after: Stored | None):
-        """The line as the checker has it."""
-        kind, reply, password = self.verb, self.reply, self.password
-        if kind == "login":
-            kind, reply = ("upgrade", "upgraded") if before != after else ("verify", reply)
-        if kind == "disable":
-            # As a removal by whoever knows the password.
-            kind, reply = "remove", reply.replace("disabled", "removed")
-            password = before.password if before else ""
-        return history.Operation(
-            id=self.salt,
-            kind=kind,
-            password=password,
-            called=self.called,
-            new_password=self.made.password if kind in ("change", "reset") else None,
-            # The checker has upgrades go to dearer costs alone. Here they go to other ones, as
-            # `done` says.
-            costs=place if before != after else 0,
-            answered=self.answered,
-            reply=reply,
-            before=before and before.salt,
-            after=after and after.salt,
-        )
+    def salts(self) -> set[str | None]:
+        """The salts that an account may have once the line has changed it: None is no record."""
+        return {None} if self.verb in ("remove", "disable") else {self.made.salt or "drawn"}
 
 
 class Clients:
@@ -123,10 +81,8 @@ class Clients:
     def send(self, *tags: str) -> None:
         lines = [Line(tag, self.chance, self.number + at) for at, tag in enumerate(tags)]
         self.number += len(tags)
-        for line in lines:
-            assert line.tag not in self.open, f"{line.tag} answered twice"
-            self.open[line.tag] = line
-        self.service.send("".join(f"{line.text}\n" for line in lines))
+        self.open |= {line.tag: line for line in lines}
+        self.service.send(lined(line.text for line in lines))
 
     def take(self) -> bool:
         """Takes the next answer, and says whether there was one."""
@@ -135,9 +91,8 @@ class Clients:
             return False
         tag, reply = text.removesuffix("\n").split(" ", 1)
         assert tag in self.open, f"an answer to no open line: {text!r}"
-        line = self.open.pop(tag)
-        line.answered, line.reply = time.perf_counter(), reply
-        self.history.append(line)
+        self.history.append(self.open.pop(tag))
+        self.history[-1].reply = reply
         return True
 
     def go(self, most: int | None = None) -> None:
@@ -150,54 +105,34 @@ class Clients:
 
 
 class ClientsTest(BookTest):
-    def setUp(self) -> None:
-        super().setUp()
-        self.begun({name: "" for name in NAMES})
-
     def test_history(self) -> None:
-        """64 clients on 8 accounts: the answers are those of one history, by their order and by
-        their times."""
+        """64 clients on 8 accounts: each answer is what one thread replies, in the order of the
+        answers. So each line takes effect between its sending and its answer."""
         for words in [(), ("--at-once", "1"), ("--at-once", "8", "--memory", "24")]:
             with self.subTest(words=words):
-                self.begun({name: "" for name in NAMES})
+                self.begun(dict.fromkeys(NAMES, ""))
                 with self.book.tagged(*words) as service:
                     clients = Clients(service, random.Random(len(words)))
                     clients.go(OPERATIONS)
                     self.assertEqual(service.end(), DONE)
-                numbers = [int(line.salt) for line in clients.history]
+                numbers = [line.number for line in clients.history]
                 self.assertEqual(sorted(numbers), list(range(max(OPERATIONS, CLIENTS))))
-                self.replay(clients.history)
-                out_of_order = sum(one > other for one, other in zip(numbers, numbers[1:]))
-                self.assertTrue(out_of_order or words == ("--at-once", "1"))
+                stored: dict[str, Stored | None] = dict.fromkeys(NAMES)
+                served = [line for line in clients.history if line.reply != "bad 14 busy"]
+                for line in served:
+                    reply, stored[line.name] = line.done(stored[line.name])
+                    self.assertEqual((line.text, line.reply), (line.text, reply))
+                busy = len(numbers) - len(served)
+                self.assertLessEqual(busy * 100, len(numbers) + 100, "too many are busy")
+                self.assertTrue(numbers != sorted(numbers) or words == ("--at-once", "1"))
         self.assertSound(self.book)
-
-    def replay(self, lines: list[Line]) -> None:
-        """Each answer is what one thread replies, in the order of the answers; and each account's
-        history is legal by the times of its lines."""
-        stored: dict[str, Stored | None] = dict.fromkeys(NAMES)
-        events: dict[str, list[Any]] = {name: [] for name in NAMES}
-        served = [line for line in lines if line.reply != "bad 14 busy"]
-        for place, line in enumerate(served, 1):
-            before = stored[line.name]
-            reply, stored[line.name] = line.done(before)
-            self.assertEqual((line.text, line.reply), (line.text, reply))
-            events[line.name].append(line.event(place, before, stored[line.name]))
-        busy = len(lines) - len(served)
-        self.assertLessEqual(busy * 100, len(lines) + 100, "too many are busy")
-        for name, of_name in events.items():
-            ended = max((it.answered for it in of_name), default=0.0) + 1
-            last = stored[name]
-            salt = last and last.salt
-            seed = history.Operation("first", "seed", None, -2.0, answered=-1.0, after=None)
-            times = {"called": ended, "answered": ended + 1}
-            end = history.Operation("last", "end", None, **times, before=salt, after=salt)
-            history.check(history.Account(seed, end, of_name))
 
     def test_kills(self) -> None:
         """What was answered before a kill stands; what stands is that, or the change of a line that
         was open."""
         chance, number = random.Random(), 0
         standing: dict[str, str | None] = dict.fromkeys(NAMES)
+        self.begun(dict.fromkeys(NAMES, ""))
         for _ in range(10 * TIMES):
             with self.book.tagged() as service:
                 clients = Clients(service, chance, number)
@@ -211,32 +146,16 @@ class ClientsTest(BookTest):
                 killer.join()
                 self.assertEqual(service.process.wait(), -signal.SIGKILL)
             number = clients.number
-            found = {
-                name: record.split("$")[4] if record else None
-                for name, record in self.book.accounts().items()
-            }
-            for name in NAMES:
-                self.assertStands(name, standing[name], found[name], clients)
-            standing = found
-
-    def assertStands(
-        self, name: str, before: str | None, found: str | None, clients: Clients
-    ) -> None:
-        """This salt is that of the account's last change that was answered, or of an open line."""
-        may, is_drawn = {before}, False
-        for line in (it for it in clients.history if it.name == name):
-            if line.reply in ("enrolled", "replaced", "upgraded"):
-                may, is_drawn = {line.salt}, False
-            elif line.reply in ("removed", "disabled"):
-                may, is_drawn = {None}, False
-            elif line.verb == "login" and line.reply == "yes":
-                is_drawn = True
-        for line in (it for it in clients.open.values() if it.name == name):
-            if line.verb in ("remove", "disable"):
-                may.add(None)
-            elif line.verb == "login":
-                is_drawn = True
-            elif line.verb != "verify":
-                may.add(line.salt)
-        is_free = is_drawn and found is not None and len(found) == 22
-        self.assertTrue(found in may or is_free, f"{name}: {found}, and not of {may}")
+            for name, record in self.book.accounts().items():
+                may: set[str | None] = {standing[name]}
+                for line in (it for it in clients.history if it.name == name):
+                    if line.reply in CHANGED:
+                        may = line.salts()
+                    elif line.verb == "login" and line.reply == "yes":
+                        may |= line.salts()
+                for line in (it for it in clients.open.values() if it.name == name):
+                    may |= set() if line.verb == "verify" else line.salts()
+                found = standing[name] = record.split("$")[4] if record else None
+                # A salt of 16 bytes is one that was drawn.
+                is_drawn = "drawn" in may and len(found or "") == 22
+                self.assertTrue(found in may or is_drawn, f"{name}: {found}, and not of {may}")

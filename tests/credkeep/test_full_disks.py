@@ -1,49 +1,54 @@
 """Disks that are full and files that can't grow: what was answered is kept, and what failed is
 named."""
 
-import shutil
+import contextlib
+import pathlib
+import subprocess
+from collections.abc import Iterator
 
-from tests.credkeep.books import (
-    EDITS,
-    EMPTY_LOG,
-    RECORD,
-    Accounts,
-    Book,
-    BookTest,
-    fails,
-    lines_of,
-    small_disk,
-)
+from tests.credkeep.books import EDITS, EMPTY_LOG, RECORD, Accounts, Book, BookTest, fails, lined
 from tests.helpers import Ended, need_root, small_files
 
 # How many accounts a script adds, far more than there is room for.
 COUNT = 4000
-LINES = "".join(f"account new{at}\n" for at in range(COUNT))
+LINES = lined(f"account new{at}" for at in range(COUNT))
+
+
+@contextlib.contextmanager
+def small_disk(folder: pathlib.Path, size: int) -> Iterator[pathlib.Path]:
+    """A disk of so many bytes, which only root can make."""
+    folder.mkdir()
+    options = ["-t", "tmpfs", "-o", f"size={size}"]
+    subprocess.run(["mount", *options, "tmpfs", str(folder)], check=True)
+    try:
+        yield folder
+    finally:
+        subprocess.run(["umount", str(folder)], check=True)
 
 
 class OrdersTest(BookTest):
     def test_orders(self) -> None:
         """A file whose log can't be begun isn't opened. If the log can't grow, the change is named,
         and what is kept is the book before it or the one after it."""
-        for before, words, after in EDITS:
+        for change in EDITS:
             for size in (0, EMPTY_LOG - 1, EMPTY_LOG, 4096):
-                with self.subTest(words=words, size=size):
-                    book = self.begun(before)
-                    done = book(*words, **small_files(size))
+                with self.subTest(words=change.words, size=size):
+                    book = self.begun(change.before)
+                    done = book(*change.words, **small_files(size))
                     if size < EMPTY_LOG:
                         self.assertEqual(done, fails(5, "disk I/O error"))
-                        self.assertEqual(book.accounts(), before)
+                        self.assertEqual(book.accounts(), change.before)
                     else:
                         text = "the change of ann may be kept or not"
                         self.assertFails(done, 5, "credkeep: the database failed: ", text)
-                        self.assertIn(book.accounts(), (before, after))
+                        self.assertStopped(change, done, book.accounts())
 
     def test_imports(self) -> None:
         """The import is named, and all or none of it is kept. The system's refusal is told as what
         it was: which error a lost import names stands in no clause."""
         self.book.add("ann")
-        lines = {f"n{at}": RECORD for at in range(COUNT)}
-        done = self.book("import", given=lines_of(lines), **small_files(100_000))
+        lines = lined(f"n{at}:{RECORD}" for at in range(COUNT))
+        done = self.book("import", given=lines, **small_files(100_000))
         lost = f"; the {COUNT} new accounts may be kept or not, all or none of them"
         self.assertFails(done, 5)
         first = done.faults.splitlines()[0]
@@ -52,14 +57,23 @@ class OrdersTest(BookTest):
 
 
 class LostTest(BookTest):
+    def on_full_disk(self, order: str, size: int) -> tuple[Ended, Book]:
+        """How a script on a copy of the book ended whose disk has so many bytes, and what it left."""
+        need_root()
+        with small_disk(self.room / "small", size) as folder:
+            book, left = Book(folder / "users.db"), self.file("left.db")
+            self.book.move_to(book)
+            done = book(order, given=LINES)
+            book.move_to(left)
+        return done, left
+
     def assertLost(self, done: Ended, book: Book, before: Accounts) -> None:
         """The change that failed is named, and every one before it is there."""
         answered = done.written.count("ok\n")
         self.assertEqual((done.status, done.written), (5, "ok\n" * answered), done.faults)
         self.assertTrue(0 < answered < COUNT, f"{answered} answered")
-        first = done.faults.splitlines()[0]
         lost = f"; the change of new{answered} may be kept or not"
-        self.assertRegex(first, rf"\Acredkeep: the database failed: .*{lost}\Z")
+        self.assertRegex(done.faults, rf"\Acredkeep: the database failed: .*{lost}\n")
         kept = {**before, **{f"new{at}": "" for at in range(answered)}}
         found = book.accounts()
         self.assertTrue(found in (kept, {**kept, f"new{answered}": ""}), "another book")
@@ -73,10 +87,4 @@ class ScriptsTest(LostTest):
             self.assertLost(book(order, given=LINES, **small_files(100_000)), book, {})
 
     def test_full_disk(self) -> None:
-        need_root()
-        with small_disk(self.room / "small", 256 * 1024) as folder:
-            book, copy = Book(folder / "users.db"), self.file("copy.db")
-            self.assertEqual(book("init").status, 0)
-            done = book("run", given=LINES)
-            book.move_to(copy)
-        self.assertLost(done, copy, {})
+        self.assertLost(*self.on_full_disk("run", 256 * 1024), {})

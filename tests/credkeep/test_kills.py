@@ -1,6 +1,5 @@
 """Kills at random moments: what was answered stands, and nothing is done by halves."""
 
-import random
 import signal
 import time
 
@@ -10,45 +9,52 @@ from tests.credkeep.books import (
     OTHER,
     RECORD,
     SETTING,
-    Accounts,
-    Book,
     BookTest,
+    Change,
     killed,
-    lines_of,
+    lined,
 )
 from tests.helpers import TIMES
 
 FOUR = {f"n{at:04}": RECORD for at in range(4000)}
 SIX = {f"n{at:04}": OTHER for at in range(6000)}
+HALF = {name: RECORD for name in list(SIX)[::2]}
+RESET = ["reset", "ann", "--setting", SETTING]
 
-# A book, an order on it with its input, the book after it, and how often it is killed.
-ORDERS: list[tuple[Accounts, list[str], str, Accounts, int]] = [
-    *((before, words, "", after, 10) for before, words, after in EDITS),
-    ({"ann": OTHER}, ["reset", "ann", "--setting", SETTING], "password\n", {"ann": RECORD}, 12),
-    ({"ann": RECORD}, ["import"], lines_of(FOUR), {"ann": RECORD, **FOUR}, 50),
-    ({name: RECORD for name in list(SIX)[::2]}, ["import", "--update"], lines_of(SIX), SIX, 20),
+# Changes, and how often each is killed.
+CHANGES = [
+    *((it, 10) for it in EDITS),
+    (Change({"ann": OTHER}, RESET, {"ann": RECORD}, "password\n"), 12),
+    (
+        Change(
+            {"ann": RECORD},
+            ["import"],
+            {"ann": RECORD, **FOUR},
+            lined(f"{it}:{RECORD}" for it in FOUR),
+        ),
+        50,
+    ),
+    (Change(HALF, ["import", "--update"], SIX, lined(f"{it}:{OTHER}" for it in SIX)), 20),
 ]
 
 
 class OrdersTest(BookTest):
     def test_orders(self) -> None:
         """An order is done whole or not at all, and one that was answered is done."""
-        for before, words, given, after, kills in ORDERS:
-            with self.subTest(words=words):
-                self.begun(before)
+        for change, kills in CHANGES:
+            with self.subTest(words=change.words):
+                self.begun(change.before)
                 whole = self.book.path.read_bytes()
                 start = time.monotonic()
-                self.assertEqual(self.book(*words, given=given).status, 0)
+                self.assertEqual(self.book(*change.words, given=change.given).status, 0)
                 took = time.monotonic() - start
-                self.assertTrue(self.book.accounts() == after)
+                self.assertTrue(self.book.accounts() == change.after)
                 for turn in range(kills * TIMES):
                     self.book.remove()
                     self.book.path.write_bytes(whole)
                     self.book.path.chmod(0o600)
-                    answered = killed(self.book, *words, given=given, within=1.5 * took)
-                    found = self.book.accounts()
-                    self.assertTrue(found in (before, after), f"turn {turn}: a mixture")
-                    self.assertTrue(not answered or found == after, "an answered order is gone")
+                    done = killed(self.book, *change.words, given=change.given, within=1.5 * took)
+                    self.assertStopped(change, done, self.book.accounts())
                     if turn % 20 == 0:
                         self.assertSound(self.book)
 
@@ -68,30 +74,20 @@ class OrdersTest(BookTest):
 class ScriptsTest(BookTest):
     def test_scripts(self) -> None:
         """Every change that was answered is there after a kill, and at most one that wasn't."""
-        for order, signals, kills in (
-            ("run", [signal.SIGKILL], 50),
-            ("serve", [signal.SIGKILL, signal.SIGTERM], 20),
-        ):
-            with self.subTest(order=order):
-                count = 0
-                for turn in range(kills * TIMES):
-                    if count == 0 or count > 3000:
-                        count, book = 0, self.begun()
-                    count = self.killed(book, order, signals[turn % len(signals)], count)
-                    if turn % 20 == 0:
-                        self.assertSound(book)
-                self.assertSound(book)
-
-    def killed(self, book: Book, order: str, how: signal.Signals, count: int) -> int:
-        """Kills it amid new accounts after the first so many; how many there are then."""
-        with book.start(order) as run:
-            feeder = run.feed("".join(f"account n{at}\n" for at in range(count, count + 300)))
-            time.sleep(random.random() * 0.08)
-            run.process.send_signal(how)
-            answers = run.stdout.read().decode().split("\n")[:-1]
-            feeder.join()
-        self.assertLessEqual(set(answers), {"ok"})
-        answered, found = count + len(answers), set(book.names())
-        self.assertLessEqual({f"n{at}" for at in range(answered)}, found, "an answer is gone")
-        self.assertLessEqual(found, {f"n{at}" for at in range(answered + 1)})
-        return len(found)
+        kills = [("run", signal.SIGKILL)] * 50
+        kills += [("serve", it) for it in (signal.SIGKILL, signal.SIGTERM)] * 10
+        start = time.monotonic()
+        standing, count = self.book.accounts(), 0
+        within = 0.05 + 2 * (time.monotonic() - start)
+        for turn, (order, how) in enumerate(kills * TIMES):
+            names = [f"t{at}" for at in range(count + 100)]
+            given = lined(f"account {it}" for it in names[count:])
+            done = killed(self.book, order, given=given, within=within, how=how)
+            answers = done.written.split("\n")[:-1]
+            self.assertLessEqual({*answers}, {"ok"})
+            found = self.book.accounts()
+            self.assertTrue(found.items() >= standing.items(), "another book")
+            self.assertKept(count + len(answers), names, found.keys() - standing.keys())
+            count = len(found) - len(standing)
+            if turn % 20 == 0:
+                self.assertSound(self.book)

@@ -5,8 +5,8 @@ import random
 import subprocess
 import sys
 
-from tests.credkeep.books import DONE, RECORD
-from tests.credkeep.test_backup import CopyTest, counted, pair_of
+from tests.credkeep.books import DONE, RECORD, commits_in, contents, frame_of
+from tests.credkeep.test_backup import CopyTest, counted
 
 # Leaves a log of SQLite's own, which begins over older frames.
 LEAVE_A_LOG = """
@@ -22,21 +22,6 @@ os._exit(0)
 """
 
 
-def frame_of(log: bytes) -> int:
-    """The size of a frame of the log, by SQLite's file format alone."""
-    return 24 + int.from_bytes(log[8:12], "big")
-
-
-def commits_in(log: bytes) -> list[int]:
-    """Where the frames begin that end a transaction: each has the database's size beside it."""
-    frames = range(32, len(log) - frame_of(log) + 1, frame_of(log))
-    return [
-        at
-        for at in frames
-        if log[at + 8 : at + 16] == log[16:24] and log[at + 4 : at + 8] != bytes(4)
-    ]
-
-
 class LogsTest(CopyTest):
     def test_verify(self) -> None:
         """It says how many accounts and changes there are, of a served file too, and writes
@@ -44,19 +29,16 @@ class LogsTest(CopyTest):
         book = self.begun({"ann": RECORD})
         self.assertEqual(book("verify"), counted(1, 0))
         self.assertEqual(book("verify", "--quiet"), DONE)
-        done = book("verify", "--json")
-        self.assertEqual(
-            (done.status, json.loads(done.written)), (0, {"accounts": 1, "changes": 0})
-        )
+        counts = json.loads(book("verify", "--json").written)
+        self.assertEqual(counts, {"accounts": 1, "changes": 0})
         with book.start("serve") as service:
             for at in range(1, 21):
                 self.assertEqual(service.ask(f"account k{at}"), "ok")
                 self.assertEqual(book("verify"), counted(at + 1, at))
-        before = pair_of(book)
+        before = contents(self.room)
         self.assertEqual(len(commits_in(book.log.read_bytes())), 20)
         self.assertEqual(book("verify"), counted(21, 20))
-        self.assertEqual(pair_of(book), before)
-        self.assertLeft("users.db", "users.db-wal")
+        self.assertEqual(contents(self.room), before)
 
     def test_damaged_changes(self) -> None:
         """A bit that turned in a change is told with the changes before and behind, and the files
@@ -82,7 +64,8 @@ class LogsTest(CopyTest):
                     done = book(*words)
                     self.assertEqual(done.status, 5)
                     self.assertIn(text, done.faults)
-                    self.assertEqual(pair_of(book), (file, bytes(bad)))
+                    found = (book.path.read_bytes(), book.log.read_bytes())
+                    self.assertEqual(found, (file, bytes(bad)))
             if turn % 10 == 0:
                 done = book("restore", str(book.path))
                 self.assertEqual((done.status, done.faults), (0, ""))
@@ -114,7 +97,7 @@ class LogsTest(CopyTest):
         the log."""
         book = self.begun({"ann": RECORD})
         self.killed_after(book, "account k1")
-        file, log = pair_of(book)
+        file, log = book.path.read_bytes(), book.log.read_bytes()
         book.path.unlink()
         for _ in range(2):
             self.assertFails(book("init"), 5, "a log with changes lies beside it")

@@ -1,12 +1,13 @@
 """Each operation on an account, with each answer that it has: at every door the same."""
 
-from tests.credkeep.books import CHEAP, DONE, RECORD, SALT, SCRYPT, TAG, BookTest
+from tests.credkeep.books import RECORD, SALT, SCRYPT, SETTING, TAG, BookTest, fails
 from tests.credkeep.doors import DOORS, Door, Script, Tagged, perform
 
 WIDER = "$argon2id$v=19$m=16,t=1,p=1"
 
 OPERATIONS = [
     # No account.
+    ("list - 10", "names"),
     ("verify ann one", "noaccount"),
     ("login ann one", "noaccount"),
     ("change ann one two", "noaccount"),
@@ -41,8 +42,12 @@ OPERATIONS = [
     ("verify ann one", "no"),
     ("verify ann two", "yes"),
     ("upgrade ann one", "wrong"),
+    ("login ann one", "no"),
     (f"upgrade ann two {WIDER}$BBBBBBBBBBA", "kept"),
     ("upgrade ann two", "upgraded"),
+    ("upgrade ann two", "kept"),
+    (f"upgrade ann two {WIDER}$BBBBBBBBBBA", "upgraded"),
+    ("login ann two", "yes"),
     ("upgrade ann two", "kept"),
     ("verify ann two", "yes"),
     ("reset ann one", "replaced"),
@@ -55,6 +60,7 @@ OPERATIONS = [
     ("verify ann two", "yes"),
     # Its name and its record.
     ("account cat", "ok"),
+    ("list - 10", "names ann cat"),
     ("rename ann cat", "exists"),
     ("rename ann ann", "exists"),
     ("verify ann two", "yes"),
@@ -75,7 +81,9 @@ OPERATIONS = [
     ("enrol cat -", "enrolled"),
     ("verify cat -", "yes"),
     ("account dan", "ok"),
-    # Records that others made.
+    # Records that others made, and one that is to be the same.
+    (f"change cat - password {SETTING}", "replaced"),
+    ("show cat", RECORD),
     (f"load cat {RECORD}", "ok"),
     ("show cat", RECORD),
     ("verify cat password", "yes"),
@@ -88,6 +96,7 @@ OPERATIONS = [
 
 # What a line may not be, and the fault that it is answered by.
 FAULTS = [
+    ("", "11 line"),
     ("frob ann", "11 line"),
     ("show", "11 line"),
     ("show ann ann", "11 line"),
@@ -101,6 +110,15 @@ FAULTS = [
     (f"enrol ann - $argon2id$v=19$m=7,t=1,p=1${SALT}", "5 range"),
     ("load ann x", "1 shape"),
 ]
+TAGGED_FAULTS = [
+    *((f"list - {count}", "5 range") for count in ("0", "1001", "010", "x")),
+    ("list Ann 10", "3 name"),
+    ("rename cat Ann", "3 name"),
+    ("disable Cat show", "3 name"),
+    *((line, "11 line") for line in ("list -", "delete cat cat", "rename cat", "disable")),
+    *((line, "11 line") for line in ("disable cat cat", "disable cat show show")),
+    ("begin 1 verify ann -", "11 line"),
+]
 
 # Settings and records that ask for 64 KiB, and for more.
 WITHIN, ABOVE = (f"$argon2id$v=19$m={kib},t=1,p=1${SALT}" for kib in (64, 65))
@@ -110,25 +128,19 @@ COSTLY = "bad 18 costly"
 
 # With a bound of 64 KiB and without one. The book has ann's record already.
 BOUNDED = [
-    ("verify ann one", "yes", "yes"),
     (f"load bob {WITHIN}${TAG}", "ok", "ok"),
     (f"load bob {ABOVE}${TAG}", COSTLY, "ok"),
     (f"load bob {TWICE}${TAG}", COSTLY, "ok"),
     (f"load zed {ABOVE}${TAG}", COSTLY, "bad 5 noaccount"),
     (f"load bob {FLAT}${TAG}", "ok", "ok"),
     (f"enrol bob one {ABOVE}", COSTLY, "exists"),
-    (f"enrol bob one {WITHIN}", "exists", "exists"),
-    (f"change bob one - {FLAT}", "wrong", "wrong"),
     (f"change ann two one {ABOVE}", COSTLY, "wrong"),
     (f"upgrade ann two {TWICE}", COSTLY, "wrong"),
     (f"reset bob one {ABOVE}", COSTLY, "replaced"),
     (f"reset bob one {WITHIN}", "replaced", "replaced"),
-    ("reset bob one", "replaced", "replaced"),
     ("login ann one", "yes", "yes"),
     ("change ann one one", "replaced", "replaced"),
-    ("remove ann one", "removed", "removed"),
 ]
-BOUNDS = [("--most-memory", "64"), ("--most-memory", "64K"), ("--most-memory", "1M"), ()]
 
 # The same of work: 64 KiB are gone over three times, and four times; and scrypt's 96 KiB twice.
 THRICE, MORE = (f"$argon2id$v=19$m=64,t={t},p=1${SALT}" for t in (3, 4))
@@ -138,13 +150,17 @@ BOUNDED_WORK = [
     (f"load bob {MORE}${TAG}", COSTLY, "ok"),
     (f"load bob {MIXED}${TAG}", "ok", "ok"),
     (f"load bob {REPEATED}${TAG}", COSTLY, "ok"),
-    (f"enrol bob one {MORE}", COSTLY, "exists"),
-    (f"change ann two one {REPEATED}", COSTLY, "wrong"),
-    (f"reset bob one {MORE}", COSTLY, "replaced"),
     (f"upgrade ann one {THRICE}", "upgraded", "upgraded"),
-    ("verify ann one", "yes", "yes"),
 ]
-WORK_BOUNDS = [("--most-work", "192"), ("--most-work", "1M", "--most-memory", "1M")]
+# The words of a bound, the table, and whether the bound is too high to matter.
+BOUNDS = [
+    (("--most-memory", "64"), BOUNDED, False),
+    (("--most-memory", "64K"), BOUNDED, False),
+    (("--most-memory", "1M"), BOUNDED, True),
+    ((), BOUNDED, True),
+    (("--most-work", "192"), BOUNDED_WORK, False),
+    (("--most-work", "1M", "--most-memory", "1M"), BOUNDED_WORK, True),
+]
 
 
 class OperationsTest(BookTest):
@@ -160,68 +176,54 @@ class OperationsTest(BookTest):
 
     def test_faults(self) -> None:
         """A line that isn't one has the same fault from a script and a service, and no effect."""
-        answers = "".join(f"bad {fault}\n" for _, fault in FAULTS)
-        lines = [f"begin 1 {it}" if it.split()[0] in Script.begun else it for it, _ in FAULTS]
+        lines = [f"begin 1 {it}" if it.split(" ")[0] in Script.begun else it for it, _ in FAULTS]
         for order in ("run", "serve"):
-            done = self.book(order, given="".join(f"{line}\n" for line in lines))
-            self.assertEqual((order, done), (order, (0, answers, "")))
-        found = self.book.answers(*(f"t {line}" for line, _ in FAULTS))
-        self.assertEqual(found, [f"t bad {fault}" for _, fault in FAULTS])
+            found = self.book.script([order], lines)
+            self.assertEqual([*zip(lines, found)], [*zip(lines, (f"bad {it}" for _, it in FAULTS))])
+        faults = [*FAULTS[1:], *TAGGED_FAULTS]
+        found = self.book.answers(*(f"t {line}" for line, _ in faults))
+        self.assertEqual([*zip(faults, found)], [(it, f"t bad {it[1]}") for it in faults])
         self.assertEqual(self.book.names(), [])
 
     def test_bounds(self) -> None:
         """What a line brings is refused if it asks for more than --most-memory or --most-work; what
         the book has already, and what the service draws, is not."""
-        tables = [*zip(BOUNDS, [BOUNDED] * 4), *zip(WORK_BOUNDS, [BOUNDED_WORK] * 2)]
-        for words, table in tables:
-            at = 1 if words[1:] in (("64",), ("64K",), ("192",)) else 2
+        for words, table, is_high in BOUNDS:
             doors: list[Door] = [Script("serve", "--workers", "4", *words), Tagged(*words)]
             for door in doors:
                 with self.subTest(words=words, door=type(door).__name__):
                     book = self.begun({"ann": "", "bob": ""})
                     perform(self, book, Tagged(), [(f"enrol ann one {ABOVE}", "enrolled")])
-                    rows = [(row[0], row[at]) for row in table]
+                    rows = [(line, without if is_high else bound) for line, bound, without in table]
                     door.perform(self, book, [it for it in rows if it[0].split()[0] in door.verbs])
                     self.assertSound(book)
 
     def test_bounds_at_other_doors(self) -> None:
         """What the book has is checked whatever it asks for, and `run` has no bound."""
-        book = self.begun({"ann": f"{ABOVE}${TAG}"})
-        asked = "show ann\nbegin 1 verify ann -\ncommit 1\n"
-        answers = f"{ABOVE}${TAG}\nbegun\nno\n"
-        self.assertEqual(book("serve", "--most-memory", "0", given=asked), (0, answers, ""))
-        self.assertEqual(book("run", given=f"load ann {ABOVE}${TAG}\n"), (0, "ok\n", ""))
+        record = f"{ABOVE}${TAG}"
+        book, lines = self.begun({"ann": record}), ["show ann", "begin 1 verify ann -", "commit 1"]
+        found = book.script(["serve", "--most-memory", "0"], lines)
+        self.assertEqual(found, [record, "begun", "no"])
+        self.assertEqual(book.script(["run"], [f"load ann {record}"]), ["ok"])
 
     def test_bounds_and_numbers(self) -> None:
         """A number is looked at before what its line asks for, and that before an open number."""
-        book = self.begun({"ann": ""})
+        book, fits, asks = self.begun({"ann": ""}), f"enrol ann - {WITHIN}", f"enrol ann - {ABOVE}"
+        lines = [f"begin 65 {asks}", f"begin 4 {fits}", f"begin 4 {asks}", "commit 1"]
         for words, above in ((("--most-memory", "64"), COSTLY), ((), "bad 14 busy")):
-            dialogue = [
-                (f"begin 65 enrol ann - {ABOVE}", "bad 12 key"),
-                (f"begin 4 enrol ann - {WITHIN}", "begun"),
-                (f"begin 4 enrol ann - {ABOVE}", above),
-                ("commit 1", "bad 15 idle"),
-            ]
-            done = book("serve", *words, given="".join(f"{line}\n" for line, _ in dialogue))
-            self.assertEqual(done, (0, "".join(f"{answer}\n" for _, answer in dialogue), ""))
+            found = book.script(["serve", *words], lines)
+            self.assertEqual(found, ["bad 12 key", "begun", above, "bad 15 idle"])
 
     def test_bounds_of_costs(self) -> None:
         """A service's own costs are within its bound, or it doesn't start."""
-        book, own = self.begun({"bob": ""}), (
-            "serve",
-            "--tagged",
-            "--setting",
-            WITHIN.rpartition("$")[0],
-        )
-        done = book(*own, "--most-memory", "64", given="t show bob\n")
-        self.assertEqual(done, (0, "t none\n", ""))
-        text = (
-            "credkeep: --setting: it asks for more than --most-memory or --most-work (18 costly)\n"
-        )
+        book, tagged = self.begun({"bob": ""}), ("serve", "--tagged")
+        own = (*tagged, "--setting", WITHIN.rpartition("$")[0])
+        self.assertEqual(book.script([*own, "--most-memory", "64"], ["t show bob"]), ["t none"])
+        why = "--setting: it asks for more than --most-memory or --most-work (18 costly)"
         for words in (
             (*own, "--most-memory", "63"),
             (*own, "--most-work", "63"),
-            ("serve", "--tagged", "--most-memory", "65535"),
+            (*tagged, "--most-memory", "65535"),
         ):
-            self.assertEqual(book(*words, given="t account cat\n"), (1, "", text))
+            self.assertEqual(book(*words, given="t account cat\n"), fails(1, why))
         self.assertEqual(book.names(), ["bob"])

@@ -4,76 +4,71 @@ import base64
 import json
 import pathlib
 
-from tests.credkeep.books import CHEAP, DONE, OTHER, RECORD, SETTING, TAG, BookTest, fails, says
-from tests.helpers import Ended, need_module
+from tests.credkeep.books import CHEAP, DONE, OTHER, RECORD, SCRYPT, BookTest, fails, lines_of, says
+from tests.helpers import Ended
 
 # RFC 9106's second recommended choice.
 DEFAULT = "$argon2id$v=19$m=65536,t=3,p=4$"
-COSTS = ("--setting", CHEAP)
+NO_PASSWORD = fails(6, "no password on standard input")
+NO_NEW_ONE = fails(6, "the new password is missing")
+EMPTY = fails(6, "the password is empty: --empty-password accepts it")
+LONG = fails(6, "the password has over 256 bytes")
+HINT = (
+    "credkeep: hint: the password that was read ends in a carriage return, which counts: "
+    "tr -d '\\r' removes it\n"
+)
+MAKING = ("add", "change", "reset")
+READING = ("add", "check", "change", "reset", "upgrade", "remove")
+
+# Orders one after another with their inputs and ends. The book has ann, whose password is first,
+# and bob, whose password is that with a carriage return.
+PASSWORDS = [
+    # A password is a line. Its end belongs not to it, and may be missing.
+    *(("check ann", given, says("yes")) for given in ("first\n", "first", "first\nmore\n")),
+    *(("check ann", given, says("no")) for given in ("first \n", "\nfirst\n")),
+    # Where the input has none, or no second one, nothing is changed.
+    *((f"{order} {name}", "", NO_PASSWORD) for order in READING for name in ("ann", "zoe")),
+    *(("change ann", given, NO_NEW_ONE) for given in ("first", "first\n", "\n")),
+    *(("change ann --empty-password", given, NO_NEW_ONE) for given in ("first", "first\n", "\n")),
+    ("check ann", "first\n", says("yes")),
+    # A new password is empty only if that is asked for.
+    ("add zoe", "\n", EMPTY),
+    ("check zoe", "\n", says("noaccount")),
+    ("add zoe --empty-password", "\n", says("enrolled")),
+    ("check zoe", "\n", says("yes")),
+    ("reset ann", "\n", EMPTY),
+    ("check ann", "first\n", says("yes")),
+    ("reset ann --empty-password", "\n", says("replaced")),
+    ("change ann", "\n\n", EMPTY),
+    ("change ann --empty-password", "\n\n", says("replaced")),
+    ("check ann", "\n", says("yes")),
+    ("change ann", "\nfirst\n", says("replaced")),
+    # It has 256 bytes at most.
+    ("reset zoe", "x" * 256, says("replaced")),
+    ("check zoe", "x" * 256 + "\n", says("yes")),
+    ("check zoe", "x" * 257, LONG),
+    ("add kim", "x" * 257, LONG),
+    ("check kim", "x", says("noaccount")),
+    # One that ends in a carriage return has a hint if the book says no to it.
+    ("check ann", "first\r\n", Ended(4, "no\n", HINT)),
+    *(
+        (f"{it} ann", "first\r\nnew\n", Ended(4, "wrong\n", HINT))
+        for it in ("change", "upgrade", "remove")
+    ),
+    *((f"{it} ann", "other\nnew\n", says("wrong")) for it in ("change", "upgrade", "remove")),
+    ("check nobody", "first\r\n", says("noaccount")),
+    ("check bob", "first\r\n", says("yes")),
+]
 
 
 class PasswordsTest(BookTest):
-    def test_password_is_a_line(self) -> None:
-        """Its end belongs not to the password, and may be missing."""
-        self.assertEqual(self.book("add", "ann", *COSTS, given="first\n"), says("enrolled"))
-        for given in ("first\n", "first", "first\nmore\n"):
-            self.assertEqual(self.book("check", "ann", given=given), says("yes"))
-        for given in ("first \n", "\nfirst\n"):
-            self.assertEqual(self.book("check", "ann", given=given), says("no"))
-
-    def test_no_input_is_no_password(self) -> None:
-        """An order that reads a password, or a second one, from an input without it changes
-        nothing."""
-        self.book.add("ann", "first\n")
-        before = self.book.accounts()
-        for order in ("add", "check", "change", "reset", "upgrade", "remove"):
-            for name in ("ann", "zoe"):
-                done = self.book(order, name)
-                self.assertEqual((order, done), (order, fails(6, "no password on standard input")))
-        missing = fails(6, "the new password is missing")
-        for given in ("first", "first\n", "\n"):
-            self.assertEqual(self.book("change", "ann", given=given), missing)
-            self.assertEqual(self.book("change", "ann", "--empty-password", given=given), missing)
-        self.assertEqual(self.book.accounts(), before)
-        self.assertEqual(self.book("check", "ann", given="first\n"), says("yes"))
-        self.assertEqual(self.book("check", "ann", given="\n"), says("no"))
-
-    def test_empty_passwords(self) -> None:
-        """A new password is empty only if that is asked for."""
-        refused = fails(6, "the password is empty: --empty-password accepts it")
-        orders = [("add", "\n", "enrolled"), ("reset", "\n", "replaced")]
-        orders += [("change", "\n\n", "replaced")]
-        for order, given, answer in orders:
-            before = self.book.accounts()
-            self.assertEqual(self.book(order, "ann", *COSTS, given=given), refused)
-            self.assertEqual(self.book.accounts(), before)
-            done = self.book(order, "ann", "--empty-password", *COSTS, given=given)
-            self.assertEqual((order, done), (order, says(answer)))
-            self.assertEqual(self.book("check", "ann", given="\n"), says("yes"))
-        done = self.book("change", "ann", *COSTS, given="\nsecond\n")
-        self.assertEqual(done, says("replaced"))
-
-    def test_carriage_returns(self) -> None:
-        """A password that ends in a carriage return has its hint if the book says no to it."""
+    def test_passwords(self) -> None:
         self.book.add("ann", "first\n")
         self.book.add("bob", "first\r\n")
-        for order, answer in (("check", "no"), ("remove", "wrong"), ("upgrade", "wrong")):
-            done = self.book(order, "ann", given="first\r\n")
-            self.assertEqual(done[:2], says(answer)[:2])
-            self.assertRegex(done.faults, r"\Acredkeep: hint: .*carriage return")
-            self.assertEqual(self.book(order, "ann", given="other\n"), says(answer))
-        done = self.book("change", "ann", given="first\r\nnew\r\n")
-        self.assertIn("carriage return", done.faults)
-        self.assertEqual(self.book("check", "nobody", given="first\r\n"), says("noaccount"))
-        self.assertEqual(self.book("check", "bob", given="first\r\n"), says("yes"))
-
-    def test_long_passwords(self) -> None:
-        self.book.add("ann", "x" * 256)
-        self.assertEqual(self.book("check", "ann", given="x" * 256 + "\n"), says("yes"))
-        refused = fails(6, "the password has over 256 bytes")
-        self.assertEqual(self.book("check", "ann", given="x" * 257), refused)
-        self.assertEqual(self.book("add", "bob", *COSTS, given="x" * 257), refused)
-        self.assertEqual(self.book.names(), ["ann"])
+        for text, given, wanted in PASSWORDS:
+            words = [*text.split(), *(["--setting", CHEAP] if text.split()[0] in MAKING else [])]
+            done = self.book(*words, given=given)
+            self.assertEqual((text, given, done), (text, given, wanted))
 
     def test_passwords_are_not_shown(self) -> None:
         """Neither the words nor what is said on standard error holds a password."""
@@ -106,65 +101,62 @@ class RecordsTest(BookTest):
         ):
             self.assertEqual(self.book(order, name, given=given), says(answer))
             made.append(self.book.accounts()[name])
-        for record in made:
-            self.assertTrue(record.startswith(DEFAULT), record)
-        salts = [record.removeprefix(DEFAULT).split("$")[0] for record in made]
-        self.assertEqual([len(base64.b64decode(f"{salt}==")) for salt in salts], [16] * 4)
-        self.assertEqual(len(set(salts)), 4)
+        self.assertEqual([it[: len(DEFAULT)] for it in made], [DEFAULT] * 4)
+        self.assertEqual(len(self.salts(made)), 4)
         for name in ("ann", "bob"):
             self.assertEqual(self.book("check", name, given="password\n"), says("yes"))
 
+    def salts(self, records: list[str]) -> set[bytes]:
+        """The salts of these records, each of 16 bytes."""
+        found = {base64.b64decode(it.split("$")[4] + "==") for it in records}
+        self.assertEqual({len(it) for it in found}, {16})
+        return found
+
     def test_fresh_salts(self) -> None:
-        """Each salt is another one, and each of its 16 bytes takes many values."""
+        """Each salt is another one, and each of its 16 bytes takes many values: those that an
+        order draws, and those that a service of tagged lines does."""
         for at in range(100):
             self.book.add(f"a{at}")
-        records = self.book.accounts().values()
-        salts = [base64.b64decode(it.split("$")[4] + "==") for it in records]
-        self.assertEqual({len(salt) for salt in salts}, {16})
-        self.assertEqual(len(set(salts)), 100)
-        for place in range(16):
-            # Of 256 values 100 draws hit 83 on average; fewer than 50 come once in 10^20 times.
-            self.assertGreaterEqual(len({salt[place] for salt in salts}), 50, f"byte {place}")
-
-    def test_default_record_is_argon2_cffis(self) -> None:
-        need_module("argon2")
-        import argon2
-
-        self.assertEqual(self.book("add", "ann", given="password"), says("enrolled"))
-        self.assertTrue(argon2.PasswordHasher().verify(self.book.accounts()["ann"], "password"))
-
-    def test_setting_with_a_salt(self) -> None:
-        done = self.book("add", "ann", "--setting", SETTING, given="password\n")
-        self.assertEqual(done, says("enrolled"))
-        self.assertEqual(self.book.accounts(), {"ann": RECORD})
+        for at in range(0, 100, 4):
+            names = [f"t{it}" for it in range(at, at + 4)]
+            lines = ((f"a account {it}", f"a enrol {it} -") for it in names)
+            self.book.answers(*(line for pair in lines for line in pair))
+        accounts = self.book.accounts()
+        for kind in "at":
+            records = [record for name, record in accounts.items() if name.startswith(kind)]
+            salts = self.salts(records)
+            self.assertEqual(len(salts), 100)
+            for place in range(16):
+                # Of 256 values 100 draws hit 83 on average; fewer than 50 come once in 10^20 times.
+                self.assertGreaterEqual(len({salt[place] for salt in salts}), 50, f"byte {place}")
 
     def test_shows(self) -> None:
-        self.assertEqual(self.book("show", "ann"), says("noaccount"))
-        records = {"one": RECORD, "two": f"$scrypt$ln=4,r=8,p=1$c2FsdHNhbHRz${TAG}"}
-        self.begun({"ann": "", **records})
-        self.assertEqual(self.book("show", "ann", "--record"), says("absent"))
-        for name, record in records.items():
-            costs = record.rsplit("$", 2)[0]
-            self.assertEqual(self.book("show", name), Ended(0, f"{costs}\n"))
-            self.assertEqual(self.book("show", name, "--record"), Ended(0, f"{record}\n"))
-
-    def test_json(self) -> None:
-        """An object a line, with null for no record; null alone is no account."""
-        self.begun({"ann": "", "one": RECORD})
-        costs = {"ann": None, "one": RECORD.rsplit("$", 2)[0]}
-        found = self.book("list", "--json")
-        self.assertEqual(found[::2], (0, ""))
-        objects = [{"name": name, "costs": it} for name, it in costs.items()]
-        self.assertEqual([json.loads(line) for line in found.written.splitlines()], objects)
-        for words, status, value in (
-            (["one"], 0, objects[1]),
-            (["one", "--record"], 0, {"name": "one", "record": RECORD}),
-            (["ann"], 4, objects[0]),
-            (["ann", "--record"], 4, {"name": "ann", "record": None}),
-            (["zoe"], 4, None),
-        ):
-            done = self.book("show", "--json", *words)
-            self.assertEqual((done.status, json.loads(done.written)), (status, value))
+        """Costs have a record's scheme and numbers, and neither a salt nor a hash. In JSON each
+        account is an object, with null for no record; null alone is no account."""
+        self.assertEqual(self.book("list", "--costs"), DONE)
+        old = RECORD.replace("$v=19", "")
+        records = {"cat": SCRYPT, "ann": RECORD, "bob": "", "dan": OTHER, "eve": old}
+        book, costs = self.begun(records), {
+            "ann": "$argon2id$v=19$m=256,t=2,p=1",
+            "bob": "",
+            "cat": "$scrypt$ln=14,r=8,p=1",
+            "dan": "$argon2i$v=19$m=256,t=2,p=1",
+            "eve": "$argon2id$v=16$m=256,t=2,p=1",
+        }
+        self.assertEqual(book("list", "--costs"), Ended(0, lines_of(costs)))
+        listed = book("list", "--json")
+        objects = [{"name": name, "costs": it or None} for name, it in costs.items()]
+        self.assertEqual([json.loads(line) for line in listed.written.splitlines()], objects)
+        for name, it, shown in zip(costs, costs.values(), objects):
+            record = records[name].replace("argon2id$m", "argon2id$v=16$m") or None
+            for words, found in (([], it), (["--record"], record)):
+                answer = Ended(0, f"{found}\n") if found else says("absent")
+                self.assertEqual(book("show", name, *words), answer)
+            for words, value in (([], shown), (["--record"], {"name": name, "record": record})):
+                done = book("show", "--json", name, *words)
+                self.assertEqual((done.status, json.loads(done.written)), (0 if it else 4, value))
+        self.assertEqual(book("show", "zoe"), says("noaccount"))
+        self.assertEqual(book("show", "zoe", "--json"), Ended(4, "null\n"))
 
     def test_disabled_with_its_line(self) -> None:
         """`disable --show` writes the line that `import --update` puts back, and nothing else does
@@ -180,20 +172,5 @@ class RecordsTest(BookTest):
         line = f"bob:{OTHER}\n"
         self.assertEqual(self.book("disable", "bob", "--show"), Ended(0, line))
         self.assertEqual(self.book.accounts(), {**before, "bob": ""})
-        self.assertEqual(self.book("check", "bob", given="password\n"), says("absent"))
         self.assertEqual(self.book("import", "--update", given=line).status, 0)
         self.assertEqual(self.book.accounts(), before)
-        self.assertEqual(self.book("disable", "bob"), says("disabled"))
-
-    def test_adds(self) -> None:
-        """`add` makes the account too, and nothing where there is one with a record."""
-        self.book.add("ann", "first")
-        self.assertEqual(self.book("add", "ann", *COSTS, given="second"), says("exists"))
-        self.assertEqual(self.book("check", "ann", given="first"), says("yes"))
-        self.assertEqual(self.book("remove", "ann", given="first"), says("removed"))
-        self.assertEqual(self.book("export"), Ended(0, "ann:\n"))
-        self.assertEqual(self.book("list"), Ended(0, "ann\n"))
-        self.assertSound(self.book)
-        self.assertLogIsEmpty(self.book)
-        self.assertEqual(self.book("delete", "ann"), says("deleted"))
-        self.assertEqual(self.book("list"), DONE)

@@ -1,14 +1,13 @@
 """Calls of the system, each refused or killed in turn by strace: the book is the one before or the
 one after."""
 
-import pathlib
-import shutil
+import functools
 import tempfile
-from collections.abc import Iterator
-from typing import NamedTuple
+from collections.abc import Callable
+from typing import Any
 
-from tests.credkeep.books import DONE, EDITS, RECORD, Accounts, Book, BookTest, lines_of
-from tests.helpers import Ended, ended, in_turn, need
+from tests.credkeep.books import DONE, EDITS, RECORD, Accounts, Book, BookTest, Change, lines_of
+from tests.helpers import Ended, Found, Stop, ended, need
 
 # The calls that change files or make changes last, and those between them. strace counts each by
 # itself.
@@ -20,162 +19,117 @@ CALLS = CHANGES + "openat newfstatat fstat readlink read pread64 fcntl clock_nan
 WRITES = "pwrite64 write fsync fdatasync ftruncate".split()
 
 MANY = {f"n{at:03}": RECORD for at in range(200)}
+# An older copy, and the book of a killed run's file and log.
+OLD = {"ann": "", "old": RECORD}
+NEW = {"ann": RECORD, "bob": "", "k1": ""}
 
 
-class Stopped(NamedTuple):
-    """A run with a call refused or killed: which, how it ended, and the book that is there."""
+def without_call(call: str, how: str) -> Stop:
+    """Refuses or kills a run at one of these calls."""
 
-    call: str
-    done: Ended
-    accounts: Accounts
+    def stop(nth: int, command: list[str], given: str = "", **options: Any) -> Ended | None:
+        with tempfile.NamedTemporaryFile() as trace:
+            inject = ["-e", f"trace={call}", "-e", f"inject={call}:{how}:when={nth}"]
+            strace = ["strace", "-f", "-o", trace.name, *inject]
+            done = ended([*strace, *command], given, **options)
+            text = trace.read()
+        return done if b"INJECTED" in text or b"killed by SIGKILL" in text else None
 
-
-class Scene(NamedTuple):
-    """A folder with a book users.db, and what is done in it; the file looked at, before and after."""
-
-    folder: pathlib.Path
-    words: list[str]
-    given: str = ""
-    file: str = "users.db"
-    before: Accounts = {}
-    after: Accounts = {}
+    return stop
 
 
 class RefusedCallsTest(BookTest):
     def setUp(self) -> None:
         need("strace")
         super().setUp()
+        (self.room / "base").mkdir()
 
-    def each(self, scene: Scene, calls: list[str], how: str) -> Iterator[Stopped]:
+    def each(
+        self,
+        change: Change,
+        calls: list[str],
+        how: str,
+        look: Callable[[Book], Found],
+        judge: Callable[[Ended, Found], None],
+    ) -> None:
         """The order with each of these calls refused or killed at its first time, its second, and
-        on. Afterwards the same order ends well, if it may be given twice."""
-
-        def attempt(nth: int) -> Stopped | None:
-            with tempfile.TemporaryDirectory(dir=self.room) as room:
-                folder, trace = pathlib.Path(room, "files"), pathlib.Path(room, "trace")
-                shutil.copytree(scene.folder, folder)
-                inject = ["-e", f"trace={call}", "-e", f"inject={call}:{how}:when={nth}"]
-                command = Book(folder / "users.db").command(*scene.words)
-                strace = ["strace", "-f", "-o", str(trace), *inject]
-                done = ended([*strace, *command], scene.given, cwd=folder)
-                text = trace.read_text()
-                if "INJECTED" not in text and "killed by SIGKILL" not in text:
-                    return None
-                found = self.once(folder, lambda: self.look(scene, folder, command))
-                return Stopped(f"{call} {nth}", done, found)
-
+        on. The judge sees what a look finds afterwards."""
+        ends = []
         for call in calls:
-            yield from in_turn(attempt)
-
-    def look(self, scene: Scene, folder: pathlib.Path, command: list[str]) -> Accounts:
-        """The book that is there. The next run of a copy is done whole, and leaves no file beside
-        the others."""
-        book = Book(folder / scene.file)
-        accounts = book.accounts() if book.path.exists() else {}
-        if scene.words[0] in ("backup", "restore"):
-            done = ended(command, cwd=folder)
-            assert (done.status, done.faults) == (0, ""), done
-            assert book.accounts() == scene.after
-            names = {it.name for it in scene.folder.iterdir()}
-            left = {it.name.removesuffix("-wal") for it in folder.iterdir()}
-            assert left <= names | {scene.file}, left
-        return accounts
-
-    def assertEach(self, scene: Scene, calls: list[str], *hows: str) -> None:
-        """Each refusal leaves the book before or after; status 0, and an answer, say which."""
-        for how in hows:
-            statuses = set()
-            for call, done, accounts in self.each(scene, calls, how):
-                with self.subTest(call=call, how=how, done=done):
-                    self.assertIn(accounts, (scene.before, scene.after))
-                    is_done = accounts == scene.after
-                    self.assertTrue(is_done or not (done.status == 0 or done.written))
-                    statuses.add(done.status)
-            killed = {-9} if how.startswith("signal") else {0, 2, 5}
-            self.assertTrue(statuses and statuses <= killed, statuses)
-
-    def scene(self, accounts: Accounts, *words: str, given: str = "", after: Accounts) -> Scene:
-        """An order on a new book."""
-        folder = self.room / "base"
-        folder.mkdir(exist_ok=True)
-        self.begun(accounts, "base/users.db").log.unlink(missing_ok=True)
-        return Scene(folder, [*words], given, before=accounts, after=after)
+            with self.subTest(call=call, how=how):
+                ends += self.stopped(without_call(call, how), change, look, judge)
+        statuses = {it.status for it in ends}
+        may = ({-9}, {-9}) if how.startswith("signal") else ({5}, {0, 2, 5})
+        self.assertTrue(may[0] <= statuses <= may[1], statuses)
 
     def test_orders(self) -> None:
-        for before, words, after in EDITS:
-            self.assertEach(self.scene(before, *words, after=after), WRITES, "error=EIO")
-
-    def test_imports(self) -> None:
-        scene = self.scene({}, "import", given=lines_of(MANY), after=MANY)
-        self.assertEach(scene, WRITES, "error=EIO")
+        """Each refusal leaves the book before the change or after it."""
+        for change in [*EDITS, Change({}, ["import"], MANY, lines_of(MANY))]:
+            self.begun(change.before, "base/users.db").log.unlink(missing_ok=True)
+            judge = functools.partial(self.assertStopped, change)
+            self.each(change, WRITES, "error=EIO", Book.accounts, judge)
 
     def test_scripts(self) -> None:
         """What was answered is kept, and at most the line after it."""
-        names = ["a", "b", "c"]
-        scene = self.scene({}, "run", given="".join(f"account {it}\n" for it in names), after={})
-        statuses = set()
-        for call, done, accounts in self.each(scene, WRITES, "error=EIO"):
-            with self.subTest(call=call, done=done):
-                answered, found = done.written.count("ok\n"), list(accounts)
-                self.assertTrue(done.status != 0 or answered == 3)
-                self.assertIn(found, (names[:answered], names[: answered + 1]))
-                statuses.add(done.status)
-        self.assertTrue(statuses and statuses <= {0, 2, 5}, statuses)
+
+        def judge(done: Ended, names: list[str]) -> None:
+            answered = done.written.count("ok\n")
+            self.assertTrue(done.status != 0 or answered == 3)
+            self.assertKept(answered, ["a", "b", "c"], names)
+
+        self.begun(name="base/users.db")
+        script = Change({}, ["run"], {}, "account a\naccount b\naccount c\n")
+        self.each(script, WRITES, "error=EIO", Book.names, judge)
 
     def test_init(self) -> None:
         """It leaves an empty book, or no file, and the next one goes on from there; status 0 says
         that the book is there."""
-        folder = self.room / "base"
-        folder.mkdir()
-        for how in ("error=EIO", "error=ENOSPC"):
-            statuses = set()
-            for call in CHANGES:
-                for nth, done in enumerate(in_turn(lambda it: self.refused_init(call, it, how)), 1):
-                    self.assertIn(done.status, (0, 2, 5), f"{call} {nth}")
-                    statuses.add(done.status)
-            self.assertLessEqual({0, 5}, statuses)
 
-    def refused_init(self, call: str, nth: int, how: str) -> Ended | None:
-        book, trace = self.file(f"{call}-{nth}-{how}.db"), self.room / f"trace-{nth}"
-        inject = ["-e", f"trace={call}", "-e", f"inject={call}:{how}:when={nth}"]
-        done = ended(["strace", "-f", "-o", str(trace), *inject, *book.command("init")])
-        if "INJECTED" not in trace.read_text():
-            return None
-        if done.status:
+        def look(book: Book) -> bool:
+            is_there = book.path.exists() and book("list") == DONE
             again = book("init")
             assert again == DONE or "holds a book already" in again.faults, again
-        assert book.accounts() == {}
-        return done
+            assert book.accounts() == {}
+            return is_there
+
+        judge = lambda done, is_there: self.assertTrue(is_there or done.status)
+        for how in ("error=EIO", "error=ENOSPC"):
+            self.each(Change({}, ["init"], {}), CHANGES, how, look, judge)
 
     def test_sync_at_an_opening(self) -> None:
         """A sync that fails as a file is opened isn't called a missing permission."""
-        strace = ["strace", "-f", "-o", str(self.room / "trace")]
-        inject = ["-e", "inject=fsync:error=EIO:when=1+"]
-        done = ended([*strace, *inject, *self.book.command("list")])
+        done = without_call("fsync", "error=EIO")(1, self.book.command("list"))
+        assert done
         self.assertFails(done, 5, "the system didn't sync it")
 
-    # ---- copies
-
-    def copies(self, *words: str) -> Scene:
-        """A killed run's file and log, and an older copy."""
-        folder = self.room / "base"
-        folder.mkdir()
-        old, new = {"ann": "", "old": RECORD}, {"ann": RECORD, "bob": "", "k1": ""}
-        self.begun(old, "base/copy.db").log.unlink()
+    def copies(self, order: str, file: str, before: Accounts, after: Accounts) -> None:
+        """A copy is made or put back whole or not at all, whatever is refused or killed. The next
+        run is done whole, and leaves no file beside the others."""
+        change = Change(before, [order, "copy.db"], after)
+        self.begun(OLD, "base/copy.db").log.unlink()
         book = self.begun({"ann": RECORD, "bob": ""}, "base/users.db")
         self.killed_after(book, "account k1")
-        if words[0] == "backup":
-            return Scene(folder, [*words], file="copy.db", before=old, after=new)
-        return Scene(folder, [*words], before=new, after=old)
 
-    def test_kills_of_backup(self) -> None:
-        self.assertEach(self.copies("backup", "copy.db"), CALLS, "signal=KILL")
+        def look(book: Book) -> Accounts:
+            changed = Book(book.path.parent / file)
+            accounts = changed.accounts() if changed.path.exists() else {}
+            done = ended(book.command(*change.words), cwd=book.path.parent)
+            assert (done.status, done.faults) == (0, ""), done
+            assert changed.accounts() == after
+            names = {it.name.removesuffix("-wal") for it in book.path.parent.iterdir()}
+            assert names == {"users.db", "copy.db"}, names
+            return accounts
 
-    def test_kills_of_restore(self) -> None:
-        self.assertEach(self.copies("restore", "copy.db"), CALLS, "signal=KILL")
+        judge = functools.partial(self.assertStopped, change)
+        for how, calls in (
+            ("error=EIO", CHANGES),
+            ("error=ENOSPC", CHANGES),
+            ("signal=KILL", CALLS),
+        ):
+            self.each(change, calls, how, look, judge)
 
-    def test_refused_calls_of_backup(self) -> None:
-        self.assertEach(self.copies("backup", "copy.db"), CHANGES, "error=EIO", "error=ENOSPC")
+    def test_backup(self) -> None:
+        self.copies("backup", "copy.db", OLD, NEW)
 
-    def test_refused_calls_of_restore(self) -> None:
-        self.assertEach(self.copies("restore", "copy.db"), CHANGES, "error=EIO", "error=ENOSPC")
+    def test_restore(self) -> None:
+        self.copies("restore", "users.db", NEW, OLD)

@@ -2,11 +2,10 @@
 what it answered is kept."""
 
 import re
-import shutil
 from collections.abc import Callable
 
-from tests.credkeep.books import CHEAP, RECORD, SALT, TAG, BookTest
-from tests.helpers import Ended, in_turn, without_request
+from tests.credkeep.books import CHEAP, DONE, RECORD, SALT, TAG, Book, BookTest, Change, lined
+from tests.helpers import Ended, without_request
 
 NAMES = ["a", "b"]
 # A status, and whether all was done.
@@ -22,37 +21,31 @@ SERVED = [
 
 
 class RefusedMemoryTest(BookTest):
-    def assertEach(
+    def setUp(self) -> None:
+        super().setUp()
+        (self.room / "base").mkdir()
+        self.book = self.begun(name="base/users.db")
+
+    def each(
         self, words: list[str], given: str, judge: Callable[[Ended, list[str]], None]
     ) -> list[Ended]:
-        """Each end of the order passes the judge, who sees the names that are there afterwards."""
-
-        def attempt(nth: int) -> tuple[Ended, list[str]] | None:
-            book = self.file(f"{nth}/users.db")
-            book.path.parent.mkdir()
-            self.book.move_to(book)
-            done = without_request(nth, book.command(*words), given)
-            names = self.once(book.path.parent, book.names)
-            shutil.rmtree(book.path.parent)
-            return done and (done, names)
-
-        found = []
-        for nth, (done, names) in enumerate(in_turn(attempt), 1):
-            with self.subTest(request=nth, done=done):
-                judge(done, names)
-            found.append(done)
+        """The ends of the order. The judge sees the names that are there afterwards."""
+        found = self.stopped(without_request, Change({}, words, {}, given), Book.names, judge)
         self.assertGreater(len(found), 20)
         return found
 
     def test_scripts(self) -> None:
-        """What was answered is kept, and at most the line after it."""
+        """What was answered is kept, and at most the line after it: of a larger book, too."""
+        large = [f"n{at}" for at in range(300)]
+        given = lined(f"{it}:" for it in large)
+        self.assertEqual(self.book("import", "--quiet", given=given), DONE)
 
         def judge(done: Ended, names: list[str]) -> None:
             answered = done.written.count("ok\n")
             self.assertIn((done.status, answered == 2), STATUSES)
-            self.assertIn(names, (NAMES[:answered], NAMES[: answered + 1]))
+            self.assertKept(answered, NAMES, {*names} - {*large})
 
-        found = self.assertEach(["run"], "account a\naccount b\n", judge)
+        found = self.each(["run"], "account a\naccount b\n", judge)
         self.assertLessEqual({3, 5}, {it.status for it in found})
 
     def test_services(self) -> None:
@@ -65,11 +58,9 @@ class RefusedMemoryTest(BookTest):
             written = done.written.splitlines()
             self.assertIn(written, (answers[: len(written)], starved[: len(written)]))
             self.assertIn((done.status, len(written) == len(SERVED)), STATUSES)
-            named = written[:1].count("ok") + written[4:5].count("ok")
-            self.assertIn(names, (NAMES[:named], NAMES[: named + 1]))
+            self.assertKept(written[:1].count("ok") + written[4:5].count("ok"), NAMES, names)
 
-        given = "".join(f"{line}\n" for line, _ in SERVED)
-        found = self.assertEach(["serve"], given, judge)
+        found = self.each(["serve"], lined(line for line, _ in SERVED), judge)
         self.assertLessEqual({3, 5}, {it.status for it in found})
         self.assertIn(starved, [it.written.splitlines() for it in found])
 
@@ -81,7 +72,7 @@ class RefusedMemoryTest(BookTest):
             self.assertIn(names, (["ann"], ["a", "ann", "b", "c"]))
             self.assertIn((done.status, len(names) == 4), STATUSES)
 
-        found = self.assertEach(["import"], f"a:{RECORD}\nb:\nc:{RECORD}\n", judge)
+        found = self.each(["import"], f"a:{RECORD}\nb:\nc:{RECORD}\n", judge)
         self.assertLessEqual({3, 5}, {it.status for it in found})
 
     def test_services_of_tagged_lines(self) -> None:
@@ -100,6 +91,6 @@ class RefusedMemoryTest(BookTest):
             self.assertEqual(names, ["ann"])
 
         words = ["serve", "--tagged", "--setting", CHEAP, "--at-once", "2"]
-        statuses = {it.status for it in self.assertEach(words, given, judge)}
+        statuses = {it.status for it in self.each(words, given, judge)}
         self.assertIn(0, statuses)
         self.assertGreater(len(statuses), 1)

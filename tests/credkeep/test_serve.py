@@ -1,20 +1,22 @@
-"""A service of a script's lines: how long it answers, what ends it, and what it does without
-memory."""
+"""Services, of a script's lines and of tagged ones: how long they answer, what ends them, and what
+they do without memory."""
 
 import resource
 import signal
 import time
 from typing import Any
 
-from tests.credkeep.books import CHEAP, DONE, OTHER, RECORD, SALT, TAG, BookTest, fails
+from tests.credkeep.books import CHEAP, DONE, SALT, TAG, BookTest, fails, lined
 from tests.helpers import Ended
 
 # More than a script may have.
 TWO_MIB = 2 * 1024 * 1024
-# What a service has where memory is short, in bytes, and a setting that asks for 2 GiB.
+# What a service has where memory is short, in bytes, and a setting that asks for more.
 SHORT_MEMORY = 700_000_000
-COSTLY = f"$argon2id$v=19$m=2097152,t=1,p=1${SALT}"
+COSTLY = f"$argon2id$v=19$m=1000000,t=1,p=1${SALT}"
 MODEST = f"$argon2id$v=19$m=64,t=1,p=1${SALT}"
+# The words of each service, the tag of a line to it, and that of an answer to a line without one.
+SERVICES = [(["serve"], "", ""), (["serve", "--tagged", "--setting", CHEAP], "t ", "* ")]
 
 NO_MEMORY = [
     ("account ann", "ok"),
@@ -24,7 +26,6 @@ NO_MEMORY = [
     ("commit 1", "bad 4 memory"),
     ("show ann", f"{COSTLY}${TAG}"),
     ("begin 1 verify ann cHc", "bad 14 busy"),
-    ("commit 1", "bad 4 memory"),
     # Each other operation that hashes, at the record and for a new one.
     ("begin 2 remove ann cHc", "begun"),
     ("commit 2", "bad 4 memory"),
@@ -34,7 +35,6 @@ NO_MEMORY = [
     ("commit 4", "bad 4 memory"),
     (f"begin 64 enrol bob cHc {COSTLY}", "begun"),
     ("commit 64", "bad 4 memory"),
-    ("show ann", f"{COSTLY}${TAG}"),
     ("show bob", "none"),
     # What needs no hash is answered.
     ("begin 5 verify bob cHc", "begun"),
@@ -48,8 +48,6 @@ NO_MEMORY = [
     # What hashes with less goes on.
     ("begin 1 verify ann cHc", "begun"),
     ("commit 1", "no"),
-    (f"load ann {COSTLY}${TAG}", "ok"),
-    ("commit 2", "bad 4 memory"),
     (f"begin 7 enrol bob cHc {MODEST}", "begun"),
     ("commit 7", "enrolled"),
     ("commit 64", "changed"),
@@ -58,43 +56,32 @@ NO_MEMORY = [
 
 class LinesTest(BookTest):
     def test_more_than_a_script(self) -> None:
-        """Two MiB of lines are answered, each, and those after them too."""
-        line = "show " + "x" * 500 + "\n"
-        count = TWO_MIB // len(line) + 1
-        given = line * count + "account ann\nshow ann\n"
-        done = self.book("serve", given=given)
-        self.assertEqual((done.status, done.faults), (0, ""))
-        self.assertTrue(done.written == "bad 3 name\n" * count + "ok\nnone\n", done.written[-99:])
-        self.assertEqual(self.book("run", given=given).status, 6)
+        """Two MiB of lines are answered, each, and those after them too; as a script they are too
+        many."""
+        line = "show " + "x" * 500
+        lines = [line] * (TWO_MIB // len(line)) + ["account ann", "show ann"]
+        found = self.book.script(["serve"], lines)
+        self.assertTrue(found == ["bad 3 name"] * (len(lines) - 2) + ["ok", "none"], found[-3:])
+        done = self.book("run", given=lined(lines))
+        self.assertEqual(done[::2], fails(6, "the script has over 1048576 bytes")[::2])
         self.assertEqual(self.book.names(), ["ann"])
 
-    def test_ends_of_input(self) -> None:
-        """The end of the input ends it in order, whatever stands in the last line."""
-        for given, answers in (
-            ("", ""),
-            ("account ann\naccount bob", "ok\nbad 11 line\n"),
-            ("\nfrob\nshow zoe\n", "bad 11 line\nbad 11 line\nbad 5 noaccount\n"),
-        ):
-            self.assertEqual(self.book("serve", given=given), Ended(0, answers))
-        with self.book.start("serve") as service:
-            self.assertEqual(service.ask("account cat"), "ok")
-            self.assertEqual(service.end(), DONE)
-        self.assertLogIsEmpty(self.book)
-        self.assertEqual(self.book.names(), ["ann", "cat"])
-
-    def test_cut_lines(self) -> None:
-        """A last line without its end is refused, wherever it is cut, and nothing is done for it;
-        a script does it."""
-        standing = f"account ann\nload ann {RECORD}\n"
-        cut = f"load ann {OTHER}"
-        for size in range(1, len(cut) + 1):
-            self.begun()
-            done = self.book("serve", given=standing + cut[:size])
-            self.assertEqual((size, done), (size, Ended(0, "ok\nok\nbad 11 line\n")))
-            self.assertEqual(self.book.accounts(), {"ann": RECORD})
-        self.assertEqual(self.book("serve", given="x" * 5000), Ended(0, "bad 11 line\n"))
-        self.assertEqual(self.book("run", given=cut), Ended(0, "ok\n"))
-        self.assertEqual(self.book.accounts(), {"ann": OTHER})
+    def test_cut_inputs(self) -> None:
+        """An input that ends at each byte ends a service in order: each whole line is answered
+        once; one that is cut is refused, without its tag, which may be cut too, and nothing is
+        done for it. A script does it."""
+        for words, tag, none in SERVICES:
+            text = lined(f"{tag}{line}" for line in ("show ann", "account bo", "account cat"))
+            for cut in range(len(text)):
+                book, (*whole, rest) = self.begun({"ann": ""}), text[:cut].split("\n")
+                done = book(*words, given=text[:cut])
+                wanted = [f"{tag}none", f"{tag}ok"][: len(whole)]
+                wanted += [f"{none}bad 11 line"] * bool(rest)
+                self.assertEqual((cut, sorted(done.written.splitlines())), (cut, sorted(wanted)))
+                self.assertEqual(done._replace(written=""), DONE)
+                self.assertEqual(book.names(), ["ann", "bo"][: max(1, len(whole))])
+            self.assertEqual(book(*words, given="x" * 5000), Ended(0, f"{none}bad 11 line\n"))
+        self.assertEqual(book("run", given="account cat"), Ended(0, "ok\n"))
 
     def test_answers_at_each_line(self) -> None:
         """Each answer comes before the next line is given, a stop of the process between, and its
@@ -102,24 +89,52 @@ class LinesTest(BookTest):
         for words in (("run",), ("serve", "--workers", "2")):
             book = self.begun()
             with book.start(*words) as service:
-                for at in range(50):
-                    self.assertEqual(service.ask(f"account n{at}"), "ok")
-                    if at == 25:
-                        service.process.send_signal(signal.SIGSTOP)
-                        time.sleep(0.1)
-                        service.process.send_signal(signal.SIGCONT)
-                for line, answer in (
+                self.assertRows(service.ask, [(f"account n{at}", "ok") for at in range(25)])
+                service.process.send_signal(signal.SIGSTOP)
+                time.sleep(0.1)
+                service.process.send_signal(signal.SIGCONT)
+                dialogue = [
+                    *((f"account n{at}", "ok") for at in range(25, 50)),
                     (f"begin 64 enrol n0 cGFzc3dvcmQ {CHEAP}${SALT}", "begun"),
                     ("commit 64", "enrolled"),
                     ("begin 1 verify n0 cGFzc3dvcmQ", "begun"),
                     ("commit 1", "yes"),
                     ("commit 1", "bad 15 idle"),
-                ):
-                    self.assertEqual((line, service.ask(line)), (line, answer))
+                ]
+                self.assertRows(service.ask, dialogue)
                 service.kill()
             found = book.accounts()
             self.assertEqual(len(found), 50)
             self.assertTrue(found["n0"].startswith(f"{CHEAP}${SALT}$"))
+
+    def test_slow_reader(self) -> None:
+        """A client that doesn't read its answers holds the service back, and gets them all in the
+        end. Nothing ends a service but its input."""
+        for (words, tag, _), count in zip(SERVICES, (100_000, 1_000_000)):
+            tags = [tag and f"t{at} " for at in range(count)]
+            with self.book.start(*words) as service:
+                feeder = service.feed(lined(f"{it}show nobody" for it in tags))
+                time.sleep(0.5)
+                self.assertIsNone(service.process.poll())
+                written = service.stdout.read().decode().splitlines()
+                feeder.join()
+                self.assertEqual(service.process.wait(), 0)
+            self.assertTrue(sorted(written) == sorted(f"{it}bad 5 noaccount" for it in tags))
+
+    def test_closed_output(self) -> None:
+        """If nobody reads the answers it ends with status 2, though its input is still open, and
+        the change of the line is kept."""
+        for words, tag, _ in SERVICES:
+            book = self.begun()
+            with book.start(*words) as service:
+                self.assertEqual(service.ask(f"{tag}account ann"), f"{tag}ok")
+                service.stdout.close()
+                service.send(f"{tag}account bob\n")
+                self.assertEqual(service.process.wait(), 2)
+                faults = service.stderr.read().decode()
+            told = "writing failed" if tag else "the writer failed, or took no byte"
+            self.assertEqual(faults, f"credkeep: {told}\n")
+            self.assertEqual(book.names(), ["ann", "bob"])
 
 
 class MemoryTest(BookTest):
@@ -133,54 +148,18 @@ class MemoryTest(BookTest):
         again; `run` ends there."""
         lines = [line for line, _ in NO_MEMORY]
         short: dict[str, Any] = {"preexec_fn": self.short_of_memory}
-        done = self.book("serve", given="".join(f"{line}\n" for line in lines), **short)
-        self.assertEqual([*zip(lines, done.written.splitlines())], NO_MEMORY)
-        self.assertEqual(done._replace(written=""), DONE)
+        self.assertEqual([*zip(lines, self.book.script(["serve"], lines, **short))], NO_MEMORY)
         self.assertSound(self.book)
-        given = "".join(f"{line}\n" for line in [*lines[3:5], "account cat"])
-        done = self.book("run", given=given, **short)
-        self.assertEqual(done, Ended(3, "begun\n", "credkeep: out of memory\n"))
+        done = self.book("run", given=lined([*lines[2:5], "account cat"]), **short)
+        self.assertEqual(done, Ended(3, "ok\nbegun\n", "credkeep: out of memory\n"))
         self.assertEqual(self.book.names(), ["ann", "bob"])
 
     def test_memory_comes_back(self) -> None:
         """Once there is memory, the number whose commit was refused is committed."""
-        record = f"$argon2id$v=19$m=1000000,t=1,p=1${SALT}${TAG}"
         with self.book.start("serve", preexec_fn=self.short_of_memory) as service:
-            for line, answer in (
-                ("account ann", "ok"),
-                (f"load ann {record}", "ok"),
-                ("begin 1 verify ann cHc", "begun"),
-                ("commit 1", "bad 4 memory"),
-                ("show bob", "bad 5 noaccount"),
-            ):
-                self.assertEqual((line, service.ask(line)), (line, answer))
+            self.assertRows(service.ask, NO_MEMORY[:5])
             pid = service.process.pid
             most = resource.prlimit(pid, resource.RLIMIT_AS)[1]
             resource.prlimit(pid, resource.RLIMIT_AS, (most, most))
-            self.assertEqual(service.ask("commit 1"), "no")
-            self.assertEqual(service.ask("commit 1"), "bad 15 idle")
+            self.assertRows(service.ask, [("commit 1", "no"), ("commit 1", "bad 15 idle")])
             self.assertEqual(service.end(), DONE)
-
-
-class PipesTest(BookTest):
-    def test_closed_pipe(self) -> None:
-        """If nobody reads the answers it ends with status 2, and the change of the line is kept."""
-        with self.book.start("serve") as service:
-            self.assertEqual(service.ask("account ann"), "ok")
-            service.stdout.close()
-            service.send("account bob\naccount cat\n")
-            self.assertEqual(service.process.wait(), 2)
-            faults = service.stderr.read().decode()
-        self.assertEqual(Ended(2, "", faults), fails(2, "the writer failed, or took no byte"))
-        self.assertEqual(self.book.names(), ["ann", "bob"])
-
-    def test_full_pipe(self) -> None:
-        """If the answers aren't read it waits, and loses none."""
-        with self.book.start("serve") as service:
-            feeder = service.feed("frob\n" * 100_000)
-            time.sleep(0.5)
-            self.assertIsNone(service.process.poll())
-            written = service.stdout.read()
-            feeder.join()
-            self.assertEqual(service.process.wait(), 0)
-        self.assertTrue(written == b"bad 11 line\n" * 100_000)

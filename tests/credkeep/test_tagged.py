@@ -1,50 +1,19 @@
-"""A service of tagged lines: what it answers, and what it does where memory, threads, the file or
-its reader fail."""
+"""A service of tagged lines: what it answers, and what it does where memory, threads or the file
+fail."""
 
 import asyncio
-import base64
-import itertools
 import os
 import pathlib
 import re
 import resource
 import signal
-import time
 from typing import Any
 
-from tests.credkeep.books import CHEAP, DONE, RECORD, SALT, Book, BookTest
+from tests.credkeep.books import CHEAP, DONE, RECORD, SALT, Book, BookTest, commits_in, lined
 from tests.credkeep.doors import in_base64
 from tests.helpers import LONGEST, TOP, limited, small_files
 
-ONE, TWO = in_base64("one"), in_base64("two")
-WIDER = "$argon2id$v=19$m=16,t=1,p=1"
-
-# Lines that a script hasn't, one after another, with their answers.
-LINES = [
-    ("list - 10", "names"),
-    ("account ann", "ok"),
-    ("account cat", "ok"),
-    ("list - 10", "names ann cat"),
-    ("delete ann", "deleted"),
-    ("list - 10", "names cat"),
-    ("list - 0", "bad 5 range"),
-    ("list - 1001", "bad 5 range"),
-    ("list - 010", "bad 5 range"),
-    ("list - x", "bad 5 range"),
-    ("list Ann 10", "bad 3 name"),
-    ("list -", "bad 11 line"),
-    ("delete cat cat", "bad 11 line"),
-    ("rename cat", "bad 11 line"),
-    ("rename cat Ann", "bad 3 name"),
-    ("disable", "bad 11 line"),
-    ("disable cat show", "absent"),
-    ("disable ann show", "noaccount"),
-    ("disable cat cat", "bad 11 line"),
-    ("disable cat show show", "bad 11 line"),
-    ("disable Cat show", "bad 3 name"),
-    ("begin 1 verify ann -", "bad 11 line"),
-    ("list - 10", "names cat"),
-]
+ONE = in_base64("one")
 
 # Lines with the tags of their answers.
 TAGS = [
@@ -60,23 +29,7 @@ TAGS = [
 ]
 
 
-def tags(count: int) -> list[str]:
-    return [f"t{at}" for at in range(count)]
-
-
-def cpu_of(pid: int) -> float:
-    """The processor time of a process in seconds."""
-    fields = pathlib.Path(f"/proc/{pid}/stat").read_text().rsplit(")", 1)[1].split()
-    return (int(fields[11]) + int(fields[12])) / os.sysconf("SC_CLK_TCK")
-
-
 class LinesTest(BookTest):
-    def test_lines(self) -> None:
-        found = self.book.answers(*(f"t {line}" for line, _ in LINES))
-        self.assertEqual(
-            [*zip((line for line, _ in LINES), found)], [(line, f"t {it}") for line, it in LINES]
-        )
-
     def test_tags(self) -> None:
         """A line without a tag, and one that is too long, are refused without one."""
         found = self.book.answers(*(line for line, _ in TAGS))
@@ -101,81 +54,20 @@ class LinesTest(BookTest):
             found = self.book.answers(f"t list {line}")
             self.assertEqual((line, found), (line, [" ".join(["t names", *wanted])]))
 
-    def test_logins_upgrade(self) -> None:
-        """A right login rehashes a record of other costs; a wrong one, and one of the same costs,
-        don't."""
-        book, shown = self.book, "a show ann"
-        made = f"a enrol ann {ONE} {WIDER}$AAAAAAAAAAA"
-        wide = book.answers("a account ann", made, shown)[2]
-        self.assertTrue(wide.startswith(f"a {WIDER}$AAAAAAAAAAA$"), wide)
-        self.assertEqual(book.answers(f"a login ann {TWO}", shown), ["a no", wide])
-        answer, cheap = book.answers(f"a login ann {ONE}", shown)
-        self.assertEqual(answer, "a yes")
-        self.assertTrue(cheap.startswith(f"a {CHEAP}$"), cheap)
-        self.assertEqual(book.answers(f"a login ann {ONE}", shown), ["a yes", cheap])
+    def test_logins_at_its_costs(self) -> None:
+        """A right login leaves a record of the service's own costs as it is."""
+        lines = ("account ann", "enrol ann -", "show ann", "login ann -", "show ann")
+        *_, before, answer, after = self.book.answers(*(f"a {line}" for line in lines))
+        self.assertEqual((answer, after), ("a yes", before))
 
     def test_disabled_with_its_line(self) -> None:
         """`disable NAME show` answers the line that it takes away, which `import --update` puts
         back."""
         book = self.begun({"ann": RECORD})
-        found = book.answers("t disable ann show", "t show ann")
-        self.assertEqual(found, [f"t ann:{RECORD}", "t none"])
+        found = book.answers("t disable ann show", "t disable ann show", "t disable bob show")
+        self.assertEqual(found, [f"t ann:{RECORD}", "t absent", "t noaccount"])
         self.assertEqual(book("import", "--update", given=f"ann:{RECORD}\n").status, 0)
         self.assertEqual(book.answers("t show ann", "t disable ann"), [f"t {RECORD}", "t disabled"])
-
-    def test_salts_are_drawn(self) -> None:
-        """Each record has a salt of 16 bytes of its own where the line gives none."""
-        names = [f"n{at}" for at in range(20)]
-        for name in names:
-            self.book.answers(f"t account {name}", f"t enrol {name} -")
-        salts = {record.split("$")[4] for record in self.book.accounts().values()}
-        self.assertEqual(len(salts), 20)
-        self.assertEqual({len(base64.b64decode(f"{salt}==")) for salt in salts}, {16})
-
-    def test_readers_end_anywhere(self) -> None:
-        """An input that ends at each byte: each whole line is answered once; one that is cut is
-        refused without a tag, which may be cut too, and nothing is done for it."""
-        self.book.answers("a account ann", "a enrol ann -", "a account bo")
-        accounts, answers = self.book.accounts(), ["b yes", "c1 none"]
-        text = "b verify ann -\nc1 show bo\nd delete bob\n"
-        for cut in range(len(text)):
-            with self.book.tagged("--at-once", "2") as service:
-                done = service.end(text[:cut])
-            whole, _, rest = text[:cut].rpartition("\n")
-            wanted = answers[: len(whole.splitlines())] + ["* bad 11 line"] * bool(rest)
-            self.assertEqual((cut, sorted(done.written.splitlines())), (cut, sorted(wanted)))
-            self.assertEqual(done._replace(written=""), DONE)
-            self.assertEqual(self.book.accounts(), accounts)
-        with self.book.tagged() as service:
-            self.assertEqual(service.end("x" * 5000), (0, "* bad 11 line\n", ""))
-
-    def test_slow_reader(self) -> None:
-        """A client that doesn't read its answers holds the service back, and gets them all in the
-        end."""
-        with self.book.tagged() as service:
-            feeder = service.feed("".join(f"{tag} show nobody\n" for tag in tags(20_000)))
-            time.sleep(0.5)
-            written = service.stdout.read().decode().splitlines()
-            feeder.join()
-            self.assertEqual(service.process.wait(), 0)
-        wanted = sorted(f"{tag} bad 5 noaccount" for tag in tags(20_000))
-        self.assertTrue(sorted(written) == wanted)
-
-    def test_a_million_lines(self) -> None:
-        """Nothing ends a service but its input."""
-        with self.book.tagged() as service:
-            feeder = service.feed("t show nobody\n" * 1_000_000)
-            found = service.stdout.read().count(b"t bad 5 noaccount\n")
-            feeder.join()
-            self.assertEqual((found, service.process.wait()), (1_000_000, 0))
-
-    def test_closed_output(self) -> None:
-        """Where nobody reads the answers it ends, though its input is still open."""
-        self.book.answers("a account ann", "a enrol ann -")
-        with self.book.tagged() as service:
-            service.stdout.close()
-            service.send("b verify ann -\n")
-            self.assertEqual(service.process.wait(), 2)
 
     def test_example_of_a_page(self) -> None:
         """The example of docs/SERVING.md lets in, and keeps out."""
@@ -185,10 +77,9 @@ class LinesTest(BookTest):
         self.book.answers("a account ada", "a enrol ada " + in_base64("secret"))
         names: dict[str, Any] = {"__name__": "example"}
         exec(compile(example, "docs/SERVING.md", "exec"), names)  # noqa: S102
-        command = self.book.command()
 
         async def use() -> list[str]:
-            book = await names["Book"].start(*command)
+            book = await names["Book"].start(*self.book.command())
             try:
                 asks = [book.ask("login", "ada", pw) for pw in ["secret", "other"] * 10]
                 return list(await asyncio.gather(*asks))
@@ -200,61 +91,46 @@ class LinesTest(BookTest):
 
 
 class HashesTest(BookTest):
-    COSTLY = "$argon2id$v=19$m=65536,t=1,p=1"
+    def enrolled(self, memory: int) -> str:
+        """The setting of so many KiB with which ann has the password one; bob has no record."""
+        setting = f"$argon2id$v=19$m={memory},t=1,p=1${SALT}"
+        self.book.answers("t account ann", f"t enrol ann {ONE} {setting}", "t account bob")
+        return setting
 
-    def test_hashes_side_by_side(self) -> None:
-        """So many threads hash as were asked for."""
-        with self.book.tagged("--at-once", "3", "--setting", self.COSTLY) as service:
-            service.send("".join(f"{tag} verify nobody -\n" for tag in tags(12)))
-            tasks = pathlib.Path(f"/proc/{service.process.pid}/task")
-            most, deadline = 0, time.monotonic() + 30
-            while most < 5 and time.monotonic() < deadline:
-                most = max(most, len([*tasks.iterdir()]))
-            # The one with the book, the one that reads, and three that hash.
-            self.assertEqual(most, 5)
-            done = service.end()
-        self.assertEqual(sorted(done.written.split()[1::2]), ["noaccount"] * 12)
-
-    def test_names_that_are_not_there(self) -> None:
-        """They take a hash of the service's costs too, and so does an account without a record."""
-        found = self.book.answers("a account ann", "a enrol ann -", "a account bob")
-        self.assertEqual(found, ["a ok", "a enrolled", "a ok"])
-        times = {}
-        for name in ["ann", "bob", "nobody"]:
-            with self.book.tagged("--at-once", "1", "--setting", self.COSTLY) as service:
-                service.ask("w verify nobody -")
-                before = cpu_of(service.process.pid)
-                for _ in range(3):
-                    service.ask(f"t verify {name} -")
-                times[name] = cpu_of(service.process.pid) - before
-                self.assertEqual(service.end(), DONE)
-        # ann's record is cheap.
-        self.assertGreater(min(times["bob"], times["nobody"]), 5 * max(times["ann"], 0.01), times)
+    def assertServed(self, rows: list[tuple[str, str]], *words: str) -> None:
+        """Lines that are sent at once are answered so, each once and in any order."""
+        with self.book.tagged(*words) as service:
+            done = service.end(lined(f"t{at} {line}" for at, (line, _) in enumerate(rows)))
+        found, wanted = done.written.splitlines(), [
+            f"t{at} {it}" for at, (_, it) in enumerate(rows)
+        ]
+        self.assertEqual((done.status, sorted(found)), (0, sorted(wanted)))
 
     def test_memory_of_a_record(self) -> None:
         """A record that asks for more than all memory is refused; one that asks for more than is
         free waits."""
-        dear, words = f"$argon2id$v=19$m=4096,t=1,p=1${SALT}", ("--memory", "4095")
-        self.book.answers(
-            "t account ann", f"t enrol ann {ONE} {dear}", "t account bob", f"t enrol bob {ONE}"
-        )
+        dear = self.enrolled(4096)
+        self.book.answers(f"t enrol bob {ONE}")
+        rows = [(f"verify {name} {ONE}", "yes") for name in ["bob", "ann", "ann"] * 10]
+        self.assertServed(rows, "--at-once", "4", "--memory", "4M")
         for line, answer in (
             (f"verify ann {ONE}", "bad 4 memory"),
             (f"verify bob {ONE}", "yes"),
             (f"login ann {ONE}", "bad 4 memory"),
             (f"change bob {ONE} - {dear}", "bad 4 memory"),
         ):
-            found = self.book.answers(f"t {line}", words=words)
-            self.assertEqual((line, found), (line, [f"t {answer}"]))
-        with self.book.tagged("--at-once", "4", "--memory", "4M") as service:
-            names = ["bob", "ann", "ann"] * 10
-            lines = [f"{tag} verify {name} {ONE}\n" for tag, name in zip(tags(30), names)]
-            done = service.end("".join(lines))
-        self.assertEqual(sorted(done.written.splitlines()), sorted(f"{it} yes" for it in tags(30)))
+            self.assertServed([(line, answer)], "--memory", "4095")
 
-    def peak_of(self, memory: str, lines: int) -> tuple[int, int]:
+    def test_memory_of_starved_lines(self) -> None:
+        """Lines that are refused memory take none from those behind them."""
+        self.enrolled(1024)
+        huge = f"enrol bob - $argon2id$v=19$m=1025,t=1,p=1${SALT}"
+        rows = [(f"verify ann {ONE}", "yes"), (huge, "bad 4 memory")] * 200
+        self.assertServed(rows, "--at-once", "4", "--memory", "1M")
+
+    def peak_of(self, memory: str) -> tuple[int, int]:
         """How many KiB more than at first a service takes at most, and in the end, of which eight
-        threads judge so many right passwords at a record of 36 MiB."""
+        threads judge 32 right passwords at a record of 36 MiB."""
         # Otherwise the C library keeps for each thread what it freed.
         options = {"env": {**os.environ, "MALLOC_MMAP_THRESHOLD_": "131072"}}
         with self.book.tagged("--at-once", "8", "--memory", memory, **options) as service:
@@ -262,9 +138,9 @@ class HashesTest(BookTest):
             path = pathlib.Path(f"/proc/{service.process.pid}/status")
             sizes = lambda: dict(re.findall(r"(Vm\w+):\s+(\d+) kB", path.read_text()))
             before = int(sizes()["VmRSS"])
-            service.send("".join(f"{tag} verify ann {ONE}\n" for tag in tags(lines)))
-            found = {service.answer() for _ in range(lines)}
-            self.assertEqual(found, {f"{tag} yes" for tag in tags(lines)})
+            service.send(lined(f"t{at} verify ann {ONE}" for at in range(32)))
+            found = {service.answer() for _ in range(32)}
+            self.assertEqual(found, {f"t{at} yes" for at in range(32)})
             after = sizes()
             self.assertEqual(service.end(), DONE)
         return int(after["VmHWM"]) - before, int(after["VmRSS"]) - before
@@ -272,26 +148,13 @@ class HashesTest(BookTest):
     def test_memory_of_all_hashes(self) -> None:
         """All hashes together take no more than --memory. It comes back: a thread keeps no more
         than a hash with the service's own costs takes."""
-        dear = f"$argon2id$v=19$m=36864,t=2,p=1${SALT}"
-        self.book.answers("t account ann", f"t enrol ann {ONE} {dear}")
+        self.enrolled(36_864)
         for memory, least, most in (("36M", 1, 1), ("72M", 2, 2), ("2G", 3, 8)):
-            peak, left = self.peak_of(memory, 32)
+            peak, left = self.peak_of(memory)
             # Sixteen MiB are for all else.
             self.assertGreater(peak, (least - 1) * 36_864 + 16_384, memory)
             self.assertLess(peak, most * 36_864 + 16_384, memory)
             self.assertLess(left, 16_384, memory)
-
-    def test_memory_of_starved_lines(self) -> None:
-        """Lines that are refused memory take none from those behind them."""
-        dear = f"$argon2id$v=19$m=1024,t=1,p=1${SALT}"
-        self.book.answers("t account ann", f"t enrol ann {ONE} {dear}", "t account bob")
-        huge = f"enrol bob - $argon2id$v=19$m=1025,t=1,p=1${SALT}"
-        lines = [f"verify ann {ONE}", huge] * 200
-        with self.book.tagged("--at-once", "4", "--memory", "1M") as service:
-            done = service.end("".join(f"{tag} {it}\n" for tag, it in zip(tags(400), lines)))
-        answers = ["yes", "bad 4 memory"] * 200
-        wanted = sorted(f"{tag} {it}" for tag, it in zip(tags(400), answers))
-        self.assertEqual((sorted(done.written.splitlines()), done.status), (wanted, 0))
 
     def test_lines_that_give_up(self) -> None:
         """A line whose record is another each time that it is hashed is given up as busy, after
@@ -312,17 +175,17 @@ class HashesTest(BookTest):
     def test_memory_runs_out(self) -> None:
         """Where the system refuses memory a line is answered so, and the next one is served."""
         huge = "$argon2id$v=19$m=1048576,t=1,p=1$AAAAAAAAAAA"
-        self.book.answers("a account ann", "a account bob", "a enrol bob -")
+        self.enrolled(8)
         little = limited(resource.RLIMIT_AS, 600_000 * 1024)
         with self.book.tagged("--at-once", "2", preexec_fn=little) as service:
-            self.assertEqual(service.ask(f"b enrol ann - {huge}"), "b bad 4 memory")
-            self.assertEqual(service.ask("c verify bob -"), "c yes")
+            self.assertEqual(service.ask(f"b enrol bob - {huge}"), "b bad 4 memory")
+            self.assertEqual(service.ask(f"c verify ann {ONE}"), "c yes")
             self.assertEqual(service.end(), DONE)
 
     def test_threads_that_cannot_start(self) -> None:
         """Where too few threads can be started it says so; with enough of them it serves. Root has
         no such limit, so a user without other processes runs it."""
-        self.book.answers("a account ann", "a enrol ann -")
+        self.enrolled(8)
         options: dict[str, Any] = {}
         if os.getuid() == 0:
             options = {"user": 61_234, "group": 61_234, "extra_groups": []}
@@ -333,7 +196,7 @@ class HashesTest(BookTest):
         for most in range(1, 9):
             limit = limited(resource.RLIMIT_NPROC, most)
             with self.book.tagged("--at-once", "4", preexec_fn=limit, **options) as service:
-                done = service.end("b verify ann -\n")
+                done = service.end(f"b verify ann {ONE}\n")
             self.assertIn(done[:2], [(0, "b yes\n"), (3, "")], done)
             ends.add(done.status)
         if options:
@@ -353,20 +216,20 @@ class GroupsTest(BookTest):
     def lines(self, turn: int) -> str:
         """A line for each member that gives it a record, or takes its record away, all to be sent
         at once."""
-        verb = "enrol" if turn % 2 == 0 else "remove"
-        return "".join(f"t{at} {verb} {name} -\n" for at, name in enumerate(MEMBERS))
+        verb = "remove" if turn % 2 else "enrol"
+        return lined(f"t{at} {verb} {name} -" for at, name in enumerate(MEMBERS))
+
+    def assertAnswered(self, turn: int, answers: list[str]) -> set[str]:
+        """The members whose lines of this turn have these answers, each that of a change."""
+        word = "removed" if turn % 2 else "enrolled"
+        found = [re.fullmatch(rf"t(\d+) {word}", it) for it in answers]
+        names = {MEMBERS[int(it[1])] for it in found if it}
+        self.assertEqual(len(names), len(answers), answers)
+        return names
 
     def enrolled(self, book: Book) -> set[str]:
         """The members that have a record."""
         return {name for name, record in book.accounts().items() if record}
-
-    def transactions(self) -> int:
-        """How many the log of a served file has: the last page of each has the database's size
-        beside it."""
-        log = self.book.log.read_bytes()
-        frames = range(32, len(log), 24 + int.from_bytes(log[8:12], "big"))
-        own = [at for at in frames if log[at + 8 : at + 16] == log[16:24]]
-        return sum(log[at + 4 : at + 8] != bytes(4) for at in own)
 
     def test_changes_together(self) -> None:
         """Changes that wait together are one transaction; each is answered, and stands after a
@@ -374,42 +237,25 @@ class GroupsTest(BookTest):
         with self.book.tagged() as service:
             for turn in range(5):
                 service.send(self.lines(turn))
-                word = "enrolled" if turn % 2 == 0 else "removed"
-                found = {service.answer() for _ in MEMBERS}
-                self.assertEqual(found, {f"{tag} {word}" for tag in tags(len(MEMBERS))})
-            made = self.transactions()
+                done = self.assertAnswered(turn, [service.answer() for _ in MEMBERS])
+                self.assertEqual(done, {*MEMBERS})
+            made = len(commits_in(self.book.log.read_bytes()))
             service.kill()
             self.assertEqual(service.process.returncode, -signal.SIGKILL)
         self.assertTrue(0 < made < 5 * len(MEMBERS), f"{made} transactions")
-        self.assertEqual(self.enrolled(self.book), set(MEMBERS))
+        self.assertEqual(self.enrolled(self.book), {*MEMBERS})
         self.assertSound(self.book)
 
-    def test_failing_database(self) -> None:
-        """A file that can't grow ends the service: what was answered is kept, and what failed may
-        be; no line after it is answered."""
-        names, book = [f"n{at:03}" for at in range(1000)], self.begun()
-        with book.tagged(**small_files(100_000)) as service:
-            is_kept = lambda name: service.ask(f"t account {name}") == "t ok"
-            answered = list(itertools.takewhile(is_kept, names))
-            self.assertEqual(service.process.wait(), 5)
-            self.assertEqual(service.stdout.read(), b"")
-            faults = service.stderr.read().decode()
-        self.assertTrue(faults.startswith("credkeep: the database failed: "), faults)
-        self.assertTrue(answered)
-        self.assertIn(book.names(), (answered, names[: len(answered) + 1]))
-
     def test_disk_full_in_a_group(self) -> None:
-        """Where the file can't grow amid changes that are made together, those that were answered
-        are kept, and the others are named, and kept all or none."""
+        """A file that can't grow ends the service, and no line after that is answered. Of changes
+        that are made together those that were answered are kept, and the others are named, and kept
+        all or none."""
         standing: set[str] = set()
         with self.book.tagged(**small_files(100_000)) as service:
             for turn in range(1000):
                 service.send(self.lines(turn))
-                answers = [it for it in (service.answer() for _ in MEMBERS) if it]
-                word = "enrolled" if turn % 2 == 0 else "removed"
-                self.assertEqual({it.split(" ", 1)[1] for it in answers} | {word}, {word})
-                done = {MEMBERS[int(it.split()[0][1:])] for it in answers}
-                standing = standing | done if turn % 2 == 0 else standing - done
+                done = self.assertAnswered(turn, [it for _ in MEMBERS if (it := service.answer())])
+                standing = standing - done if turn % 2 else standing | done
                 if len(done) < len(MEMBERS):
                     break
             self.assertEqual(service.process.wait(), 5)
@@ -418,8 +264,8 @@ class GroupsTest(BookTest):
         told = re.fullmatch(f"credkeep: the database failed: .*{named}", faults)
         assert told, faults
         lost = set(told[1].split())
-        self.assertTrue(lost.isdisjoint(done) and lost <= set(MEMBERS), f"{lost} of {done}")
-        kept = standing | lost if turn % 2 == 0 else standing - lost
+        self.assertTrue(lost.isdisjoint(done) and lost <= {*MEMBERS}, f"{lost} of {done}")
+        kept = standing - lost if turn % 2 else standing | lost
         self.assertIn(self.enrolled(self.book), (standing, kept))
         self.assertSound(self.book)
 
@@ -433,11 +279,8 @@ class GroupsTest(BookTest):
             with out.open("ab") as answers:
                 options: dict[str, Any] = {"stdout": answers, **small_files(100_000)}
                 done = book(*words, given=self.lines(0), **options)
-            self.assertEqual(done.status, 2)
             written = out.read_text()[100_000 - left :]
-            self.assertEqual(len(written), left)
-            found = re.findall(r"t(\d+) enrolled\n", written)
-            whole = written[: written.rfind("\n") + 1]
-            self.assertEqual("".join(f"t{it} enrolled\n" for it in found), whole)
-            self.assertLessEqual({MEMBERS[int(it)] for it in found}, self.enrolled(book))
+            self.assertEqual((done.status, len(written)), (2, left))
+            whole = self.assertAnswered(0, written.split("\n")[:-1])
+            self.assertLessEqual(whole, self.enrolled(book))
             self.assertSound(book)

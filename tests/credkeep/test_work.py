@@ -42,6 +42,14 @@ class ThreadsTest(BookTest):
             self.assertEqual((order, done), (order, says(answer)))
             self.assertIn(found["THREADS"], (3, 4), order)
 
+    def test_workers_of_tagged_lines(self) -> None:
+        """As many threads hash as lines at once were asked for. One more reads."""
+        for count in (1, 3):
+            words = ("--tagged", "--setting", CHEAP, "--at-once", str(count))
+            done, found = counts(self.book.command("serve", *words), "t verify nobody -\n")
+            self.assertEqual(done, (0, "t noaccount\n", ""))
+            self.assertEqual(found["THREADS"], count + 1)
+
 
 class SyncsTest(BookTest):
     def syncs(self, order: str, count: int) -> int:
@@ -100,13 +108,10 @@ class HashesTest(BookTest):
 
         none = work("show ann")
         one = work("verify ann one") - none
+        verbs = ("verify", "login", "upgrade", "remove", "reset")
         for line, hashes in (
-            ("verify {} two", {"ann": 1, "bob": 1, "cat": 1}),
-            ("login {} two", {"ann": 1, "bob": 1, "cat": 1}),
+            *((f"{verb} {{}} two", {"ann": 1, "bob": 1, "cat": 1}) for verb in verbs),
             ("change {} two one", {"ann": 1, "bob": 1, "cat": 1}),
-            ("upgrade {} two", {"ann": 1, "bob": 1, "cat": 1}),
-            ("remove {} two", {"ann": 1, "bob": 1, "cat": 1}),
-            ("reset {} two", {"ann": 1, "bob": 1, "cat": 1}),
             ("enrol {} two", {"ann": 0, "bob": 1, "cat": 1}),
             ("login {} one", {"ann": 1}),
             ("upgrade {} one", {"ann": 1}),
