@@ -325,21 +325,6 @@ class BookTest(unittest.TestCase):
         for text in texts or (" ",):
             self.assertIn(text, done.faults)
 
-    def is_refused(self, piece: bytes, accounts: Accounts) -> bool:
-        """Whether a damaged file is refused. Otherwise it is the same book, or one in which one
-        account differs: SQLite's format has no sum over a row."""
-        hurt = self.file("hurt.db")
-        hurt.remove()
-        hurt.path.write_bytes(piece)
-        hurt.path.chmod(0o600)
-        done = hurt("export")
-        if done.status:
-            self.assertFails(done, 5)
-            return True
-        found = {tuple(line.split(":", 1)) for line in done.written.splitlines()}
-        self.assertLessEqual(len(accounts.items() ^ found), 2, "another book")
-        return False
-
     def assertSound(self, book: Book) -> None:
         """SQLite finds nothing wrong with the file."""
         self.assertEqual(rows(book.path, "PRAGMA integrity_check"), [("ok",)])

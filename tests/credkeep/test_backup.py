@@ -4,21 +4,14 @@ import os
 import pathlib
 import random
 import stat
-import subprocess
 import threading
 import time
-from typing import Any
 
-from tests.credkeep.books import DONE, RECORD, SALT, Accounts, Book, BookTest, contents, rows
-from tests.helpers import LONGEST, Ended, need_root
+from tests.credkeep.books import DONE, OTHER, RECORD, Accounts, Book, BookTest, Service
+from tests.credkeep.books import contents, rows
+from tests.helpers import Ended, need_root
 
 NOBODY = 65534
-
-
-def record(chance: random.Random) -> str:
-    """A record that no password is known of."""
-    letters = "ABCDEFGHIJKLMNOPQRSTUVWXYZabcdefghijklmnopqrstuvwxyz0123456789+/"
-    return f"$argon2id$v=19$m=8,t=1,p=1${SALT}${''.join(chance.choices(letters, k=42))}A"
 
 
 def counted(accounts: int, changes: int) -> Ended:
@@ -45,9 +38,8 @@ class CopyTest(BookTest):
 class BackupTest(CopyTest):
     def test_sizes(self) -> None:
         """The answer says how many accounts there are, and what is in the log."""
-        chance = random.Random(1)
         for count in (0, 1, 2, 300, 5000):
-            accounts = {f"u{at:05}": record(chance) if at % 3 else "" for at in range(count)}
+            accounts = {f"u{at:05}": RECORD if at % 3 else "" for at in range(count)}
             book, copy = self.begun(accounts), self.file("copy.db")
             before = contents(self.room)
             self.assertEqual(book("backup", str(copy.path)), counted(count, 0))
@@ -143,16 +135,14 @@ class RestoreTest(CopyTest):
     def test_later_states(self) -> None:
         """A copy comes back in place of a later state, after kills too, and where the file is gone
         or damaged."""
-        chance = random.Random(2)
-        old = {f"u{at:03}": record(chance) for at in range(400)}
+        old = {f"u{at:03}": RECORD for at in range(400)}
         book, copy = self.begun(old), self.file("copy.db")
         self.assertEqual(book("backup", str(copy.path)), counted(400, 0))
         for how in ("ended", "killed", "gone", "gone with its log", "empty", "damaged"):
-            changes = [f"load {it} {record(chance)}" for it in chance.sample(sorted(old), 200)]
-            self.assertEqual(book.script(["serve"], changes), ["ok"] * 200)
+            changes = [f"load {it} {OTHER}" for it in random.sample(sorted(old), 205)]
+            self.assertEqual(book.script(["serve"], changes[5:]), ["ok"] * 200)
             if how != "ended":
-                names = chance.sample(sorted(old), 5)
-                self.killed_after(book, *(f"load {it} {record(chance)}" for it in names))
+                self.killed_after(book, *changes[:5])
             if how.startswith("gone"):
                 book.path.unlink()
             if how == "gone with its log":
@@ -160,7 +150,7 @@ class RestoreTest(CopyTest):
             if how == "empty":
                 book.path.write_bytes(b"")
             if how == "damaged":
-                book.path.write_bytes(book.path.read_bytes()[:8192] + chance.randbytes(40000))
+                book.path.write_bytes(book.path.read_bytes()[:8192] + os.urandom(40000))
             before = copy.path.read_bytes()
             self.assertEqual((how, book("restore", str(copy.path))), (how, counted(400, 0)))
             self.assertWhole(book, old)
@@ -218,21 +208,18 @@ class RestoreTest(CopyTest):
         the restored book."""
         copy = self.begun({"bob": ""}, "copy.db")
         restore = self.book.command("restore", str(copy.path), wait=30)
-        pipe: dict[str, Any] = {"stdout": subprocess.PIPE, "stderr": subprocess.PIPE}
-        with self.book.start("serve") as service, subprocess.Popen(restore, **pipe) as waits:
+        with self.book.start("serve") as service, Service(restore) as waits:
             self.assertEqual(service.ask("account late"), "ok")
             time.sleep(0.3)
-            self.assertIsNone(waits.poll())
+            self.assertIsNone(waits.process.poll())
             self.assertEqual(service.end(), DONE)
-            found = waits.communicate(timeout=LONGEST)
-            self.assertEqual(found, (b"1 account, 0 changes in the log\n", b""))
-        self.assertEqual(self.book.accounts(), {"bob": ""})
+            self.assertEqual(waits.end(), counted(1, 0))
         for _ in range(5):
-            command = self.book.command("list", wait=30)
-            lists = [subprocess.Popen(command, **pipe) for _ in range(4)]
+            lists = [Service(self.book.command("list", wait=30)) for _ in range(4)]
             self.assertEqual(self.book("restore", str(copy.path), wait=30).status, 0)
             for it in lists:
-                self.assertEqual((it.communicate(timeout=LONGEST)[0], it.returncode), (b"bob\n", 0))
+                with it:
+                    self.assertEqual(it.end(), Ended(0, "bob\n"))
 
     def test_owners(self) -> None:
         """What root puts back belongs to the file's owner, with its mode; a copy that can only be

@@ -198,22 +198,6 @@ class OperationsTest(BookTest):
                     door.perform(self, book, [it for it in rows if it[0].split()[0] in door.verbs])
                     self.assertSound(book)
 
-    def test_bounds_at_other_doors(self) -> None:
-        """What the book has is checked whatever it asks for, and `run` has no bound."""
-        record = f"{ABOVE}${TAG}"
-        book, lines = self.begun({"ann": record}), ["show ann", "begin 1 verify ann -", "commit 1"]
-        found = book.script(["serve", "--most-memory", "0"], lines)
-        self.assertEqual(found, [record, "begun", "no"])
-        self.assertEqual(book.script(["run"], [f"load ann {record}"]), ["ok"])
-
-    def test_bounds_and_numbers(self) -> None:
-        """A number is looked at before what its line asks for, and that before an open number."""
-        book, fits, asks = self.begun({"ann": ""}), f"enrol ann - {WITHIN}", f"enrol ann - {ABOVE}"
-        lines = [f"begin 65 {asks}", f"begin 4 {fits}", f"begin 4 {asks}", "commit 1"]
-        for words, above in ((("--most-memory", "64"), COSTLY), ((), "bad 14 busy")):
-            found = book.script(["serve", *words], lines)
-            self.assertEqual(found, ["bad 12 key", "begun", above, "bad 15 idle"])
-
     def test_bounds_of_costs(self) -> None:
         """A service's own costs are within its bound, or it doesn't start."""
         book, tagged = self.begun({"bob": ""}), ("serve", "--tagged")

@@ -23,7 +23,7 @@ READING = ("add", "check", "change", "reset", "upgrade", "remove")
 # Orders one after another with their inputs and ends. The book has ann, whose password is first,
 # and bob, whose password is that with a carriage return.
 PASSWORDS = [
-    # A password is a line. Its end belongs not to it, and may be missing.
+    # A password is a line without its end, which may be missing.
     *(("check ann", given, says("yes")) for given in ("first\n", "first", "first\nmore\n")),
     *(("check ann", given, says("no")) for given in ("first \n", "\nfirst\n")),
     # Where the input has none, or no second one, nothing is changed.

@@ -2,7 +2,6 @@
 they do without memory."""
 
 import resource
-import signal
 import time
 from typing import Any
 
@@ -82,30 +81,6 @@ class LinesTest(BookTest):
                 self.assertEqual(book.names(), ["ann", "bo"][: max(1, len(whole))])
             self.assertEqual(book(*words, given="x" * 5000), Ended(0, f"{none}bad 11 line\n"))
         self.assertEqual(book("run", given="account cat"), Ended(0, "ok\n"))
-
-    def test_answers_at_each_line(self) -> None:
-        """Each answer comes before the next line is given, a stop of the process between, and its
-        change is on the disk by then."""
-        for words in (("run",), ("serve", "--workers", "2")):
-            book = self.begun()
-            with book.start(*words) as service:
-                self.assertRows(service.ask, [(f"account n{at}", "ok") for at in range(25)])
-                service.process.send_signal(signal.SIGSTOP)
-                time.sleep(0.1)
-                service.process.send_signal(signal.SIGCONT)
-                dialogue = [
-                    *((f"account n{at}", "ok") for at in range(25, 50)),
-                    (f"begin 64 enrol n0 cGFzc3dvcmQ {CHEAP}${SALT}", "begun"),
-                    ("commit 64", "enrolled"),
-                    ("begin 1 verify n0 cGFzc3dvcmQ", "begun"),
-                    ("commit 1", "yes"),
-                    ("commit 1", "bad 15 idle"),
-                ]
-                self.assertRows(service.ask, dialogue)
-                service.kill()
-            found = book.accounts()
-            self.assertEqual(len(found), 50)
-            self.assertTrue(found["n0"].startswith(f"{CHEAP}${SALT}$"))
 
     def test_slow_reader(self) -> None:
         """A client that doesn't read its answers holds the service back, and gets them all in the
