@@ -131,7 +131,7 @@ def small_files(size: int) -> dict[str, Any]:
     return {"preexec_fn": limited(resource.RLIMIT_FSIZE, size), "restore_signals": False}
 
 
-# How a run of a command ended that was stopped at its call of a number, or nothing if it made fewer.
+# How a command ended that was stopped at its call of a number, or nothing if it made fewer.
 Stop = Callable[..., Ended | None]
 
 

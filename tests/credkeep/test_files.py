@@ -49,7 +49,7 @@ NO_BOOKS = [
     ),
     (
         database(TABLE + "INSERT INTO account VALUES ('ann', 'abc')"),
-        "row 1: the text there is no record: a field is missing, or there is one too many (1 shape)",
+        "row 1: the text there is no record: a field is missing, or there is one too many (1 ",
     ),
     (
         database(TABLE + "INSERT INTO account VALUES ('ann', '$2y$10$abc')"),
@@ -236,7 +236,7 @@ class LocksTest(BookTest):
                 self.assertEqual(waiting.end(), DONE)
 
     def test_log_is_copied(self) -> None:
-        """After an order, and after a service that has ended, the file alone has all of the book."""
+        """After an order and after a service that has ended the file alone has all of the book."""
         self.book.add("ann")
         self.assertEqual(self.book("serve", given="account bob\n"), Ended(0, "ok\n"))
         self.assertLogIsEmpty(self.book)

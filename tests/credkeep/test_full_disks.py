@@ -58,7 +58,7 @@ class OrdersTest(BookTest):
 
 class LostTest(BookTest):
     def on_full_disk(self, order: str, size: int) -> tuple[Ended, Book]:
-        """How a script on a copy of the book ended whose disk has so many bytes, and what it left."""
+        """How a script ended on a copy of the book whose disk has so many bytes, and the copy."""
         need_root()
         with small_disk(self.room / "small", size) as folder:
             book, left = Book(folder / "users.db"), self.file("left.db")

@@ -195,7 +195,8 @@ class OptionsTest(ImportTest):
         within, above, twice = (f"{it}${SALT}${TAG}" for it in costs)
         lines = f"ann:{within}\nbob:{above}\ncat:\n# {above}\ndan:{twice}:x\neve:!{above}\n"
         bound = ("import", "--disable-locked", "--most-memory", "256K")
-        costly = "credkeep: line {}: its record asks for more than --most-memory or --most-work (18 costly)\n"
+        why = "its record asks for more than --most-memory or --most-work (18 costly)"
+        costly = f"credkeep: line {{}}: {why}\n"
         told = costly.format(2) + costly.format(5)
         self.assertEqual(self.book(*bound, given=lines), Ended(6, "", told))
         self.assertEqual(self.book.names(), [])
