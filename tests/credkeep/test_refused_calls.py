@@ -27,7 +27,7 @@ NEW = {"ann": RECORD, "bob": "", "k1": ""}
 def without_call(call: str, how: str) -> Stop:
     """Refuses or kills a run at one of these calls."""
 
-    def stop(nth: int, command: list[str], given: str = "", **options: Any) -> Ended | None:
+    def stop(nth: int | str, command: list[str], given: str = "", **options: Any) -> Ended | None:
         with tempfile.NamedTemporaryFile() as trace:
             inject = ["-e", f"trace={call}", "-e", f"inject={call}:{how}:when={nth}"]
             strace = ["strace", "-f", "-o", trace.name, *inject]
@@ -98,7 +98,7 @@ class RefusedCallsTest(BookTest):
 
     def test_sync_at_an_opening(self) -> None:
         """A sync that fails as a file is opened isn't called a missing permission."""
-        done = without_call("fsync", "error=EIO")(1, self.book.command("list"))
+        done = without_call("fsync", "error=EIO")("1+", self.book.command("list"))
         assert done
         self.assertFails(done, 5, "the system didn't sync it")
 
