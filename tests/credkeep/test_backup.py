@@ -179,18 +179,19 @@ class RestoreTest(CopyTest):
 
     def test_refused(self) -> None:
         """A file in use, one that isn't a book's, and a copy that is none leave everything as it
-        is."""
+        is. A file in use is told of before the copy is read."""
         book, copy = self.begun({"ann": RECORD}), self.begun({"bob": ""}, "copy.db")
-        with book.start("serve") as service:
-            self.assertEqual(service.ask("account late"), "ok")
-            self.assertFails(book("restore", str(copy.path)), 5, "busy")
-            self.assertEqual(service.ask("show late"), "none")
-            self.assertEqual(service.end(), DONE)
         text, other, bad = (self.file(name) for name in ("text", "other.db", "bad.db"))
         text.path.write_text("hello\n" * 100)
         rows(other.path, "CREATE TABLE places (id INTEGER, url TEXT)")
         copy.move_to(bad)
         rows(bad.path, "INSERT INTO account VALUES ('Ann', NULL)")
+        with book.start("serve") as service:
+            self.assertEqual(service.ask("account late"), "ok")
+            for source in (copy, bad):
+                self.assertFails(book("restore", str(source.path)), 5, "busy")
+            self.assertEqual(service.ask("show late"), "none")
+            self.assertEqual(service.end(), DONE)
         for source in (text, other, self.file(".")):
             self.assertFails(book("restore", str(source.path)), 5)
         none = self.file("none.db").path

@@ -4,8 +4,8 @@
 ghost use Rattle.std.specs.Prelude.{◌≡◌, false, IfOk};
 
 use crate::files::{
-    Access, DamagedLog, Database, FileFault, PAUSE, Unopened, is_whole, look_at, look_at_old,
-    open_file, tries_in,
+    Access, DamagedLog, Database, FileFault, PAUSE, Unopened, is_busy, is_whole, look_at,
+    look_at_old, open_file, tries_in,
 };
 use crate::log::LogLook;
 use crate::order::{Asked, Remarks};
@@ -249,6 +249,10 @@ fn restored(host: &HostRuntime, asked: &Asked<'_>, from: &str) -> Result<Found, 
     let file = asked.file;
     let place = told(host, file, real_path(host, file))?;
     told(host, file, look_at_old(host, place.as_str()))?;
+    // A copy may take long to read, so a book in use is told of first.
+    if is_busy(host, place.as_str(), asked.wait) {
+        return Err(refuse_file(host, file, &FileFault::Busy));
+    }
     let read = part_at(host, place.as_str(), READ)?;
     let ended = restore_through(host, asked, from, &read, place.as_str());
     read.remove(host);

@@ -299,6 +299,17 @@ pub(crate) fn open_file(
     open_once(rt, path, damaged)
 }
 
+/// Whether another process has the file open, and still has it after so many seconds.
+pub(crate) fn is_busy(rt: &HostRuntime, path: &str, wait: u16) -> bool {
+    for _ in 0..tries_in(wait) {
+        if !matches!(held_at(rt, path), Err(FileFault::Busy)) {
+            return false;
+        }
+        sleep(rt, Duration::from_millis(PAUSE));
+    }
+    matches!(held_at(rt, path), Err(FileFault::Busy))
+}
+
 /// How often a busy file is tried in so many seconds, before it is tried a last time.
 pub(crate) fn tries_in(wait: u16) -> u32 {
     u32::from(wait) * TRIES_A_SECOND
