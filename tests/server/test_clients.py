@@ -174,8 +174,8 @@ class Clients(Case):
             service.stop() if path == login else None
             for call in self.calls(path):
                 self.is_unavailable(call, "known", "ada")
-        question = importlib.import_module("rigzumal.server._lines").question
-        self.assertNotRegex(repr(question("verify", "ada", passwords=("secret",))), "c2Vj|secret")
+        asked = importlib.import_module("rigzumal.server._lines").Question
+        self.assertNotRegex(repr(asked("verify", ("ada",), ("secret",))), "c2Vj|secret")
 
     def test_what_a_form_passes_on(self) -> None:
         """Names and passwords that no book can have are an answer, and never an exception."""

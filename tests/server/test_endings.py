@@ -62,37 +62,42 @@ class Endings(Case):
             self.assertEqual(service.process.wait(timeout=40), ought, faults)
             self.assertIn(f"end: status {ought}", service.log())
 
-    def test_killed_once(self) -> None:
-        """A book that writes on is killed once, and nothing that it writes then is an answer."""
+    def test_what_a_killed_book_wrote(self) -> None:
+        """After an answer without an end nothing is an answer."""
 
-        async def killed() -> tuple[int, list[bytes]]:
-            book, said, transport = Book(), list[bytes](), mock.Mock()
-            book.transport = transport
-            book.ask([b"verify", b"ada", b"-"], said.append)
-            for _ in range(3):
-                book.pipe_data_received(1, b"x" * 70_000)
-            book.pipe_data_received(1, b"\n1 yes\n")
-            book.kill()
-            return transport.kill.call_count, said
+        async def killed() -> bytes:
+            book = Book()
+            book.process, book.stdin = mock.Mock(), mock.Mock()
+            book.stdout = asyncio.StreamReader(limit=65536)
+            ended = asyncio.get_running_loop().create_future()
+            book.process.wait.return_value = book.stdin.wait_closed.return_value = ended
+            book.process.returncode = 0
+            ended.set_result(-9)
+            book.stdout.feed_data(b"x" * 140_000 + b"\n1 yes\n")
+            book.stdout.feed_eof()
+            book.ended = asyncio.ensure_future(book.read())
+            said = book.ask(b"verify", b"ada", b"-")
+            self.assertEqual(await book.ended, 128 + 9)
+            return await said
 
-        self.assertEqual(asyncio.run(killed()), (1, []))
+        self.assertEqual(asyncio.run(killed()), b"unavailable")
 
     def test_clients_that_come_too_late(self) -> None:
         """Once it is ending, who comes is told and closed: none is waited for, however its line falls."""
 
         async def said() -> bytes:
-            service = Service(Options())
+            service, door = Service(Options()), doors.Door("a", "", 0, "-", frozenset())
             service.is_ending = True
             ours, theirs = socket.socketpair()
             with theirs:
                 theirs.sendall(b"a known ada\n")
-                loop, listener = asyncio.get_running_loop(), mock.Mock()
-                await loop.connect_accepted_socket(lambda: doors.Client(service, listener), ours)
+                loop = asyncio.get_running_loop()
+                await loop.connect_accepted_socket(lambda: doors.Client(service, door), ours)
                 theirs.settimeout(10)
-                said = await loop.run_in_executor(None, theirs.recv, 100)
+                said = await asyncio.to_thread(theirs.recv, 100)
                 with self.assertRaises(ConnectionError):  # its line was never read
-                    await loop.run_in_executor(None, theirs.recv, 100)
-                self.assertEqual(listener.add.mock_calls, [])
+                    await asyncio.to_thread(theirs.recv, 100)
+                self.assertEqual(door.clients, set())
                 return said
 
         self.assertEqual(asyncio.run(said()), b"* unavailable\n")
@@ -191,6 +196,7 @@ class Systemd(Case):
             made = service.path().exists() or service.path("admin").exists()
             self.assertFalse(made, "sockets were made")
             self.assertEqual(service.stop(), 0)
+            self.assertTrue((room / "login.handed").exists(), "systemd's socket is gone")
 
     def test_sockets_of_another_process(self) -> None:
         """What systemd hands to another process isn't taken."""

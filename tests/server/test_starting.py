@@ -95,12 +95,12 @@ class Starting(Case):
             slept.append(seconds)
 
         async def opened() -> None:
-            service, answers = Service(Options()), iter([b"none"] * 3 + [b"unavailable"])
+            service, answers = Service(Options()), [b"none"] * 3 + [b"unavailable"]
 
-            async def answer(*_: bytes) -> bytes:
-                return next(answers)
+            async def ask(operation: bytes, *_: bytes) -> bytes:
+                return answers.pop(0) if operation == b"show" else b"noaccount"
 
-            with mock.patch.object(service.book, "answer", answer):
+            with mock.patch.object(service.book, "ask", ask):
                 with mock.patch.object(asyncio, "sleep", sleep):
                     await service.open()
 

@@ -1,11 +1,11 @@
-"""The lines for credkeep-server, and the meaning of its answers."""
+"""The lines for credkeep-server, the meaning of its answers, and the clients' calls."""
 
 from __future__ import annotations
 
 import base64
 import enum
-from dataclasses import dataclass, replace
-from typing import TYPE_CHECKING, Final, Optional, Union
+from dataclasses import dataclass
+from typing import TYPE_CHECKING, Final, Generic, Optional, TypeVar
 
 from rigzumal._library import Secret, bytes_of
 
@@ -20,6 +20,10 @@ LONGEST_NAME: Final = 254
 
 LONGEST_ANSWER: Final = 65536
 """Bytes of an answer at most."""
+
+
+Replied = TypeVar("Replied")
+Listed = TypeVar("Listed")
 
 
 class Reply(enum.Enum):
@@ -85,62 +89,58 @@ class Refused(ServerError):
 
 @dataclass(frozen=True, repr=False)
 class Question:
-    """An operation and its fields, without a tag.
+    """An operation, its names and passwords.
 
     Attributes:
         no_name: the reply if no book can have the name; without it `Refused` is raised.
+        wrong: the same of the first password; without it a ValueError.
     """
 
-    fields: tuple[bytes, ...]
+    operation: str
+    names: tuple[str, ...]
+    passwords: tuple[Secret, ...] = ()
     no_name: Optional[Reply] = None
+    wrong: Optional[Reply] = None
+
+    def known_reply(self) -> Optional[Reply]:
+        """The reply, if it is known without asking."""
+        if self.no_name is not None and not all(map(may_be_name, self.names)):
+            return self.no_name
+        if self.wrong is not None and not may_be_password(self.passwords[0]):
+            return self.wrong
+        return None
 
     def line(self, tag: bytes) -> bytes:
-        return b" ".join((tag, *self.fields)) + b"\n"
+        """The line that asks for it.
 
-    def reply_to(self, refused: Refused) -> Reply:
-        if refused.number == 3 and self.no_name is not None:
-            return self.no_name
-        raise refused
-
-
-def question(
-    operation: str, *names: str, passwords: tuple[Secret, ...] = ()
-) -> Question:
-    """A question about an account.
-
-    Raises:
-        TypeError: a password is neither bytes nor text.
-        ValueError: a password has over 256 bytes, or is text that has no UTF-8.
-        Refused: no book can have a name (3 name).
-    """
-    fields = [operation.encode()]
-    for name in names:
-        if not may_be_name(name):
+        Raises:
+            TypeError: a password is neither bytes nor text.
+            ValueError: a password has over 256 bytes, or is text that has no UTF-8.
+            Refused: no book can have a name (3 name).
+        """
+        if not all(map(may_be_name, self.names)):
             raise Refused(3, "name")
-        fields.append(name.encode())
-    for password in map(bytes_of, passwords):
-        if len(password) > LONGEST_PASSWORD:
-            raise ValueError(f"a password has up to {LONGEST_PASSWORD} bytes")
-        fields.append(base64.b64encode(password).rstrip(b"=") or b"-")
-    return Question(tuple(fields))
+        fields = [tag, *(it.encode() for it in (self.operation, *self.names))]
+        for password in map(bytes_of, self.passwords):
+            if len(password) > LONGEST_PASSWORD:
+                raise ValueError(f"a password has up to {LONGEST_PASSWORD} bytes")
+            fields.append(base64.b64encode(password).rstrip(b"=") or b"-")
+        return b" ".join(fields) + b"\n"
 
+    def reply(self, tag: bytes, line: bytes) -> Reply:
+        """The reply in the line that came.
 
-def question_of_user(
-    operation: str,
-    name: str,
-    *passwords: Secret,
-    no_name: Reply,
-    wrong: Reply = Reply.WRONG,
-) -> Union[Question, Reply]:
-    """A question with a user's words, or the reply if they can't be right.
-
-    The first password is the present one; a new one may raise as in `question`.
-    """
-    if not may_be_name(name):
-        return no_name
-    if passwords and not may_be_password(passwords[0]):
-        return wrong
-    return replace(question(operation, name, passwords=passwords), no_name=no_name)
+        Raises:
+            ServerError: as in `answer_of`; Unavailable also for a text that is no reply.
+        """
+        try:
+            return Reply(answer_of(tag, line))
+        except ValueError:
+            raise Unavailable("the answer is no reply") from None
+        except Refused as refused:
+            if refused.number != 3 or self.no_name is None:
+                raise
+            return self.no_name
 
 
 def may_be_name(name: str) -> bool:
@@ -183,13 +183,60 @@ def answer_of(tag: bytes, line: bytes) -> str:
     return text
 
 
-def reply_of(text: str) -> Reply:
-    """The reply of an answer.
+class Calls(Generic[Replied, Listed]):
+    """The calls of both clients, of which each has its own way to ask."""
 
-    Raises:
-        Unavailable: the answer is no reply.
-    """
-    try:
-        return Reply(text)
-    except ValueError:
-        raise Unavailable("the answer is no reply") from None
+    def _reply(self, asked: Question) -> Replied:
+        raise NotImplementedError
+
+    def _listed(self, asked: Question) -> Listed:
+        raise NotImplementedError
+
+    def verify(self, name: str, password: Secret) -> Replied:
+        """YES or NO; ABSENT if the account has no record; NO_ACCOUNT.
+
+        A name or a password that no book can have, such as a name with a space, is NO.
+        """
+        no = Reply.NO
+        return self._reply(Question("verify", (name,), (password,), no, no))
+
+    def change(self, name: str, password: Secret, new_password: Secret) -> Replied:
+        """REPLACED, or WRONG for the old password; ABSENT; NO_ACCOUNT.
+
+        Raises:
+            ValueError: the new password has over 256 bytes, or is text with no UTF-8.
+        """
+        both, replies = (password, new_password), (Reply.NO_ACCOUNT, Reply.WRONG)
+        return self._reply(Question("change", (name,), both, *replies))
+
+    def known(self, name: str) -> Replied:
+        """YES if the account has a record; ABSENT if it has none; NO_ACCOUNT."""
+        return self._reply(Question("known", (name,), no_name=Reply.NO_ACCOUNT))
+
+    def account(self, name: str) -> Replied:
+        """OK: adds the name, with no record. `Refused` (1 exists) if it exists."""
+        return self._reply(Question("account", (name,)))
+
+    def enrol(self, name: str, password: Secret) -> Replied:
+        """ENROLLED, or EXISTS if the account has a record; NO_ACCOUNT."""
+        return self._reply(Question("enrol", (name,), (password,)))
+
+    def reset(self, name: str, new_password: Secret) -> Replied:
+        """REPLACED, or ENROLLED if the account had no record; NO_ACCOUNT."""
+        return self._reply(Question("reset", (name,), (new_password,)))
+
+    def disable(self, name: str) -> Replied:
+        """DISABLED: the record is gone and the name stays; ABSENT; NO_ACCOUNT."""
+        return self._reply(Question("disable", (name,)))
+
+    def delete(self, name: str) -> Replied:
+        """DELETED: name and record are gone; NO_ACCOUNT."""
+        return self._reply(Question("delete", (name,)))
+
+    def rename(self, name: str, new_name: str) -> Replied:
+        """RENAMED, or EXISTS if the new name exists; NO_ACCOUNT."""
+        return self._reply(Question("rename", (name, new_name)))
+
+    def names(self, first: str = "-", count: int = 100) -> Listed:
+        """Up to `count` names (1 to 1000), in order, from `first` on."""
+        return self._listed(Question("list", (first, str(count))))

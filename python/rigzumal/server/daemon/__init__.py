@@ -11,10 +11,10 @@ import resource
 import signal
 import sys
 
-from . import metrics
 from .log import Problem, begin_logging, log
 from .options import Options, parse
 from .service import Service
+from .tally import metrics
 
 
 async def run(options: Options) -> int:
@@ -27,13 +27,12 @@ def main() -> int:
     os.umask(0o177)
     signal.signal(signal.SIGHUP, signal.SIG_IGN)
     resource.setrlimit(resource.RLIMIT_CORE, (0, 0))
-    resource.setrlimit(
-        resource.RLIMIT_NOFILE, resource.getrlimit(resource.RLIMIT_NOFILE)[1:] * 2
-    )
+    most = resource.getrlimit(resource.RLIMIT_NOFILE)[1]
+    resource.setrlimit(resource.RLIMIT_NOFILE, (most, most))
     try:
         options = parse(sys.argv[1:])
         if options.metrics:
-            print(metrics.text(options.metrics), end="")
+            print(metrics(options.metrics), end="")
             return 0
         return asyncio.run(run(options))
     except Problem as problem:

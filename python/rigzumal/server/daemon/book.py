@@ -3,90 +3,82 @@
 from __future__ import annotations
 
 import asyncio
+import os
 import re
-from collections.abc import Callable, Sequence
-from typing import Optional
+import signal
+from asyncio.subprocess import PIPE
+from collections.abc import Sequence
+from contextlib import suppress
 
 from .log import problems_at
 
 LONGEST_ANSWER = 65536  # bytes
 UNAVAILABLE = b"unavailable"
-Answered = Callable[[bytes], None]
 
 
-class Book(asyncio.SubprocessProtocol):
+class Book:
     """`credkeep FILE serve --tagged`, which answers in any order."""
 
     def __init__(self) -> None:
-        self.asked: dict[bytes, Answered] = {}
-        self.last, self.rest, self.strays, self.is_killed = 0, b"", 0, False
-        self.lines: list[bytes] = []  # that are written together
-        self.loop = asyncio.get_running_loop()
-        self.ended: asyncio.Future[int] = self.loop.create_future()
-        self.transport: Optional[asyncio.SubprocessTransport] = None
+        self.asked = dict[bytes, asyncio.Future[bytes]]()
+        self.lines = list[bytes]()  # that are written together
+        self.last = self.strays = 0
 
     async def start(self, words: Sequence[str]) -> None:
-        run = self.loop.subprocess_exec
-        with problems_at(words[0]):  # in a session of its own: signals are the server's
-            await run(lambda: self, *words, stderr=None, start_new_session=True)
+        with problems_at(words[0]):
+            self.process = await asyncio.create_subprocess_exec(
+                *words,
+                stdin=PIPE,
+                stdout=PIPE,
+                limit=LONGEST_ANSWER,
+                start_new_session=True,  # signals to a terminal are the server's
+            )
+        assert self.process.stdin and self.process.stdout
+        self.stdin, self.stdout = self.process.stdin, self.process.stdout
+        self.ended = asyncio.ensure_future(self.read())
 
-    def connection_made(self, transport: asyncio.BaseTransport) -> None:
-        assert isinstance(transport, asyncio.SubprocessTransport)
-        self.transport = transport
-
-    def ask(self, words: Sequence[bytes], answered: Answered) -> None:
-        """Has the book answer a line; UNAVAILABLE if it ends before it has."""
+    def ask(self, *words: bytes) -> asyncio.Future[bytes]:
+        """The answer to a line; UNAVAILABLE if the book ends before it has one."""
+        loop = asyncio.get_running_loop()
+        said: asyncio.Future[bytes] = loop.create_future()
         if self.ended.done():
-            self.loop.call_soon(answered, UNAVAILABLE)
-            return
+            said.set_result(UNAVAILABLE)
+            return said
         self.last += 1
         tag = b"%d" % self.last
-        self.asked[tag] = answered
+        self.asked[tag] = said
         if not self.lines:
-            self.loop.call_soon(self.write)
+            loop.call_soon(self.write)
         self.lines.append(b"%b %b\n" % (tag, b" ".join(words)))
-
-    async def answer(self, *words: bytes) -> bytes:
-        said: asyncio.Future[bytes] = self.loop.create_future()
-        self.ask(words, lambda it: None if said.done() else said.set_result(it))
-        return await said
+        return said
 
     def write(self) -> None:
-        lines, self.lines = self.lines, []
-        pipe = self.transport and self.transport.get_pipe_transport(0)
-        if isinstance(pipe, asyncio.WriteTransport) and not pipe.is_closing():
-            pipe.write(b"".join(lines))
+        self.stdin.write(b"".join(self.lines))
+        self.lines.clear()
 
-    def pipe_data_received(self, fd: int, data: bytes) -> None:
-        if self.is_killed:
-            return
-        *lines, self.rest = (self.rest + data).split(b"\n")
-        for line in lines:
-            tag, _, said = line.partition(b" ")
-            answered = self.asked.pop(tag, None)
-            if answered is None:
-                self.strays += 1
-            else:
-                answered(said if re.fullmatch(rb"[ -~]+", said) else UNAVAILABLE)
-        if len(self.rest) > LONGEST_ANSWER:
+    async def read(self) -> int:
+        """Hands over its answers until it ends, and returns its status."""
+        try:
+            while (line := await self.stdout.readline()).endswith(b"\n"):
+                tag, _, said = line[:-1].partition(b" ")
+                if asked := self.asked.pop(tag, None):
+                    is_text = re.fullmatch(rb"[ -~]+", said)
+                    asked.set_result(said if is_text else UNAVAILABLE)
+                else:
+                    self.strays += 1
+        except ValueError:  # an answer that has no end
             self.kill()
-
-    def close(self) -> None:
-        """Ends its input: it answers what it has, and ends."""
-        if self.transport and (pipe := self.transport.get_pipe_transport(0)):
-            pipe.close()
+            while await self.stdout.read(LONGEST_ANSWER):
+                pass
+        status = await self.process.wait()
+        with suppress(OSError):  # of lines that it didn't read
+            await self.stdin.wait_closed()
+        for asked in self.asked.values():
+            asked.set_result(UNAVAILABLE)
+        return status if status >= 0 else 128 - status
 
     def kill(self) -> None:
-        """Kills it once: a second call may take its status away from asyncio's watcher."""
-        if self.transport and not self.ended.done() and not self.is_killed:
-            self.is_killed = True
-            self.transport.kill()
-
-    def connection_lost(self, fault: Optional[Exception]) -> None:
-        """Its end, behind all that it wrote."""
-        assert self.transport
-        status = self.transport.get_returncode() or 0
-        self.ended.set_result(status if status >= 0 else 128 - status)
-        asked, self.asked = self.asked, {}
-        for answered in asked.values():
-            answered(UNAVAILABLE)
+        """Kills it. By asyncio's own call its status might be lost."""
+        if self.process.returncode is None:
+            with suppress(ProcessLookupError):
+                os.kill(self.process.pid, signal.SIGKILL)

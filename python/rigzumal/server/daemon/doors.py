@@ -11,104 +11,92 @@ import re
 import socket
 import struct
 import time
-from collections import Counter
+from dataclasses import dataclass, field
 from typing import TYPE_CHECKING, Optional, cast
 
 from .log import Problem, problems_at
-from .options import Door
 
 if TYPE_CHECKING:
     from .service import Service
 
 LONGEST = 960  # bytes of a line
 IN_FLIGHT, CLIENTS = 32, 1024  # a client's lines at once, a door's clients
-BACKLOG, BUFFER = 1024, 4096
+BUFFER = 4096  # bytes
 
 
-def handed_over(name: str) -> Optional[socket.socket]:
-    """The socket that systemd hands over by this name; none if it hands over none at all."""
-    if os.environ.get("LISTEN_PID") != str(os.getpid()):
-        return None
-    names = os.environ.get("LISTEN_FDNAMES", "").split(":")
-    if name not in names:
-        raise Problem(f"systemd handed over no socket with the name {name}")
-    made = socket.socket(fileno=3 + names.index(name))
-    if made.type != socket.SOCK_STREAM or made.family != socket.AF_UNIX:
-        raise Problem(f"the socket {name} that systemd handed over is no stream")
-    return made
+@dataclass(eq=False)
+class Door:
+    """A socket, what its clients may ask for, and who they are."""
 
+    name: str
+    path: str
+    mode: int
+    group: str
+    operations: frozenset[bytes]
+    handed: Optional[socket.socket] = None  # by systemd
+    clients: set[Client] = field(default_factory=set)
 
-def group_id(door: Door) -> int:
-    """The group that a socket is given, or -1."""
-    try:
-        return -1 if door.group == "-" else grp.getgrnam(door.group).gr_gid
-    except KeyError:
-        raise Problem(f"there is no group {door.group}, for {door.path}") from None
+    def prepare(self) -> None:
+        """Finds systemd's socket, or else takes the lock of its own."""
+        if os.environ.get("LISTEN_PID") != str(os.getpid()):
+            self.group_id()
+            return self.lock()
+        names = os.environ.get("LISTEN_FDNAMES", "").split(":")
+        if self.name not in names:
+            raise Problem(f"systemd handed over no socket with the name {self.name}")
+        it = self.handed = socket.socket(fileno=3 + names.index(self.name))
+        if it.type != socket.SOCK_STREAM or it.family != socket.AF_UNIX:
+            what = f"the socket {self.name} that systemd handed over"
+            raise Problem(f"{what} is no stream")
 
-
-def lock(door: Door) -> None:
-    """Takes the lock beside a socket's path, for as long as this process lives."""
-    folder, path = os.path.dirname(door.path), f"{door.path}.lock"
-    with problems_at(f"{folder}, for a socket"):
-        if not os.path.isdir(folder):
-            os.mkdir(folder)
-            os.chmod(folder, 0o755)
-    with problems_at(path):
-        it = os.open(path, os.O_RDWR | os.O_CREAT | os.O_CLOEXEC, 0o600)
+    def group_id(self) -> int:
+        """The group that the socket is given, or -1."""
         try:
-            fcntl.flock(it, fcntl.LOCK_EX | fcntl.LOCK_NB)
-        except BlockingIOError:
-            raise Problem(f"another server has {door.path}") from None
+            return -1 if self.group == "-" else grp.getgrnam(self.group).gr_gid
+        except KeyError:
+            raise Problem(f"there is no group {self.group}, for {self.path}") from None
 
+    def lock(self) -> None:
+        """Takes the lock beside the socket, for as long as this process lives."""
+        folder, path = os.path.dirname(self.path), f"{self.path}.lock"
+        with problems_at(f"{folder}, for a socket"):
+            if not os.path.isdir(folder):
+                os.mkdir(folder)
+                os.chmod(folder, 0o755)
+        with problems_at(path):
+            it = os.open(path, os.O_RDWR | os.O_CREAT | os.O_CLOEXEC, 0o600)
+            try:
+                fcntl.flock(it, fcntl.LOCK_EX | fcntl.LOCK_NB)
+            except BlockingIOError:
+                raise Problem(f"another server has {self.path}") from None
 
-def bound(door: Door) -> socket.socket:
-    """A socket at a path whose lock this server has; its mode is set before it listens."""
-    made = socket.socket(socket.AF_UNIX)
-    with problems_at(door.path):
-        if pathlib.Path(door.path).is_socket():
-            if made.connect_ex(door.path) == 0:
-                raise Problem(f"another server listens at {door.path}")
-            os.unlink(door.path)
-        made.bind(door.path)
-        os.chown(door.path, -1, group_id(door))
-        os.chmod(door.path, door.mode)
-    return made
+    def bound(self) -> socket.socket:
+        """A socket whose mode is set before it listens."""
+        made = socket.socket(socket.AF_UNIX)
+        with problems_at(self.path):
+            if pathlib.Path(self.path).is_socket():
+                if made.connect_ex(self.path) == 0:
+                    raise Problem(f"another server listens at {self.path}")
+                os.unlink(self.path)
+            made.bind(self.path)
+            os.chown(self.path, -1, self.group_id())
+            os.chmod(self.path, self.mode)
+        return made
 
-
-class Listener:
-    """A door's clients: a user has at most half of the places that others leave."""
-
-    def __init__(self, door: Door) -> None:
-        self.door, self.handed = door, handed_over(door.name)
-        self.clients, self.by_uid = set[Client](), Counter[int]()
-        if self.handed is None:
-            group_id(door)
-            lock(door)
-
-    def opened(self) -> socket.socket:
-        """Where it listens once the book answers: systemd's socket, or one of its own."""
-        return self.handed or bound(self.door)
-
-    def has_room(self, uid: int) -> bool:
-        others = len(self.clients) - self.by_uid[uid]
-        return 2 * (self.by_uid[uid] + 1) <= CLIENTS - others
-
-    def add(self, client: Client) -> None:
-        self.clients.add(client)
-        self.by_uid[client.uid] += 1
-
-    def remove(self, client: Client) -> None:
-        if client in self.clients:  # and not one that found no room
-            self.clients.remove(client)
-            self.by_uid[client.uid] -= 1
+    async def open(self, service: Service) -> asyncio.AbstractServer:
+        """Lets clients in. At the server's end the path stays: it may be systemd's."""
+        run, sock = (
+            asyncio.get_running_loop().create_server,
+            self.handed or self.bound(),
+        )
+        return await run(lambda: Client(service, self), sock=sock, backlog=CLIENTS)
 
 
 class Client(asyncio.BufferedProtocol):
     """A connection, which hands over its lines, and no more of them than it reads answers."""
 
-    def __init__(self, service: Service, listener: Listener) -> None:
-        self.service, self.listener, self.door = service, listener, listener.door
-        self.pid = self.uid = -1
+    def __init__(self, service: Service, door: Door) -> None:
+        self.service, self.door = service, door
         self.buffer, self.came = memoryview(bytearray(BUFFER)), bytearray()
         self.running, self.active = 0, time.monotonic()
         self.is_cutting = self.is_held = self.is_ending = self.is_gone = False
@@ -118,15 +106,15 @@ class Client(asyncio.BufferedProtocol):
         it = transport.get_extra_info("socket")
         peer = it.getsockopt(socket.SOL_SOCKET, socket.SO_PEERCRED, 12)
         self.pid, self.uid, _ = struct.unpack("3i", peer)
-        if self.service.let_in(self):
-            self.listener.add(self)
+        if self.service.lets_in(self):
+            self.door.clients.add(self)
         else:
-            self.transport.write(b"* unavailable\n")
+            self.write(b"*", b"unavailable")
             self.end()
 
     def connection_lost(self, fault: Optional[Exception]) -> None:
         self.is_gone = True
-        self.listener.remove(self)
+        self.door.clients.discard(self)
         self.end()
 
     def get_buffer(self, hint: int) -> memoryview:

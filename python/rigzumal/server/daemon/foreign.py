@@ -7,7 +7,7 @@ import importlib
 import os
 from collections.abc import Callable
 
-from .log import Problem, Seldom, problems_at
+from .log import Problem, log_seldom, problems_at
 
 # What htpasswd and `openssl passwd` write, but for plain text, and for DES, to which the
 # first eight letters of a password are all of it.
@@ -22,7 +22,7 @@ class Foreign:
             passlib = importlib.import_module("passlib.context")
         except ImportError:
             raise Problem("--foreign needs passlib: python3-passlib") from None
-        self.path, self.in_book, self.seldom = path, in_book, Seldom()
+        self.path, self.in_book = path, in_book
         self.context = passlib.CryptContext(SCHEMES)
         self.version, self.records = (0, 0, 0), dict[bytes, str]()
         with problems_at(path):
@@ -48,7 +48,7 @@ class Foreign:
         try:
             self.read()
         except OSError as fault:
-            self.seldom.log("read", "%s: %s", self.path, fault.strerror)
+            self.tell(fault)
             self.records.clear()
             self.version = (0, 0, 0)
         return self.records.get(name, "")
@@ -59,28 +59,29 @@ class Foreign:
         try:
             return bool(self.context.verify(base64.b64decode(padded), record))
         except (ValueError, RuntimeError) as fault:  # of no scheme that passlib has
-            self.seldom.log("verify", "%s: %s", self.path, type(fault).__name__)
+            self.tell(fault)
             return False
-
-    def give(self, file: int, uid: int, gid: int) -> None:
-        """Keeps the owner; the unit forbids the call, which isn't needed for an own file."""
-        made = os.fstat(file)
-        if (made.st_uid, made.st_gid) != (uid, gid):
-            os.fchown(file, uid, gid)
 
     def remove(self, name: bytes) -> bool:
         """Takes all lines of a name out of the file, in one step; false if it can't."""
         try:
-            status, new = os.stat(self.path), f"{self.path}.new"
+            old, new = os.stat(self.path), f"{self.path}.new"
             kept = [line for it, line in self.lines() if it != name]
             with open(new, "wb") as file:
-                os.fchmod(file.fileno(), status.st_mode & 0o777)
-                self.give(file.fileno(), status.st_uid, status.st_gid)
+                os.fchmod(file.fileno(), old.st_mode & 0o777)
+                made = os.fstat(file.fileno())
+                # The unit forbids fchown, which a file of the server's own doesn't need.
+                if (made.st_uid, made.st_gid) != (old.st_uid, old.st_gid):
+                    os.fchown(file.fileno(), old.st_uid, old.st_gid)
                 file.writelines(kept)
                 file.flush()
                 os.fsync(file.fileno())
             os.replace(new, self.path)
             return True
         except OSError as fault:
-            self.seldom.log("write", "%s: %s", self.path, fault.strerror)
+            self.tell(fault)
             return False
+
+    def tell(self, fault: Exception) -> None:
+        text = getattr(fault, "strerror", "") or type(fault).__name__
+        log_seldom((self.path, text), "%s: %s", self.path, text)

@@ -43,8 +43,8 @@ class Limiter:
             return
         now = time.monotonic()
         before = self.many.pop(key, None) or self.few.pop(key, None)
-        fresh = before is None or now >= before.until + FORGOTTEN
-        count = 1 if before is None or fresh else before.count + 1
+        is_fresh = before is None or now >= before.until + FORGOTTEN
+        count = 1 if before is None or is_fresh else before.count + 1
         if count < self.most:
             self.few[key] = Tries(count, now)
         else:

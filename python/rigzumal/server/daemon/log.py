@@ -1,17 +1,21 @@
-"""What is told: problems, lines on standard error, and systemd's notices."""
+"""What is told: problems, lines on standard error, the audit log, systemd's notices."""
 
 from __future__ import annotations
 
+import asyncio
+import json
 import logging
 import os
 import socket
 import time
 from collections.abc import Iterator
 from contextlib import contextmanager
-from typing import Any
+from typing import Any, Union
 
 log = logging.getLogger("credkeep-server")
 SELDOM = 3600.0  # seconds
+told = dict[object, float]()  # when log_seldom told what
+Entry = dict[str, Union[str, int, None]]
 
 
 class Problem(Exception):
@@ -37,18 +41,19 @@ def log_fault(_: object, context: dict[str, Any]) -> None:
     log.error("a fault: %s", type(context.get("exception")).__name__)
 
 
-class Seldom:
-    """Lets each thing be told once an hour."""
+def log_seldom(key: object, text: str, *values: object) -> None:
+    """Logs what has a key once an hour."""
+    now = time.monotonic()
+    for old in [it for it, then in told.items() if now >= then + SELDOM]:
+        del told[old]
+    if key not in told:
+        told[key] = now
+        log.warning(text, *values)
 
-    def __init__(self) -> None:
-        self.told: dict[object, float] = {}
 
-    def log(self, key: object, text: str, *values: object) -> None:
-        now = time.monotonic()
-        self.told = {it: then for it, then in self.told.items() if now < then + SELDOM}
-        if key not in self.told:
-            self.told[key] = now
-            log.warning(text, *values)
+def utc(seconds: float) -> str:
+    """A moment as RFC 3339 has it, to the second."""
+    return time.strftime("%Y-%m-%dT%H:%M:%SZ", time.gmtime(seconds))
 
 
 def notify(text: str) -> None:
@@ -56,3 +61,46 @@ def notify(text: str) -> None:
     if path := os.environ.get("NOTIFY_SOCKET"):
         with socket.socket(socket.AF_UNIX, socket.SOCK_DGRAM) as it:
             it.sendto(text.encode(), "\0" + path[1:] if path[0] == "@" else path)
+
+
+class Audit:
+    """A JSON line for each change, on the disk before the change is answered.
+
+    The file is opened for each write: to rotate it, rename it.
+    """
+
+    def __init__(self, path: str) -> None:
+        self.path, self.is_torn = path, False
+        self.lines, self.one_at_a_time = list[bytes](), asyncio.Lock()
+        with problems_at(path):
+            self.append(b"")
+
+    def add(self, entry: Entry) -> asyncio.Future[bool]:
+        """Appends a line with those that come meanwhile: whether it is on the disk."""
+        self.lines.append(json.dumps({"time": utc(time.time()), **entry}).encode())
+        if len(self.lines) == 1:
+            self.written = asyncio.ensure_future(self.write())
+        return self.written
+
+    async def write(self) -> bool:
+        async with self.one_at_a_time:
+            text, self.lines = b"\n".join([*self.lines, b""]), []
+            try:
+                await asyncio.to_thread(self.append, text)
+                return True
+            except OSError as fault:
+                log_seldom(self.path, "%s: %s", self.path, fault.strerror)
+                return False
+
+    def append(self, text: bytes) -> None:
+        flags = os.O_WRONLY | os.O_APPEND | os.O_CREAT | os.O_CLOEXEC | os.O_NOFOLLOW
+        file = os.open(self.path, flags, 0o600)
+        try:
+            text = b"\n" + text if self.is_torn and text else text
+            self.is_torn = self.is_torn or bool(text)
+            while text:
+                text = text[os.write(file, text) :]
+            os.fdatasync(file)
+            self.is_torn = False
+        finally:
+            os.close(file)

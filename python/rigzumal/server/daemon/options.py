@@ -7,9 +7,10 @@ import os
 import pathlib
 import re
 from collections.abc import Callable, Sequence
-from dataclasses import dataclass, field
-from typing import NoReturn
+from dataclasses import dataclass, field, fields
+from typing import Any, NoReturn
 
+from .doors import Door
 from .log import Problem
 
 VERSION = "0.2.0"
@@ -42,15 +43,35 @@ KINDS = {
 OPERATIONS = {word.encode(): it for key, it in KINDS.items() for word in key.split()}
 
 
-@dataclass(frozen=True)
-class Door:
-    """A socket, and what its clients may ask for."""
+def number(most: int) -> Callable[[str], int]:
+    """The type of numbers up to one."""
 
-    name: str
-    path: str
-    mode: int
-    group: str
-    operations: frozenset[bytes]
+    def parsed(word: str) -> int:
+        if not re.fullmatch("[0-9]{1,9}", word) or int(word) > most:
+            text = f"{word!r} is no number from 0 to {most}"
+            raise argparse.ArgumentTypeError(text)
+        return int(word)
+
+    return parsed
+
+
+def costs(word: str) -> str:
+    if "=" not in word.rpartition("$")[2]:
+        text = f"{word!r} isn't costs without a salt, such as "
+        raise argparse.ArgumentTypeError(text + "$argon2id$v=19$m=65536,t=3,p=4")
+    return word
+
+
+def option(text: str, metavar: str, default: object = "", kind: object = None) -> Any:
+    """An option with a value."""
+    text += f" ({default})" if default != "" else ""
+    kind = kind or (str if default == "" else number(10**9 - 1))
+    shown = {"help": text, "metavar": metavar, "type": kind}
+    return field(default=default, metadata=shown)
+
+
+def flag(text: str) -> Any:
+    return field(default=False, metadata={"help": text, "action": "store_true"})
 
 
 @dataclass
@@ -60,22 +81,26 @@ class Options:
     file: str = ""
     doors: list[Door] = field(default_factory=list)
     socket: list[list[str]] = field(default_factory=list)
-    tries: int = 10
-    uid_tries: int = 0
-    idle: int = 600
-    audit: str = ""
-    metrics: str = ""
-    foreign: str = ""
-    upgrade: str = ""
-    setting: str = ""
-    mail_names: bool = False
-    fold_local_part: bool = False
-    at_once: int = 0
-    memory: str = ""
-    most_memory: str = ""
-    most_work: str = ""
-    wait: int = 30
-    credkeep: str = "credkeep"
+    tries: int = option("failed tries until a name has to wait; 0: no limit", "N", 10)
+    uid_tries: int = option("the same for a person's uid at any names", "N", 0)
+    idle: int = option("until a client that asks nothing is closed", "SECONDS", 600)
+    audit: str = option("append a JSON line to this file for each change", "LOG")
+    metrics: str = option("print what the server of an admin socket counts", "SOCKET")
+    foreign: str = option("an old file, whose users move into the book", "HTPASSWD")
+    upgrade: str = option(
+        "new costs, by which a right verify upgrades", "COSTS", kind=costs
+    )
+    setting: str = option("for credkeep: the costs of new records", "TEXT")
+    at_once: int = option("for credkeep: lines hashed at once; 0: processors", "N", 0)
+    memory: str = option("for credkeep: memory for hashes, as 512M", "SIZE")
+    most_memory: str = option("for credkeep: the bound of a record's memory", "SIZE")
+    most_work: str = option("for credkeep: that of its memory times passes", "N")
+    wait: int = option(
+        "for credkeep: how long it waits for FILE", "SECONDS", 30, number(3600)
+    )
+    credkeep: str = option("another program than credkeep", "PROGRAM", "credkeep", str)
+    mail_names: bool = flag("names may be e-mail addresses")
+    fold_local_part: bool = flag("fold the part before the @ too")
 
     def workers(self) -> int:
         """How many lines the book hashes at once."""
@@ -100,25 +125,6 @@ class Parser(argparse.ArgumentParser):
         raise Problem(f"{message}; --help shows all options")
 
 
-def number(least: int, most: int) -> Callable[[str], int]:
-    """The type of numbers in a range."""
-
-    def parsed(word: str) -> int:
-        if not re.fullmatch("[0-9]{1,9}", word) or not least <= int(word) <= most:
-            text = f"{word!r} is no number from {least} to {most}"
-            raise argparse.ArgumentTypeError(text)
-        return int(word)
-
-    return parsed
-
-
-def costs(word: str) -> str:
-    if "=" not in word.rpartition("$")[2]:
-        text = f"{word!r} isn't costs without a salt, such as "
-        raise argparse.ArgumentTypeError(text + "$argon2id$v=19$m=65536,t=3,p=4")
-    return word
-
-
 def parser() -> Parser:
     made = Parser(
         prog="credkeep-server",
@@ -129,34 +135,12 @@ def parser() -> Parser:
     text = "the book, which `credkeep FILE init` makes"
     made.add_argument("file", metavar="FILE", nargs="?", default="", help=text)
     made.add_argument("--version", action="version", version=f"%(prog)s {VERSION}")
-    fields = ("NAME", "PATH", "MODE", "GROUP", "OPERATIONS")
+    words = ("NAME", "PATH", "MODE", "GROUP", "OPERATIONS")
     text = "a socket in place of the login and the admin socket; for each one"
-    made.add_argument("--socket", nargs=5, action="append", metavar=fields, help=text)
-    count, seconds = number(0, 10**9 - 1), number(0, 3600)
-    words: list[tuple[str, str, Callable[[str], object], str]] = [
-        ("tries", "N", count, "failed tries until a name has to wait; 0: no limit"),
-        ("uid-tries", "N", count, "the same for a person's uid at any names"),
-        ("idle", "SECONDS", count, "until a client that asks nothing is closed"),
-        ("audit", "LOG", str, "append a JSON line to this file for each change"),
-        ("metrics", "SOCKET", str, "print what the server of an admin socket counts"),
-        ("foreign", "HTPASSWD", str, "an old file, whose users move into the book"),
-        ("upgrade", "COSTS", costs, "new costs, by which a right verify upgrades"),
-        ("setting", "TEXT", str, "for credkeep: the costs of new records"),
-        ("at-once", "N", count, "for credkeep: lines hashed at once; 0: processors"),
-        ("memory", "SIZE", str, "for credkeep: memory for hashes, as 512M"),
-        ("most-memory", "SIZE", str, "for credkeep: the bound of a record's memory"),
-        ("most-work", "N", str, "for credkeep: that of its memory times passes"),
-        ("wait", "SECONDS", seconds, "for credkeep: how long it waits for FILE"),
-        ("credkeep", "PROGRAM", str, "another program than credkeep"),
-    ]
-    for name, metavar, kind, text in words:
-        default = getattr(Options, name.replace("-", "_"))
-        text += f" ({default})" if default != "" else ""
-        made.add_argument(f"--{name}", metavar=metavar, type=kind, help=text)
-    text = "names may be e-mail addresses"
-    made.add_argument("--mail-names", action="store_true", help=text)
-    text = "fold the part before the @ too"
-    made.add_argument("--fold-local-part", action="store_true", help=text)
+    made.add_argument("--socket", nargs=5, action="append", metavar=words, help=text)
+    for it in fields(Options):
+        if it.metadata:
+            made.add_argument("--" + it.name.replace("_", "-"), **it.metadata)
     return made
 
 
@@ -173,15 +157,12 @@ def door(name: str, path: str, mode: str, group: str, operations: str) -> Door:
     if len(os.fsencode(path)) > LONGEST_PATH:
         raise Problem(f"{path}: a socket's path has up to {LONGEST_PATH} bytes")
     words = os.fsencode(operations).split(b",")
-    allowed = OPERATIONS if operations == "all" else words
-    for word in allowed:
-        if word not in OPERATIONS:
-            known = ", ".join(it.decode() for it in OPERATIONS)
-            text = (
-                f"the socket {name}: {word.decode(errors='replace')!r} is no operation"
-            )
-            raise Problem(f"{text}; there are all, or of {known}")
-    return Door(name, os.path.abspath(path), int(mode, 8), group, frozenset(allowed))
+    allowed = frozenset(OPERATIONS if operations == "all" else words)
+    for word in allowed - OPERATIONS.keys():
+        known = ", ".join(it.decode() for it in OPERATIONS)
+        text = f"{word.decode(errors='replace')!r} is no operation"
+        raise Problem(f"the socket {name}: {text}; there are all, or of {known}")
+    return Door(name, os.path.abspath(path), int(mode, 8), group, allowed)
 
 
 def parse(words: Sequence[str]) -> Options:

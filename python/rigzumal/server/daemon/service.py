@@ -9,21 +9,15 @@ import os
 import re
 import signal
 import time
-from collections.abc import Sequence
 from dataclasses import dataclass, replace
-from functools import partial
-from typing import Any, Optional
 
-from . import doors
-from .audit import Audit, Entry, Written
 from .book import UNAVAILABLE, Book
-from .doors import Client, Listener
+from .doors import CLIENTS, LONGEST, Client
 from .foreign import Foreign
-from .log import Seldom, log, log_fault, notify
+from .log import Audit, Entry, log, log_fault, log_seldom, notify
 from .options import OPERATIONS, Operation, Options
-from .rounds import Rounds
 from .tally import Tally
-from .turns import Turns
+from .turns import Rounds, Turns
 
 TAG = re.compile(rb"[a-z0-9]{1,20}")
 # What `known` says where `show` has no record.
@@ -36,7 +30,7 @@ PROBE = (b"verify", b"-", b"-")  # a hash, whether the name is there or not
 HASHED = frozenset(b"yes no absent noaccount".split())
 # What makes a name, and the answer if an old file has it.
 TAKES = {b"account": b"bad 1 exists", b"rename": b"exists"}
-OTHERS, CHANGES = 64, 128  # places for lines without a hash, and changes at once
+LOOKS, CHANGES = 64, 128  # places for lines that change nothing, and for quick changes
 SYNC = 0.01  # seconds that a change waits for the disk, more or less
 LAST_SECONDS = 20.0  # after a signal to end
 
@@ -47,12 +41,10 @@ class Line:
 
     client: Client
     tag: bytes
-    words: Sequence[bytes]
+    words: list[bytes]
     operation: Operation
     turns: Turns[Line]
-    share: float
-    began: float  # to wait for its turn, or for the book
-    is_in_round: bool = False
+    came: float  # when it began to wait for its turn
 
     @property
     def name(self) -> str:
@@ -68,49 +60,72 @@ class Service:
 
     def __init__(self, options: Options) -> None:
         self.options, self.book, self.tally = options, Book(), Tally(options)
-        self.places = float(options.workers() + 1)
-        self.hashes = Turns(self.places, self.start)
-        self.others = Turns(float(OTHERS), self.start)
+        self.hashes = Turns(options.workers() + 1, self.start)
+        self.changes, self.looks = Turns(CHANGES, self.start), Turns(LOOKS, self.start)
         self.logins, self.rounds = 0, Rounds(lambda: self.logins > 0)
-        self.hash_seconds = float("inf")  # what a hash takes if nothing else waits
-        self.listeners = [Listener(door) for door in options.doors]
-        self.audit = Audit(options.audit) if options.audit else None
-        old = options.foreign
-        self.foreign = Foreign(old, self.in_book) if old else None
-        self.servers: list[asyncio.AbstractServer] = []
-        self.seldom = Seldom()
+        self.hash_seconds = 1.0  # what a hash takes if nothing else waits
+        self.tasks = set[asyncio.Task[None]]()
+        self.servers = list[asyncio.AbstractServer]()
         self.is_upgrading = self.is_ending = False
+        for door in options.doors:
+            door.prepare()
+        old = options.foreign
+        self.audit = Audit(options.audit) if options.audit else None
+        self.foreign = Foreign(old, self.in_book) if old else None
 
     # ---- a line, until it is answered
 
-    def let_in(self, client: Client) -> bool:
-        if self.is_ending or client.listener.has_room(client.uid):
+    def lets_in(self, client: Client) -> bool:
+        """A user has at most half of the places that others leave."""
+        door, uid = client.door, client.uid
+        own = sum(it.uid == uid for it in door.clients)
+        if self.is_ending or own + len(door.clients) + 2 <= CLIENTS:
             return not self.is_ending
-        place, count = (client.door.name, client.uid), client.listener.by_uid[
-            client.uid
-        ]
         text = "no more connections at %s for uid %d, which has %d"
-        self.seldom.log(place, text, *place, count)
+        log_seldom((door.name, uid), text, door.name, uid, own)
         self.tally.counts["refused"] += 1
         return False
 
     def take(self, client: Client, line: bytes) -> None:
-        """Refuses a line, or has it answered once it is its turn."""
+        """Answers a line, now or once it had its turn."""
         tag, *words = line.split(b" ")
         words += [b"", b""][len(words) :]  # an operation, and one field at least
-        operation = OPERATIONS.get(words[0])
         if not TAG.fullmatch(tag):
             client.write(b"*", b"bad 11 line")
-        elif operation is None or words[0] not in client.door.operations:
+        elif said := self.own_answer(client, words):
+            client.write(tag, said)
+        else:
+            client.running += 1
+            operation = OPERATIONS[words[0]]
+            is_quick = operation.changes and self.hash_seconds <= SYNC
+            if operation.hashes and not is_quick:
+                turns = self.hashes
+            else:
+                turns = self.changes if operation.changes else self.looks
+            made = Line(client, tag, words, operation, turns, time.monotonic())
+            turns.take((client.door.name, client.uid), client, made)
+
+    def own_answer(self, client: Client, words: list[bytes]) -> bytes:
+        """The server's answer to a line that the book needn't be asked for, or nothing."""
+        operation = OPERATIONS.get(words[0])
+        if operation is None or words[0] not in client.door.operations:
             what = "an unknown operation" if operation is None else words[0].decode()
             values = (client.door.name, client.uid, what)
-            self.seldom.log(values, "denied at %s to uid %d: %s", *values)
+            log_seldom(values, "denied at %s to uid %d: %s", *values)
             self.tally.counts["denied"] += 1
-            client.write(tag, b"denied")
-        else:
-            names = slice(1, 1 + operation.names)
-            words[names] = map(self.in_book, words[names])
-            self.queue(client, tag, words, operation)
+            return b"denied"
+        names = slice(1, 1 + operation.names)
+        words[names] = map(self.in_book, words[names])
+        name = words[1].decode(errors="replace")
+        if sum(map(len, words)) + len(words) > LONGEST:  # with names that became longer
+            return b"bad 16 long"
+        if own := self.tally.own.get(words[0]):
+            return own(name).encode()
+        if self.tally.is_early(operation, name, client.uid):
+            return b"later"
+        if self.foreign and words[0] in TAKES and self.foreign.record(words[-1]):
+            return TAKES[words[0]]
+        return b""
 
     def in_book(self, name: bytes) -> bytes:
         """What stands in the book for a name; "@", which no name is, where it is refused."""
@@ -125,175 +140,143 @@ class Service:
         digest = hashlib.blake2b(local + b"@" + domain.lower(), digest_size=20).digest()
         return b"e." + base64.b32encode(digest)[:30].lower()
 
-    def queue(
-        self, client: Client, tag: bytes, words: list[bytes], operation: Operation
-    ) -> None:
-        turns = self.hashes if operation.hashes else self.others
-        share = self.share() if operation.hashes and operation.changes else 1.0
-        line = Line(client, tag, words, operation, turns, share, time.monotonic())
-        size = sum(map(len, words)) + len(words)
-        if size > doors.LONGEST:  # with names that became longer
-            client.write(tag, b"bad 16 long")
-        elif own := self.tally.own.get(words[0]):
-            self.tally.clients = len(self.clients())
-            client.write(tag, own(line.name).encode())
-        elif self.is_early(line):
-            client.write(tag, b"later")
-        elif self.foreign and words[0] in TAKES and self.foreign.record(words[-1]):
-            client.write(tag, TAKES[words[0]])
-        else:
-            client.running += 1
-            turns.take((client.door.name, client.uid), client, share, line)
+    def start(self, line: Line) -> None:
+        task = asyncio.ensure_future(self.carry_out(line))
+        self.tasks.add(task)
+        task.add_done_callback(self.tasks.discard)
 
-    def share(self) -> float:
-        """The share of a place for hashes that a change takes: as much as of its time it hashes."""
-        seconds = self.hash_seconds
-        share = 1.0 if seconds > 1.0 else seconds / (seconds + SYNC)
-        return max(share, self.places / CHANGES)
+    async def carry_out(self, line: Line) -> None:
+        """Has a line answered whose turn it is, unless it needn't be any more."""
+        client, operation, said = line.client, line.operation, b"later"
+        self.tally.waited += time.monotonic() - line.came
+        is_needed = operation.changes or not client.is_gone
+        if is_needed and not self.tally.is_early(operation, line.name, client.uid):
+            said = await self.judged(line)
+        line.turns.give_back()
+        if said != b"later":
+            said = await self.counted(line, said)
+        client.answer(line.tag, said)
+        if said == b"yes" and operation.tries:
+            await self.note(line, said)
+            if self.options.upgrade and line.words[0] == b"verify":
+                await self.upgrade(line)
 
-    def is_early(self, line: Line) -> bool:
-        early = line.operation.tries and self.tally.is_early(line.name, line.client.uid)
-        self.tally.counts["later"] += early
-        return early
+    async def judged(self, line: Line) -> bytes:
+        """The book's answer, or the old file's where the book lacks the name.
 
-    def start(self, line: Line) -> bool:
-        """Has the book answer a line whose turn it is; false if it needn't any more."""
-        began, line.began = line.began, time.monotonic()
-        self.tally.waited += line.began - began
-        hashes, changes = line.operation.hashes, line.operation.changes
-        if line.client.is_gone and not changes:
-            return False
-        if self.is_early(line):
-            line.client.answer(line.tag, b"later")
-            return False
-        self.logins += hashes and not changes
-        line.is_in_round = changes and not (hashes and self.hash_seconds > SYNC)
-        if line.is_in_round:
-            self.rounds.take(partial(self.send, line), not hashes)
-        else:
-            self.send(line)
-        return True
-
-    def send(self, line: Line) -> None:
-        line.began = time.monotonic()
-        asked = b"show" if line.words[0] == b"known" else line.words[0]
-        self.book.ask([asked, *line.words[1:]], partial(self.came, line))
-
-    def came(self, line: Line, said: bytes) -> None:
-        if self.foreign and (said in LACKS or line.told(said) in HAS):
-            asyncio.ensure_future(self.judge(self.foreign, line, said))
-        else:
-            self.answered(line, said)
-
-    async def judge(self, foreign: Foreign, line: Line, said: bytes) -> None:
-        """Answers by the old file where the book lacks a name; a right password moves it."""
+        A right password moves the name from the file to the book.
+        """
         operation, name, password = [*line.words, b""][:3]
-        record = foreign.record(name)
-        if record and said in LACKS and line.operation.tries:
-            loop = asyncio.get_running_loop()
-            said = b"no" if operation in (b"verify", b"login") else b"wrong"
-            if await loop.run_in_executor(None, foreign.is_right, record, password):
-                for words in ((b"account", name), (b"enrol", name, password)):
-                    made = await self.book.answer(*words)
-                    self.note(replace(line, words=words), made)
-                said = await self.book.answer(*line.words)
-        elif record and said in LACKS and operation == b"known":
-            said = b"$"
-        if record and line.told(said) in HAS and not foreign.remove(name):
-            said = UNAVAILABLE if operation in ENDS else said
-        self.answered(line, said)
+        said = await self.asked(line)
+        is_old = self.foreign and (said in LACKS or line.told(said) in HAS)
+        record = self.foreign.record(name) if self.foreign and is_old else ""
+        if not self.foreign or not record:
+            return said
+        if said in LACKS and operation == b"known":
+            return b"$"
+        if said in LACKS and line.operation.tries:
+            if not await asyncio.to_thread(self.foreign.is_right, record, password):
+                return b"no" if operation in (b"verify", b"login") else b"wrong"
+            for words in ([b"account", name], [b"enrol", name, password]):
+                made = await self.book.ask(*words)
+                await self.note(replace(line, words=words), made)
+            said = await self.book.ask(*line.words)
+        if line.told(said) in HAS and not self.foreign.remove(name):
+            return UNAVAILABLE if operation in ENDS else said
+        return said
 
-    def answered(self, line: Line, said: bytes) -> None:
-        is_login = line.operation.hashes and not line.operation.changes
-        self.logins -= is_login
-        if line.is_in_round:
-            self.rounds.done()
-        line.turns.give_back(line.share)
+    async def asked(self, line: Line) -> bytes:
+        """The book's answer."""
+        operation, *fields = line.words
+        words = [b"show" if operation == b"known" else operation, *fields]
+        if line.turns == self.changes:
+            await self.rounds.begin(is_alone=not line.operation.hashes)
+            said = await self.book.ask(*words)
+            self.rounds.end()
+        elif line.operation.hashes and not line.operation.changes:
+            self.logins += 1
+            said = await self.hashed(*words)
+            self.logins -= 1
+        else:
+            said = await self.book.ask(*words)
+        return said
+
+    async def hashed(self, *words: bytes) -> bytes:
+        """The answer to a login; the quickest of late tells what a hash takes."""
+        began = time.monotonic()
+        said = await self.book.ask(*words)
+        if said in HASHED:
+            seconds = time.monotonic() - began
+            self.hash_seconds = min(seconds, 1.01 * self.hash_seconds)
+        return said
+
+    async def counted(self, line: Line, said: bytes) -> bytes:
+        """Counts an answer, has the audit log note a change, and returns what is told."""
         if line.words[0] == b"known":
             said = b"yes" if said[:1] == b"$" else KNOWN.get(said, said)
         told = line.told(said)
         self.tally.note(line.operation, line.name, line.client.uid, told.decode())
-        if line.operation.changes and self.audit:
-            self.note(line, told, partial(self.answer_written, line, said))
-        else:
-            line.client.answer(line.tag, said)
-        if is_login and said in HASHED:
-            self.measure(time.monotonic() - line.began)
-        if said == b"yes" and line.operation.tries:
-            self.note(line, said)
-            if self.options.upgrade and line.words[0] == b"verify":
-                self.upgrade(line)
+        if line.operation.changes and not await self.note(line, told):
+            return UNAVAILABLE  # nobody says that a change was made that isn't noted
+        return said
 
-    def answer_written(self, line: Line, said: bytes, is_written: bool) -> None:
-        """Answers a change once the audit log has it; without that nobody says that it was made."""
-        line.client.answer(line.tag, said if is_written else UNAVAILABLE)
+    async def note(self, line: Line, said: bytes) -> bool:
+        """Has the audit log say who did what; false if it couldn't.
 
-    def note(self, line: Line, said: bytes, written: Optional[Written] = None) -> None:
-        """Has the audit log say who did what. A name that is in no book may be a password."""
+        A name that is in no book may be a password.
+        """
         if not self.audit:
-            return
+            return True
         is_known = not said.startswith((b"noaccount", b"bad", UNAVAILABLE))
         operation, *fields = [it.decode(errors="replace") for it in line.words]
         entry: Entry = {"door": line.client.door.name, "uid": line.client.uid}
         entry.update(pid=line.client.pid, operation=operation)
-        entry["name"] = fields[0] if is_known else None
-        if operation == "rename":
-            entry["new_name"] = fields[1] if is_known else None
-        self.audit.add({**entry, "answer": said.decode()}, written)
+        for key, field in zip(("name", "new_name"), fields[: line.operation.names]):
+            entry[key] = field if is_known else None
+        return await self.audit.add({**entry, "answer": said.decode()})
 
-    def measure(self, seconds: float) -> None:
-        """Takes the quickest hash of late for what one takes."""
-        self.hash_seconds = min(seconds, 1.01 * self.hash_seconds)
-
-    def upgrade(self, line: Line) -> None:
+    async def upgrade(self, line: Line) -> None:
         """Upgrades a record of other costs, after its password was right; one at a time."""
+        if self.is_upgrading:
+            return
+        self.is_upgrading = True
         words = [b"upgrade", *line.words[1:]]
+        record = await self.book.ask(b"show", words[1])
         costs = f"{self.options.upgrade}$".encode()
-
-        def shown(record: bytes) -> None:
-            if record[:1] == b"$" and not record.startswith(costs):
-                self.book.ask(words, done)
-            else:
-                self.is_upgrading = False
-
-        def done(said: bytes) -> None:
-            self.is_upgrading = False
+        if record[:1] == b"$" and not record.startswith(costs):
+            said = await self.book.ask(*words)
             self.tally.counts["upgraded"] += said == b"upgraded"
-            self.note(replace(line, words=words), said)
-
-        if not self.is_upgrading:
-            self.is_upgrading = True
-            self.book.ask([b"show", words[1]], shown)
+            await self.note(replace(line, words=words), said)
+        self.is_upgrading = False
 
     # ---- start and end
 
     async def open(self) -> None:
         """Lets clients in once the book answers, and tells systemd for as long as it does."""
-        if await self.book.answer(b"show", b"-") == UNAVAILABLE:
+        if await self.book.ask(b"show", b"-") == UNAVAILABLE:
             return
-        loop = asyncio.get_running_loop()
-        for listener in self.listeners:
-            client, it = partial(Client, self, listener), listener.opened()
-            made = loop.create_unix_server(client, sock=it, backlog=doors.BACKLOG)
-            self.servers.append(await made)  # whose end leaves the path
+        for door in self.options.doors:
+            self.servers.append(await door.open(self))
         log.info("start: %s", self.options.file)
         notify("READY=1")
-        began = time.monotonic()
-        self.book.ask(PROBE, lambda _: self.measure(time.monotonic() - began))
-        while await self.book.answer(b"show", b"-") != UNAVAILABLE:
+        probing = asyncio.ensure_future(self.hashed(*PROBE))
+        while await self.book.ask(b"show", b"-") != UNAVAILABLE:
             notify("WATCHDOG=1")
-            self.tally.sweep()
+            self.tally.names.drop_expired()
+            self.tally.users.drop_expired()
             await asyncio.sleep(int(os.environ.get("WATCHDOG_USEC", 60_000_000)) / 2e6)
+        await probing
 
-    async def end_idle(self) -> None:
+    async def sweep(self) -> None:
         """Closes clients that ask for nothing, or don't read their answers."""
-        while idle := self.options.idle:
-            await asyncio.sleep(idle / 10)
+        idle = self.options.idle or float("inf")
+        while True:
+            await asyncio.sleep(min(idle / 10, 60.0))
             for client in self.clients():
                 client.end_if_idle(time.monotonic() - idle)
 
     def clients(self) -> list[Client]:
-        return [client for listener in self.listeners for client in listener.clients]
+        return [client for door in self.options.doors for client in door.clients]
 
     async def run(self) -> int:
         """Answers clients until the book ends or a signal comes; returns the status."""
@@ -302,43 +285,41 @@ class Service:
         for number in (signal.SIGTERM, signal.SIGINT):
             loop.add_signal_handler(number, stop.set)
         await self.book.start(self.options.book_words())
-        opening, stopping = loop.create_task(self.open()), loop.create_task(stop.wait())
-        sweeping = loop.create_task(self.end_idle())
-        ends: list[asyncio.Future[Any]] = [opening, stopping, self.book.ended]
+        opening, sweeping = loop.create_task(self.open()), loop.create_task(
+            self.sweep()
+        )
+        ends = (opening, sweeping, self.book.ended, loop.create_task(stop.wait()))
         await asyncio.wait(ends, return_when=asyncio.FIRST_COMPLETED)
         status = await self.end()
-        for task in (opening, stopping, sweeping):
-            task.cancel()
-        for it in await asyncio.gather(opening, sweeping, return_exceptions=True):
-            if isinstance(it, Exception):
-                raise it
+        for task in (opening, sweeping):
+            if task.done():
+                task.result()  # or its exception
         return status
 
     async def end(self) -> int:
-        """Lets the book answer what it has, for twenty seconds, and ends it; returns the status."""
-        self.is_ending, until = True, time.monotonic() + LAST_SECONDS
+        """Lets the book answer what it has, for twenty seconds; returns its status."""
+        self.is_ending = True
         notify("STOPPING=1")
         for server in self.servers:
             server.close()
-        if self.book.ended.done():
-            for line in self.hashes.rest() + self.others.rest():
-                line.client.answer(line.tag, UNAVAILABLE)
-        while (self.clients() or self.is_noting()) and time.monotonic() < until:
-            for client in self.clients():
-                client.end()
-            await asyncio.sleep(0.01)
-        self.book.close()
-        await asyncio.wait([self.book.ended], timeout=until - time.monotonic())
-        is_late = not self.book.ended.done()
-        if is_late:
+        try:
+            await asyncio.wait_for(self.close(), LAST_SECONDS)
+            status = self.book.ended.result()
+        except asyncio.TimeoutError:
             log.error("the book is killed: it hashed for %d s more", LAST_SECONDS)
             self.book.kill()
-        status = await self.book.ended
-        status = 0 if is_late else status
+            await self.book.ended
+            status = 0
         if self.book.strays:
             log.error("the book wrote %d answers to no line", self.book.strays)
-        log.info("end: status %d, %s", status, self.tally.stats())
+        log.info("end: status %d, %s", status, self.tally.stats(""))
         return status
 
-    def is_noting(self) -> bool:
-        return self.audit is not None and self.audit.is_writing
+    async def close(self) -> None:
+        """Ends the clients, each once its lines are answered, and then the book."""
+        for client in self.clients():
+            client.end()
+        while self.clients() or self.tasks:
+            await asyncio.sleep(0.01)
+        self.book.stdin.close()
+        await asyncio.wait([self.book.ended])

@@ -2,24 +2,30 @@
 
 from __future__ import annotations
 
+import socket
 import time
 from collections import Counter, OrderedDict
-from collections.abc import Callable
 
-from .audit import utc
 from .limits import REMEMBERED, Limiter
+from .log import Problem, problems_at, utc
 from .options import Operation, Options
 
 PEOPLE = range(1000, 60001)  # uids whose failed tries count: a service logs in many
 RIGHT = frozenset("yes replaced upgraded kept removed".split())
 WRONG = {"no": "no", "wrong": "no", "absent": "absent"}
 CHANGED = "ok enrolled replaced upgraded removed disabled deleted renamed".split()
-COUNTED = "yes no absent noaccount later changes upgraded denied refused".split()
 MOST_SHOWN = 1000  # names in an answer
-
-
-def user_of(uid: int) -> str:
-    return f"uid {uid}"
+# Of each metric what is counted, in samples by their answers if there are many.
+METRICS = {
+    "tries_total": ("yes no absent noaccount later", "Tries by their answer."),
+    "changes_total": ("changes", "Changes that were made."),
+    "upgraded_total": ("upgraded", "Records that --upgrade upgraded."),
+    "denied_total": ("denied", "Lines that their socket doesn't take."),
+    "refused_total": ("refused", "Connections that had no room."),
+    "clients": ("clients", "Connections."),
+    "waits": ("waits", "Names that have to wait after failed tries."),
+    "waited_seconds_total": ("waited", "Seconds that lines waited for their turn."),
+}
 
 
 class Tally:
@@ -27,20 +33,19 @@ class Tally:
 
     def __init__(self, options: Options) -> None:
         self.names, self.users = Limiter(options.tries), Limiter(options.uid_tries)
-        self.logins = OrderedDict[str, float]()
-        self.counts = Counter[str]()
-        self.waited, self.clients = 0.0, 0
+        self.doors, self.logins = options.doors, OrderedDict[str, float]()
+        self.counts, self.waited = Counter[str](), 0.0
         # What an administrator asks the server itself for.
-        self.own: dict[bytes, Callable[[str], str]] = {
-            b"stats": self.stats,
-            b"waits": self.waits,
-            b"forgive": self.forgive,
-            b"last": self.last,
-        }
+        self.own = {b"stats": self.stats, b"waits": self.waits, b"last": self.last}
+        self.own[b"forgive"] = self.forgive
 
-    def is_early(self, name: str, uid: int) -> bool:
-        """Whether it isn't time yet for the next try."""
-        return self.names.is_early(name) or self.users.is_early(user_of(uid))
+    def is_early(self, operation: Operation, name: str, uid: int) -> bool:
+        """Whether it isn't time yet for a try, which is counted."""
+        is_early = operation.tries and (
+            self.names.is_early(name) or self.users.is_early(f"uid {uid}")
+        )
+        self.counts["later"] += is_early
+        return is_early
 
     def note(self, operation: Operation, name: str, uid: int, said: str) -> None:
         """Counts an answer, and the failed try that it may be."""
@@ -52,7 +57,7 @@ class Tally:
         elif said in RIGHT:
             self.counts["yes"] += 1
             self.names.forgive(name, "a right password")
-            self.users.lower(user_of(uid))
+            self.users.lower(f"uid {uid}")
             self.logins[name] = time.time()
             self.logins.move_to_end(name)
             if len(self.logins) > REMEMBERED:
@@ -62,17 +67,14 @@ class Tally:
             if said in WRONG:  # at a name that the book lacks nothing can be guessed
                 self.names.fail(name)
             if uid in PEOPLE:
-                self.users.fail(user_of(uid))
+                self.users.fail(f"uid {uid}")
 
-    def sweep(self) -> None:
-        self.names.drop_expired()
-        self.users.drop_expired()
-
-    def stats(self, _: str = "") -> str:
-        waits = sum(1 for _ in self.names.waits())
-        words = [f"{name}={self.counts[name]}" for name in COUNTED]
-        words += [f"clients={self.clients}", f"waits={waits}"]
-        return " ".join(["stats", *words, f"waited={self.waited:.3f}"])
+    def stats(self, _: str) -> str:
+        now: dict[str, object] = {**self.counts, "waited": f"{self.waited:.3f}"}
+        now["clients"] = sum(len(door.clients) for door in self.doors)
+        now["waits"] = sum(1 for _ in self.names.waits())
+        counted = " ".join(counts for counts, _ in METRICS.values()).split()
+        return " ".join(["stats", *(f"{it}={now.get(it, 0)}" for it in counted)])
 
     def waits(self, _: str) -> str:
         """Who has to wait: KEY:FAILED:SECONDS, a user as uid-1000."""
@@ -89,3 +91,22 @@ class Tally:
     def last(self, name: str) -> str:
         """When a password was right last, since this server's start."""
         return f"last {utc(self.logins[name])}" if name in self.logins else "none"
+
+
+def metrics(path: str) -> str:
+    """What the server at an admin socket counts, in Prometheus' text format."""
+    with problems_at(path), socket.socket(socket.AF_UNIX) as it:
+        it.settimeout(10)
+        it.connect(path)
+        it.sendall(b"1 stats\n")
+        words = it.makefile().readline().split()
+    if words[:2] != ["1", "stats"]:
+        raise Problem(f"{path}: its clients may not ask for stats")
+    values, lines = dict(word.split("=") for word in words[2:]), list[str]()
+    for name, (counts, said) in METRICS.items():
+        kind = "counter" if name.endswith("_total") else "gauge"
+        lines += [f"# HELP credkeep_{name} {said}", f"# TYPE credkeep_{name} {kind}"]
+        for count in counts.split():
+            label = f'{{answer="{count}"}}' if " " in counts else ""
+            lines.append(f"credkeep_{name}{label} {values[count]}")
+    return "\n".join(lines) + "\n"

@@ -1,60 +1,80 @@
-"""Places at the book, and whose turn it is for the next one."""
+"""Places at the book, whose turn it is for the next one, and when changes go there."""
 
 from __future__ import annotations
 
+import asyncio
+import time
 from collections import OrderedDict, deque
 from collections.abc import Callable
 from typing import Generic, Hashable, TypeVar
 
+REST, LONGEST_REST = 1.5, 0.1  # of the time that a round took, and seconds
 Line = TypeVar("Line")
 
 
 class Turns(Generic[Line]):
-    """Lines that wait for a place: users take turns, then the clients of each, a line each.
+    """Lines that wait for a place: users take turns, then the clients of each, a line each."""
 
-    A line takes a share of the places until it is given back. One that would still fit
-    waits behind those whose turn is before its own.
-    """
-
-    def __init__(self, places: float, start: Callable[[Line], bool]) -> None:
+    def __init__(self, places: int, start: Callable[[Line], object]) -> None:
         self.free, self.start = places, start
-        self.users = OrderedDict[
-            Hashable, OrderedDict[Hashable, deque[tuple[float, Line]]]
-        ]()
+        self.users = OrderedDict[Hashable, OrderedDict[Hashable, deque[Line]]]()
 
-    def take(self, user: Hashable, client: Hashable, share: float, line: Line) -> None:
+    def take(self, user: Hashable, client: Hashable, line: Line) -> None:
         """Starts a line once it is its turn, which may be now."""
-        if not self.users and self.free >= share:
-            self.begin(share, line)
-        else:
-            clients = self.users.setdefault(user, OrderedDict())
-            clients.setdefault(client, deque()).append((share, line))
+        clients = self.users.setdefault(user, OrderedDict())
+        clients.setdefault(client, deque()).append(line)
+        self.start_next()
 
-    def begin(self, share: float, line: Line) -> None:
-        self.free -= share
-        if not self.start(line):  # it needn't be answered any more
-            self.free += share
+    def give_back(self) -> None:
+        """Frees a line's place."""
+        self.free += 1
+        self.start_next()
 
-    def give_back(self, share: float) -> None:
-        """Frees a line's share, and starts those that have room now."""
-        self.free += share
-        while self.users:
+    def start_next(self) -> None:
+        while self.free and self.users:
             user, clients = next(iter(self.users.items()))
             client, lines = next(iter(clients.items()))
-            share, line = lines[0]
-            if self.free < share:
-                return
-            lines.popleft()
+            line = lines.popleft()
             clients.move_to_end(client)
             self.users.move_to_end(user)
             if not lines:
                 del clients[client]
             if not clients:
                 del self.users[user]
-            self.begin(share, line)
+            self.free -= 1
+            self.start(line)
 
-    def rest(self) -> list[Line]:
-        """Takes out all lines that wait."""
-        users = list(self.users.values())
-        self.users.clear()
-        return [it for user in users for lines in user.values() for _, it in lines]
+
+class Rounds:
+    """The book answers nobody while a change waits for the disk.
+
+    Beside logins, changes go in rounds, and rest for longer than the round took. Changes
+    that hash are synced together, so all that wait go in one round. Each other one is a
+    sync of its own, so one of them does. If nobody logs in, none waits here.
+    """
+
+    def __init__(self, is_busy: Callable[[], bool]) -> None:
+        self.is_busy = is_busy  # whether somebody logs in
+        self.gate, self.has_alone = asyncio.Event(), False
+        self.running, self.began = 0, 0.0
+        self.gate.set()
+
+    async def begin(self, is_alone: bool) -> None:
+        """Returns when a change may go: now, or in the next round."""
+        is_due = self.gate.is_set()
+        while self.is_busy() and not is_due:
+            await self.gate.wait()
+            is_due = not (is_alone and self.has_alone)
+        self.gate.clear()
+        self.has_alone = self.has_alone or is_alone
+        self.began = self.began if self.running else time.monotonic()
+        self.running += 1
+
+    def end(self) -> None:
+        """One was answered; behind the last of a round comes the rest."""
+        self.running -= 1
+        if not self.running:
+            self.has_alone = False
+            took = time.monotonic() - self.began if self.is_busy() else 0.0
+            rest = min(REST * took, LONGEST_REST)
+            asyncio.get_running_loop().call_later(rest, self.gate.set)
