@@ -155,6 +155,14 @@ def pamtester(service: str, user: str, tasks: str, typed: str, status: int, text
     same((done.returncode, text in said), (status, True), f"{tasks}: {said}")
 
 
+def lets_in(service: str, user: str, password: str, tasks: str = "authenticate") -> None:
+    pamtester(service, user, tasks, f"{password}\n", 0, "successfully")
+
+
+def keeps_out(service: str, user: str, password: str, text: str = "Authentication failure") -> None:
+    pamtester(service, user, "authenticate", f"{password}\n", 1, text)
+
+
 Test = TypeVar("Test", bound=Case)
 
 

@@ -96,6 +96,12 @@ def until(fact: Callable[[], bool], said: str, seconds: float = 20.0) -> None:
         time.sleep(0.01)
 
 
+def ran(*words: str) -> tuple[int, str, str]:
+    """Status, output and errors of the program with these words."""
+    done = subprocess.run([PYTHON, SERVER, *words], capture_output=True, text=True, timeout=30)
+    return done.returncode, done.stdout, done.stderr
+
+
 def is_listening(path: pathlib.Path) -> bool:
     with socket.socket(socket.AF_UNIX) as it:
         return it.connect_ex(str(path)) == 0

@@ -1,21 +1,26 @@
-"""Tests of bin/credkeep-server that credkeep and the stand-in of the other tests have to pass alike."""
+"""Tests of bin/credkeep-server over credkeep itself, from whose answers the other tests' book mustn't differ.
+
+They need the built credkeep, or one named by CREDKEEP.
+"""
 
 from __future__ import annotations
 
+import os
 import pathlib
 import random
+import re
 import socket
-import statistics
 import subprocess
 import time
-from collections.abc import Iterator
 from typing import Any
 
 from served import (
     CHEAP,
     FAST_BOOK,
     FRESH,
+    PYTHON,
     SECRET,
+    SERVER,
     WRONG,
     Case,
     Client,
@@ -25,6 +30,34 @@ from served import (
     real_book,
     until,
 )
+
+DEARER = "$argon2id$v=19$m=128,t=2,p=1"
+RECORD = "$argon2id$v=19$m=8,t=1,p=1$c29tZXNhbHQ$AAAAAAAAAAAAAAAAAAAAAA"
+SLOW = "$argon2id$v=19$m=16384,t=3,p=1"
+NAMES = ["ada", "bob", "cid", "x" * 32, "x" * 33, "Ada", "", "a.b-c_d", "\u00e4"]
+PASSWORDS = [SECRET, WRONG, FRESH, "-", "", "=", "AAAAA", "QQ", "A" * 342, "A" * 344]
+OPERATIONS = "account show verify verify login remove enrol enrol reset change upgrade frob".split()
+FIELDS = {"account": 1, "show": 1, "frob": 1, "change": 3}
+
+
+def cpu(service: Service) -> float:
+    """Seconds of processor time that the book took so far."""
+    fields = pathlib.Path(f"/proc/{service.book_pid()}/stat").read_text().rpartition(")")[2].split()
+    return (int(fields[11]) + int(fields[12])) / os.sysconf("SC_CLK_TCK")
+
+
+def any_line(chance: random.Random) -> str:
+    """A line, of which most are in order."""
+
+    def one(given: list[str]) -> str:
+        return chance.choice(given[:3] if chance.random() < 0.8 else given)
+
+    word = chance.choice(OPERATIONS)
+    count = FIELDS.get(word, 2) + chance.choice([0] * 18 + [1, -1])
+    fields = [one(NAMES), one(PASSWORDS), one(PASSWORDS)][:count]
+    if word in ("enrol", "reset", "change", "upgrade") and chance.random() < 0.2:
+        fields.append("SETTING$c29tZXNhbHQ")
+    return " ".join([word, *fields])
 
 
 def hashed(address: str) -> str:
@@ -36,30 +69,23 @@ def hashed(address: str) -> str:
     return f"e.{done.stdout.decode().strip()}"
 
 
-def hostile(service: Service, data: bytes) -> Client:
-    """A client that sends something and reads nothing."""
-    client = service.client()
-    client.socket.setblocking(False)
-    try:
-        client.send(data)
-    except OSError:
-        pass
-    return client
-
-
-class OverStandIn(Case):
-    program, costs, dearer, record = FAST_BOOK, "$fast$c=1", "$fast$c=2", "$fast$c=1$x$y"
-    slow: dict[str, Any] = {"faults": "slow=0.05"}
-
-    def over(self, *options: str, **fields: Any) -> Service:
-        setting = () if "--upgrade" in options else ("--setting", fields.pop("costs", self.costs))
-        return self.serving(*options, *setting, program=self.program, **fields)
+class OverCredkeep(Case):
+    def over(self, *options: str, costs: str = CHEAP, **fields: Any) -> Service:
+        setting = () if "--upgrade" in options else ("--setting", costs)
+        return self.serving(*options, *setting, program=real_book(), **fields)
 
     def listed(self, folder: pathlib.Path) -> list[str]:
-        """The names in the file, once the server has ended."""
-        lines = (folder / "users.db").read_text().splitlines()
-        last = dict(line.split(" ", 1) for line in lines)
-        return sorted(name for name, record in last.items() if record != "gone")
+        """The names in the file, once the server has ended in order."""
+
+        def said(word: str) -> str:
+            words = [str(real_book()), str(folder / "users.db"), word]
+            return subprocess.run(words, capture_output=True, text=True, check=True).stdout
+
+        names = said("list").split()
+        plural = "" if len(names) == 1 else "s"
+        counts = f"{len(names)} account{plural}, 0 changes in the log\n"
+        self.assertEqual(said("verify"), counts, "it wasn't closed in order")
+        return names
 
     def test_operations(self) -> None:
         """Each operation that goes through the sockets, with the answers of docs/SERVING.md."""
@@ -82,7 +108,7 @@ class OverStandIn(Case):
             login verify ada {{wrong}} -> no
             admin login ada {{secret}} -> yes
             admin upgrade ada {{secret}} -> kept
-            admin upgrade ada {{secret}} {self.dearer}$c29tZXNhbHQ -> upgraded
+            admin upgrade ada {{secret}} {DEARER}$c29tZXNhbHQ -> upgraded
             admin login ada {{secret}} -> yes
             admin upgrade ada {{secret}} -> kept
             login change ada {{wrong}} {{fresh}} -> wrong
@@ -94,8 +120,8 @@ class OverStandIn(Case):
             admin remove ada {{wrong}} -> wrong
             admin remove ada {{secret}} -> removed
             admin show ada -> none
-            admin load ada {self.record} -> ok
-            admin show ada -> {self.record}
+            admin load ada {RECORD} -> ok
+            admin show ada -> {RECORD}
             login known ada -> yes
             login verify ada {{secret}} -> no
             login verify ada -> bad 11 line
@@ -143,7 +169,7 @@ class OverStandIn(Case):
             reset ada@example.org {{secret}} -> replaced
             rename Ada@example.org bob@example.org -> renamed
             account plain.name -> ok
-            load plain.name {self.record} -> ok
+            load plain.name {RECORD} -> ok
             account x@Y@Example.org -> ok
             account x@Y@example.org -> bad 1 exists
             account x@y@example.org -> ok
@@ -189,26 +215,28 @@ class OverStandIn(Case):
         first = self.over(folder=folder)
         first.enrol(ada="secret", bob="secret", cid="secret")
         first.stop()
-        service = self.over("--upgrade", self.dearer, folder=folder)
+        audit = folder / "audit"
+        service = self.over("--upgrade", DEARER, "--audit", str(audit), folder=folder)
         login, admin = service.both()
 
         def has(name: str, costs: str) -> bool:
             return admin.ask(f"show {name}").startswith(f"{costs}$")
 
         login.talk("verify bob {wrong} -> no\nknown cid -> yes\nverify ada {secret} -> yes")
-        until(lambda: has("ada", self.dearer), "an upgrade")
+        until(lambda: has("ada", DEARER), "an upgrade")
+        until(lambda: "upgraded" in audit.read_text(), "its line")
         record = admin.ask("show ada")
         login.talk("verify ada {secret} -> yes")
         time.sleep(0.3)
         self.assertEqual(admin.ask("show ada"), record, "a record that has these costs")
-        self.assertTrue(has("bob", self.costs) and has("cid", self.costs))
+        self.assertTrue(has("bob", CHEAP) and has("cid", CHEAP))
         login.talk("verify cid {secret} -> yes")
-        until(lambda: has("cid", self.dearer), "a second upgrade")
+        until(lambda: has("cid", DEARER), "a second upgrade")
         admin.talk("reset bob {secret} -> replaced")
-        self.assertTrue(has("bob", self.dearer), "the costs of new records")
+        self.assertTrue(has("bob", DEARER), "the costs of new records")
         self.assertEqual(service.stop(), 0)
         self.assertIn(" upgraded=2 ", service.log())
-        service = self.over("--upgrade", self.dearer, folder=folder)
+        service = self.over("--upgrade", DEARER, folder=folder)
         for name in ("ada", "bob", "cid"):
             self.assertEqual(service.client().ask(f"verify {name} {SECRET}"), "yes")
         time.sleep(0.2)
@@ -230,7 +258,7 @@ class OverStandIn(Case):
         self.assertEqual(client.line(), b"f" * 20 + b" noaccount")
         long, name = field_of(b"\xff" * 256), "x" * 32
         admin.talk(f"change {name} {long} {long} {'y' * 150} -> bad 1 shape")
-        setting = f"{self.costs}$c29tZXNhbHQ {'y' * 120}"
+        setting = f"{CHEAP}$c29tZXNhbHQ {'y' * 120}"
         admin.talk(f"change {name} {long} {long} {setting} -> bad 11 line")
 
     def test_noise(self) -> None:
@@ -256,101 +284,68 @@ class OverStandIn(Case):
         self.assertNotIn("answers to no line", service.log())
         self.assertTrue(service.log().isascii(), "noise in the log")
 
-    def test_floods(self) -> None:
-        """Clients that send a thousand lines each cost one that sends one at a time no more than a turn each."""
-        service = self.over("--tries", "0", "--at-once", "2", **self.slow)
+    def test_stand_in(self) -> None:
+        """The fast book of the other tests answers what credkeep answers, to random lines."""
+        chance = random.Random(3)
+        lines = [any_line(chance) for _ in range(600)]
+
+        def answered(program: pathlib.Path, costs: str, dearer: str) -> list[str]:
+            path = self.room() / "users.db"
+            if program != FAST_BOOK:
+                subprocess.run([program, path, "init"], check=True)
+            words, said = [str(program), str(path), "serve", "--tagged", "--setting", costs], []
+            pipes: Any = {"stdin": subprocess.PIPE, "stdout": subprocess.PIPE, "text": True}
+            with subprocess.Popen(words, bufsize=1, encoding="utf-8", **pipes) as book:
+                assert book.stdin and book.stdout
+                for line in lines:
+                    book.stdin.write(f"t {line.replace('SETTING', dearer)}\n")
+                    said.append(book.stdout.readline().strip())
+                book.stdin.close()
+            return [re.sub(r" \$.*", " a record", it) for it in said]
+
+        ours = answered(FAST_BOOK, "$fast$c=1", "$fast$c=2")
+        ought = answered(real_book(), CHEAP, DEARER)
+        self.assertEqual(list(zip(lines, ours)), list(zip(lines, ought)))
+        self.assertTrue(len(set(ought)) >= 14, f"{set(ought)}")
+
+    def test_unknown_names(self) -> None:
+        """A name that isn't there, and one without a record, cost the processor what a wrong password costs."""
+        service = self.over("--tries", "0", costs=SLOW)
         service.enrol(ada="secret")
-        flooding = [service.client() for _ in range(3)]
-        for client in flooding:
-            client.send(f"f verify ada {WRONG}\n" * 1000)
-        polite = service.client()
-        for client in flooding:
-            self.assertEqual(client.line(), b"f no")
-            client.socket.setblocking(False)
-        for _ in range(10):
-            self.assertEqual(polite.ask(f"verify ada {SECRET}"), "yes")
-            for client in flooding:
-                try:
-                    client.rest += client.socket.recv(65536)
-                except BlockingIOError:
-                    pass
-        # Three turns of others for each of ours, and what the book had already.
-        answered = sum(len(client.rest) // 5 for client in flooding)
-        self.assertLessEqual(answered, 10 * 3 + 3 * 32)
+        service.client("admin").talk("account bob -> ok")
 
-    def kinds(self) -> Iterator[tuple[str, list[bytes]]]:
-        noise = random.Random(2).randbytes(1 << 20)
-        slow, half, long = b"a known ada\n" * 4000, b"a verify ada", b"a" * (1 << 20)
-        yield "idle", [b""] * 1000
-        yield "slow readers", [slow] * 8
-        yield "half lines", [half] * 50
-        yield "1 MB lines", [long] * 20
-        yield "noise", [noise] * 20
-        yield "all", [b""] * 900 + [slow, half, long, noise] * 5 + [b"a verify flood -\n" * 1000]
+        def cost(row: str) -> float:
+            before = cpu(service)
+            service.client().talk(f"{row}\n" * 12)
+            return cpu(service) - before
 
-    def test_beside_hostile_clients(self) -> None:
-        """A login beside clients that are idle, read slowly, send halves, or noise: within twice the time."""
-        service = self.over("--tries", "0", "--at-once", "2", **self.slow)
-        service.enrol(ada="secret")
-        polite = service.client()
+        ours = cost("verify ada {wrong} -> no")
+        for row in (
+            "verify zoe {wrong} -> noaccount",
+            "verify bob {wrong} -> absent",
+            "change zoe {wrong} {fresh} -> noaccount",
+        ):
+            self.assertTrue(0.6 * ours < cost(row) < 1.7 * ours, f"{row}: a wrong one is {ours} s")
+        self.assertLess(cost("known zoe -> noaccount"), 0.3 * ours, "known costs a hash")
 
-        def median() -> float:
-            times = []
-            for _ in range(9):
-                begun = time.monotonic()
-                self.assertEqual(polite.ask(f"verify ada {SECRET}"), "yes")
-                times.append(time.monotonic() - begun)
-            return statistics.median(times)
+    def test_costs_that_are_none(self) -> None:
+        """Costs that credkeep doesn't take end the start, with its text and its status."""
+        start = "$argon2id$"
+        for costs in ("v=19$m=64", "m=64,t=1,p=1", "v=19$t=1,m=64,p=1"):
+            given: dict[str, Any] = {"program": real_book(), "waits": False}
+            service = self.serving("--upgrade", start + costs, **given)
+            self.assertEqual(service.process.wait(timeout=30), 1, f"{costs}: {service.log()}")
+            for text in ("credkeep: --setting: ", "end: status 1"):
+                self.assertIn(text, service.log())
+            self.assertNotRegex(service.log(), "start:|Traceback")
 
-        def ratio(sent: list[bytes]) -> float:
-            alone = min(median() for _ in range(3))
-            others = [hostile(service, data) for data in sent]
-            beside = min(median() for _ in range(3))
-            for client in others:
-                client.close()
-            return beside / alone
-
-        for what, sent in self.kinds():
-            # other work on the machine may slow one or the other
-            ratios = [ratio(sent)]
-            while ratios[-1] >= 2 and len(ratios) < 4:
-                ratios.append(ratio(sent))
-            self.assertLess(ratios[-1], 2, f"{what}: {ratios}")
-
-    def test_ends_in_order(self) -> None:
-        """SIGTERM: what the book has is answered, and what was answered is kept."""
-        folder = self.room()
-        service = self.over("--at-once", "2", folder=folder, **self.slow)
-        service.enrol(ada="secret")
-        clients = [service.client() for _ in range(3)]
-        for client in clients:
-            client.send(f"a verify ada {SECRET}\n")
-        service.client("admin").talk("reset ada {fresh} -> replaced")
-        for client in clients:
-            client.send(f"b verify ada {FRESH}\n")
-        time.sleep(0.05)
-        self.assertEqual(service.stop(), 0)
-        said = [client.lines(2) for client in clients]
-        self.assertEqual({it[-1] for it in said}, {b"b yes"}, f"{said}")
-        self.assertEqual(self.listed(folder), ["ada"])
-
-
-class OverCredkeep(OverStandIn):
-    costs, dearer = CHEAP, "$argon2id$v=19$m=128,t=2,p=1"
-    record = "$argon2id$v=19$m=8,t=1,p=1$c29tZXNhbHQ$AAAAAAAAAAAAAAAAAAAAAA"
-    slow = {"costs": "$argon2id$v=19$m=16384,t=3,p=1"}
-
-    def setUp(self) -> None:
-        super().setUp()
-        self.program = real_book()
-
-    def listed(self, folder: pathlib.Path) -> list[str]:
-        def said(word: str) -> str:
-            words = [str(self.program), str(folder / "users.db"), word]
-            return subprocess.run(words, capture_output=True, text=True, check=True).stdout
-
-        names = said("list").split()
-        plural = "" if len(names) == 1 else "s"
-        counts = f"{len(names)} account{plural}, 0 changes in the log\n"
-        self.assertEqual(said("verify"), counts, "it wasn't closed in order")
-        return names
+    def test_busy_file(self) -> None:
+        """While another process has the file, the server waits for it; then it says why it can't start."""
+        room = self.room()
+        self.over(folder=room)
+        words = f"{PYTHON} {SERVER} --credkeep {real_book()} --wait 1"
+        words += f" --socket a {room}/second 0600 - all {room}/users.db"
+        done = subprocess.run(words.split(), capture_output=True, text=True, timeout=30)
+        self.assertNotIn(done.returncode, (0, 1), done.stderr)
+        self.assertNotIn("start:", done.stderr)
+        self.assertIn("end: status", done.stderr)

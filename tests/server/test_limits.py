@@ -6,9 +6,8 @@ import pathlib
 import re
 import socket
 import time
-from collections.abc import Sequence
 
-from served import FRESH, SECRET, WRONG, Case, Client, Service, as_user, need_root, until
+from served import FRESH, SECRET, WRONG, Case, Client, as_user, need_root, until
 
 
 def two_sockets(room: pathlib.Path, operations: str) -> list[str]:
@@ -147,43 +146,28 @@ class Limits(Case):
         text = "no more connections at a for uid 0, which has 512"
         self.assertEqual(service.log().count(text), 1)
 
-    def flooded(self, *more: str) -> Service:
-        """A server at whose book few lines fit, for a test of whose turn it is."""
-        options = ("--at-once", "2", "--tries", "0")
-        return self.serving(*more, *options, faults="slow=0.02")
-
-    def flood(self, service: Service, clients: Sequence[Client]) -> None:
-        for client in clients:
-            client.send("a verify flood -\n" * 100)
-        until(lambda: len(service.asked()) > 10, "the flood")
-
-    def has_turns(self, service: Service, before: int) -> None:
-        """Between each two of Zoe's lines came few of the flood's."""
-        asked = service.asked()[before:]
-        ours = [at for at, line in enumerate(asked) if line == "verify zoe -"]
-        between = [later - at - 1 for at, later in zip(ours, ours[1:])]
-        self.assertEqual(len(between), 4)
-        self.assertLessEqual(max(between), 10)
-
-    def test_turns_of_users(self) -> None:
-        """Thirty clients of one uid that flood take one turn with one client of another."""
+    def test_turns_beside_floods(self) -> None:
+        """Clients that flood take one turn with one client of another uid, or at another socket; of its own
+        uid and socket it has a turn with each of them."""
         need_root()
         room = self.room()
-        service = self.flooded(*two_sockets(room, "verify"))
-        service.clients = [Client(room / "s") for _ in range(30)]
-        self.flood(service, service.clients)
-        before = len(service.asked())
-        said = as_user(4711, 4711, room / "s", *["verify zoe -"] * 5)
-        self.assertEqual(said, " ".join(["noaccount"] * 5))
-        self.has_turns(service, before)
-
-    def test_turns_of_sockets(self) -> None:
-        """Thirty clients that flood one socket take one turn with a client of another, of whatever uid."""
-        service = self.flooded()
-        self.flood(service, [service.client() for _ in range(30)])
-        admin, before = service.client("admin"), len(service.asked())
-        admin.talk("verify zoe - -> noaccount\n" * 5)
-        self.has_turns(service, before)
+        for count, uid, door, most in ((30, 4711, "s", 10), (30, 0, "t", 10), (3, 0, "s", 12)):
+            sockets = two_sockets(room, "verify")
+            service = self.serving(*sockets, "--at-once", "2", "--tries", "0", faults="slow=0.02")
+            service.clients = [Client(room / "s") for _ in range(count)]
+            for client in service.clients:
+                client.send("a verify flood -\n" * 500)
+            until(lambda: len(service.asked()) > 10, "the flood")
+            before = len(service.asked())
+            said = as_user(uid, uid, room / door, *["verify zoe -"] * 5)
+            self.assertEqual(said, " ".join(["noaccount"] * 5))
+            asked = service.asked()[before:]
+            ours = [at for at, line in enumerate(asked) if line == "verify zoe -"]
+            between = [later - at - 1 for at, later in zip(ours, ours[1:])]
+            self.assertEqual(len(between), 4)
+            self.assertLessEqual(max(between), most, f"{uid} at {door}")
+            service.process.kill()
+            service.process.wait()
 
     def test_idle_clients(self) -> None:
         """After the idle time a client is closed, also in the midst of a line; one that asks isn't."""

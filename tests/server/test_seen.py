@@ -7,11 +7,22 @@ import json
 import os
 import pathlib
 import re
-import shlex
 import subprocess
+import time
 from unittest import mock
 
-from served import FAST_BOOK, PYTHON, SECRET, SERVER, TOP, WRONG, Case, need, until
+from served import (
+    SECRET,
+    TOP,
+    WRONG,
+    Case,
+    Client,
+    Service,
+    field_of,
+    need,
+    ran,
+    until,
+)
 from daemon import tally
 from daemon.options import OPERATIONS, Options
 
@@ -20,12 +31,6 @@ def stats(text: str) -> dict[str, str]:
     words = text.split()
     assert words[0] == "stats", text
     return dict(word.split("=") for word in words[1:])
-
-
-def ran(*words: str) -> tuple[int, str, str]:
-    """Status, output and errors of the program with these words."""
-    done = subprocess.run([PYTHON, SERVER, *words], capture_output=True, text=True, timeout=30)
-    return done.returncode, done.stdout, done.stderr
 
 
 def noted(path: pathlib.Path) -> list[dict[str, object]]:
@@ -144,6 +149,74 @@ class Seen(Case):
         self.assertEqual([counted.last(name)[:4] for name in "abc"], ["last", "none", "last"])
 
 
+# What no log may have: passwords, as they are and as fields, and names.
+TYPED = field_of(b"hunter2")
+SECRETS = [SECRET, "secret", WRONG, "ada", "zoe", "hunter2", TYPED]
+
+
+def asked_all(service: Service) -> None:
+    """Right, wrong and odd lines; the server, or its book, may end amid these."""
+    service.enrol(ada="secret")
+    client = service.client()
+    for line in (
+        *(f"verify ada {SECRET}", f"enrol zoe {WRONG}", "hunter2 x", f"hunter2 {TYPED}"),
+        *(f"change ada {WRONG} {SECRET}", f"verify ada {SECRET} {SECRET}"),
+    ):
+        client.ask(line)
+    client.send(f"a verify ada {SECRET * 300}\n")
+    client.line()
+    with Client(service.path()) as client:
+        client.send(f"a verify ada {SECRET}\n" * 50)
+    for _ in range(3):
+        service.client().ask("enrol zoe x")
+    time.sleep(0.1)
+
+
+class Logs(Case):
+    def test_logs(self) -> None:
+        """No password, no line and no name is logged, whatever happens and however it is started."""
+        debug = {"PYTHONASYNCIODEBUG": "1", "PYTHONDEVMODE": "1"}
+        for faults in ("", "garbage", "dies=6", "endless", "answers=yes\x07"):
+            service = self.serving(faults=faults, environment=debug)
+            try:
+                asked_all(service)
+            except (AssertionError, OSError):
+                self.assertTrue(faults, "it ended")
+            service.stop()
+            for secret in SECRETS:
+                self.assertNotIn(secret, service.log())
+            if not faults:
+                denied = ": denied at login to uid 0: enrol\n"
+                self.assertEqual(service.log().count(denied), 1, "it is told once")
+                self.assertIn("an unknown operation", service.log())
+                self.assertIn("end: status 0", service.log())
+
+    def test_upgrades_are_behind(self) -> None:
+        """An upgrade that takes its time keeps nobody waiting: its own client, or another."""
+        folder = self.room()
+        first = self.serving(folder=folder)
+        first.enrol(ada="secret", bob="secret")
+        first.stop()
+        service = self.serving("--upgrade", "$fast$c=2", faults="mute=upgrade", folder=folder)
+
+        def upgraded() -> list[str]:
+            return [it.split()[1] for it in service.asked() if it.startswith("upgrade")]
+
+        for name in ("ada", "bob", "ada"):
+            self.assertEqual(service.client().ask(f"verify {name} {SECRET}"), "yes")
+        until(lambda: upgraded() != [], "an upgrade")
+        self.assertEqual(upgraded(), ["ada"], "one at a time")
+        service.process.kill()
+
+    def test_types(self) -> None:
+        """mypy --strict takes its modules by the oldest Python that they may be run by."""
+        need("mypy")
+        words = f"mypy --strict --python-version=3.9 --cache-dir={self.room()} daemon".split()
+        at = TOP / "python/rigzumal/server"
+        done = subprocess.run(words, cwd=at, capture_output=True, text=True)
+        self.assertEqual(done.returncode, 0, done.stdout)
+
+
 class Audited(Case):
     def test_lines(self) -> None:
         """Each change is a line of JSON, with who asked for it and the answer; right logins are too."""
@@ -218,20 +291,6 @@ class Audited(Case):
         admin.lines(200)
         self.assertEqual(len(noted(path)), 201)
 
-    def test_upgrades(self) -> None:
-        """An upgrade that the server asks for itself is a line too."""
-        folder = self.room()
-        path = folder / "audit"
-        first = self.serving(folder=folder)
-        first.enrol(ada="secret")
-        first.stop()
-        service = self.serving("--audit", str(path), "--upgrade", "$fast$c=2", folder=folder)
-        service.client().talk("verify ada {secret} -> yes")
-        until(lambda: len(noted(path)) == 2, "two lines")
-        self.assertEqual(stats(service.client("admin").ask("stats"))["upgraded"], "1")
-        said = [(it["operation"], it["answer"]) for it in noted(path)]
-        self.assertEqual(said, [("verify", "yes"), ("upgrade", "upgraded")])
-
     def test_no_room(self) -> None:
         """A change whose line can't be written isn't said to be made; logins go on, and changes once there is room."""
         need("prlimit")
@@ -246,83 +305,3 @@ class Audited(Case):
         path.write_text("")
         admin.talk("account last -> ok")
         self.assertEqual(json.loads(path.read_text().splitlines()[-1])["name"], "last")
-
-
-# A socket's words but its operations, and what is said of words that can't be meant.
-SOCKET = "--socket a /tmp/never-made 0660 -"
-MISTAKES = {
-    "": "FILE is missing",
-    "--frob x.db": "unrecognized arguments: --frob",
-    "--at-once -3 x.db": "'-3' is no number",
-    "--at-once=-3 x.db": "'-3' is no number",
-    "--idle=-1 x.db": "'-1' is no number",
-    "--tries ten x.db": "'ten' is no number",
-    "--wait 3601 x.db": "'3601' is no number from 0 to 3600",
-    "--upgrade $argon2id$v=19$m=8,t=1,p=1$c29tZXNhbHQ x.db": "without a salt",
-    "--upgrade $argon2id$v=19$m=8,t=1,p=1$ x.db": "without a salt",
-    "--socket a /tmp/never-made rw - verify x.db": "the mode of the socket a is octal",
-    "--socket a /tmp/never-made 0o4777 - verify x.db": "the mode of the socket a is octal",
-    "--socket a /tmp/never-made 4777 - verify x.db": "the mode of the socket a is octal",
-    f"{SOCKET} verfy x.db": "'verfy' is no operation",
-    f"{SOCKET} 'verify, known' x.db": "' known' is no operation",
-    f"{SOCKET} '' x.db": "'' is no operation",
-    f"{SOCKET} verify {SOCKET} verify x.db": "two sockets are called a",
-    f"{SOCKET} verify --socket b /tmp/never-made 0660 - verify x.db": "called /tmp/never-made",
-    "--socket a /tmp/never-made 0660 nosuchgroup verify x.db": "there is no group nosuchgroup",
-    "--socket a /nonexistent/folder/s 0660 - verify x.db": (
-        "/nonexistent/folder, for a socket: No such file or directory"
-    ),
-    f"--socket a /tmp/{'x' * 110} 0660 - verify x.db": "up to 107 bytes",
-    f"{SOCKET} verify --audit /nonexistent/audit x.db": (
-        "/nonexistent/audit: No such file or directory"
-    ),
-    f"{SOCKET} verify --credkeep /nonexistent/credkeep x.db": "/nonexistent/credkeep: No such file",
-}
-
-
-class Mistakes(Case):
-    def test_options(self) -> None:
-        """Options that can't be meant are refused before anything starts, in a user's words, with status 1."""
-        for words, said in MISTAKES.items():
-            status, text, faults = ran(*shlex.split(words))
-            self.assertEqual((status, text), (1, ""), f"{words}: {faults}")
-            self.assertTrue(faults.startswith("credkeep-server: "), faults)
-            self.assertIn(said, faults, words)
-            self.assertEqual(len(faults.splitlines()), 1, faults)
-            self.assertFalse(pathlib.Path("/tmp/never-made").exists(), words)
-        pathlib.Path("/tmp/never-made.lock").unlink()
-
-    def test_help(self) -> None:
-        """--help has a text for each option, within 100 columns, and --version the library's version."""
-        status, text, faults = ran("--help")
-        self.assertEqual((status, faults), (0, ""))
-        page = (TOP / "man/credkeep-server.8").read_text().replace("\\-", "-")
-        options = set(re.findall(r"^  (--[a-z-]+)", text, re.M))
-        self.assertTrue(len(options) >= 16, text)
-        for option in options:
-            self.assertRegex(text, rf"(?s){option}[A-Z ]*\s{{2,}}[a-z]", "it has no text")
-            self.assertIn(option, page)
-        self.assertTrue(max(map(len, text.splitlines())) <= 100)
-        version = (TOP / "VERSION").read_text().strip()
-        self.assertEqual(ran("--version"), (0, f"credkeep-server {version}\n", ""))
-
-    def test_spaces_in_a_path(self) -> None:
-        """FILE may have spaces, and anything else."""
-        folder = self.room() / "my folder %s $x"
-        folder.mkdir()
-        self.serving(folder=folder).client().talk("known ada -> noaccount")
-
-    def test_a_second_server(self) -> None:
-        """While the first one's book is still opening, a second one neither takes its sockets nor waits."""
-        folder = self.room()
-        first = self.serving(folder=folder, faults="opens=3", waits=False)
-        until(lambda: (folder / "login.sock.lock").exists(), "the first begins")
-        words = (
-            f"--credkeep {FAST_BOOK} --socket login {folder}/login.sock 0660 - all {folder}/u.db"
-        )
-        said = f"credkeep-server: another server has {folder}/login.sock\n"
-        self.assertEqual(ran(*words.split()), (1, "", said))
-        self.assertNotIn("start:", first.log())
-        self.assertFalse(first.path().exists(), "the socket is there before the book answers")
-        until(lambda: "start:" in first.log(), "the first starts")
-        first.client().talk("known ada -> noaccount")

@@ -28,15 +28,11 @@ class Tries(Case):
             self.assertEqual(len(service.asked()) - asked, ought != "later", "at the book")
             self.assertEqual(client.ask(f"verify bob {SECRET}"), "yes")
 
-    def test_names_that_the_book_lacks(self) -> None:
-        """A name that the book lacks, whose user another module may know, never has to wait."""
-        service = self.serving("--tries", "2")
-        service.client().talk("verify eve {secret} -> noaccount\n" * 30)
-
     def test_later_for_each_operation(self) -> None:
-        """Each operation that takes the old password counts; a reset by the admin ends the wait."""
+        """Each operation that takes the old password counts, but at a name that the book lacks; a reset ends the wait."""
         service = self.serving("--tries", "5", clocked=True)
         service.enrol(ada="secret")
+        service.client().talk("verify eve {secret} -> noaccount\n" * 30)  # whom others may know
         service.talk(
             """
             admin login ada {wrong} -> no
@@ -106,6 +102,17 @@ class Tries(Case):
         for uid, last in people.items():
             said = as_user(uid, uid, path, *guesses[:5], right)
             self.assertEqual(said.split()[-1], last, f"uid {uid}")
+
+    def test_later_by_the_books_name(self) -> None:
+        """Failed tries count by the name in the book, however its address is typed."""
+        service = self.serving("--mail-names", "--tries", "4", clocked=True)
+        service.enrol(**{"ada@example.org": "secret"})
+        typed = ("ada@example.org", "ada@EXAMPLE.org", "ada@Example.Org", "ada@example.ORG")
+        client = service.client()
+        self.assertEqual([client.ask(f"verify {name} {WRONG}") for name in typed], ["no"] * 4)
+        for name in (*typed, "ada@eXample.org"):
+            self.assertEqual(client.ask(f"verify {name} {SECRET}"), "later", name)
+        client.talk("verify Ada@example.org {secret} -> noaccount")
 
 
 class Limiters(Case):

@@ -1,4 +1,4 @@
-"""Tests of bin/credkeep-server: how it ends, and systemd's words."""
+"""Tests of bin/credkeep-server: how it starts, what the book gets, how it ends, and systemd's words."""
 
 from __future__ import annotations
 
@@ -6,6 +6,7 @@ import asyncio
 import contextlib
 import os
 import pathlib
+import re
 import signal
 import socket
 import time
@@ -19,34 +20,66 @@ from daemon.options import Options
 from daemon.service import Service
 
 
+class Starting(Case):
+    def test_own_limits(self) -> None:
+        """Both have as many descriptors as they may have, and no core dump; so many clients are let in."""
+        need("prlimit")
+        core = ["--core=unlimited"] if os.geteuid() == 0 else []
+        service = self.serving(before=("prlimit", "--nofile=64:2048", *core))
+        for pid in (service.process.pid, service.book_pid()):
+            limits = pathlib.Path(f"/proc/{pid}/limits").read_text()
+            self.assertRegex(limits, r"Max core file size +0 +0 ")
+            self.assertRegex(limits, r"Max open files +2048 +2048 ")
+        clients = [service.client() for _ in range(200)]
+        for client in clients:
+            client.talk("known ada -> noaccount")
+
+    def test_too_few_descriptors(self) -> None:
+        """Without a descriptor for another client it goes on with those that it has, and asyncio logs nothing."""
+        need("prlimit")
+        service = self.serving(before=("prlimit", "--nofile=32:32"))
+        clients = [service.client() for _ in range(60)]
+        clients[0].talk("known ada -> noaccount")
+        folder = f"/proc/{service.process.pid}/fd"
+        until(lambda: len(os.listdir(folder)) >= 32, "all are in use")
+        time.sleep(0.3)
+        clients[0].talk("known ada -> noaccount")
+        for client in clients:
+            client.close()
+        with Client(service.path()) as client:
+            client.talk("known ada -> noaccount")
+        self.assertEqual(service.stop(), 0)
+        own = re.compile("credkeep-server: .*")
+        self.assertEqual([it for it in service.log().splitlines() if not own.match(it)], [])
+
+
 class Endings(Case):
     def test_ends_in_order(self) -> None:
-        """SIGTERM and SIGINT: lines that it took are answered, no new ones; the status is 0."""
-        for number in (signal.SIGTERM, signal.SIGINT):
-            service = self.serving("--at-once", "2", faults="slow=0.4")
-            service.enrol(ada="secret")
-            *clients, idle = [service.client() for _ in range(4)]
-            for client in clients:
-                client.send(f"a verify ada {SECRET}\n")
-            until(lambda: len(service.asked()) == 5, "the book has them")
-            service.process.send_signal(number)
-            time.sleep(0.1)
-            with contextlib.suppress(OSError):
-                clients[0].send(f"b verify ada {SECRET}\n")
-            self.assertEqual([client.line() for client in clients], [b"a yes"] * 3)
-            self.assertTrue(all(client.is_ended() for client in [*clients, idle]), "it goes on")
-            self.assertEqual(service.process.wait(timeout=20), 0)
-            self.assertEqual(len(service.asked()), 5)
-            self.assertFalse(service.path().exists() and is_listening(service.path()))
-            self.assertIn("end: status 0", service.log())
+        """SIGTERM and SIGINT: lines that it took are answered, no new ones; the status is 0.
 
-    def test_hangs_up(self) -> None:
-        """SIGHUP does nothing, also where nohup has not made it so."""
-        service = self.serving(before=("env", "--default-signal=HUP"))
-        client = service.client()
-        service.process.send_signal(signal.SIGHUP)
-        client.talk("known ada -> noaccount")
-        self.assertEqual(service.stop(), 0)
+        So too where a terminal sends the signal to all of its programs. SIGHUP does nothing.
+        """
+        need("setsid")
+        before = ("env", "--default-signal=HUP", "setsid")
+        for number in (signal.SIGTERM, signal.SIGINT):
+            for kill in (os.kill, os.killpg):
+                service = self.serving("--at-once", "2", faults="slow=0.4", before=before)
+                kill(service.process.pid, signal.SIGHUP)
+                service.enrol(ada="secret")
+                *clients, idle = [service.client() for _ in range(4)]
+                for client in clients:
+                    client.send(f"a verify ada {SECRET}\n")
+                until(lambda: len(service.asked()) == 5, "the book has them")
+                kill(service.process.pid, number)
+                time.sleep(0.1)
+                with contextlib.suppress(OSError):
+                    clients[0].send(f"b verify ada {SECRET}\n")
+                self.assertEqual([client.line() for client in clients], [b"a yes"] * 3)
+                self.assertTrue(all(client.is_ended() for client in [*clients, idle]), "it goes on")
+                self.assertEqual(service.process.wait(timeout=20), 0)
+                self.assertEqual(len(service.asked()), 5)
+                self.assertFalse(service.path().exists() and is_listening(service.path()))
+                self.assertIn("end: status 0", service.log())
 
     def test_book_ends(self) -> None:
         """If the book ends so does the server, with its status; whoever waits is told."""
@@ -124,14 +157,6 @@ class Endings(Case):
             self.assertNotIn("start:", service.log())
             self.assertNotIn("Traceback", service.log())
 
-    def test_front_is_killed(self) -> None:
-        """If the server is killed, the book ends in order, and the next server goes on with its file."""
-        room = self.room()
-        service = self.serving(folder=room)
-        service.enrol(ada="secret")
-        service.stop(signal.SIGKILL)
-        self.serving(folder=room).client().talk("verify ada {secret} -> yes")
-
 
 class Systemd(Case):
     def notices(self) -> tuple[dict[str, str], Callable[[], list[bytes]]]:
@@ -152,19 +177,21 @@ class Systemd(Case):
     def test_notices(self) -> None:
         """READY=1 once the book answers, WATCHDOG=1 for as long as it does, STOPPING=1."""
         environment, came = self.notices()
-        service = self.serving(environment={**environment, "WATCHDOG_USEC": "200000"})
+        service = self.serving(environment={**environment, "WATCHDOG_USEC": "1000000"})
+        begun = time.monotonic()
 
         def beats() -> int:
             return came().count(b"WATCHDOG=1")
 
         until(lambda: beats() >= 4, "WATCHDOG=1")
+        self.assertLess(time.monotonic() - begun, 2.5, "it isn't told twice a second")
         self.assertEqual(came()[0], b"READY=1")
         book = service.book_pid()
         os.kill(book, signal.SIGSTOP)
         try:
-            time.sleep(0.4)
+            time.sleep(0.7)
             count = beats()
-            time.sleep(0.8)
+            time.sleep(1.2)
             self.assertEqual(beats(), count, "the book doesn't answer")
         finally:
             os.kill(book, signal.SIGCONT)

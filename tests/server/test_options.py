@@ -1,0 +1,114 @@
+"""Tests of bin/credkeep-server: what its own mistakes say, and what the book gets of its options."""
+
+from __future__ import annotations
+
+import pathlib
+import re
+import shlex
+
+from served import FAST_BOOK, TOP, Case, ran, until
+
+# In place of credkeep: notes its words, and ends.
+NOTES = '#!/bin/sh\nprintf "%s\\n" "$@" > "$NOTED"\nexit 3\n'
+# A socket's words but its operations, and what is said of words that can't be meant.
+SOCKET = "--socket a /tmp/never-made 0660 -"
+MISTAKES = {
+    "": "FILE is missing",
+    "--frob x.db": "unrecognized arguments: --frob",
+    "--at-once -3 x.db": "'-3' is no number",
+    "--at-once=-3 x.db": "'-3' is no number",
+    "--idle=-1 x.db": "'-1' is no number",
+    "--tries ten x.db": "'ten' is no number",
+    "--wait 3601 x.db": "'3601' is no number from 0 to 3600",
+    "--upgrade $argon2id$v=19$m=8,t=1,p=1$c29tZXNhbHQ x.db": "without a salt",
+    "--upgrade $argon2id$v=19$m=8,t=1,p=1$ x.db": "without a salt",
+    "--socket a /tmp/never-made rw - verify x.db": "the mode of the socket a is octal",
+    "--socket a /tmp/never-made 0o4777 - verify x.db": "the mode of the socket a is octal",
+    "--socket a /tmp/never-made 4777 - verify x.db": "the mode of the socket a is octal",
+    f"{SOCKET} verfy x.db": "'verfy' is no operation",
+    f"{SOCKET} 'verify, known' x.db": "' known' is no operation",
+    f"{SOCKET} '' x.db": "'' is no operation",
+    f"{SOCKET} verify {SOCKET} verify x.db": "two sockets are called a",
+    f"{SOCKET} verify --socket b /tmp/never-made 0660 - verify x.db": "called /tmp/never-made",
+    "--socket a /tmp/never-made 0660 nosuchgroup verify x.db": "there is no group nosuchgroup",
+    "--socket a /nonexistent/folder/s 0660 - verify x.db": (
+        "/nonexistent/folder, for a socket: No such file or directory"
+    ),
+    f"--socket a /tmp/{'x' * 110} 0660 - verify x.db": "up to 107 bytes",
+    f"{SOCKET} verify --audit /nonexistent/audit x.db": (
+        "/nonexistent/audit: No such file or directory"
+    ),
+    f"{SOCKET} verify --credkeep /nonexistent/credkeep x.db": "/nonexistent/credkeep: No such file",
+}
+
+
+class Mistakes(Case):
+    def test_options(self) -> None:
+        """Options that can't be meant are refused before anything starts, in a user's words, with status 1."""
+        for words, said in MISTAKES.items():
+            status, text, faults = ran(*shlex.split(words))
+            self.assertEqual((status, text), (1, ""), f"{words}: {faults}")
+            self.assertTrue(faults.startswith("credkeep-server: "), faults)
+            self.assertIn(said, faults, words)
+            self.assertEqual(len(faults.splitlines()), 1, faults)
+            self.assertFalse(pathlib.Path("/tmp/never-made").exists(), words)
+        pathlib.Path("/tmp/never-made.lock").unlink()
+
+    def test_help(self) -> None:
+        """--help has a text for each option, within 100 columns, and --version the library's version."""
+        status, text, faults = ran("--help")
+        self.assertEqual((status, faults), (0, ""))
+        page = (TOP / "man/credkeep-server.8").read_text().replace("\\-", "-")
+        options = set(re.findall(r"^  (--[a-z-]+)", text, re.M))
+        self.assertTrue(len(options) >= 16, text)
+        for option in options:
+            self.assertRegex(text, rf"(?s){option}[A-Z ]*\s{{2,}}[a-z]", "it has no text")
+            self.assertIn(option, page)
+        self.assertTrue(max(map(len, text.splitlines())) <= 100)
+        version = (TOP / "VERSION").read_text().strip()
+        self.assertEqual(ran("--version"), (0, f"credkeep-server {version}\n", ""))
+
+    def test_spaces_in_a_path(self) -> None:
+        """FILE may have spaces, and anything else."""
+        folder = self.room() / "my folder %s $x"
+        folder.mkdir()
+        self.serving(folder=folder).client().talk("known ada -> noaccount")
+
+    def test_a_second_server(self) -> None:
+        """While the first one's book is still opening, a second one neither takes its sockets nor waits."""
+        folder = self.room()
+        first = self.serving(folder=folder, faults="opens=3", waits=False)
+        until(lambda: (folder / "login.sock.lock").exists(), "the first begins")
+        words = (
+            f"--credkeep {FAST_BOOK} --socket login {folder}/login.sock 0660 - all {folder}/u.db"
+        )
+        said = f"credkeep-server: another server has {folder}/login.sock\n"
+        self.assertEqual(ran(*words.split()), (1, "", said))
+        self.assertNotIn("start:", first.log())
+        self.assertFalse(first.path().exists(), "the socket is there before the book answers")
+        until(lambda: "start:" in first.log(), "the first starts")
+        first.client().talk("known ada -> noaccount")
+
+    def test_words_of_the_book(self) -> None:
+        """The book gets each option that is given, as it is given, and no other; new costs go before the setting."""
+        room = self.room()
+        book, noted, limits = room / "credkeep", room / "noted", "--at-once 3 --memory 1G"
+        most = "--most-memory 2G --most-work 400000"
+        book.write_text(NOTES)
+        book.chmod(0o755)
+        (room / "users.db").touch()
+        for options, wait, handed in (
+            ("", "30", ""),
+            ("--wait 7", "7", ""),
+            (f"{limits} {most}", "30", f"{limits} {most}"),
+            ("--setting $one", "30", "--setting $one"),
+            ("--upgrade $two$c=2", "30", "--setting $two$c=2"),
+            ("--upgrade $two$c=2 --setting $one", "30", "--setting $two$c=2"),
+            ("--idle 5 --tries 4 --uid-tries 3 --mail-names --fold-local-part", "30", ""),
+        ):
+            given = {"program": book, "folder": room, "environment": {"NOTED": str(noted)}}
+            service = self.serving(*options.split(), waits=False, **given)
+            self.assertEqual(service.process.wait(timeout=40), 3, service.log())
+            ought = f"--wait {wait} {room}/users.db serve --tagged {handed}"
+            self.assertEqual(noted.read_text().splitlines(), ought.split(), options)
+            noted.unlink()
