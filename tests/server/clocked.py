@@ -7,9 +7,9 @@ import pathlib
 import sys
 import types
 
-import served  # noqa: F401  where the modules are
-import daemon
-from daemon import limits
+sys.path.insert(0, str(pathlib.Path(__file__).parents[2] / "python/rigzumal/server"))
+import daemon  # noqa: E402
+from daemon import limits  # noqa: E402
 
 CLOCK = pathlib.Path(os.environ["CLOCK"])
 limits.time = types.SimpleNamespace(monotonic=lambda: float(CLOCK.read_text()))  # type: ignore

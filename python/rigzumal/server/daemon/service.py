@@ -150,9 +150,11 @@ class Service:
         client, operation, said = line.client, line.operation, b"later"
         self.tally.waited += time.monotonic() - line.came
         is_needed = operation.changes or not client.is_gone
-        if is_needed and not self.tally.is_early(operation, line.name, client.uid):
-            said = await self.judged(line)
-        line.turns.give_back()
+        try:
+            if is_needed and not self.tally.is_early(operation, line.name, client.uid):
+                said = await self.judged(line)
+        finally:
+            line.turns.give_back()
         if said != b"later":
             said = await self.counted(line, said)
         client.answer(line.tag, said)
@@ -285,13 +287,11 @@ class Service:
         for number in (signal.SIGTERM, signal.SIGINT):
             loop.add_signal_handler(number, stop.set)
         await self.book.start(self.options.book_words())
-        opening, sweeping = loop.create_task(self.open()), loop.create_task(
-            self.sweep()
-        )
-        ends = (opening, sweeping, self.book.ended, loop.create_task(stop.wait()))
+        tasks = [loop.create_task(it) for it in (self.open(), self.sweep())]
+        ends = [*tasks, self.book.ended, loop.create_task(stop.wait())]
         await asyncio.wait(ends, return_when=asyncio.FIRST_COMPLETED)
         status = await self.end()
-        for task in (opening, sweeping):
+        for task in tasks:
             if task.done():
                 task.result()  # or its exception
         return status
