@@ -6,6 +6,7 @@ They need the library in c/out, or named by RIGZUMAL_LIBRARY; the last one needs
 from __future__ import annotations
 
 import asyncio
+import concurrent.futures
 import contextlib
 import importlib
 import os
@@ -219,21 +220,18 @@ class Clients(Case):
             self.assertIn(reply, {reply})
 
     def test_peers_that_say_nothing_right(self) -> None:
-        """Garbage, half an answer, another tag, and no answer within the time: Unavailable."""
+        """Garbage, half an answer, another tag, what has no end: Unavailable, at once or after the call's whole time."""
         answers = [b"", b"yes\n", b"1 yes", b"2 yes\n", b"1 yess\n", b"1 ye\n", b"1 no yes\n"]
         answers += [b"1 \xffyes\n", b"x" * 200000, b"* bad 16 long\n", b"1 unavailable\n"]
-        for answer in (*answers, b"\n", b"1\n"):
-            for call in self.calls(self.peer(answer)):
-                self.assertLess(self.is_unavailable(call), 8, "it waited for its time")
-        for call in self.calls(self.peer(b"1 y", then="wait"), timeout=0.5):
-            self.assertTrue(0.4 < self.is_unavailable(call) < 15, "the timeout")
-
-    def test_peers_that_go_on(self) -> None:
-        """A timeout is for the whole call, and what has no end isn't read to it."""
-        for call in self.calls(self.peer(b"1 y", "drip"), timeout=1.0):
-            self.assertLess(self.is_unavailable(call), 8, "the timeout")
-        for call in self.calls(self.peer(b"x" * (8 << 20), "wait"), timeout=60.0):
-            self.assertLess(self.is_unavailable(call), 30, "it is read to its end")
+        scenes = [(answer, "close", 60.0, 0.0, 30) for answer in (*answers, b"\n", b"1\n")]
+        scenes += [(b"1 y", "wait", 0.5, 0.4, 15), (b"1 y", "drip", 1.0, 0.9, 8)]
+        for answer, then, timeout, least, most in (
+            *scenes,
+            (b"x" * (8 << 20), "wait", 60.0, 0, 30),
+        ):
+            for call in self.calls(self.peer(answer, then), timeout=timeout):
+                seconds = self.is_unavailable(call)
+                self.assertTrue(least <= seconds < most, f"{answer[:20]!r}, {then}: {seconds} s")
 
     def test_full_backlog(self) -> None:
         """While too many wait to be let in a call waits too, for its time and no longer."""
@@ -256,8 +254,8 @@ class Clients(Case):
         self.assertIs(self.server.Client(path).verify("ada", "x"), self.server.Reply.YES)
         later.join()
 
-    def test_calls_without_an_answer(self) -> None:
-        """Who waits is told of the connection's end, by its own client or the other side."""
+    def test_closed_amid_a_call(self) -> None:
+        """Who waits is told of the connection's end by its own client."""
 
         async def closes(path: pathlib.Path) -> None:
             client = self.aio.Client(path, timeout=60)
@@ -268,8 +266,6 @@ class Clients(Case):
                 await asyncio.wait_for(waiting, 20)
 
         asyncio.run(closes(self.peer(b"", then="wait")))
-        for call in self.calls(self.peer(b""), timeout=60):
-            self.assertLess(self.is_unavailable(call), 30, "who waits isn't told of the end")
 
     def test_late_answers(self) -> None:
         """What came too late is nobody's."""
@@ -323,19 +319,10 @@ class Clients(Case):
             self.assertEqual(await asyncio.gather(*asked), ought)
 
         self.run_with(service.path(), used)
-        client, said = self.server.Client(service.path()), {}
-
-        def thread(number: int) -> None:
-            for at in range(number, len(pairs), 8):
-                one, two = pairs[at]
-                said[at] = client.verify(f"user{one}", f"secret{two}")
-
-        threads = [threading.Thread(target=thread, args=(number,)) for number in range(8)]
-        for it in threads:
-            it.start()
-        for it in threads:
-            it.join()
-        self.assertEqual([said.get(at) for at in range(len(pairs))], ought)
+        verify = self.server.Client(service.path()).verify
+        with concurrent.futures.ThreadPoolExecutor(8) as pool:
+            said = pool.map(lambda it: verify(f"user{it[0]}", f"secret{it[1]}"), pairs)
+            self.assertEqual(list(said), ought)
 
     def test_connections_that_end(self) -> None:
         """After the server has closed or restarted, the next call connects anew."""
