@@ -27,26 +27,21 @@ from machine import RUN, Server, on_page, prepared, shell  # noqa: E402
 from served import PYTHON, field_of  # noqa: E402
 
 WORD = "secret word"
+FIELD = field_of(WORD.encode())
 
 
-def of_serve(program: str, room: pathlib.Path, setting: str, seconds: float) -> float:
+def of_serve(room: pathlib.Path, setting: str, seconds: float) -> float:
     """Verifies a second of a `serve` that answers one line after another."""
-    path = room / "alone.db"
+    credkeep, path = str(TOP / "crates/credkeep/out/credkeep"), room / "alone.db"
     path.unlink(missing_ok=True)
-    subprocess.run([program, path, "init"], check=True)
+    shell(f"{credkeep} {path} init")
+    shell(f"echo '{WORD}' | {credkeep} {path} add --setting '{setting}' ada")
     pipe = subprocess.PIPE
-    given = f"{WORD}\n".encode()
-    subprocess.run(
-        [program, path, "add", "--setting", setting, "ada"],
-        input=given,
-        check=True,
-        stdout=subprocess.DEVNULL,
-    )
-    with subprocess.Popen([program, path, "serve"], stdin=pipe, stdout=pipe) as run:
+    with subprocess.Popen([credkeep, path, "serve"], stdin=pipe, stdout=pipe) as run:
         assert run.stdin and run.stdout
         begun, count = time.perf_counter(), 0
         while time.perf_counter() < begun + seconds:
-            run.stdin.write(f"begin 1 verify ada {field_of(WORD.encode())}\ncommit 1\n".encode())
+            run.stdin.write(f"begin 1 verify ada {FIELD}\ncommit 1\n".encode())
             run.stdin.flush()
             assert (run.stdout.readline(), run.stdout.readline()) == (b"begun\n", b"yes\n")
             count += 1
@@ -62,7 +57,7 @@ async def at_socket(clients: int, seconds: float) -> float:
     async def one(number: int) -> None:
         reader, writer = await asyncio.open_unix_connection(str(RUN / "login.sock"))
         while time.perf_counter() < end:
-            writer.write(f"1 verify ada {field_of(WORD.encode())}\n".encode())
+            writer.write(f"1 verify ada {FIELD}\n".encode())
             assert await reader.readline() == b"1 yes\n"
             counts[number] += 1
         writer.close()
@@ -82,37 +77,25 @@ def inside(room: pathlib.Path, given: argparse.Namespace) -> None:
     prepared(room)
     shell(f"cc -O2 -pthread -o {room}/logins {TOP}/bench/server/logins.c -lpam")
     pathlib.Path("/etc/pam.d/book").write_text(on_page("/etc/pam.d/book"))
-    pathlib.Path("/etc/pam.d/unix").write_text(
-        "auth required pam_unix.so\naccount required pam_unix.so\n"
-    )
+    lines = "auth required pam_unix.so\naccount required pam_unix.so\n"
+    pathlib.Path("/etc/pam.d/unix").write_text(lines)
     shell("sed -i '/^ada:/d' /etc/shadow && echo 'ada::19000:0:99999:7:::' >> /etc/shadow")
     shell(f"echo 'ada:{WORD}' | chpasswd -c YESCRYPT")
-    print(
-        "| Costs | Clients | serve | At the socket | By PAM | pam_unix, yescrypt |\n|---|--:|--:|--:|--:|--:|"
-    )
-    for mebibytes in (64, 4):
-        setting = "$fast$c=1" if given.fast else f"$argon2id$v=19$m={mebibytes * 1024},t=1,p=1"
+    print("| Costs | Clients | serve | At the socket | By PAM | pam_unix, yescrypt |")
+    print("|---|--:|--:|--:|--:|--:|")
+    settings = {f"{it} MiB": f"$argon2id$v=19$m={it * 1024},t=1,p=1" for it in (64, 4)}
+    for costs, setting in ({"none": "$fast$c=1"} if given.fast else settings).items():
         server = Server(room, "--setting", setting)
-        server.ask("account ada", "ok")
-        server.ask(f"enrol ada {field_of(WORD.encode())}", "enrolled")
-        alone = (
-            None
-            if given.fast
-            else of_serve(str(TOP / "crates/credkeep/out/credkeep"), room, setting, given.seconds)
-        )
+        server.enrol(ada=WORD)
+        serve = "" if given.fast else f"{of_serve(room, setting, given.seconds):.1f}"
         for clients in given.clients:
-            socket = asyncio.run(at_socket(clients, given.seconds))
-            pam = by_pam(room, "book", WORD, clients, given.seconds)
-            unix = by_pam(room, "unix", WORD, clients, given.seconds)
-            serve = f"{alone:.1f}" if alone else ""
-            print(
-                f"| {'none' if given.fast else f'{mebibytes} MiB'} | {clients} | {serve} | {socket:.1f} | {pam:.1f} | {unix:.1f} |",
-                flush=True,
-            )
+            rates = [asyncio.run(at_socket(clients, given.seconds))]
+            for service in ("book", "unix"):
+                rates.append(by_pam(room, service, WORD, clients, given.seconds))
+            row = [costs, str(clients), serve, *(f"{rate:.1f}" for rate in rates)]
+            print("|", " | ".join(row), "|", flush=True)
         server.stop()
         server.file.unlink()
-        if given.fast:
-            break
 
 
 def main() -> None:
@@ -128,11 +111,8 @@ def main() -> None:
     unshare = ["unshare", "--mount", "--pid", "--fork", "--kill-child", "--mount-proc", "--net"]
     with tempfile.TemporaryDirectory(prefix="rigzumal-bench-") as room:
         pathlib.Path(room).chmod(0o755)
-        book = "fast" if given.fast else "real"
-        subprocess.run(
-            [*unshare, "env", f"BOOK={book}", PYTHON, __file__, "--inside", room, *sys.argv[1:]],
-            check=True,
-        )
+        words = ["env", f"BOOK={'fast' if given.fast else 'real'}", PYTHON, __file__]
+        subprocess.run([*unshare, *words, "--inside", room, *sys.argv[1:]], check=True)
 
 
 if __name__ == "__main__":
