@@ -27,22 +27,22 @@ import fcntl
 import hashlib
 import itertools
 import os
-import queue
 import random
 import re
 import signal
 import sys
 import threading
 import time
+from concurrent.futures import ThreadPoolExecutor
 from typing import Optional
 
 NAME = re.compile(r"[a-z0-9._-]{1,32}")
 COSTS = "$fast$c=1"
-# How many fields an operation has, how many of them are passwords, and what may have a setting too.
-FIELDS = {"account": 1, "show": 1, "disable": 1, "delete": 1, "load": 2, "rename": 2, "list": 2}
-FIELDS |= dict.fromkeys("verify login remove enrol reset upgrade".split(), 2) | {"change": 3}
-PASSWORDS = dict.fromkeys("verify login remove enrol reset upgrade".split(), 1) | {"change": 2}
-WITH_SETTING = {"enrol", "reset", "upgrade", "change"}
+# How many fields operations have, how many of them are passwords, and whether a setting may follow.
+SHAPES = {"account show disable delete": (1, 0, False), "load rename list": (2, 0, False)}
+SHAPES |= {"verify login remove": (2, 1, False), "enrol reset upgrade": (2, 1, True)}
+SHAPES |= {"change": (3, 2, True)}
+SHAPE_OF = {word: it for words, it in SHAPES.items() for word in words.split()}
 NOISE = [b"\n", b"yes\n", b"* yes\n", b"0 yes\n", b"-1 yes\n", b"99999999 yes\n", b"\xff\x00 yes\n"]
 
 
@@ -107,8 +107,9 @@ class Book:
             record = self.records.get(fields.pop(0))
             said = self.answer(words[:2])
             return f"{words[1]}:{record}" if said == "disabled" else said
-        count = len(fields) - FIELDS.get(operation, -1)
-        if count not in ((0, 1) if operation in WITH_SETTING else (0,)):
+        due, secret, may_set = SHAPE_OF.get(operation, (-1, 0, False))
+        count = len(fields) - due
+        if count not in ((0, 1) if may_set else (0,)):
             return "bad 11 line"
         if operation == "list":
             names = sorted(it for it in self.records if it >= fields[0])[: int(fields[1])]
@@ -116,7 +117,7 @@ class Book:
         names = fields if operation == "rename" else fields[:1]
         if not all(map(NAME.fullmatch, names)):
             return "bad 3 name"
-        passwords = [decoded(it) for it in fields[1 : 1 + PASSWORDS.get(operation, 0)]]
+        passwords = [decoded(it) for it in fields[1 : 1 + secret]]
         if None in passwords:
             return "bad 13 password"
         if count and not fields[-1].startswith("$"):
@@ -195,47 +196,34 @@ def write(operation: str, tag: str, said: str) -> None:
     os.write(1, f"{tag} {said}\n".encode())
 
 
-def work(book: Book, lines: queue.Queue[Optional[str]], output: threading.Lock) -> None:
-    while (line := lines.get()) is not None:
-        tag, _, rest = line.partition(" ")
-        if not re.fullmatch("[a-z0-9]{1,20}", tag) or len(line) > 1024:
-            tag, rest = "*", ""
-        words = rest.split(" ")
-        if "late" in FAULTS:
-            time.sleep(random.random() * 0.05)
-        if "slow" in FAULTS and words[0] not in ("show", "account", "list"):
-            time.sleep(float(FAULTS["slow"]))
-        if FAULTS.get("mute") == words[0]:
-            continue
-        with output:
-            said = book.answer(words)
-            said = FAULTS.get("answers", said) if words[0] == "verify" else said
-            write(words[0], tag, said)
+def work(book: Book, output: threading.Lock, line: str) -> None:
+    """Answers a line."""
+    tag, _, rest = line.partition(" ")
+    if not re.fullmatch("[a-z0-9]{1,20}", tag) or len(line) > 1024:
+        tag, rest = "*", ""
+    words = rest.split(" ")
+    if "late" in FAULTS:
+        time.sleep(random.random() * 0.05)
+    if "slow" in FAULTS and words[0] not in ("show", "account", "list"):
+        time.sleep(float(FAULTS["slow"]))
+    if FAULTS.get("mute") == words[0]:
+        return
+    with output:
+        said = book.answer(words)
+        said = FAULTS.get("answers", said) if words[0] == "verify" else said
+        write(words[0], tag, said)
 
 
 def serve(path: str, options: dict[str, str]) -> None:
-    given = (
-        Book(path, options.get("--setting", COSTS)),
-        queue.Queue[Optional[str]](),
-        threading.Lock(),
-    )
-    threads = [
-        threading.Thread(target=work, daemon=True, args=given)
-        for _ in range(int(options.get("--at-once", "4")))
-    ]
-    for thread in threads:
-        thread.start()
+    book, output = Book(path, options.get("--setting", COSTS)), threading.Lock()
     time.sleep(float(FAULTS.get("opens", "0")))
-    path, any_bytes = os.environ.get("BOOK_LOG", os.devnull), "surrogateescape"
+    log, any_bytes = os.environ.get("BOOK_LOG", os.devnull), "surrogateescape"
     sys.stdin.reconfigure(errors=any_bytes)  # type: ignore[attr-defined]
-    with open(path, "a", buffering=1, errors=any_bytes) as log:
-        for line in sys.stdin:
-            log.write(line.partition(" ")[2])
-            given[1].put(line.rstrip("\n"))
-    for _ in threads:
-        given[1].put(None)
-    for thread in threads:
-        thread.join()
+    with ThreadPoolExecutor(int(options.get("--at-once", "4"))) as pool:
+        with open(log, "a", buffering=1, errors=any_bytes) as asked:
+            for line in sys.stdin:
+                asked.write(line.partition(" ")[2])
+                pool.submit(work, book, output, line.rstrip("\n"))
 
 
 if __name__ == "__main__":

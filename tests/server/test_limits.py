@@ -67,6 +67,17 @@ class Limits(Case):
                     client.socket.send(b"a verify ada -\n" * 100)
             service.process.kill()
 
+    def test_lines_of_who_has_gone(self) -> None:
+        """What a client left behind that changes nothing is never asked; changes are made."""
+        service = self.serving("--at-once", "1", "--tries", "0", faults="slow=0.2")
+        service.enrol(ada="secret")
+        with service.client("admin") as client:
+            client.send("a verify gone -\n" * 20 + f"a reset ada {FRESH}\n")
+            until(lambda: "verify gone -" in service.asked(), "the first")
+        time.sleep(0.1)
+        until(lambda: service.client().ask(f"verify ada {FRESH}") == "yes", "the change")
+        self.assertLess(service.asked().count("verify gone -"), 5)
+
     def test_changes_together(self) -> None:
         """Where a change mostly waits for the disk, many are at the book at once, and leave room for others."""
         service = self.serving("--at-once", "4", faults="mute=change")
