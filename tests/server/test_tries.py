@@ -89,6 +89,7 @@ class Tries(Case):
         path = self.room() / "s"
         socket = f"--socket a {path} 0666 - verify --uid-tries 4".split()
         service = self.serving(*socket, clocked=True)
+        admin = service.client("admin")
         service.enrol(ada="secret")
         guesses, right = [f"verify n{at} {SECRET}" for at in range(6)], f"verify ada {SECRET}"
         said = as_user(4711, 4712, path, *guesses[:4], right)
@@ -98,6 +99,8 @@ class Tries(Case):
             service.set_clock(now)
             self.assertEqual(as_user(4711, 4712, path, guesses[0], right), "noaccount later")
         self.assertEqual(as_user(4712, 4712, path, right), "yes")
+        admin.talk("waits -> waits uid-4711:6:4\nforgive uid-4711 -> forgiven\nwaits -> waits")
+        self.assertEqual(as_user(4711, 4712, path, right), "yes")
         people = {999: "yes", 1000: "later", 60000: "later", 60001: "yes", 65534: "yes"}
         for uid, last in people.items():
             said = as_user(uid, uid, path, *guesses[:5], right)
