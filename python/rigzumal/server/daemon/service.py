@@ -261,13 +261,18 @@ class Service:
             self.servers.append(await door.open(self))
         log.info("start: %s", self.options.file)
         notify("READY=1")
-        probing = asyncio.ensure_future(self.hashed(*PROBE))
+        probing = asyncio.ensure_future(self.probe())
         while await self.book.ask(b"show", b"-") != UNAVAILABLE:
             notify("WATCHDOG=1")
             self.tally.names.drop_expired()
             self.tally.users.drop_expired()
             await asyncio.sleep(int(os.environ.get("WATCHDOG_USEC", 60_000_000)) / 2e6)
         await probing
+
+    async def probe(self) -> None:
+        """Measures a hash some times, of which other work on the machine may slow one."""
+        for _ in range(3):
+            await self.hashed(*PROBE)
 
     async def sweep(self) -> None:
         """Closes clients that ask for nothing, or don't read their answers."""
