@@ -4,6 +4,7 @@
 #include "secrets.h"
 
 #include <inttypes.h>
+#include <stdbool.h>
 #include <stdio.h>
 #include <stdlib.h>
 #include <string.h>
@@ -21,14 +22,20 @@ static uint64_t number_of(const char *text, const char *label) {
     return 0;
 }
 
+/* Whether a number that begins at 1 is out of its range, which is said then. */
+static bool is_out(char *text, size_t text_size, char name, uint64_t number, uint64_t most) {
+    if (number >= 1 && number <= most)
+        return false;
+    snprintf(text, text_size, "%c=%" PRIu64 " is not from 1 to %" PRIu64, name, number, most);
+    return true;
+}
+
 static void explain_argon2(char *text, size_t text_size, const char *record) {
-    uint64_t memory = number_of(record, "m="), passes = number_of(record, "t=");
-    uint64_t lanes = number_of(record, "p=");
-    if (lanes < 1 || lanes > MOST_LANES)
-        snprintf(text, text_size, "p=%" PRIu64 " is not from 1 to %d", lanes, MOST_LANES);
-    else if (passes < 1 || passes > UINT32_MAX)
-        snprintf(text, text_size, "t=%" PRIu64 " is not from 1 to %" PRIu32, passes, UINT32_MAX);
-    else if (memory < 8 * lanes)
+    uint64_t memory = number_of(record, "m="), lanes = number_of(record, "p=");
+    if (is_out(text, text_size, 'p', lanes, MOST_LANES) ||
+        is_out(text, text_size, 't', number_of(record, "t="), UINT32_MAX))
+        return;
+    if (memory < 8 * lanes)
         snprintf(text, text_size, "m=%" PRIu64 " is under 8 p (%" PRIu64 " KiB)", memory,
                  8 * lanes);
     else
@@ -37,12 +44,10 @@ static void explain_argon2(char *text, size_t text_size, const char *record) {
 
 static void explain_scrypt(char *text, size_t text_size, const char *record) {
     uint64_t ln = number_of(record, "ln="), r = number_of(record, "r=");
-    uint64_t p = number_of(record, "p=");
-    if (r < 1 || r > MOST_LANES)
-        snprintf(text, text_size, "r=%" PRIu64 " is not from 1 to %d", r, MOST_LANES);
-    else if (p < 1 || p > MOST_LANES)
-        snprintf(text, text_size, "p=%" PRIu64 " is not from 1 to %d", p, MOST_LANES);
-    else if (ln < 1)
+    if (is_out(text, text_size, 'r', r, MOST_LANES) ||
+        is_out(text, text_size, 'p', number_of(record, "p="), MOST_LANES))
+        return;
+    if (ln < 1)
         snprintf(text, text_size, "ln=0 is under 1");
     else if (ln >= 16 * r)
         snprintf(text, text_size, "ln=%" PRIu64 " is not under 16 r (%" PRIu64 ")", ln, 16 * r);
@@ -50,20 +55,9 @@ static void explain_scrypt(char *text, size_t text_size, const char *record) {
         snprintf(text, text_size, "ln=%" PRIu64 ": r times 2^ln is over %d", ln, MOST_ROWS);
 }
 
-/* The fault of a record, a setting or costs. Without a salt, costs out of their ranges look like a
- * text that lacks a field. */
-__attribute__((noinline)) static int fault_of(const char *record) {
+int rigzumal_explain(char *text, size_t text_size, const char *record) {
     struct rigzumal_parts parts;
     int fault = rigzumal_parts(&parts, record);
-    char longer[RIGZUMAL_TEXT_SIZE];
-    if (fault != RIGZUMAL_SHAPE ||
-        snprintf(longer, sizeof longer, "%s$AAAAAAAAAAA", record) >= (int)sizeof longer)
-        return fault;
-    return rigzumal_setting_fault(longer) == RIGZUMAL_RANGE ? RIGZUMAL_RANGE : fault;
-}
-
-int rigzumal_explain(char *text, size_t text_size, const char *record) {
-    int fault = fault_of(record);
     if (fault != RIGZUMAL_RANGE)
         snprintf(text, text_size, "%s", rigzumal_strerror(fault));
     else if (strncmp(record, "$scrypt$", strlen("$scrypt$")) == 0)

@@ -14,7 +14,6 @@
 #include "heap.h"
 
 #include <stdatomic.h>
-#include <stdbool.h>
 #include <stdint.h>
 #include <stdlib.h>
 #include <string.h>
@@ -299,18 +298,6 @@ static void give_area_block(struct block block) {
         taken.area = 0;
     give_area(block.area);
 }
-
-/* What the proved code calls. An answer that isn't ok has a pointer that isn't null all the same.
- */
-
-struct tried {
-    bool ok;
-    void *start;
-};
-
-struct tried rattle_alloc(size_t size, size_t align);
-struct tried rattle_realloc(void *old, size_t kept, size_t size, size_t align);
-void rattle_dealloc(void *start);
 
 struct tried rattle_alloc(size_t size, size_t align) {
     static char refused;

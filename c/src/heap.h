@@ -1,8 +1,21 @@
-/* Memory for those who clear it themselves, and what is kept between calls. */
+/* Memory for the proved code and for those who clear it themselves, and what is kept between calls.
+ */
 #ifndef HEAP_H
 #define HEAP_H
 
+#include <stdbool.h>
 #include <stddef.h>
+
+/* What the proved code calls. An answer that isn't ok has a pointer that isn't null all the same.
+ */
+struct tried {
+    bool ok;
+    void *start;
+};
+
+struct tried rattle_alloc(size_t size, size_t align);
+struct tried rattle_realloc(void *old, size_t kept, size_t size, size_t align);
+void rattle_dealloc(void *start);
 
 /* So many bytes that are zero, or null if there is too little memory: large ones in huge pages, in
  * no core dump, and zero in a forked child. */

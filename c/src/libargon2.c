@@ -55,6 +55,11 @@ static void clear_inputs(argon2_context *context) {
     }
 }
 
+static struct rigzumal_argon2 numbers_of(const argon2_context *context, argon2_type type) {
+    return (struct rigzumal_argon2){(uint32_t)type, context->version, context->m_cost,
+                                    context->t_cost, context->lanes};
+}
+
 /* As the original does: what allocate answers is passed over, and null is a refusal. */
 static uint8_t *memory_of(const argon2_context *context, size_t size) {
     uint8_t *memory = NULL;
@@ -67,7 +72,8 @@ static uint8_t *memory_of(const argon2_context *context, size_t size) {
 }
 
 /* Writes the tag, which is worked in memory that the caller's functions give and get back. */
-static int make_tag_by_callbacks(uint8_t *tag, const argon2_context *context, argon2_type type) {
+static int make_tag_by_callbacks(uint8_t *tag, const argon2_context *context, argon2_type type,
+                                 const struct rigzumal_inputs *inputs) {
     struct tag_numbers numbers = {(uint32_t)type,  context->version, context->m_cost,
                                   context->t_cost, context->lanes,   context->outlen};
     size_t size;
@@ -78,23 +84,19 @@ static int make_tag_by_callbacks(uint8_t *tag, const argon2_context *context, ar
     if (memory == NULL)
         return RIGZUMAL_MEMORY;
     memset(memory, 0, size);
-    struct tag_inputs inputs = {
-        &numbers,        context->pwd,     context->salt,      context->secret, context->ad,
-        context->pwdlen, context->saltlen, context->secretlen, context->adlen,  tag};
-    fault = make_tag_in((struct argon2_block *)memory, &inputs, context->threads);
+    fault = make_tag_in((struct argon2_block *)memory, tag, &numbers, inputs);
     context->free_cbk(memory, size);
     return fault;
 }
 
 static int make_tag(uint8_t *tag, const argon2_context *context, argon2_type type) {
+    struct rigzumal_inputs inputs = {context->pwd,     context->pwdlen, context->salt,
+                                     context->saltlen, context->secret, context->secretlen,
+                                     context->ad,      context->adlen,  context->threads};
     if (context->allocate_cbk != NULL)
-        return make_tag_by_callbacks(tag, context, type);
-    struct rigzumal_argon2 numbers = {(uint32_t)type, context->version, context->m_cost,
-                                      context->t_cost, context->lanes};
-    return rigzumal_argon2_threads(tag, context->outlen, &numbers, context->pwd, context->pwdlen,
-                                   context->salt, context->saltlen, context->secret,
-                                   context->secretlen, context->ad, context->adlen,
-                                   context->threads);
+        return make_tag_by_callbacks(tag, context, type, &inputs);
+    struct rigzumal_argon2 numbers = numbers_of(context, type);
+    return rigzumal_argon2_from(tag, context->outlen, &numbers, &inputs);
 }
 
 PUBLIC int argon2_ctx(argon2_context *context, argon2_type type) {
@@ -129,8 +131,7 @@ PUBLIC int argon2_verify_ctx(argon2_context *context, const char *hash, argon2_t
 /* Writes the encoded string, or zeros all of its room where it doesn't fit. What is a record here
  * is written by the proved code. */
 static int encode(char *encoded, size_t size, const argon2_context *context, argon2_type type) {
-    struct rigzumal_argon2 numbers = {(uint32_t)type, context->version, context->m_cost,
-                                      context->t_cost, context->lanes};
+    struct rigzumal_argon2 numbers = numbers_of(context, type);
     int fault = rigzumal_argon2_write(encoded, size, &numbers, context->salt, context->saltlen,
                                       context->out, context->outlen);
     if (fault == RIGZUMAL_SALT || fault == RIGZUMAL_TAG)

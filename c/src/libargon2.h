@@ -67,6 +67,10 @@ typedef struct {
 const char *argon2_type2string(argon2_type type, int uppercase);
 int argon2_ctx(argon2_context *context, argon2_type type);
 int argon2_verify_ctx(argon2_context *context, const char *hash, argon2_type type);
+int argon2_hash(uint32_t t_cost, uint32_t m_cost, uint32_t parallelism, const void *pwd,
+                size_t pwdlen, const void *salt, size_t saltlen, void *hash, size_t hashlen,
+                char *encoded, size_t encodedlen, argon2_type type, uint32_t version);
+int argon2_verify(const char *encoded, const void *pwd, size_t pwdlen, argon2_type type);
 
 /* What the original finds wrong with its inputs, in its order. */
 int fault_of_context(const argon2_context *context);

@@ -61,35 +61,30 @@ int fault_of_context(const argon2_context *context) {
     enum { LEAST_OUT = 4, LEAST_SALT = 8, LEAST_MEMORY = 8, MOST_THREADS = 0xFFFFFF };
     if (context == NULL)
         return ARGON2_INCORRECT_PARAMETER;
-    if (context->out == NULL)
-        return ARGON2_OUTPUT_PTR_NULL;
-    if (context->outlen < LEAST_OUT)
-        return ARGON2_OUTPUT_TOO_SHORT;
-    if (context->pwd == NULL && context->pwdlen != 0)
-        return ARGON2_PWD_PTR_MISMATCH;
-    if (context->salt == NULL && context->saltlen != 0)
-        return ARGON2_SALT_PTR_MISMATCH;
-    if (context->saltlen < LEAST_SALT)
-        return ARGON2_SALT_TOO_SHORT;
-    if (context->secret == NULL && context->secretlen != 0)
-        return ARGON2_SECRET_PTR_MISMATCH;
-    if (context->ad == NULL && context->adlen != 0)
-        return ARGON2_AD_PTR_MISMATCH;
-    if (context->m_cost < LEAST_MEMORY || context->m_cost < 8 * context->lanes)
-        return ARGON2_MEMORY_TOO_LITTLE;
-    if (context->t_cost == 0)
-        return ARGON2_TIME_TOO_SMALL;
-    if (context->lanes == 0)
-        return ARGON2_LANES_TOO_FEW;
-    if (context->lanes > MOST_THREADS)
-        return ARGON2_LANES_TOO_MANY;
-    if (context->threads == 0)
-        return ARGON2_THREADS_TOO_FEW;
-    if (context->threads > MOST_THREADS)
-        return ARGON2_THREADS_TOO_MANY;
-    if (context->allocate_cbk != NULL && context->free_cbk == NULL)
-        return ARGON2_FREE_MEMORY_CBK_NULL;
-    if (context->allocate_cbk == NULL && context->free_cbk != NULL)
-        return ARGON2_ALLOCATE_MEMORY_CBK_NULL;
+    const struct {
+        bool is_there;
+        int number;
+    } faults[] = {
+        {context->out == NULL, ARGON2_OUTPUT_PTR_NULL},
+        {context->outlen < LEAST_OUT, ARGON2_OUTPUT_TOO_SHORT},
+        {context->pwd == NULL && context->pwdlen != 0, ARGON2_PWD_PTR_MISMATCH},
+        {context->salt == NULL && context->saltlen != 0, ARGON2_SALT_PTR_MISMATCH},
+        {context->saltlen < LEAST_SALT, ARGON2_SALT_TOO_SHORT},
+        {context->secret == NULL && context->secretlen != 0, ARGON2_SECRET_PTR_MISMATCH},
+        {context->ad == NULL && context->adlen != 0, ARGON2_AD_PTR_MISMATCH},
+        {context->m_cost < LEAST_MEMORY, ARGON2_MEMORY_TOO_LITTLE},
+        {context->m_cost < 8 * context->lanes, ARGON2_MEMORY_TOO_LITTLE},
+        {context->t_cost == 0, ARGON2_TIME_TOO_SMALL},
+        {context->lanes == 0, ARGON2_LANES_TOO_FEW},
+        {context->lanes > MOST_THREADS, ARGON2_LANES_TOO_MANY},
+        {context->threads == 0, ARGON2_THREADS_TOO_FEW},
+        {context->threads > MOST_THREADS, ARGON2_THREADS_TOO_MANY},
+        {context->allocate_cbk != NULL && context->free_cbk == NULL, ARGON2_FREE_MEMORY_CBK_NULL},
+        {context->allocate_cbk == NULL && context->free_cbk != NULL,
+         ARGON2_ALLOCATE_MEMORY_CBK_NULL},
+    };
+    for (size_t i = 0; i < sizeof faults / sizeof faults[0]; i++)
+        if (faults[i].is_there)
+            return faults[i].number;
     return ARGON2_OK;
 }

@@ -4,7 +4,6 @@
 #include "processor.h"
 
 #include <cpuid.h>
-#include <stdatomic.h>
 #include <stdbool.h>
 
 #define BIT(n) (1u << (n))
@@ -63,20 +62,14 @@ static bool keeps_wide_registers(void) {
     return (kept_registers() & BOTH) == BOTH;
 }
 
-static enum build asked(void) {
+static int asked(void) {
     struct features found = of_processor();
     if (!has(found, level2))
         return BUILD_V1;
     return has(found, level3) && keeps_wide_registers() ? BUILD_V3 : BUILD_V2;
 }
 
-/* Asked once, since a virtual machine answers slowly; threads that ask at once find the same. */
 enum build processor_build(void) {
     static _Atomic(int) known;
-    int build = atomic_load_explicit(&known, memory_order_relaxed);
-    if (build == 0) {
-        build = (int)asked();
-        atomic_store_explicit(&known, build, memory_order_relaxed);
-    }
-    return (enum build)build;
+    return (enum build)asked_once(&known, asked);
 }

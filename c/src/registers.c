@@ -5,7 +5,6 @@
 #include "processor.h"
 
 #include <cpuid.h>
-#include <stdatomic.h>
 
 /* With AVX512VL instructions on the upper registers may be narrow: wide ones slow some processors
  * down for a while. */
@@ -16,7 +15,7 @@ enum vectors { SSE = 1, AVX, AVX512F, AVX512VL };
 #define HAS_NARROW_FORMS (1u << 31)
 #endif
 
-static enum vectors asked(void) {
+static int asked(void) {
     enum { OSXSAVE = 1 << 27, HAS_512 = 1 << 16 }; /* of leaf 1, ecx, and of leaf 7, ebx */
     enum { WIDE = 0x6, WIDEST = 0xe6 };            /* the states of SSE and AVX, and of AVX-512 */
     uint32_t a, b, c, d;
@@ -30,26 +29,10 @@ static enum vectors asked(void) {
     return b & HAS_NARROW_FORMS ? AVX512VL : AVX512F;
 }
 
-/* Asked once, since a virtual machine answers slowly; threads that ask at once find the same. */
-static enum vectors vectors(void) {
-    static _Atomic(int) known;
-    int found = atomic_load_explicit(&known, memory_order_relaxed);
-    if (found == 0) {
-        found = (int)asked();
-        atomic_store_explicit(&known, found, memory_order_relaxed);
-    }
-    return (enum vectors)found;
-}
-
 #define CLEAR(n) "pxor %%xmm" #n ", %%xmm" #n "\n\t"
 #define CLEAR_NARROW(n) "vpxord %%xmm" #n ", %%xmm" #n ", %%xmm" #n "\n\t"
 #define CLEAR_WIDEST(n) "vpxord %%zmm" #n ", %%zmm" #n ", %%zmm" #n "\n\t"
 #define CLEAR_MASK(n) "kxorw %%k" #n ", %%k" #n ", %%k" #n "\n\t"
-#define EIGHT(of) of(0) of(1) of(2) of(3) of(4) of(5) of(6) of(7)
-#define NEXT_EIGHT(of) of(8) of(9) of(10) of(11) of(12) of(13) of(14) of(15)
-#define UPPER_SIXTEEN(of)                                                                          \
-    of(16) of(17) of(18) of(19) of(20) of(21) of(22) of(23) of(24) of(25) of(26) of(27) of(28)     \
-        of(29) of(30) of(31)
 
 /* The others hold no value of a compiler's: the library is built for any x86-64 processor. */
 #define CHANGED                                                                                    \
@@ -57,7 +40,8 @@ static enum vectors vectors(void) {
         "xmm11", "xmm12", "xmm13", "xmm14", "xmm15"
 
 void clear_vector_registers(void) {
-    enum vectors found = vectors();
+    static _Atomic(int) known;
+    int found = asked_once(&known, asked);
     if (found == SSE)
         __asm__ volatile(EIGHT(CLEAR) NEXT_EIGHT(CLEAR)::: CHANGED);
     else

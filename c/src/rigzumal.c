@@ -57,8 +57,7 @@ int rigzumal_record(char *text, size_t text_size, size_t tag_size, const char *c
     if (fault != RIGZUMAL_OK)
         return fault;
     size_t written = 0;
-    uint32_t narrow = tag_size > UINT32_MAX ? 0 : (uint32_t)tag_size;
-    uint8_t answer = CALL(cred_hash, setting.text, setting.size, narrow,
+    uint8_t answer = CALL(cred_hash, setting.text, setting.size, narrow_tag_size(tag_size),
                           BYTES(password, password_size), ROOM(text, text_size), &written);
     return ended(answer, text, written);
 }

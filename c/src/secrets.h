@@ -6,7 +6,7 @@
 #include <stddef.h>
 
 /* How much of the stack is cleared: a quarter more than the deepest call uses, with lazy binding
- * too, which tests/depth.c measures. It fits into RIGZUMAL_STACK_SIZE. */
+ * too, which tests/stacks.c measures. It fits into RIGZUMAL_STACK_SIZE. */
 enum { CLEARED_STACK = 22 * 1024 };
 
 /* Clears the stack below the caller's frame, and the vector registers: to be called after all that

@@ -1,7 +1,10 @@
-/* Settings: costs and the salt behind them, as a text. */
+/* Settings: costs and the salt behind them, as a text and as numbers. */
 #ifndef SETTING_H
 #define SETTING_H
 
+#include "rigzumal.h"
+
+#include <stdbool.h>
 #include <stddef.h>
 #include <stdint.h>
 
@@ -15,5 +18,13 @@ struct setting {
 /* Puts the salt behind the costs, if its size isn't 0; it is drawn if it is null.
  * Faults: TOO_LONG, NO_RANDOM. */
 int make_setting(struct setting *setting, const char *costs, const void *salt, size_t salt_size);
+
+/* As the proved code takes the size of a tag: one that doesn't fit is refused as 0 is. */
+static inline uint32_t narrow_tag_size(size_t size) {
+    return size > UINT32_MAX ? 0 : (uint32_t)size;
+}
+
+/* Whether the schemes, the versions and the costs are equal. */
+bool has_same_costs(const struct rigzumal_parts *one, const struct rigzumal_parts *other);
 
 #endif

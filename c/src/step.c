@@ -4,9 +4,6 @@
 #include "builds.h"
 #include "secrets.h"
 #include "setting.h"
-#include "texts.h"
-
-#include <stdbool.h>
 
 enum { LONGEST_PASSWORD = 256 };
 

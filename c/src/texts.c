@@ -1,7 +1,5 @@
 /* The calls that read a text and hash nothing. */
 #define _GNU_SOURCE
-#include "texts.h"
-
 #include "builds.h"
 #include "secrets.h"
 #include "setting.h"

@@ -25,8 +25,7 @@ static int make_record(char *text, size_t text_size, size_t tag_size, const char
     struct setting_reading reading;
     int fault = make_setting(&setting, costs, inputs->salt, inputs->salt_size);
     if (fault == RIGZUMAL_OK)
-        fault = v1_cred_hash_read(setting.text, setting.size,
-                                  tag_size > UINT32_MAX ? 0 : (uint32_t)tag_size, &reading);
+        fault = v1_cred_hash_read(setting.text, setting.size, narrow_tag_size(tag_size), &reading);
     uint8_t tag[RIGZUMAL_TAG_SIZE_MAX];
     if (fault == RIGZUMAL_OK)
         fault = make_tag(tag, &reading, inputs);
@@ -80,14 +79,6 @@ int rigzumal_check_with_secret(const char *record, const void *password, size_t 
                                const void *secret, size_t secret_size) {
     return rigzumal_check_with_secret_threads(record, password, password_size, secret, secret_size,
                                               1);
-}
-
-int rigzumal_argon2_from(void *tag, size_t tag_size, const struct rigzumal_argon2 *numbers,
-                         const struct rigzumal_inputs *inputs) {
-    return rigzumal_argon2_threads(tag, tag_size, numbers, inputs->password, inputs->password_size,
-                                   inputs->salt, inputs->salt_size, inputs->secret,
-                                   inputs->secret_size, inputs->associated, inputs->associated_size,
-                                   inputs->threads);
 }
 
 int rigzumal_record_from(char *text, size_t text_size, size_t tag_size, const char *costs,

@@ -7,9 +7,17 @@
 #include "secrets.h"
 #include "setting.h"
 
+/* What a tag is made of, and where to. */
+struct tag_inputs {
+    const struct tag_numbers *numbers;
+    const struct rigzumal_inputs *inputs;
+    uint8_t *tag;
+};
+
 static uint8_t begin_tag(const void *inputs, struct argon2_block *first, size_t count) {
-    const struct tag_inputs *it = inputs;
-    return CALL(cred_argon2_begin, it->numbers, BYTES(it->password, it->password_size),
+    const struct tag_inputs *tag = inputs;
+    const struct rigzumal_inputs *it = tag->inputs;
+    return CALL(cred_argon2_begin, tag->numbers, BYTES(it->password, it->password_size),
                 BYTES(it->salt, it->salt_size), BYTES(it->secret, it->secret_size),
                 BYTES(it->associated, it->associated_size), first, count);
 }
@@ -19,80 +27,86 @@ static uint8_t end_tag(const void *inputs, const struct argon2_block *last, size
     return CALL(cred_argon2_end, it->numbers, last, count, it->tag, it->numbers->tag_size);
 }
 
+static int work_tag(struct argon2_block *memory, const struct tag_inputs *inputs,
+                    uint32_t threads) {
+    struct task task = {*inputs->numbers, begin_tag, end_tag, inputs, memory};
+    return cleared(work_lanes(&task, threads));
+}
+
+int make_tag_in(struct argon2_block *memory, uint8_t *tag, const struct tag_numbers *numbers,
+                const struct rigzumal_inputs *inputs) {
+    struct tag_inputs made = {numbers, inputs, tag};
+    return work_tag(memory, &made, useful_threads(numbers, inputs->threads));
+}
+
+int rigzumal_argon2_from(void *tag, size_t tag_size, const struct rigzumal_argon2 *numbers,
+                         const struct rigzumal_inputs *inputs) {
+    struct tag_numbers all = {numbers->kind,   numbers->version, numbers->memory,
+                              numbers->passes, numbers->lanes,   (uint32_t)tag_size};
+    uint32_t threads = useful_threads(&all, inputs->threads);
+    if (threads == 1 || tag_size > UINT32_MAX)
+        return rigzumal_argon2(tag, tag_size, numbers, inputs->password, inputs->password_size,
+                               inputs->salt, inputs->salt_size, inputs->secret, inputs->secret_size,
+                               inputs->associated, inputs->associated_size);
+    struct tag_inputs made = {&all, inputs, tag};
+    return work_tag(NULL, &made, threads);
+}
+
 int rigzumal_argon2_threads(void *tag, size_t tag_size, const struct rigzumal_argon2 *numbers,
                             const void *password, size_t password_size, const void *salt,
                             size_t salt_size, const void *secret, size_t secret_size,
                             const void *associated, size_t associated_size, uint32_t threads) {
-    struct task task = {.numbers = {numbers->kind, numbers->version, numbers->memory,
-                                    numbers->passes, numbers->lanes, (uint32_t)tag_size},
-                        .begin = begin_tag,
-                        .end = end_tag};
-    threads = useful_threads(&task.numbers, threads);
-    if (threads == 1 || tag_size > UINT32_MAX)
-        return rigzumal_argon2(tag, tag_size, numbers, password, password_size, salt, salt_size,
-                               secret, secret_size, associated, associated_size);
-    struct tag_inputs inputs = {&task.numbers, password,  salt,        secret,          associated,
-                                password_size, salt_size, secret_size, associated_size, tag};
-    task.inputs = &inputs;
-    return cleared(work_lanes(&task, threads));
+    struct rigzumal_inputs inputs = {password,   password_size,   salt,
+                                     salt_size,  secret,          secret_size,
+                                     associated, associated_size, threads};
+    return rigzumal_argon2_from(tag, tag_size, numbers, &inputs);
 }
 
-int make_tag_in(struct argon2_block *memory, const struct tag_inputs *inputs, uint32_t threads) {
-    struct task task = {*inputs->numbers, begin_tag, end_tag, inputs, memory};
-    return cleared(work_lanes(&task, useful_threads(&task.numbers, threads)));
-}
-
-struct check_inputs {
-    struct record_reading record;
-    const void *password;
-    size_t password_size;
-};
-
-static uint8_t begin_check(const void *inputs, struct argon2_block *first, size_t count) {
-    const struct check_inputs *it = inputs;
-    return CALL(cred_read_begin, &it->record.setting, BYTES(it->password, it->password_size), first,
-                count);
-}
-
-static uint8_t end_check(const void *inputs, const struct argon2_block *last, size_t count) {
-    const struct check_inputs *it = inputs;
-    return CALL(cred_check_end, &it->record, last, count);
-}
-
-int rigzumal_check_threads(const char *record, const void *password, size_t password_size,
-                           uint32_t threads) {
-    struct check_inputs inputs = {.password = password, .password_size = password_size};
-    uint8_t fault = v1_cred_check_read(TEXT(record), &inputs.record);
-    threads = useful_threads(&inputs.record.setting.numbers, threads);
-    int answer;
-    if (fault != RIGZUMAL_OK || threads == 1) {
-        answer = rigzumal_check(record, password, password_size);
-    } else {
-        struct task task = {inputs.record.setting.numbers, begin_check, end_check, &inputs, NULL};
-        answer = cleared(work_lanes(&task, threads));
-    }
-    explicit_bzero(inputs.record.tag, sizeof inputs.record.tag);
-    return answer;
-}
-
-struct record_inputs {
-    struct setting_reading setting;
+/* What a record is checked by, or made of. */
+struct text_inputs {
+    const struct setting_reading *setting;
+    const struct record_reading *record;
     const void *password;
     size_t password_size;
     char *text;
     size_t text_size, *written;
 };
 
-static uint8_t begin_record(const void *inputs, struct argon2_block *first, size_t count) {
-    const struct record_inputs *it = inputs;
-    return CALL(cred_read_begin, &it->setting, BYTES(it->password, it->password_size), first,
-                count);
+static uint8_t begin_text(const void *inputs, struct argon2_block *first, size_t count) {
+    const struct text_inputs *it = inputs;
+    return CALL(cred_read_begin, it->setting, BYTES(it->password, it->password_size), first, count);
+}
+
+static uint8_t end_check(const void *inputs, const struct argon2_block *last, size_t count) {
+    const struct text_inputs *it = inputs;
+    return CALL(cred_check_end, it->record, last, count);
 }
 
 static uint8_t end_record(const void *inputs, const struct argon2_block *last, size_t count) {
-    const struct record_inputs *it = inputs;
-    return CALL(cred_hash_end, &it->setting, last, count, ROOM(it->text, it->text_size),
+    const struct text_inputs *it = inputs;
+    return CALL(cred_hash_end, it->setting, last, count, ROOM(it->text, it->text_size),
                 it->written);
+}
+
+int rigzumal_check_threads(const char *record, const void *password, size_t password_size,
+                           uint32_t threads) {
+    struct record_reading reading;
+    uint8_t fault = v1_cred_check_read(TEXT(record), &reading);
+    int answer;
+    if (fault == RIGZUMAL_OK)
+        threads = useful_threads(&reading.setting.numbers, threads);
+    if (fault != RIGZUMAL_OK || threads == 1) {
+        answer = rigzumal_check(record, password, password_size);
+    } else {
+        struct text_inputs inputs = {.setting = &reading.setting,
+                                     .record = &reading,
+                                     .password = password,
+                                     .password_size = password_size};
+        struct task task = {reading.setting.numbers, begin_text, end_check, &inputs, NULL};
+        answer = cleared(work_lanes(&task, threads));
+    }
+    explicit_bzero(reading.tag, sizeof reading.tag);
+    return answer;
 }
 
 int rigzumal_record_threads(char *text, size_t text_size, size_t tag_size, const char *costs,
@@ -102,19 +116,21 @@ int rigzumal_record_threads(char *text, size_t text_size, size_t tag_size, const
     int fault = make_setting(&setting, costs, salt, salt_size);
     if (fault != RIGZUMAL_OK)
         return fault;
-    size_t written = 0;
-    struct record_inputs inputs = {.password = password,
-                                   .password_size = password_size,
-                                   .text = text,
-                                   .text_size = text_size,
-                                   .written = &written};
-    fault = v1_cred_hash_read(setting.text, setting.size,
-                              tag_size > UINT32_MAX ? 0 : (uint32_t)tag_size, &inputs.setting);
-    threads = useful_threads(&inputs.setting.numbers, threads);
+    struct setting_reading reading;
+    fault = v1_cred_hash_read(setting.text, setting.size, narrow_tag_size(tag_size), &reading);
+    if (fault == RIGZUMAL_OK)
+        threads = useful_threads(&reading.numbers, threads);
     if (fault != RIGZUMAL_OK || threads == 1)
         return rigzumal_record(text, text_size, tag_size, (const char *)setting.text, NULL, 0,
                                password, password_size);
-    struct task task = {inputs.setting.numbers, begin_record, end_record, &inputs, NULL};
+    size_t written = 0;
+    struct text_inputs inputs = {.setting = &reading,
+                                 .password = password,
+                                 .password_size = password_size,
+                                 .text = text,
+                                 .text_size = text_size,
+                                 .written = &written};
+    struct task task = {reading.numbers, begin_text, end_record, &inputs, NULL};
     fault = cleared(work_lanes(&task, threads));
     if (fault == RIGZUMAL_OK)
         text[written] = '\0';

@@ -94,10 +94,13 @@ class Comparison:
         self.ours, self.theirs = ours, theirs
         self.answers, self.refused = {}, {}
 
-    def same(self, what, call, refused=None):
-        """The answers are the same; but what the original hashes is refused by the number given,
-        if one is."""
-        one, other = call(self.ours), call(self.theirs)
+    def same(self, call, *given, refused=None):
+        """The answers are the same, of one of ours or of a call that the libraries have; but what
+        the original hashes is refused by the number given, if one is."""
+        one, other = (
+            getattr(lib, call)(*given) if isinstance(call, str) else call(lib, *given)
+            for lib in (self.ours, self.theirs)
+        )
         answer, wanted = (it[0] if isinstance(it, tuple) else it for it in (one, other))
         if refused is not None and wanted in HASHED:
             self.refused[refused] = self.refused.get(refused, 0) + 1
@@ -105,35 +108,30 @@ class Comparison:
         else:
             is_good = one == other
         if not is_good:
+            what = f"{call} {given}"
             sys.exit(f"{what:.900}\nours {one!s:.600}\ntheirs {other!s:.600}, refused {refused}")
         self.answers[answer] = self.answers.get(answer, 0) + 1
         return one
 
 
 def compare_contexts(draw, comparison, it):
-    comparison.same(
-        f"argon2_ctx {vars(it)}", lambda lib: by_context(lib, it, "argon2_ctx", it.kind)
-    )
-    for kind in KINDS:
-        name = kind + "_ctx"
-        made = comparison.same(f"{name} {vars(it)}", lambda lib: by_context(lib, it, name))
-        tag = bytearray(made[1])
+    comparison.same(by_context, it, "argon2_ctx", it.kind)
+    for number, kind in enumerate(KINDS):
+        tag = comparison.same(by_context, it, kind + "_ctx")[1]
         for at in (None, 0, len(tag) // 2, len(tag) - 1, draw.randrange(len(tag) or 1)):
             tried = bytearray(tag)
             if at is not None and tag:
                 tried[at] ^= 1 << draw.randrange(8)
-            for name, given in (
-                (kind + "_verify_ctx", ()),
-                ("argon2_verify_ctx", (KINDS.index(kind),)),
-            ):
-                comparison.same(
-                    f"{name} {at} {vars(it)}",
-                    lambda lib: by_context(lib, it, name, bytes(tried) + b"\0", *given),
-                )
+            tried = bytes(tried) + b"\0"
+            comparison.same(by_context, it, kind + "_verify_ctx", tried)
+            comparison.same(by_context, it, "argon2_verify_ctx", tried, number)
 
 
-def compare_texts(draw, comparison, it, texts):
+def compare_texts(comparison, it, texts):
     for text in texts:
+        if is_costly(text):
+            continue
+        refused = refused_here(text)
         for password, size in (
             (it.password, len(it.password)),
             (it.password + b"x", len(it.password) + 1),
@@ -141,54 +139,32 @@ def compare_texts(draw, comparison, it, texts):
             (None, 7),
             (None, 0),
         ):
-            if is_costly(text):
-                continue
             given = (text.encode("latin1"), password, size)
-            comparison.same(
-                f"argon2_verify {text} {given[1:]}",
-                lambda lib: lib.argon2_verify(*given, it.kind),
-                refused_here(text),
-            )
+            comparison.same("argon2_verify", *given, it.kind, refused=refused)
             for kind in KINDS:
-                comparison.same(
-                    f"{kind}_verify {text} {given[1:]}",
-                    lambda lib: getattr(lib, kind + "_verify")(*given),
-                    refused_here(text),
-                )
+                comparison.same(kind + "_verify", *given, refused=refused)
 
 
 def compare(draw, comparison):
     it = Inputs(draw)
     compare_contexts(draw, comparison, it)
     it.threads, it.flags, it.callbacks = it.lanes, 0, ""
-    comparison.same(
-        f"argon2_encodedlen {vars(it)}",
-        lambda lib: lib.argon2_encodedlen(
-            it.passes, it.memory, it.lanes, len(it.salt), it.tag_size, it.kind % 3
-        ),
-    )
+    numbers = (it.passes, it.memory, it.lanes, len(it.salt), it.tag_size, it.kind % 3)
+    fits = comparison.same("argon2_encodedlen", *numbers)
     size, has_raw = draw.choice((None, 0, 1, 40, 100, 3000, 3000, 3000)), draw.random() < 0.5
-    answer, encoded, _ = comparison.same(
-        f"argon2_hash {vars(it)}", lambda lib: by_hash(lib, it, size, has_raw)
-    )
+    answer, encoded, _ = comparison.same(by_hash, it, size, has_raw)
     if size == 3000:
-        fits = comparison.theirs.argon2_encodedlen(
-            it.passes, it.memory, it.lanes, len(it.salt), it.tag_size, it.kind % 3
-        )
         for room in (fits - 1, fits, fits + 1):
-            comparison.same(
-                f"argon2_hash into {room} bytes {vars(it)}",
-                lambda lib: by_hash(lib, it, room, has_raw),
-            )
+            comparison.same(by_hash, it, room, has_raw)
     if answer == 0 and size == 3000:
         texts = [encoded.split(b"\0")[0].decode()]
     else:
         texts = [text_of(it)]
     texts += [damaged(draw, texts[0]) for _ in range(4)]
     texts.append(damaged(draw, texts[-1]))
-    compare_texts(draw, comparison, it, texts)
+    compare_texts(comparison, it, texts)
     for kind in KINDS:
-        comparison.same(f"{kind} {vars(it)}", lambda lib: encoded_by_kind(lib, it, kind))
+        comparison.same(encoded_by_kind, it, kind)
 
 
 def compare_memory_beyond_ours(ours):
@@ -249,11 +225,10 @@ def compare_pairs_of_faults(comparison):
     for one, other in itertools.combinations(FAULTS, 2):
         null = one.get("null", "") + other.get("null", "")
         it = Inputs.plain(**{**one, **other, "null": null})
-        calls = [("argon2_ctx", (it.kind,)), *((f"{kind}_ctx", ()) for kind in KINDS)]
-        for name, given in calls:
-            what = f"{name} of {one}, {other}"
-            comparison.same(what, lambda lib: by_context(lib, it, name, *given))
-        comparison.same(f"argon2_hash of {one}, {other}", lambda lib: by_hash(lib, it, 3000, True))
+        comparison.same(by_context, it, "argon2_ctx", it.kind)
+        for kind in KINDS:
+            comparison.same(by_context, it, kind + "_ctx")
+        comparison.same(by_hash, it, 3000, True)
 
 
 def compare_memory_askew(ours):
@@ -268,29 +243,27 @@ def compare_memory_askew(ours):
             sys.exit(f"memory at {askew}: {answer}, {calls}")
 
 
+def hashed_to(lib, size):
+    """A tag of so many bytes with its string, and the answers to the right password and another."""
+    raw = ctypes.create_string_buffer(b"\x5a" * 70008, 70008)
+    encoded = ctypes.create_string_buffer(b"\x5a" * 100_000, 100_000)
+    room = (ctypes.addressof(encoded), 100_000)
+    made = lib.argon2_hash(1, 8, 1, b"password", 8, b"somesalt", 8, raw, size, *room, 2, 0x13)
+    text = encoded.value
+    answers = [lib.argon2_verify(text, it, len(it), 2) for it in (b"password", b"x")]
+    return made, encoded.raw, raw.raw, answers
+
+
 def compare_large_numbers(comparison):
     """Passes past 16 bits, tags past a page and past 16 bits, and texts of over 32 bits."""
     for passes in (257, 65536, 65537 + 256):
-        it = Inputs.plain(passes=passes, lanes=1, memory=8)
-        comparison.same(f"{passes} passes", lambda lib: by_context(lib, it, "argon2_ctx", 2))
+        comparison.same(by_context, Inputs.plain(passes=passes, lanes=1, memory=8), "argon2_ctx", 2)
     for size in (1023, 4095, 4096, 4097, 65535, 65536, 70000):
-
-        def hashed(lib):
-            raw = ctypes.create_string_buffer(b"\x5a" * 70008, 70008)
-            encoded = ctypes.create_string_buffer(b"\x5a" * 100_000, 100_000)
-            room = (ctypes.addressof(encoded), 100_000)
-            given = (1, 8, 1, b"password", 8, b"somesalt", 8, raw, size, *room, 2, 0x13)
-            made = lib.argon2_hash(*given)
-            text = encoded.value
-            answers = [lib.argon2_verify(text, it, len(it), 2) for it in (b"password", b"x")]
-            return made, encoded.raw, raw.raw, answers
-
-        made = comparison.same(f"a tag of {size} bytes", hashed)
-        if made[3] != [0, MISMATCH]:
-            sys.exit(f"a tag of {size} bytes: {made[3]}")
+        answers = comparison.same(hashed_to, size)[3]
+        if answers != [0, MISMATCH]:
+            sys.exit(f"a tag of {size} bytes: {answers}")
     for salt, tag in ((2**31, 8), (8, 2**31), (2**32 - 1, 2**32 - 1)):
-        given = (2**32 - 1, 2**32 - 1, 2**32 - 1, salt, tag, 1)
-        comparison.same(f"argon2_encodedlen {given}", lambda lib: lib.argon2_encodedlen(*given))
+        comparison.same("argon2_encodedlen", 2**32 - 1, 2**32 - 1, 2**32 - 1, salt, tag, 1)
 
 
 def compare_long_password(ours, theirs):
@@ -301,7 +274,8 @@ def compare_long_password(ours, theirs):
     if theirs.argon2_hash(*given, 2, 0x13) != 0:
         sys.exit("the original makes no string")
     password = zeros(size)
-    answers = [ours.argon2_verify(text.value, password, it, 2) for it in (8, size)]
+    at = ctypes.addressof(password)
+    answers = [ours.argon2_verify(text.value, at, it, 2) for it in (8, size)]
     if answers != [0, MISMATCH]:
         sys.exit(f"a password of {size} bytes: {answers}")
 
@@ -313,35 +287,30 @@ def compare_long_sizes(comparison):
         for encoded in (None, ctypes.create_string_buffer(600)):
             room = (None if encoded is None else ctypes.addressof(encoded), 600)
             given = (b"password", password, b"somesalt", salt, None, tag, *room)
-            comparison.same(
-                f"argon2_hash of sizes {password}, {salt}, {tag}",
-                lambda lib: lib.argon2_hash(1, 8, 1, *given, 2, 0x13),
-            )
+            comparison.same("argon2_hash", 1, 8, 1, *given, 2, 0x13)
     record = b"$argon2id$v=19$m=256,t=2,p=1$c29tZXNhbHQ$nf65EOgLrQMR/uIPnA4rEsF5h7TKyQwu9U1bMCHGi/4"
     for text in (record, record + b"$", b"", None):
-        comparison.same(
-            f"argon2_verify of {text} and a size of {long}",
-            lambda lib: lib.argon2_verify(text, b"password", long, 2),
-        )
+        comparison.same("argon2_verify", text, b"password", long, 2)
+
+
+def compare_words_and_nulls(comparison):
+    for number in range(2, -40, -1):
+        comparison.same("argon2_error_message", number)
+    for kind, upper in itertools.product(range(-1, 4), (0, 1)):
+        comparison.same("argon2_type2string", kind, upper)
+    comparison.same("argon2_ctx", None, 1)
+    comparison.same("argon2_verify_ctx", None, b"x", 1)
+    comparison.same("argon2_verify", None, b"", 0, 1)
+    for kind in KINDS:
+        comparison.same(kind + "_ctx", None)
+        comparison.same(kind + "_verify_ctx", None, b"x")
 
 
 def main():
     ours, theirs = map(library, sys.argv[1:3])
     draw = random.Random(int(sys.argv[3]))
     comparison = Comparison(ours, theirs)
-    for number in range(2, -40, -1):
-        comparison.same("argon2_error_message", lambda lib: lib.argon2_error_message(number))
-    for kind in range(-1, 4):
-        for upper in (0, 1):
-            comparison.same("argon2_type2string", lambda lib: lib.argon2_type2string(kind, upper))
-    for name in ("argon2_ctx", "argon2_verify_ctx"):
-        given = (b"x",) if "verify" in name else ()
-        comparison.same(f"{name} of null", lambda lib: getattr(lib, name)(None, *given, 1))
-    for kind in KINDS:
-        comparison.same(f"{kind}_ctx of null", lambda lib: getattr(lib, kind + "_ctx")(None))
-        call = kind + "_verify_ctx"
-        comparison.same(f"{call} of null", lambda lib: getattr(lib, call)(None, b"x"))
-    comparison.same("argon2_verify of null", lambda lib: lib.argon2_verify(None, b"", 0, 1))
+    compare_words_and_nulls(comparison)
     compare_memory_beyond_ours(ours)
     compare_refused_contexts(ours)
     compare_memory_askew(ours)

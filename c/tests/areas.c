@@ -1,36 +1,51 @@
-/* Kept areas go to one thread at a time, none is lost, and none is kept over the bound. heap.c is
- * built over tests/slow_atomics.h, so that a thread rests before each step on the kept areas: what
- * isn't one step is met by another thread. */
+/* Kept areas go to one thread at a time, none is lost, and none is kept over the bound. src/heap.c
+ * stands here with a rest before each atomic step, so that what isn't one step is met by another
+ * thread. */
 #define _GNU_SOURCE
 #include "blocks.h"
-#include "heap.h"
 
 #include <pthread.h>
 #include <stdatomic.h>
 #include <sys/mman.h>
 #include <unistd.h>
 
-enum { THREADS = 8, TURNS = 150, SIZE = 64 * 1024, AREA = 16 * 1024 * 1024, KEPT = 4 * AREA };
+static void rest(void);
+
+#undef atomic_load
+#undef atomic_store
+#undef atomic_exchange
+#undef atomic_compare_exchange_strong
+#undef atomic_compare_exchange_weak
+#undef atomic_fetch_sub
+
+#define RESTED(step) (rest(), (step))
+
+#define atomic_load(at) RESTED(atomic_load_explicit(at, memory_order_seq_cst))
+#define atomic_store(at, value) RESTED(atomic_store_explicit(at, value, memory_order_seq_cst))
+#define atomic_exchange(at, value) RESTED(atomic_exchange_explicit(at, value, memory_order_seq_cst))
+#define atomic_compare_exchange_strong(at, old, value)                                             \
+    RESTED(atomic_compare_exchange_strong_explicit(at, old, value, memory_order_seq_cst,           \
+                                                   memory_order_seq_cst))
+#define atomic_compare_exchange_weak atomic_compare_exchange_strong
+#define atomic_fetch_sub(at, value)                                                                \
+    RESTED(atomic_fetch_sub_explicit(at, value, memory_order_seq_cst))
+
+#include "../src/heap.c"
+
+enum { THREADS = 8, TURNS = 150, SIZE = 64 * KIB, KEPT = 64 * MIB };
 
 static _Atomic(size_t) mapped;
 
 /* How many steps this thread makes before the bound is lowered, or -1. */
 static _Thread_local int steps_to_lowering = -1;
 
-void rest(void) {
+static void rest(void) {
     if (steps_to_lowering >= 0 && steps_to_lowering-- == 0)
         keep_at_most(0);
     usleep(20);
 }
 
-void *__real_mmap(void *at, size_t size, int protection, int flags, int file, off_t offset);
-void *__wrap_mmap(void *at, size_t size, int protection, int flags, int file, off_t offset);
-int __real_munmap(void *start, size_t size);
-int __wrap_munmap(void *start, size_t size);
-int __real_madvise(void *start, size_t size, int advice);
-int __wrap_madvise(void *start, size_t size, int advice);
-
-void *__wrap_mmap(void *at, size_t size, int protection, int flags, int file, off_t offset) {
+WRAP(void *, mmap, void *at, size_t size, int protection, int flags, int file, off_t offset) {
     mapped += size;
     return __real_mmap(at, size, protection, flags, file, offset);
 }
@@ -42,19 +57,19 @@ static bool is_nobodys(const unsigned char *area) {
     return is_cleared && is_all(area, 0, SIZE);
 }
 
-int __wrap_munmap(void *start, size_t size) {
+WRAP(int, munmap, void *start, size_t size) {
     CHECK(size != AREA || is_nobodys(start));
     mapped -= size;
     return __real_munmap(start, size);
 }
 
-int __wrap_madvise(void *start, size_t size, int advice) {
+WRAP(int, madvise, void *start, size_t size, int advice) {
     CHECK(advice != MADV_FREE || is_nobodys(start));
     return __real_madvise(start, size, advice);
 }
 
 /* Gives areas back while others take them: each once. */
-static void *give_back(void *unused) {
+static void *give_kept(void *unused) {
     for (int turn = 0; turn < TURNS; turn++) {
         size_t size = unmap_kept_areas();
         CHECK(size % AREA == 0 && size <= KEPT);
@@ -93,7 +108,7 @@ int main(void) {
         numbers[i] = i + 1;
         CHECK(pthread_create(&threads[i], NULL, work, &numbers[i]) == 0);
     }
-    CHECK(pthread_create(&giver, NULL, give_back, NULL) == 0);
+    CHECK(pthread_create(&giver, NULL, give_kept, NULL) == 0);
     for (int i = 0; i < THREADS; i++)
         CHECK(pthread_join(threads[i], NULL) == 0);
     CHECK(pthread_join(giver, NULL) == 0);

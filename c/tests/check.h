@@ -5,6 +5,7 @@
 #include <stdio.h>
 #include <stdlib.h>
 #include <string.h>
+#include <sys/wait.h>
 
 #define CHECK(condition)                                                                           \
     do {                                                                                           \
@@ -29,6 +30,16 @@
 #define LITERAL(text) (text), sizeof(text) - 1
 #define NO_BYTES NULL, 0
 
+/* How many elements an array has. */
+#define COUNT(array) (sizeof(array) / sizeof(array)[0])
+
+/* Begins the definition of a function that the linker puts before one of the C library: harness.py
+ * names them for each test. */
+#define WRAP(result, name, ...)                                                                    \
+    result __real_##name(__VA_ARGS__);                                                             \
+    result __wrap_##name(__VA_ARGS__);                                                             \
+    result __wrap_##name(__VA_ARGS__)
+
 static inline int is_all(const void *start, int byte, size_t size) {
     const unsigned char *bytes = start;
     for (size_t i = 0; i < size; i++)
@@ -37,16 +48,11 @@ static inline int is_all(const void *start, int byte, size_t size) {
     return 1;
 }
 
-/* Whether the bytes are those that a text begins with in hexadecimal. */
-static inline int are_hex(const void *start, size_t size, const char *wanted) {
-    const unsigned char *bytes = start;
-    for (size_t i = 0; i < size; i++) {
-        char two[3];
-        snprintf(two, sizeof two, "%02x", bytes[i]);
-        if (strncmp(two, wanted + 2 * i, 2) != 0)
-            return 0;
-    }
-    return 1;
+/* The status of a child that ends by itself. */
+static inline int status_of(pid_t child) {
+    int status;
+    CHECK(child > 0 && waitpid(child, &status, 0) == child && WIFEXITED(status));
+    return WEXITSTATUS(status);
 }
 
 #endif

@@ -11,7 +11,6 @@
 
 #include <pthread.h>
 #include <stdatomic.h>
-#include <sys/wait.h>
 #include <unistd.h>
 
 enum { LANES = 4, SEGMENT = 64, TURNS = 10 };
@@ -67,9 +66,7 @@ static void *fork_here(void *unused) {
         CHECK(depths[i] == (unsigned char)i);
     if (child == 0)
         _exit(0);
-    int status;
-    CHECK(child > 0 && waitpid(child, &status, 0) == child);
-    CHECK(WIFEXITED(status) && WEXITSTATUS(status) == 0);
+    CHECK_NUMBER(status_of(child), 0);
     return unused;
 }
 
@@ -111,9 +108,7 @@ int main(void) {
         if (child == 0)
             be_child();
         is_forked = 1;
-        int status;
-        CHECK(child > 0 && waitpid(child, &status, 0) == child);
-        CHECK(WIFEXITED(status) && WEXITSTATUS(status) == 0);
+        CHECK_NUMBER(status_of(child), 0);
         CHECK(pthread_join(thread, NULL) == 0);
         CHECK_NUMBER(marks_left(), 0);
         fork_in_threads();

@@ -34,10 +34,9 @@ WRAPPED = {
     "mappings": "posix_memalign free realloc mmap mremap munmap madvise",
     "refused": "posix_memalign malloc realloc mmap",
     "areas": "mmap munmap madvise",
-    "drawn_salts": "getrandom",
-    "calls_in_threads": "pthread_create sched_getaffinity",
-    "depth": "clear_traces",
+    "calls": "pthread_create sched_getaffinity",
     "lanes": "pthread_create pthread_join pthread_mutex_unlock sched_getaffinity sysconf",
+    "stacks": "clear_traces",
     "with_threads": "pthread_create sched_getaffinity",
 }
 
@@ -63,11 +62,25 @@ def wraps(name):
     return [f"-Wl,--wrap={call}" for call in WRAPPED.get(name, "").split()]
 
 
-def built(name, flags, linked):
-    """A test in C, built."""
+def built(name, flags, linked, cc=None):
+    """A test in C, built by a compiler."""
     program = ROOM / f"{name}-{len(list(ROOM.iterdir()))}"
-    run(compiler(), *WARNINGS, *flags, *wraps(name), f"tests/{name}.c", *linked, "-o", program)
+    words = [*WARNINGS, *flags, *wraps(name), f"tests/{name}.c", *linked, "-o", program]
+    run(cc or compiler(), *words)
     return program
+
+
+def run_sanitized(*words):
+    """Runs a Python, told where a library of all C under the sanitizers is: all lanes are worked in
+    threads. What Python hands to it is guarded too."""
+    library = ROOM / "sanitized.so"
+    if not library.exists():
+        flags = [*WARNINGS, *SANITIZED, IN_THREADS, "-fPIC", "-shared", "-Wl,-Bsymbolic"]
+        flags += ["-Wl,--wrap=getrandom", "tests/getrandom.c"]
+        run(compiler(), *flags, *LIBARGON2, *SOURCES, "-o", library)
+    preloaded = run(compiler(), "-print-file-name=libasan.so").strip()
+    env = {"LD_PRELOAD": preloaded, "ASAN_OPTIONS": "detect_leaks=0", "PYTHONMALLOC": "malloc"}
+    return helpers.run(sys.executable, *words, env={**env, "LIBRARY": str(library)}, at=HERE)
 
 
 def sources_for(build):

@@ -2,7 +2,6 @@
  * what was written in them and nobody else's, and afterwards no more than the kept areas is mapped.
  * What can't be had is refused, and harms nothing. */
 #define _GNU_SOURCE
-#include "heap.h"
 #include "blocks.h"
 #include "watched_memory.h"
 
@@ -69,7 +68,7 @@ static void test_random_blocks(void) {
 /* A block whose size changes: its first bytes go along, and the old block is cleared. */
 static void test_changed_sizes(void) {
     static const size_t sizes[] = {1, 24, 1000, 64 * KIB, 3 * MIB, 17 * MIB};
-    enum { SIZES = sizeof sizes / sizeof sizes[0] };
+    enum { SIZES = COUNT(sizes) };
     for (int from = 0; from < SIZES; from++)
         for (int to = 0; to < SIZES; to++) {
             unsigned char *old = take_block(sizes[from]);
@@ -91,7 +90,7 @@ static void test_changed_sizes(void) {
  * size was. */
 static void test_used_again(void) {
     static const size_t sizes[] = {5 * MIB, 5 * MIB + 1, 5 * MIB + 63};
-    for (size_t i = 0; i < sizeof sizes / sizeof sizes[0]; i++) {
+    for (size_t i = 0; i < COUNT(sizes); i++) {
         unsigned char *below = take_block(MIB);
         unsigned char *above = take_block(sizes[i]);
         rattle_dealloc(above);
@@ -105,7 +104,7 @@ static void test_used_again(void) {
 static void test_zeros(void) {
     static const size_t sizes[] = {1024,     48 * KIB, 64 * KIB, 5 * MIB,
                                    16 * MIB, 16 * MIB, 1024,     40 * MIB};
-    enum { SIZES = sizeof sizes / sizeof sizes[0] };
+    enum { SIZES = COUNT(sizes) };
     unsigned char *taken[SIZES];
     for (int i = 0; i < SIZES; i++) {
         taken[i] = take_zeros(sizes[i]);

@@ -9,7 +9,6 @@
 #include <signal.h>
 #include <stdatomic.h>
 #include <sys/resource.h>
-#include <sys/wait.h>
 #include <unistd.h>
 
 enum { LANES = 4, SIGNALS = 400, CANCELS = 20, FORKS = 20, NOBODY = 65534 };
@@ -29,6 +28,13 @@ static void try_tag(void) {
     CHECK(memcmp(tag, wanted, sizeof tag) == 0);
 }
 
+static void try_tags(void) {
+    for (int turn = 0; turn < 20; turn++)
+        try_tag();
+}
+
+static int threads_before;
+
 static int threads_now(void) {
     int count = 0;
     DIR *tasks = opendir("/proc/self/task");
@@ -41,21 +47,6 @@ static int threads_now(void) {
 
 static void *nothing(void *unused) {
     return unused;
-}
-
-static int threads_before;
-
-/* The sanitizer of threads has one of its own beside the first that a program starts. */
-static void count_threads_before(void) {
-    pthread_t thread;
-    CHECK(pthread_create(&thread, NULL, nothing, NULL) == 0);
-    CHECK(pthread_join(thread, NULL) == 0);
-    threads_before = threads_now();
-    for (int turn = 0; turn < 50; turn++) { /* the one that was joined may be listed still */
-        usleep(2000);
-        int now = threads_now();
-        threads_before = now < threads_before ? now : threads_before;
-    }
 }
 
 /* One that was joined may be listed for a moment more. */
@@ -130,12 +121,6 @@ static void test_cancellation(void) {
     }
 }
 
-static void wait_for(pid_t child) {
-    int status;
-    CHECK(child > 0 && waitpid(child, &status, 0) == child);
-    CHECK(WIFEXITED(status) && WEXITSTATUS(status) == 0);
-}
-
 /* Forks of one thread, in the midst of another's calls: those go on, and nothing is in a child that
  * keeps it from its end. */
 static void test_forks(void) {
@@ -147,7 +132,7 @@ static void test_forks(void) {
         pid_t child = fork();
         if (child == 0)
             _exit(0);
-        wait_for(child);
+        CHECK_NUMBER(status_of(child), 0);
         while (calls == before)
             usleep(100);
     }
@@ -156,7 +141,8 @@ static void test_forks(void) {
     check_threads();
 }
 
-/* In a child that may start no thread. */
+/* In a child that may start no thread, while its parent calls too: neither reaches what the other
+ * has. */
 static void test_no_threads(void) {
     pid_t child = fork();
     if (child == 0) {
@@ -166,15 +152,16 @@ static void test_no_threads(void) {
         CHECK(geteuid() != 0 || setuid(NOBODY) == 0);
         CHECK(pthread_create(&thread, NULL, nothing, NULL) != 0 ||
               pthread_create(&thread, NULL, nothing, NULL) != 0);
-        try_tag();
+        try_tags();
         _exit(0);
     }
-    wait_for(child);
+    try_tags();
+    CHECK_NUMBER(status_of(child), 0);
 }
 
 int main(void) {
     make_tag(wanted, 1);
-    count_threads_before();
+    threads_before = threads_now();
     test_signals();
     test_cancellation();
     test_forks();

@@ -1,17 +1,17 @@
 #include "jobs.h"
 
-#include "argon2.h"
 #include "check.h"
+#include "libargon2.h"
 
 static const unsigned char salt[16] = "sixteen of salt.";
 uint32_t job_kind = RIGZUMAL_ARGON2ID, job_version = RIGZUMAL_VERSION_13;
 void (*look_at)(void *answer, size_t size);
 
 #define OF_KIND(of_i, of_id) (job_kind == RIGZUMAL_ARGON2I ? (of_i) : (of_id))
-#define COSTS OF_KIND("$argon2i$v=19$m=64,t=1,p=2", "$argon2id$v=19$m=64,t=1,p=2")
+#define COSTS OF_KIND("$argon2i$v=19$m=64,t=1,p=3", "$argon2id$v=19$m=64,t=1,p=3")
 #define DEARER                                                                                     \
-    OF_KIND("$argon2i$v=19$m=72,t=1,p=2$c2l4dGVlbiBvZiBzYWx0Lg",                                   \
-            "$argon2id$v=19$m=72,t=1,p=2$c2l4dGVlbiBvZiBzYWx0Lg")
+    OF_KIND("$argon2i$v=19$m=72,t=1,p=3$c2l4dGVlbiBvZiBzYWx0Lg",                                   \
+            "$argon2id$v=19$m=72,t=1,p=3$c2l4dGVlbiBvZiBzYWx0Lg")
 
 /* The inputs of a call, with its trouble. */
 
@@ -26,105 +26,57 @@ static int has_trouble(const struct vault *it, enum trouble trouble) {
 
 /* The calls of rigzumal.h. */
 
-static struct rigzumal_argon2 argon2_numbers(uint32_t memory, uint32_t lanes) {
-    return (struct rigzumal_argon2){job_kind, job_version, memory, 1, lanes};
-}
-
-static int tag(struct vault *it) {
-    struct rigzumal_argon2 numbers = argon2_numbers(it->job->number, 2);
-    return rigzumal_argon2(it->made, TAG, &numbers, PASSWORD, ARRAY(salt), NO_BYTES, NO_BYTES);
-}
-
-static int tag_with_secret(struct vault *it) {
-    struct rigzumal_argon2 numbers = argon2_numbers(it->job->number, 2);
-    return rigzumal_argon2(it->made, TAG, &numbers, PASSWORD, ARRAY(salt), SECRET, NO_BYTES);
-}
-
-static int tag_in_threads(struct vault *it) {
-    struct rigzumal_argon2 numbers = argon2_numbers(it->job->number, 4);
-    return rigzumal_argon2_threads(it->made, TAG, &numbers, PASSWORD, ARRAY(salt), SECRET, NO_BYTES,
-                                   4);
-}
-
-static int key(struct vault *it) {
-    struct rigzumal_scrypt numbers = {it->job->number, 2, 2};
-    return rigzumal_scrypt(it->made, KEY, &numbers, PASSWORD, ARRAY(salt));
-}
-
-static int record(struct vault *it) {
-    return rigzumal_record(TEXT, TAG, COSTS, ARRAY(salt), PASSWORD);
-}
-
-static int scrypt_record(struct vault *it) {
-    return rigzumal_record(TEXT, KEY, "$scrypt$ln=4,r=2,p=2", ARRAY(salt), PASSWORD);
-}
-
-static int record_in_threads(struct vault *it) {
-    return rigzumal_record_threads(TEXT, TAG, COSTS, ARRAY(salt), PASSWORD, 2);
-}
-
-static int record_with_secret(struct vault *it) {
-    return rigzumal_record_with_secret(TEXT, TAG, COSTS, ARRAY(salt), PASSWORD, SECRET);
-}
-
-static int record_with_secret_in_threads(struct vault *it) {
-    return rigzumal_record_with_secret_threads(TEXT, TAG, COSTS, ARRAY(salt), PASSWORD, SECRET, 2);
-}
-
-static int written_record(struct vault *it) {
-    struct rigzumal_argon2 numbers = argon2_numbers(64, 2);
-    return rigzumal_argon2_write(TEXT, &numbers, ARRAY(salt), ARRAY(it->tag));
-}
-
-static int check(struct vault *it) {
-    return rigzumal_check(RECORD(it->record), PASSWORD);
-}
-
-static int scrypt_check(struct vault *it) {
-    return rigzumal_check(it->scrypt_record, PASSWORD);
-}
-
-static int check_in_threads(struct vault *it) {
-    return rigzumal_check_threads(it->record, PASSWORD, 2);
-}
-
-static int check_with_secret(struct vault *it) {
-    return rigzumal_check_with_secret(RECORD(it->record_with_secret), PASSWORD, SECRET);
-}
-
-static int check_with_secret_in_threads(struct vault *it) {
-    return rigzumal_check_with_secret_threads(it->record_with_secret, PASSWORD, SECRET, 2);
-}
-
-static int record_fault(struct vault *it) {
-    return rigzumal_record_fault(RECORD(it->record));
-}
-
-static int setting_fault(struct vault *it) {
-    return rigzumal_setting_fault(has_trouble(it, BAD_RECORD) ? it->record : it->setting);
-}
-
-static int parts(struct vault *it) {
-    struct rigzumal_parts parts;
-    return rigzumal_parts(&parts, it->record);
-}
-
-static int needs_rehash(struct vault *it) {
-    return rigzumal_needs_rehash(it->record, COSTS, sizeof salt, TAG);
+static struct rigzumal_argon2 argon2_numbers(uint32_t memory) {
+    return (struct rigzumal_argon2){job_kind, job_version, memory, 1, 3};
 }
 
 static struct rigzumal_inputs inputs_of(const struct vault *it) {
     return (struct rigzumal_inputs){PASSWORD, ARRAY(salt), SECRET, NO_BYTES, 2};
 }
 
-static int record_from(struct vault *it) {
-    struct rigzumal_inputs inputs = inputs_of(it);
-    return rigzumal_record_from(TEXT, TAG, COSTS, &inputs);
+/* A call that is one expression; numbers and inputs are those of the job. */
+#define JOB(name, call)                                                                            \
+    static int name(struct vault *it) {                                                            \
+        struct rigzumal_argon2 numbers = argon2_numbers(it->job->number);                          \
+        struct rigzumal_inputs inputs = inputs_of(it);                                             \
+        (void)numbers, (void)inputs;                                                               \
+        return call;                                                                               \
+    }
+
+JOB(tag, rigzumal_argon2(it->made, TAG, &numbers, PASSWORD, ARRAY(salt), NO_BYTES, NO_BYTES))
+JOB(tag_with_secret,
+    rigzumal_argon2(it->made, TAG, &numbers, PASSWORD, ARRAY(salt), SECRET, NO_BYTES))
+JOB(tag_in_threads,
+    rigzumal_argon2_threads(it->made, TAG, &numbers, PASSWORD, ARRAY(salt), SECRET, NO_BYTES, 2))
+JOB(record, rigzumal_record(TEXT, TAG, COSTS, ARRAY(salt), PASSWORD))
+JOB(scrypt_record, rigzumal_record(TEXT, KEY, "$scrypt$ln=4,r=2,p=2", ARRAY(salt), PASSWORD))
+JOB(record_in_threads, rigzumal_record_threads(TEXT, TAG, COSTS, ARRAY(salt), PASSWORD, 2))
+JOB(record_with_secret,
+    rigzumal_record_with_secret(TEXT, TAG, COSTS, ARRAY(salt), PASSWORD, SECRET))
+JOB(record_with_secret_in_threads,
+    rigzumal_record_with_secret_threads(TEXT, TAG, COSTS, ARRAY(salt), PASSWORD, SECRET, 2))
+JOB(record_from, rigzumal_record_from(TEXT, TAG, COSTS, &inputs))
+JOB(check, rigzumal_check(RECORD(it->record), PASSWORD))
+JOB(scrypt_check, rigzumal_check(it->scrypt_record, PASSWORD))
+JOB(check_in_threads, rigzumal_check_threads(it->record, PASSWORD, 2))
+JOB(check_with_secret, rigzumal_check_with_secret(RECORD(it->record_with_secret), PASSWORD, SECRET))
+JOB(check_with_secret_in_threads,
+    rigzumal_check_with_secret_threads(it->record_with_secret, PASSWORD, SECRET, 2))
+JOB(check_from, rigzumal_check_from(it->record_with_secret, &inputs))
+JOB(record_fault, rigzumal_record_fault(RECORD(it->record)))
+JOB(setting_fault, rigzumal_setting_fault(has_trouble(it, BAD_RECORD) ? it->record : it->setting))
+JOB(explained, rigzumal_explain(TEXT, RECORD(it->record)))
+JOB(needs_rehash, rigzumal_needs_rehash(it->record, COSTS, sizeof salt, TAG))
+JOB(written_record, rigzumal_argon2_write(TEXT, &numbers, ARRAY(salt), ARRAY(it->tag)))
+
+static int key(struct vault *it) {
+    struct rigzumal_scrypt numbers = {it->job->number, 2, 2};
+    return rigzumal_scrypt(it->made, KEY, &numbers, PASSWORD, ARRAY(salt));
 }
 
-static int check_from(struct vault *it) {
-    struct rigzumal_inputs inputs = inputs_of(it);
-    return rigzumal_check_from(it->record_with_secret, &inputs);
+static int parts(struct vault *it) {
+    struct rigzumal_parts parts;
+    return rigzumal_parts(&parts, it->record);
 }
 
 /* The replies to each operation, if the password is right and if it is wrong. */
@@ -177,8 +129,8 @@ static argon2_context context_of(struct vault *it) {
                             .secretlen = sizeof it->secret,
                             .t_cost = 1,
                             .m_cost = 64,
-                            .lanes = 2,
-                            .threads = 2,
+                            .lanes = 3,
+                            .threads = it->job->number,
                             .version = RIGZUMAL_VERSION_13};
 }
 
@@ -189,7 +141,7 @@ static int libargon2_ctx(struct vault *it) {
 
 static int libargon2_verify_ctx(struct vault *it) {
     argon2_context context = context_of(it);
-    return argon2id_verify_ctx(&context, (const char *)it->tag_with_secret);
+    return argon2_verify_ctx(&context, (const char *)it->tag_with_secret, Argon2_id);
 }
 
 /* What the caller wants cleared is cleared when the tag is made, and as it was after a refusal: a
@@ -239,19 +191,16 @@ static int libargon2_ctx_with_memory(struct vault *it) {
     return answer;
 }
 
-static int libargon2_raw(struct vault *it) {
-    return argon2id_hash_raw(1, 64, 2, PASSWORD, ARRAY(salt), it->made, it->job->number);
-}
+#define OF_ARGON2_H 1, 64, 3, PASSWORD, ARRAY(salt)
+#define TYPE (argon2_type) job_kind
 
-static int libargon2_encoded(struct vault *it) {
-    return OF_KIND(argon2i_hash_encoded, argon2id_hash_encoded)(1, 64, 2, PASSWORD, ARRAY(salt),
-                                                                it->job->number, TEXT);
-}
-
-static int libargon2_verify(struct vault *it) {
-    const char *string = it->job->number == LONG_TAG ? it->long_string : it->record;
-    return OF_KIND(argon2i_verify, argon2id_verify)(RECORD(string), PASSWORD);
-}
+JOB(libargon2_raw,
+    argon2_hash(OF_ARGON2_H, it->made, it->job->number, NULL, 0, TYPE, RIGZUMAL_VERSION_13))
+JOB(libargon2_encoded,
+    argon2_hash(OF_ARGON2_H, NULL, it->job->number, TEXT, TYPE, RIGZUMAL_VERSION_13))
+JOB(libargon2_verify,
+    argon2_verify(RECORD(it->job->number == LONG_TAG ? it->long_string : it->record), PASSWORD,
+                  TYPE))
 
 #define DONE RIGZUMAL_OK, NO_TROUBLE, 0
 #define DONE_WITH(number) RIGZUMAL_OK, NO_TROUBLE, number
@@ -277,7 +226,7 @@ const struct job jobs[] = {
     {"rigzumal_record_with_secret", record_with_secret, DONE},
     {"rigzumal_record_with_secret_threads", record_with_secret_in_threads, DONE},
     {"rigzumal_record_from", record_from, DONE},
-    {"rigzumal_argon2_write", written_record, DONE},
+    {"rigzumal_argon2_write", written_record, DONE_WITH(64)},
     {"rigzumal_check", check, DONE},
     {"rigzumal_check of another password", check, OF_ANOTHER},
     {"rigzumal_check of a bad record", check, OF_A_BAD_RECORD},
@@ -294,6 +243,8 @@ const struct job jobs[] = {
     {"rigzumal_record_fault of a bad record", record_fault, OF_A_BAD_RECORD},
     {"rigzumal_setting_fault", setting_fault, DONE},
     {"rigzumal_setting_fault of a record", setting_fault, OF_A_BAD_RECORD},
+    {"rigzumal_explain", explained, DONE},
+    {"rigzumal_explain of a bad record", explained, OF_A_BAD_RECORD},
     {"rigzumal_parts", parts, DONE},
     {"rigzumal_needs_rehash", needs_rehash, DONE},
     {"rigzumal_step of an enrol", step, DONE_WITH(RIGZUMAL_ENROL)},
@@ -304,25 +255,26 @@ const struct job jobs[] = {
     {"rigzumal_step at a bad record", step, RIGZUMAL_COPY, BAD_RECORD, RIGZUMAL_VERIFY},
     {"rigzumal_step_from of a verify", step_from, DONE_WITH(RIGZUMAL_VERIFY)},
     {"rigzumal_step_from of a change", step_from, DONE_WITH(RIGZUMAL_CHANGE)},
-    {"argon2_ctx", libargon2_ctx, DONE},
-    {"argon2_ctx that clears", libargon2_clearing_ctx, DONE},
-    {"argon2_ctx with its own memory", libargon2_ctx_with_memory, DONE},
-    {"argon2id_verify_ctx", libargon2_verify_ctx, DONE},
-    {"argon2id_verify_ctx of another", libargon2_verify_ctx, STRING_OF_ANOTHER, 0},
-    {"argon2id_hash_raw", libargon2_raw, DONE_WITH(TAG)},
-    {"argon2id_hash_raw of a long tag", libargon2_raw, DONE_WITH(LONG_TAG)},
-    {"argon2id_hash_encoded", libargon2_encoded, DONE_WITH(TAG)},
-    {"argon2id_hash_encoded without room", libargon2_encoded, ARGON2_ENCODING_FAIL, LITTLE_ROOM,
+    {"argon2_ctx", libargon2_ctx, DONE_WITH(2)},
+    {"argon2_ctx on one thread", libargon2_ctx, DONE_WITH(1)},
+    {"argon2_ctx that clears", libargon2_clearing_ctx, DONE_WITH(2)},
+    {"argon2_ctx with its own memory", libargon2_ctx_with_memory, DONE_WITH(2)},
+    {"argon2_verify_ctx", libargon2_verify_ctx, DONE_WITH(2)},
+    {"argon2_verify_ctx of another", libargon2_verify_ctx, STRING_OF_ANOTHER, 2},
+    {"argon2_hash, a tag", libargon2_raw, DONE_WITH(TAG)},
+    {"argon2_hash, a long tag", libargon2_raw, DONE_WITH(LONG_TAG)},
+    {"argon2_hash, a string", libargon2_encoded, DONE_WITH(TAG)},
+    {"argon2_hash, a string without room", libargon2_encoded, ARGON2_ENCODING_FAIL, LITTLE_ROOM,
      TAG},
-    {"argon2id_hash_encoded of a long tag", libargon2_encoded, DONE_WITH(LONG_TAG)},
-    {"argon2id_verify", libargon2_verify, DONE_WITH(TAG)},
-    {"argon2id_verify of another", libargon2_verify, STRING_OF_ANOTHER, TAG},
-    {"argon2id_verify of a bad string", libargon2_verify, ARGON2_DECODING_FAIL, BAD_RECORD, TAG},
-    {"argon2id_verify of a long tag", libargon2_verify, DONE_WITH(LONG_TAG)},
-    {"argon2id_verify of another's long tag", libargon2_verify, STRING_OF_ANOTHER, LONG_TAG},
+    {"argon2_hash, a string of a long tag", libargon2_encoded, DONE_WITH(LONG_TAG)},
+    {"argon2_verify", libargon2_verify, DONE_WITH(TAG)},
+    {"argon2_verify of another", libargon2_verify, STRING_OF_ANOTHER, TAG},
+    {"argon2_verify of a bad string", libargon2_verify, ARGON2_DECODING_FAIL, BAD_RECORD, TAG},
+    {"argon2_verify of a long tag", libargon2_verify, DONE_WITH(LONG_TAG)},
+    {"argon2_verify of another's long tag", libargon2_verify, STRING_OF_ANOTHER, LONG_TAG},
 };
 
-const int job_count = sizeof jobs / sizeof jobs[0];
+const int job_count = COUNT(jobs);
 
 int answer_of(const struct job *job, struct vault *vault) {
     vault->job = job;
@@ -343,36 +295,36 @@ bool is_refused(const struct job *job, const struct vault *given, const struct v
     return !is_right;
 }
 
-/* Makes what a call that differs in no more than a number writes. */
-static void make(struct vault *vault, int (*call)(struct vault *vault), uint32_t number) {
-    struct job job = {"", call, DONE_WITH(number)};
-    CHECK_NUMBER(answer_of(&job, vault), RIGZUMAL_OK);
-}
-
 void fill_vault(struct vault *vault) {
     memset(vault, 0, sizeof *vault);
     for (size_t i = 0; i < sizeof vault->password; i++)
         vault->password[i] = (unsigned char)(i * 197 + 71);
     for (size_t i = 0; i < sizeof vault->secret; i++)
         vault->secret[i] = (unsigned char)(i * 163 + 37);
-    make(vault, tag, 64);
-    memcpy(vault->tag, vault->made, TAG);
-    make(vault, tag_with_secret, 64);
-    memcpy(vault->tag_with_secret, vault->made, TAG);
-    make(vault, key, 4);
-    memcpy(vault->key, vault->made, KEY);
-    make(vault, libargon2_raw, LONG_TAG);
-    memcpy(vault->long_tag, vault->made, LONG_TAG);
-    make(vault, libargon2_encoded, LONG_TAG);
-    strcpy(vault->long_string, vault->text);
-    make(vault, record_with_secret, 0);
-    strcpy(vault->record_with_secret, vault->text);
-    make(vault, scrypt_record, 0);
-    strcpy(vault->scrypt_record, vault->text);
-    make(vault, record, 0);
-    strcpy(vault->record, vault->text);
+    const struct {
+        struct job job;
+        void *to;
+        const void *from;
+        size_t size;
+    } made[] = {
+        {{"", tag, DONE_WITH(64)}, vault->tag, vault->made, TAG},
+        {{"", tag_with_secret, DONE_WITH(64)}, vault->tag_with_secret, vault->made, TAG},
+        {{"", key, DONE_WITH(4)}, vault->key, vault->made, KEY},
+        {{"", libargon2_raw, DONE_WITH(LONG_TAG)}, vault->long_tag, vault->made, LONG_TAG},
+        {{"", libargon2_encoded, DONE_WITH(LONG_TAG)}, vault->long_string, vault->text, ENCODED},
+        {{"", record_with_secret, DONE},
+         vault->record_with_secret,
+         vault->text,
+         sizeof vault->text},
+        {{"", scrypt_record, DONE}, vault->scrypt_record, vault->text, sizeof vault->text},
+        {{"", record, DONE}, vault->record, vault->text, sizeof vault->text},
+    };
+    for (size_t i = 0; i < COUNT(made); i++) {
+        CHECK_NUMBER(answer_of(&made[i].job, vault), RIGZUMAL_OK);
+        memcpy(made[i].to, made[i].from, made[i].size);
+        memset(vault->text, 0, sizeof vault->text);
+        memset(vault->made, 0, sizeof vault->made);
+    }
     strcat(strcpy(vault->bad_record, vault->record), "$");
     strcat(strcpy(vault->setting, COSTS), strrchr(vault->record, '$'));
-    memset(vault->text, 0, sizeof vault->text);
-    memset(vault->made, 0, sizeof vault->made);
 }

@@ -1,12 +1,7 @@
-/* src/lanes.c over stand-ins for the exports and for the heap (watched_lanes.h), with threads
- * refused at random, answers that aren't 0, and memory of the caller's. */
+/* src/lanes.c over stand-ins for the exports and for the heap, with threads refused at random,
+ * answers that aren't 0, and memory of the caller's. */
 #define _GNU_SOURCE
-#include "check.h"
-#include "marks.h"
 #include "watched_lanes.h"
-
-#include <sys/wait.h>
-#include <unistd.h>
 
 /* Gives the turn memory of its caller, for all slices. */
 static void give_memory(void) {
@@ -69,26 +64,20 @@ static void test_order(int turns) {
     }
 }
 
-static void test_most_threads(void) {
-    begin_turn();
-    refusals = 0;
-    now.numbers.lanes = MOST_LANES;
-    now.numbers.passes = 1;
-    now.slice = now.segment * MOST_LANES;
-    try_threads(MOST_LANES, RIGZUMAL_OK);
-    CHECK(now.ends == 1 && now.starts == MOST_LANES - 1);
-}
-
-/* More passes than eight bits count. */
-static void test_many_passes(void) {
-    begin_turn();
-    refusals = 0;
-    now.numbers.lanes = 2;
-    now.numbers.passes = MANY_PASSES;
-    now.segment = 2;
-    now.slice = now.segment * now.numbers.lanes;
-    try_threads(2, RIGZUMAL_OK);
-    CHECK(now.ends == 1 && now.segments_over == SLICES * MANY_PASSES * 2);
+/* As many threads as there can be, and more passes than eight bits count. */
+static void test_large_numbers(void) {
+    static const struct { uint32_t lanes, passes; } large[] = {{MOST_LANES, 1}, {2, MANY_PASSES}};
+    for (size_t i = 0; i < COUNT(large); i++) {
+        begin_turn();
+        refusals = 0;
+        now.numbers.lanes = large[i].lanes;
+        now.numbers.passes = large[i].passes;
+        now.segment = 2;
+        now.slice = now.segment * now.numbers.lanes;
+        try_threads(now.numbers.lanes, RIGZUMAL_OK);
+        CHECK(now.ends == 1 && now.starts == (int)now.numbers.lanes - 1);
+        CHECK((uint32_t)now.segments_over == SLICES * large[i].passes * large[i].lanes);
+    }
 }
 
 /* More segments than 32 bits count: in a child, which ends well when it works a late one. */
@@ -106,9 +95,7 @@ static void test_many_segments(void) {
         work_lanes(&task, 1);
         _exit(1);
     }
-    int status;
-    CHECK(child > 0 && waitpid(child, &status, 0) == child);
-    CHECK(WIFEXITED(status) && WEXITSTATUS(status) == 0);
+    CHECK_NUMBER(status_of(child), 0);
 }
 
 /* Signals that the caller blocks stay blocked, and the others stay open. */
@@ -196,8 +183,7 @@ int main(int given, char **words) {
     int turns = atoi(words[1]);
     test_useful_threads();
     test_order(turns);
-    test_most_threads();
-    test_many_passes();
+    test_large_numbers();
     test_many_segments();
     test_blocked_signals();
     test_small_stacks();

@@ -97,6 +97,9 @@ class Inputs:
         self.flags = draw.choice((0, 0, 1, 2, 3))
         self.overlap = draw.randrange(4000)
 
+    def __repr__(self):
+        return f"Inputs({vars(self)})"
+
     @classmethod
     def plain(cls, **changes):
         """Good ones of two lanes, but for these."""
@@ -110,11 +113,8 @@ class Inputs:
 
 def zeros(size):
     """Where so many zero bytes lie, of which the system has no page until they are read."""
-    call = ctypes.CDLL(None).mmap
-    call.restype, number = ctypes.c_void_p, ctypes.c_int
-    call.argtypes = [ctypes.c_void_p, ctypes.c_size_t, number, number, number, ctypes.c_long]
     flags = mmap.MAP_PRIVATE | mmap.MAP_ANONYMOUS | 0x4000  # MAP_NORESERVE
-    return call(None, size, mmap.PROT_READ, flags, -1, 0)
+    return ctypes.c_char.from_buffer(mmap.mmap(-1, size, flags=flags))
 
 
 def bytes_or_null(data, is_null):
@@ -172,21 +172,12 @@ def by_context(lib, it, name, *given):
 def by_hash(lib, it, encoded_size, has_raw):
     raw = ctypes.create_string_buffer(b"\x5a" * 1100, 1100)
     encoded = ctypes.create_string_buffer(b"\x5a" * 3000, 3000)
-    answer = lib.argon2_hash(
-        it.passes,
-        it.memory,
-        it.lanes,
-        bytes_or_null(it.password, it.null == "p"),
-        len(it.password),
-        bytes_or_null(it.salt, it.null == "s"),
-        len(it.salt),
-        ctypes.addressof(raw) if has_raw else None,
-        it.tag_size,
-        ctypes.addressof(encoded) if encoded_size is not None else None,
-        encoded_size or 0,
-        it.kind,
-        it.version,
-    )
+    password = bytes_or_null(it.password, it.null == "p"), len(it.password)
+    salt = bytes_or_null(it.salt, it.null == "s"), len(it.salt)
+    tag = ctypes.addressof(raw) if has_raw else None, it.tag_size
+    text = None if encoded_size is None else ctypes.addressof(encoded), encoded_size or 0
+    costs = (it.passes, it.memory, it.lanes)
+    answer = lib.argon2_hash(*costs, *password, *salt, *tag, *text, it.kind, it.version)
     return answer, encoded.raw, raw.raw
 
 

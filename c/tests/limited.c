@@ -5,7 +5,6 @@
 #include "jobs.h"
 
 #include <sys/resource.h>
-#include <sys/wait.h>
 #include <unistd.h>
 
 enum { MIB = 1024 * 1024, MOST_JOBS = 100, RIGHT = 0, REFUSED = 3 };
@@ -13,7 +12,7 @@ enum { MIB = 1024 * 1024, MOST_JOBS = 100, RIGHT = 0, REFUSED = 3 };
 static struct vault given, wanted[MOST_JOBS];
 
 /* The calls in a child that may map so much. */
-static int status_of(rlim_t limit) {
+static int status_under(rlim_t limit) {
     pid_t child = fork();
     if (child == 0) {
         struct rlimit limits = {limit, limit};
@@ -23,9 +22,7 @@ static int status_of(rlim_t limit) {
             is_any_refused |= is_refused(&jobs[i], &given, &wanted[i]);
         _exit(is_any_refused ? REFUSED : RIGHT);
     }
-    int status;
-    CHECK(child > 0 && waitpid(child, &status, 0) == child && WIFEXITED(status));
-    return WEXITSTATUS(status);
+    return status_of(child);
 }
 
 int main(void) {
@@ -37,12 +34,12 @@ int main(void) {
     }
     rigzumal_trim(); /* nothing is kept for the children */
     rigzumal_libargon2_trim();
-    CHECK_NUMBER(status_of(RLIM_INFINITY), RIGHT);
-    CHECK_NUMBER(status_of(48 * MIB), REFUSED);
+    CHECK_NUMBER(status_under(RLIM_INFINITY), RIGHT);
+    CHECK_NUMBER(status_under(48 * MIB), REFUSED);
     for (rlim_t limit = 16 * MIB; limit <= 192 * MIB; limit += 4 * MIB) {
-        int status = status_of(limit);
+        int status = status_under(limit);
         CHECK(status == RIGHT || status == REFUSED);
     }
-    CHECK_NUMBER(status_of(512 * MIB), RIGHT);
+    CHECK_NUMBER(status_under(512 * MIB), RIGHT);
     return 0;
 }

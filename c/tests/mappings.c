@@ -2,18 +2,28 @@
 #define _GNU_SOURCE
 #include "blocks.h"
 #include "flags.h"
-#include "heap.h"
 #include "watched_memory.h"
 
 #include <sys/mman.h>
+#include <unistd.h>
 
-/* Large blocks are the process's own, in no core dump, and read as zero in a forked child. */
+/* Large blocks are the process's own, in no core dump, and read as zero in a forked child, which
+ * changes nothing of them. */
 static void test_flags(void) {
     static const size_t sizes[] = {64 * KIB, 5 * MIB, AREA, 40 * MIB};
-    for (size_t i = 0; i < sizeof sizes / sizeof sizes[0]; i++) {
+    for (size_t i = 0; i < COUNT(sizes); i++) {
         unsigned char *start = take_block(sizes[i]), *last = start + sizes[i] - 1;
         CHECK(is_hidden(start) && is_hidden(last));
         CHECK(!has_flag(start, " sh") && !has_flag(last, " sh"));
+        memset(start, 0x66, sizes[i]);
+        pid_t child = fork();
+        if (child == 0) {
+            bool is_zero = is_all(start, 0, sizes[i]);
+            memset(start, 0x99, sizes[i]);
+            _exit(!is_zero);
+        }
+        CHECK_NUMBER(status_of(child), 0);
+        CHECK(is_all(start, 0x66, sizes[i]));
         rattle_dealloc(start);
     }
 }
@@ -27,7 +37,7 @@ static bool is_advised(int advice, const unsigned char *start, size_t size) {
  * kept; and the rest is unmapped. */
 static void test_advice(void) {
     static const size_t sizes[] = {64 * KIB, 5 * MIB, 16 * MIB, 40 * MIB, 64 * MIB, 70 * MIB};
-    for (size_t i = 0; i < sizeof sizes / sizeof sizes[0]; i++) {
+    for (size_t i = 0; i < COUNT(sizes); i++) {
         unmap_kept_areas();
         CHECK(mapped == 0);
         memset(advised, 0, sizeof advised);
@@ -44,42 +54,30 @@ static void test_advice(void) {
     }
 }
 
-/* The fewest and the most that can be kept are given back, each once; what is in use stays. */
+/* From nothing to the most that can be kept is given back, each area once, whichever of it is taken
+ * again meanwhile; what is in use stays. */
 static void test_giving_back(void) {
     unsigned char *taken[6];
-    unmap_kept_areas();
-    CHECK(mapped == 0 && unmap_kept_areas() == 0);
-    for (int held = 0; held <= 6; held++) {
+    for (int at = 0; at < 7 * 5; at++) {
+        int held = at / 5, kept = held < 4 ? held : 4, in_use = at % 5 < kept ? at % 5 : kept;
+        unmap_kept_areas();
         for (int i = 0; i < held; i++) {
             taken[i] = take_block(AREA);
-            memset(taken[i], i + 1, AREA);
+            memset(taken[i], i + 1, MIB);
         }
         CHECK(unmap_kept_areas() == 0 && mapped == (size_t)held * AREA);
         for (int i = 0; i < held; i++) {
-            CHECK(is_all(taken[i], i + 1, AREA));
+            CHECK(is_all(taken[i], i + 1, MIB));
             rattle_dealloc(taken[i]);
         }
-        size_t kept = held < 4 ? (size_t)held * AREA : KEPT;
-        CHECK(mapped == kept);
-        CHECK(unmap_kept_areas() == kept && mapped == 0);
-    }
-}
-
-/* What is kept is given back, whichever of it is taken meanwhile. */
-static void test_giving_some_back(void) {
-    unsigned char *taken[4];
-    for (int held = 1; held <= 4; held++) {
-        for (int i = 0; i < 4; i++)
+        CHECK(mapped == (size_t)kept * AREA);
+        for (int i = 0; i < in_use; i++)
             taken[i] = take_block(AREA);
-        for (int i = 0; i < 4; i++)
+        CHECK(unmap_kept_areas() == (size_t)(kept - in_use) * AREA);
+        CHECK(mapped == (size_t)in_use * AREA);
+        for (int i = 0; i < in_use; i++)
             rattle_dealloc(taken[i]);
-        for (int i = 0; i < held; i++)
-            taken[i] = take_block(AREA);
-        CHECK(unmap_kept_areas() == (size_t)(4 - held) * AREA);
-        CHECK(mapped == (size_t)held * AREA);
-        for (int i = 0; i < held; i++)
-            rattle_dealloc(taken[i]);
-        CHECK(unmap_kept_areas() == (size_t)held * AREA && mapped == 0);
+        CHECK(unmap_kept_areas() == (size_t)in_use * AREA && mapped == 0);
     }
 }
 
@@ -100,7 +98,7 @@ static void test_kept_areas(void) {
         int blocks;
         size_t size;
     } tried[] = {{4, AREA}, {2, 2 * AREA}, {1, 40 * MIB}, {1, KEPT}};
-    for (size_t i = 0; i < sizeof tried / sizeof tried[0]; i++) {
+    for (size_t i = 0; i < COUNT(tried); i++) {
         unsigned char *taken[4];
         keep_blocks(tried[i].blocks, tried[i].size);
         most_mapped = mapped;
@@ -171,7 +169,7 @@ static void test_bounds(void) {
                   {SIZE_MAX, 100 * MIB}};
     keep_blocks(4, AREA);
     CHECK(keep_at_most(0) == KEPT && mapped == 0);
-    for (size_t i = 0; i < sizeof bounds / sizeof bounds[0]; i++) {
+    for (size_t i = 0; i < COUNT(bounds); i++) {
         keep_at_most(bounds[i].bound);
         unsigned char *block = take_block(100 * MIB);
         memset(block, 1, 100 * MIB);
@@ -208,7 +206,6 @@ int main(void) {
     test_flags();
     test_advice();
     test_giving_back();
-    test_giving_some_back();
     test_kept_areas();
     test_smallest_area();
     test_replaced_areas();

@@ -22,28 +22,19 @@ static int refuses_next(void) {
     return is;
 }
 
-int __real_posix_memalign(void **start, size_t align, size_t size);
-int __wrap_posix_memalign(void **start, size_t align, size_t size);
-void *__real_malloc(size_t size);
-void *__wrap_malloc(size_t size);
-void *__real_realloc(void *start, size_t size);
-void *__wrap_realloc(void *start, size_t size);
-void *__real_mmap(void *at, size_t size, int protection, int flags, int file, off_t offset);
-void *__wrap_mmap(void *at, size_t size, int protection, int flags, int file, off_t offset);
-
-int __wrap_posix_memalign(void **start, size_t align, size_t size) {
+WRAP(int, posix_memalign, void **start, size_t align, size_t size) {
     return refuses_next() ? ENOMEM : __real_posix_memalign(start, align, size);
 }
 
-void *__wrap_malloc(size_t size) {
+WRAP(void *, malloc, size_t size) {
     return refuses_next() ? NULL : __real_malloc(size);
 }
 
-void *__wrap_realloc(void *start, size_t size) {
+WRAP(void *, realloc, void *start, size_t size) {
     return refuses_next() ? NULL : __real_realloc(start, size);
 }
 
-void *__wrap_mmap(void *at, size_t size, int protection, int flags, int file, off_t offset) {
+WRAP(void *, mmap, void *at, size_t size, int protection, int flags, int file, off_t offset) {
     return refuses_next() ? MAP_FAILED : __real_mmap(at, size, protection, flags, file, offset);
 }
 

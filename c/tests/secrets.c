@@ -17,34 +17,6 @@ static void show(void *start, size_t size) {
     VALGRIND_MAKE_MEM_DEFINED(start, size);
 }
 
-/* Calls that judge the tag of a text, how often they look at the verdict, where the proved code
- * ends in threads or C compares, and what they answer to another tag. */
-static const struct judgement {
-    const char *name;
-    char *text;
-    unsigned looks;
-    int mismatch;
-} judgements[] = {
-    {"rigzumal_check", vault.record, 1, RIGZUMAL_MISMATCH},
-    {"rigzumal_check_threads", vault.record, 1, RIGZUMAL_MISMATCH},
-    {"rigzumal_check_with_secret", vault.record_with_secret, 1, RIGZUMAL_MISMATCH},
-    {"rigzumal_check_from", vault.record_with_secret, 1, RIGZUMAL_MISMATCH},
-    {"rigzumal_step of a verify", vault.record, 1, RIGZUMAL_MISMATCH},
-    {"rigzumal_step of a change", vault.record, 1, RIGZUMAL_MISMATCH},
-    {"rigzumal_step of an upgrade", vault.record, 1, RIGZUMAL_MISMATCH},
-    {"rigzumal_step of a removal", vault.record, 1, RIGZUMAL_MISMATCH},
-    {"rigzumal_step_from of a verify", vault.record_with_secret, 3, RIGZUMAL_MISMATCH},
-    {"argon2id_verify", vault.record, 4, -35},
-    {"argon2id_verify of a long tag", vault.long_string, 1, -35},
-};
-
-static const struct judgement *judgement_of(const char *name) {
-    for (size_t i = 0; i < sizeof judgements / sizeof judgements[0]; i++)
-        if (strcmp(judgements[i].name, name) == 0)
-            return &judgements[i];
-    return NULL;
-}
-
 /* A comparison that stops at the first wrong byte, by which the count itself is tried. */
 static int leaking_check(struct vault *it) {
     int is_same = 1;
@@ -87,11 +59,22 @@ static unsigned leaks_of(const struct job *job, int wanted) {
     return leaks;
 }
 
-static void try_judgement(const struct job *job, const struct judgement *it) {
+/* The text whose tag a call judges. */
+static char *judged_by(const struct job *job) {
+    if (strstr(job->name, "long tag") != NULL)
+        return vault.long_string;
+    bool has_secret = strstr(job->name, "_from") != NULL || strstr(job->name, "_secret") != NULL;
+    return has_secret ? vault.record_with_secret : vault.record;
+}
+
+/* A call that judges a tag looks so often at the verdict, where the proved code ends in threads or
+ * C compares. */
+static void try_judgement(const struct job *job, unsigned looks) {
+    int mismatch = strncmp(job->name, "argon2", 6) == 0 ? -35 : RIGZUMAL_MISMATCH;
     for (enum damage damage = NO_BYTE; damage < DAMAGES; damage++) {
         fill_vault(&vault);
-        do_damage(it->text, damage);
-        CHECK(leaks_of(job, damage == NO_BYTE ? job->answer : it->mismatch) <= it->looks);
+        do_damage(judged_by(job), damage);
+        CHECK(leaks_of(job, damage == NO_BYTE ? job->answer : mismatch) <= looks);
     }
 }
 
@@ -102,18 +85,18 @@ static void hide_letters(void) {
     hide(letters, strlen(letters));
 }
 
-/* Makes the one call that is named, for tags of a kind: "i", "id", or "old" for 0x10's. */
+/* Makes the one call that is named, for tags of a kind: "i", "id", or "old" for 0x10's; and how
+ * often it looks at a verdict, if it judges a tag. */
 int main(int count, char **words) {
-    CHECK(count == 3 && RUNNING_ON_VALGRIND);
+    CHECK(count >= 3 && RUNNING_ON_VALGRIND);
     look_at = show;
     job_kind = strcmp(words[2], "id") == 0 ? RIGZUMAL_ARGON2ID : RIGZUMAL_ARGON2I;
     if (strcmp(words[2], "old") == 0)
         job_version = RIGZUMAL_VERSION_10;
     fill_vault(&vault);
     struct job job = job_of(words[1]);
-    const struct judgement *judgement = judgement_of(words[1]);
-    if (judgement != NULL) {
-        try_judgement(&job, judgement);
+    if (count > 3) {
+        try_judgement(&job, (unsigned)atoi(words[3]));
         return 0;
     }
     if (strcmp(words[1], "rigzumal_record_fault") == 0)

@@ -2,6 +2,8 @@
 #ifndef STORED_H
 #define STORED_H
 
+#include "registers.h"
+
 #include <stdint.h>
 #include <string.h>
 
@@ -12,14 +14,8 @@ struct stored {
     uint64_t masks[MASKS];
 };
 
-#define ALL_SIXTEEN(of)                                                                            \
-    of(0) of(1) of(2) of(3) of(4) of(5) of(6) of(7) of(8) of(9) of(10) of(11) of(12) of(13) of(14) \
-        of(15)
-#define ALL_THIRTY_TWO(of)                                                                         \
-    ALL_SIXTEEN(of)                                                                                \
-    of(16) of(17) of(18) of(19) of(20) of(21) of(22) of(23) of(24) of(25) of(26) of(27) of(28)     \
-        of(29) of(30) of(31)
-#define ALL_MASKS(of) of(0) of(1) of(2) of(3) of(4) of(5) of(6) of(7)
+#define SIXTEEN(of) EIGHT(of) NEXT_EIGHT(of)
+#define THIRTY_TWO(of) SIXTEEN(of) UPPER_SIXTEEN(of)
 
 #define FILL(n) __asm__ volatile("movups (%0), %%xmm" #n ::"r"(mark) : "memory");
 #define FILL_WIDE(n) __asm__ volatile("vmovups (%0), %%ymm" #n ::"r"(mark) : "memory");
@@ -48,23 +44,23 @@ static inline struct vectors vectors_here(void) {
 
 HERE void fill_registers(struct vectors here, const unsigned char mark[VECTOR_SIZE]) {
     if (here.count == VECTORS) {
-        ALL_THIRTY_TWO(FILL_WIDEST)
-        ALL_MASKS(FILL_MASK)
+        THIRTY_TWO(FILL_WIDEST)
+        EIGHT(FILL_MASK)
     } else if (here.size == 32) {
-        ALL_SIXTEEN(FILL_WIDE)
+        SIXTEEN(FILL_WIDE)
     } else {
-        ALL_SIXTEEN(FILL)
+        SIXTEEN(FILL)
     }
 }
 
 HERE void store_registers(struct vectors here, struct stored *to) {
     if (here.count == VECTORS) {
-        ALL_THIRTY_TWO(STORE_WIDEST)
-        ALL_MASKS(STORE_MASK)
+        THIRTY_TWO(STORE_WIDEST)
+        EIGHT(STORE_MASK)
     } else if (here.size == 32) {
-        ALL_SIXTEEN(STORE_WIDE)
+        SIXTEEN(STORE_WIDE)
     } else {
-        ALL_SIXTEEN(STORE)
+        SIXTEEN(STORE)
     }
 }
 

@@ -5,11 +5,10 @@ import unittest
 
 import harness
 from harness import IN_THREADS, ARCHIVE, LIBARGON2, ORIGINAL, OUT, ROOM, SANITIZED, SOURCES
-from harness import TOP, VALGRIND, WARNINGS, built, need, run, sources_for
+from harness import TOP, built, need, run, sources_for
 
 
-# The calls that hash, with threads and without.
-HASHING = (("calls", []), ("steps", [IN_THREADS]), ("calls_in_threads", [IN_THREADS]))
+JOBS = [IN_THREADS, "tests/jobs.c"]
 BUILDS = {"v1", "v2", "v3"}
 
 
@@ -49,25 +48,10 @@ class Calls(unittest.TestCase):
         ]
         run("clang-format", "--dry-run", "-Werror", *files)
 
-    def test_calls(self):
-        """Each call, under the sanitizers."""
-        for name in ("calls", "texts", "inputs", "steps"):
-            run(built(name, [*SANITIZED, IN_THREADS], SOURCES))
-
     def test_calls_of_each_build(self):
-        """Each call that hashes as on processors of each level, under the sanitizers."""
+        """Each call as on processors of each level, under the sanitizers."""
         for build in sorted(BUILDS):
-            for name, flags in HASHING:
-                run(built(name, [*SANITIZED, *flags], LIBARGON2 + with_one_build(build)))
-
-    def test_calls_under_valgrind(self):
-        need("valgrind")
-        for name, flags in HASHING:
-            run(*VALGRIND, built(name, ["-O2", *flags], LIBARGON2 + SOURCES))
-
-    def test_drawn_salts(self):
-        """Salts of each size are what getrandom gives."""
-        run(built("drawn_salts", [*SANITIZED, IN_THREADS], SOURCES))
+            run(built("calls", [*SANITIZED, *JOBS], LIBARGON2 + with_one_build(build)))
 
     def test_processors(self):
         """Each build is chosen where every feature of its level is there."""
@@ -88,18 +72,15 @@ class Calls(unittest.TestCase):
     def test_calls_on_processors(self):
         """Each call on a processor of each level, which knows no instructions of the next one."""
         need("qemu-x86_64")
-        for name, flags in HASHING:
-            program = built(name, ["-O2", "-static", *flags], LIBARGON2 + SOURCES)
-            for processor in ("qemu64", "Nehalem", "Haswell"):
-                run("qemu-x86_64", "-cpu", processor, program)
+        program = built("calls", ["-O2", "-static", *JOBS], LIBARGON2 + SOURCES)
+        for processor in ("qemu64", "Nehalem", "Haswell"):
+            run("qemu-x86_64", "-cpu", processor, program)
 
     def test_older_compilers(self):
         """The oldest compilers that Debian has, under all warnings."""
         need("gcc-11", "clang-13")
-        for name in ("gcc-11", "clang-13"):
-            program = ROOM / f"calls-of-{name}"
-            run(name, "-O2", *WARNINGS, "tests/calls.c", *SOURCES, *LIBARGON2, "-o", program)
-            run(program)
+        for compiler in ("gcc-11", "clang-13"):
+            run(built("calls", ["-O2", *JOBS], LIBARGON2 + SOURCES, compiler))
 
     def test_header_in_cpp(self):
         """The header is one of C++ too."""

@@ -4,8 +4,8 @@ import shutil
 import sys
 import unittest
 
-from harness import HERE, IN_THREADS, LIBARGON2, ORIGINAL, OURS, OUT, ROOM, SANITIZED, SOURCES
-from harness import WARNINGS, compiler, need, need_module, need_original, passlibs, run
+from harness import HERE, ORIGINAL, OURS, OUT, ROOM
+from harness import need, need_module, need_original, passlibs, run, run_sanitized
 
 
 class Libargon2(unittest.TestCase):
@@ -17,12 +17,7 @@ class Libargon2(unittest.TestCase):
     def test_against_libargon2_sanitized(self):
         """The same with our C under the sanitizers and all lanes in threads, over other calls."""
         need_original()
-        library = ROOM / "sanitized.so"
-        flags = [*WARNINGS, *SANITIZED, IN_THREADS, "-fPIC", "-shared", "-Wl,-Bsymbolic"]
-        run(compiler(), *flags, *LIBARGON2, *SOURCES, "-o", library)
-        asan = run(compiler(), "-print-file-name=libasan.so").strip()
-        env = {"LD_PRELOAD": asan, "ASAN_OPTIONS": "detect_leaks=0"}
-        run(sys.executable, HERE / "against_libargon2.py", library, ORIGINAL, "2", env=env)
+        run_sanitized("against_libargon2.py", ROOM / "sanitized.so", ORIGINAL, "2")
 
     def test_passlib_argon2(self):
         """passlib's own tests for Argon2 run as with the original."""

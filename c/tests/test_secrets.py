@@ -21,7 +21,7 @@ SECRET_CALLS = {
     ("rigzumal_argon2_threads", "i"): [],
     ("rigzumal_record_threads", "i"): [],
     ("rigzumal_step of an enrol", "i"): [],
-    ("argon2id_hash_encoded of a long tag", "i"): [],
+    ("argon2_hash, a string of a long tag", "i"): [],
     # A text is cut at its '$', and is told from one that isn't base64.
     ("rigzumal_record_fault", "i"): [
         "strlen",
@@ -31,28 +31,27 @@ SECRET_CALLS = {
     ],
 }
 
-# Calls that judge a tag, right or wrong in its first byte or its last: one jump at one place, by the
-# verdict. Those of C may do without.
+# Calls that judge a tag, right or wrong in its first byte or its last: how often they look at the
+# verdict, the one place of the one jump by it, which those of C may do without, and who in C looks
+# at its number, where the proved code has made it without a jump: it is all that C sees of the tags.
 JUDGEMENTS = {
-    "rigzumal_check": r"v[123]_cred_check",
-    "rigzumal_check_threads": r"v[123]_cred_check_end",
-    "argon2id_verify": r"v[123]_cred_check_end",
-    "rigzumal_step of a verify": r"v[123]_cred_step",
-    "rigzumal_step of a change": r"v[123]_cred_step",
-    "rigzumal_step of an upgrade": r"v[123]_cred_step",
-    "rigzumal_step of a removal": r"v[123]_cred_step",
-    "rigzumal_check_with_secret": "(rigzumal_)?check(_with_secret(_threads)?)?",
-    "rigzumal_check_from": "(rigzumal_)?check(_from)?",
-    "rigzumal_step_from of a verify": "(rigzumal_)?check(_from)?",
-    "argon2id_verify of a long tag": "argon2_verify_ctx|verify",
-}
-
-# Who looks at the number of the verdict in C, where the proved code has made it without a jump: it
-# is all that C sees of the tags.
-LOOKS = {
-    "rigzumal_check_threads": {"note_fault"},
-    "argon2id_verify": {"note_fault", "number_of", "verify", "argon2_verify"},
-    "rigzumal_step_from of a verify": {"step_at_record", "rigzumal_step_from"},
+    "rigzumal_check": (1, r"v[123]_cred_check"),
+    "rigzumal_check_threads": (1, r"v[123]_cred_check_end", "note_fault"),
+    "argon2_verify": (
+        *(4, r"v[123]_cred_check_end"),
+        *("note_fault", "number_of", "verify", "argon2_verify"),
+    ),
+    "rigzumal_step of a verify": (1, r"v[123]_cred_step"),
+    "rigzumal_step of a change": (1, r"v[123]_cred_step"),
+    "rigzumal_step of an upgrade": (1, r"v[123]_cred_step"),
+    "rigzumal_step of a removal": (1, r"v[123]_cred_step"),
+    "rigzumal_check_with_secret": (1, "(rigzumal_)?check(_with_secret(_threads)?)?"),
+    "rigzumal_check_from": (1, "(rigzumal_)?check(_from)?"),
+    "rigzumal_step_from of a verify": (
+        *(3, "(rigzumal_)?check(_from)?"),
+        *("step_at_record", "rigzumal_step_from"),
+    ),
+    "argon2_verify of a long tag": (1, "argon2_verify_ctx|verify"),
 }
 
 
@@ -69,9 +68,9 @@ def errors_of(log):
     return re.findall(form + r".* at (0x\w+): (.*) \(", log)
 
 
-def errors_in(program, name, kind="i"):
+def errors_in(program, name, kind="i", *looks):
     """The errors of one call: as many as valgrind counts."""
-    log = run("valgrind", "--error-limit=no", program, name, kind)
+    log = run("valgrind", "--error-limit=no", program, name, kind, *looks)
     errors = errors_of(log)
     if f"from {len(errors)} contexts" not in log:
         raise AssertionError(f"{name}: {errors}\n{log[-2000:]}")
@@ -84,9 +83,9 @@ def check_leaks(program):
         wrong = [it for it in errors if not it[2].startswith(tuple(allowed))]
         if wrong:
             raise AssertionError(f"{name}: {wrong}")
-    for name, place in JUDGEMENTS.items():
-        errors = errors_in(program, name)
-        jumps = {it for it in errors if it[2] not in LOOKS.get(name, ())}
+    for name, (looks, place, *lookers) in JUDGEMENTS.items():
+        errors = errors_in(program, name, "i", looks)
+        jumps = {it for it in errors if it[2] not in lookers}
         if len(jumps) > 1 or not all(re.fullmatch(place, it[2]) for it in jumps):
             raise AssertionError(f"{name}: {errors}")
     if not errors_in(program, "leaking_check"):
@@ -104,13 +103,10 @@ class Secrets(unittest.TestCase):
         """No secret stands anywhere after a call."""
         self.of_each_build("cleared")
 
-    def test_depth_of_calls(self):
-        """What is cleared of the stack is a quarter more than any call uses."""
-        self.of_each_build("depth", env={"LD_BIND_NOT": "1"})
-
-    def test_small_stacks(self):
-        """Each call on as small a stack as the header says, and in a thread with 32 KiB."""
-        self.of_each_build("small_stacks", env={"LD_BIND_NOT": "1"})
+    def test_stacks(self):
+        """Each call on as small a stack as the header says, and in a thread with 32 KiB; what is
+        cleared of the stack is a quarter more than any uses."""
+        self.of_each_build("stacks", env={"LD_BIND_NOT": "1"})
 
     def test_registers(self):
         """No vector or mask register holds anything after a call, and none that isn't kept is used."""

@@ -5,21 +5,30 @@
 
 #include "lanes.h"
 
+#include "check.h"
+#include "heap.h"
+#include "marks.h"
+#include "segments.h"
+
+#include <errno.h>
 #include <pthread.h>
+#include <sched.h>
 #include <signal.h>
 #include <stdatomic.h>
-#include <stdbool.h>
+#include <unistd.h>
 
 enum {
     SLICES = 4,
     MOST_LANES = 255,
     MANY_PASSES = 300,
     MOST_SEGMENTS = SLICES * MANY_PASSES * 2,
-    PLACE = 27 /* the fault of a bad segment */
+    PLACE = 27, /* the fault of a bad segment */
+    LEAST_STACK = 1024 * 1024,
+    STAMPS = 2
 };
 
 /* The call that is under way. */
-extern struct watched {
+static struct watched {
     struct tag_numbers numbers;
     size_t segment, slice; /* in blocks */
     pthread_t caller;
@@ -29,20 +38,249 @@ extern struct watched {
     int begin_answer, end_answer, refused_slice;
     uint64_t bad_segment, last_segment;
     _Atomic(int) takes, gives, begins, ends, starts, joins, alive;
-    _Atomic(int) begun[MOST_SEGMENTS], over[MOST_SEGMENTS];
+    _Atomic(int) begun[MOST_SEGMENTS];
     _Atomic(int) segments_over, has_fault;
     struct argon2_block *_Atomic bases[SLICES];
 } now;
 
-extern uint32_t refusals; /* of four threads */
-extern int processors;    /* that a thread may run on; of 0 the system says nothing */
-extern long online;
+static uint32_t refusals;   /* of four threads */
+static int processors = 16; /* that a thread may run on; of 0 the system says nothing */
+static long online = 5;
 
-uint32_t random_below(uint32_t bound);
-bool are_same_signals(const sigset_t *one, const sigset_t *other);
+/* What the stand-ins count orders nothing, so that the sanitizer of threads sees what is ordered by
+ * src/lanes.c alone. */
+
+static int count(_Atomic(int) *counter) {
+    return atomic_fetch_add_explicit(counter, 1, memory_order_relaxed);
+}
+
+static int seen(_Atomic(int) *counter) {
+    return atomic_load_explicit(counter, memory_order_relaxed);
+}
+
+static uint32_t random_below(uint32_t bound) {
+    static _Atomic(uint32_t) state = 1;
+    uint32_t it = atomic_fetch_add_explicit(&state, 2654435761u, memory_order_relaxed);
+    it = (it ^ it >> 15) * 2246822519u;
+    it = (it ^ it >> 13) * 3266489917u;
+    return (it ^ it >> 16) % bound;
+}
+
+static void rest(void) {
+    if (random_below(3) == 0)
+        usleep(random_below(300));
+}
+
+static int is_caller(void) {
+    return pthread_equal(pthread_self(), now.caller);
+}
+
+/* Every signal that a program may block; the C library keeps two of its own. */
+static bool is_signal(int number) {
+    return number != SIGKILL && number != SIGSTOP && (number < 32 || number >= SIGRTMIN);
+}
+
+static bool are_same_signals(const sigset_t *one, const sigset_t *other) {
+    for (int number = 1; number <= SIGRTMAX; number++)
+        if (is_signal(number) && sigismember(one, number) != sigismember(other, number))
+            return false;
+    return true;
+}
+
+/* Whether each block of a row has this stamp. */
+static int are_stamped(const struct argon2_block *blocks, size_t count, uint64_t stamp) {
+    for (size_t i = 0; i < count; i++)
+        if (blocks[i].words[0] != stamp || blocks[i].words[127] != stamp)
+            return 0;
+    return 1;
+}
+
+static void stamp(struct argon2_block *blocks, size_t count, uint64_t stamp) {
+    for (size_t i = 0; i < count; i++)
+        blocks[i].words[0] = blocks[i].words[127] = stamp;
+}
+
+/* What stands in a slice that was worked last as number g of all, or never. */
+static uint64_t stamp_of(int64_t g) {
+    return g >= 0 ? (uint64_t)g + STAMPS : g == -SLICES ? 1 : 0; /* the first was begun */
+}
+
+void *take_zeros(size_t size) {
+    CHECK(is_caller() && seen(&now.begins) == 0 && now.callers == NULL);
+    CHECK(size == now.slice * sizeof(struct argon2_block));
+    int number = now.takes;
+    CHECK(number < SLICES);
+    if (number == now.refused_slice)
+        return NULL;
+    now.takes++;
+    now.taken[number] = calloc(1, size);
+    CHECK(now.taken[number] != NULL);
+    return now.taken[number];
+}
+
+void give_zeros(void *start) {
+    CHECK(is_caller() && now.alive == 0);
+    CHECK(is_all(start, 0, now.slice * sizeof(struct argon2_block)));
+    now.gives++;
+    free(start);
+}
 
 /* A task's begin and end: its inputs are the call that is under way. */
-uint8_t begin(const void *inputs, struct argon2_block *first, size_t blocks);
-uint8_t end(const void *inputs, const struct argon2_block *last, size_t blocks);
+
+static uint8_t begin(const void *inputs, struct argon2_block *first, size_t blocks) {
+    CHECK(inputs == &now && is_caller() && count(&now.begins) == 0 && now.starts == 0);
+    CHECK(now.takes == (now.callers == NULL ? SLICES : 0));
+    CHECK(first == now.taken[0] && blocks == now.slice);
+    CHECK(are_stamped(first, blocks, 0));
+    if (now.begin_answer == 0)
+        stamp(first, blocks, stamp_of(-SLICES));
+    now.bases[0] = first;
+    return (uint8_t)now.begin_answer;
+}
+
+/* A slice has the same blocks at each call, and no other slice has them. */
+static void check_base(uint32_t slice, const struct argon2_block *blocks) {
+    struct argon2_block *known = NULL, *found = (struct argon2_block *)(uintptr_t)blocks;
+    if (!atomic_compare_exchange_strong_explicit(&now.bases[slice], &known, found,
+                                                 memory_order_relaxed, memory_order_relaxed))
+        CHECK(known == found);
+    for (uint32_t other = 0; other < SLICES; other++)
+        CHECK(other == slice ||
+              atomic_load_explicit(&now.bases[other], memory_order_relaxed) != found);
+    CHECK(found == now.taken[0] || found == now.taken[1] || found == now.taken[2] ||
+          found == now.taken[3]);
+}
+
+static void check_earlier(int64_t g, const struct given_segment *it) {
+    CHECK(are_stamped(it->oldest, now.slice, stamp_of(g - 3)));
+    CHECK(are_stamped(it->middle, now.slice, stamp_of(g - 2)));
+    CHECK(are_stamped(it->newest, now.slice, stamp_of(g - 1)));
+}
+
+/* The caller's thread is as it was, but that it can't be cancelled. */
+static void look_at_thread(void) {
+    if (!is_caller()) {
+        leave_marks();
+        return;
+    }
+    int state;
+    pthread_setcancelstate(PTHREAD_CANCEL_DISABLE, &state);
+    CHECK(state == PTHREAD_CANCEL_DISABLE);
+    sigset_t blocked;
+    pthread_sigmask(SIG_SETMASK, NULL, &blocked);
+    CHECK(are_same_signals(&blocked, &now.signals));
+}
+
+static uint8_t segment(const struct given_segment *it) {
+    const struct segment_index *index = it->index;
+    CHECK(memcmp(it->numbers, &now.numbers, sizeof now.numbers) == 0);
+    CHECK(index->pass < now.numbers.passes && index->slice < SLICES &&
+          index->lane < now.numbers.lanes);
+    CHECK(it->oldest_count == now.slice && it->middle_count == now.slice);
+    CHECK(it->newest_count == now.slice && it->own_count == now.segment);
+    int64_t g = (int64_t)SLICES * index->pass + index->slice;
+    uint64_t number = (uint64_t)g * now.numbers.lanes + index->lane;
+    CHECK(count(&now.begun[number]) == 0);
+    CHECK(seen(&now.begins) == 1 && seen(&now.ends) == 0);
+    CHECK(seen(&now.segments_over) >= g * (int64_t)now.numbers.lanes);
+    check_base(index->slice, it->own - index->lane * now.segment);
+    check_base((index->slice + 1) % SLICES, it->oldest);
+    check_base((index->slice + 2) % SLICES, it->middle);
+    check_base((index->slice + 3) % SLICES, it->newest);
+    check_earlier(g, it);
+    CHECK(are_stamped(it->own, it->own_count, stamp_of(g - SLICES)));
+    look_at_thread();
+    rest();
+    CHECK(are_stamped(it->own, it->own_count, stamp_of(g - SLICES)));
+    check_earlier(g, it);
+    if (number == now.last_segment)
+        _exit(0);
+    if (number == now.bad_segment) {
+        count(&now.has_fault);
+        return PLACE;
+    }
+    stamp(it->own, it->own_count, stamp_of(g));
+    count(&now.segments_over);
+    rest();
+    return 0;
+}
+
+STAND_INS(segment)
+
+uint8_t v1_cred_argon2_segment_len(const struct tag_numbers *numbers, uint32_t *segment_size) {
+    if (numbers->kind > 2)
+        return RIGZUMAL_NO_KIND;
+    *segment_size = (uint32_t)now.segment;
+    return 0;
+}
+
+static uint8_t end(const void *inputs, const struct argon2_block *last, size_t blocks) {
+    uint64_t all = (uint64_t)SLICES * now.numbers.passes * now.numbers.lanes;
+    CHECK(inputs == &now && is_caller() && count(&now.ends) == 0 && !seen(&now.has_fault));
+    CHECK(seen(&now.segments_over) == (int64_t)all && blocks == now.slice && last == now.bases[3]);
+    uint64_t wanted = stamp_of((int64_t)SLICES * now.numbers.passes - 1);
+    CHECK(are_stamped(last, blocks, wanted));
+    rest();
+    CHECK(are_stamped(last, blocks, wanted));
+    return (uint8_t)now.end_answer;
+}
+
+/* After a fault others go on while a thread rests that has told them to: what it does later comes
+ * too late. */
+WRAP(int, pthread_mutex_unlock, pthread_mutex_t *lock) {
+    int answer = __real_pthread_mutex_unlock(lock);
+    if (seen(&now.has_fault))
+        usleep(500);
+    return answer;
+}
+
+static struct start {
+    void *(*run)(void *);
+    void *given;
+} starting[256];
+
+static void *run_counted(void *given) {
+    struct start *start = given;
+    sigset_t blocked;
+    pthread_sigmask(SIG_SETMASK, NULL, &blocked);
+    for (int number = 1; number <= SIGRTMAX; number++)
+        CHECK(!is_signal(number) || sigismember(&blocked, number));
+    void *result = start->run(start->given);
+    usleep(200);
+    now.alive--;
+    return result;
+}
+
+WRAP(int, pthread_create, pthread_t *thread, const pthread_attr_t *attributes, void *(*run)(void *),
+     void *given) {
+    if (random_below(4) < refusals)
+        return EAGAIN;
+    size_t stack_size;
+    CHECK(is_caller() && now.begins == 1 && now.starts < 254);
+    CHECK(pthread_attr_getstacksize(attributes, &stack_size) == 0 && stack_size >= LEAST_STACK);
+    struct start *start = &starting[now.starts++];
+    *start = (struct start){run, given};
+    now.alive++;
+    return __real_pthread_create(thread, attributes, run_counted, start);
+}
+
+WRAP(int, pthread_join, pthread_t thread, void **result) {
+    now.joins++;
+    return __real_pthread_join(thread, result);
+}
+
+WRAP(int, sched_getaffinity, pid_t process, size_t size, cpu_set_t *set) {
+    if (processors == 0)
+        return -1;
+    CHECK(process == 0 && size == sizeof *set);
+    CPU_ZERO(set);
+    for (int i = 0; i < processors; i++)
+        CPU_SET(i, set);
+    return 0;
+}
+
+WRAP(long, sysconf, int name) {
+    return name == _SC_NPROCESSORS_ONLN ? online : __real_sysconf(name);
+}
 
 #endif

@@ -12,28 +12,13 @@ int held, freed;
 bool is_refusing, is_refusing_tables, is_refusing_moves;
 struct advised advised[128];
 
-int __real_posix_memalign(void **start, size_t align, size_t size);
-int __wrap_posix_memalign(void **start, size_t align, size_t size);
-void *__real_mmap(void *at, size_t size, int protection, int flags, int file, off_t offset);
-void *__wrap_mmap(void *at, size_t size, int protection, int flags, int file, off_t offset);
-void *__real_mremap(void *old, size_t size, size_t new_size, int flags, void *to);
-void *__wrap_mremap(void *old, size_t size, size_t new_size, int flags, void *to);
-int __real_munmap(void *start, size_t size);
-int __wrap_munmap(void *start, size_t size);
-int __real_madvise(void *start, size_t size, int advice);
-int __wrap_madvise(void *start, size_t size, int advice);
-void __real_free(void *start);
-void __wrap_free(void *start);
-void *__real_realloc(void *start, size_t size);
-void *__wrap_realloc(void *start, size_t size);
-
 enum { MOST_PIECES = 256, PAGE = 4096 };
 static struct piece {
     void *start;
     size_t size;
 } pieces[MOST_PIECES];
 
-int __wrap_posix_memalign(void **start, size_t align, size_t size) {
+WRAP(int, posix_memalign, void **start, size_t align, size_t size) {
     int answer = is_refusing ? ENOMEM : __real_posix_memalign(start, align, size);
     if (answer == 0) {
         CHECK(held < MOST_PIECES);
@@ -43,7 +28,7 @@ int __wrap_posix_memalign(void **start, size_t align, size_t size) {
     return answer;
 }
 
-void __wrap_free(void *start) {
+WRAP(void, free, void *start) {
     for (int i = 0; i < held; i++)
         if (pieces[i].start == start) {
             CHECK(is_all(start, 0, pieces[i].size));
@@ -54,11 +39,17 @@ void __wrap_free(void *start) {
     __real_free(start);
 }
 
-void *__wrap_realloc(void *start, size_t size) {
+WRAP(void *, realloc, void *start, size_t size) {
     return is_refusing_tables ? NULL : __real_realloc(start, size);
 }
 
-void *__wrap_mmap(void *at, size_t size, int protection, int flags, int file, off_t offset) {
+WRAP(int, munmap, void *start, size_t size) {
+    mapped -= size;
+    CHECK(is_all(start, 0, size < 4096 ? size : 4096));
+    return __real_munmap(start, size);
+}
+
+WRAP(void *, mmap, void *at, size_t size, int protection, int flags, int file, off_t offset) {
     if (mapped + size > most_mapped)
         return MAP_FAILED;
     mapped += size;
@@ -70,7 +61,7 @@ void *__wrap_mmap(void *at, size_t size, int protection, int flags, int file, of
     return is_aligned ? start + PAGE : start;
 }
 
-void *__wrap_mremap(void *old, size_t size, size_t new_size, int flags, void *to) {
+WRAP(void *, mremap, void *old, size_t size, size_t new_size, int flags, void *to) {
     CHECK(new_size == size && is_all(old, 0, 4096));
     if (is_refusing_moves)
         return MAP_FAILED;
@@ -79,13 +70,7 @@ void *__wrap_mremap(void *old, size_t size, size_t new_size, int flags, void *to
     return __real_mremap(old, size, new_size, flags, to);
 }
 
-int __wrap_munmap(void *start, size_t size) {
-    mapped -= size;
-    CHECK(is_all(start, 0, size < 4096 ? size : 4096));
-    return __real_munmap(start, size);
-}
-
-int __wrap_madvise(void *start, size_t size, int advice) {
+WRAP(int, madvise, void *start, size_t size, int advice) {
     CHECK(advice >= 0 && advice < 128);
     advised[advice] = (struct advised){start, size, advised[advice].times + 1};
     return __real_madvise(start, size, advice);

@@ -1,6 +1,6 @@
-/* The calls with threads beside those without, which answer and write the same: over random numbers
- * and inputs, now and then bad, and with threads refused at random. The linker puts the functions
- * below before those of the C library. */
+/* The calls that take their inputs by name, with threads beside those without, which answer and
+ * write the same: over random numbers and inputs, now and then bad, and with threads refused at
+ * random. A record is that of its tag, with salts and tags of every size. */
 #define _GNU_SOURCE
 #include "check.h"
 #include "rigzumal.h"
@@ -10,12 +10,6 @@
 #include <sched.h>
 
 enum { SETS = 400, MOST_INPUT = 80, TEXT = RIGZUMAL_TEXT_SIZE };
-
-int __real_pthread_create(pthread_t *thread, const pthread_attr_t *attributes, void *(*run)(void *),
-                          void *given);
-int __wrap_pthread_create(pthread_t *thread, const pthread_attr_t *attributes, void *(*run)(void *),
-                          void *given);
-int __wrap_sched_getaffinity(pid_t process, size_t size, cpu_set_t *set);
 
 static uint32_t refusals; /* of four */
 static uint64_t started;
@@ -36,15 +30,15 @@ static size_t mostly(size_t good, size_t bad) {
     return below(25) == 0 ? bad : good;
 }
 
-int __wrap_pthread_create(pthread_t *thread, const pthread_attr_t *attributes, void *(*run)(void *),
-                          void *given) {
+WRAP(int, pthread_create, pthread_t *thread, const pthread_attr_t *attributes, void *(*run)(void *),
+     void *given) {
     if (below(4) < refusals)
         return EAGAIN;
     started++;
     return __real_pthread_create(thread, attributes, run, given);
 }
 
-int __wrap_sched_getaffinity(pid_t process, size_t size, cpu_set_t *set) {
+WRAP(int, sched_getaffinity, pid_t process, size_t size, cpu_set_t *set) {
     (void)process, (void)size;
     CPU_ZERO(set);
     for (int i = 0; i < 16; i++)
@@ -65,16 +59,15 @@ static void draw_bytes(unsigned char *to) {
         to[i] = (unsigned char)below(256);
 }
 
-static void draw_set(void) {
+static void draw_set(size_t number) {
     draw_bytes(password);
     draw_bytes(salt);
     draw_bytes(secret);
     draw_bytes(associated);
-    size_t salt_size = between(RIGZUMAL_SALT_SIZE_MIN, RIGZUMAL_SALT_SIZE_MAX);
     inputs = (struct rigzumal_inputs){.password = password,
                                       .password_size = below(MOST_INPUT + 1),
                                       .salt = salt,
-                                      .salt_size = mostly(salt_size, 7),
+                                      .salt_size = mostly(8 + number % 41, 7),
                                       .secret = below(2) == 0 ? secret : NULL,
                                       .associated = below(2) == 0 ? associated : NULL};
     inputs.secret_size = inputs.secret == NULL ? 0 : below(MOST_INPUT + 1);
@@ -85,7 +78,7 @@ static void draw_set(void) {
     numbers.memory = (uint32_t)mostly(memory, 8 * lanes - 1);
     numbers.passes = (uint32_t)mostly(between(1, 3), 0);
     numbers.lanes = (uint32_t)mostly(lanes, 0);
-    tag_size = mostly(between(4, 80), ((size_t)1 << 32) + 32);
+    tag_size = mostly(4 + number % 77, ((size_t)1 << 32) + 32);
     text_size = mostly(TEXT, 60);
 }
 
@@ -124,22 +117,49 @@ static struct outcome same(call *made) {
     return one;
 }
 
+/* A record of which any letter of the tag is another one is of another password, or no record if it
+ * is the last and has bits that stand for nothing. So it is once an input is one byte shorter. */
+static void check_refusals(void) {
+    inputs.threads = 1;
+    for (char *letter = strrchr(record, '$') + 1; *letter != '\0'; letter++) {
+        char kept = *letter;
+        *letter = kept == 'A' ? 'B' : 'A';
+        int answer = rigzumal_check_from(record, &inputs);
+        CHECK(answer == RIGZUMAL_MISMATCH || (letter[1] == '\0' && answer == RIGZUMAL_TAG));
+        *letter = kept;
+    }
+    size_t *sizes[] = {&inputs.password_size, &inputs.secret_size, &inputs.associated_size};
+    for (size_t i = 0; i < COUNT(sizes); i++) {
+        if (*sizes[i] == 0)
+            continue;
+        --*sizes[i];
+        CHECK_NUMBER(same(check_record).answer, RIGZUMAL_MISMATCH);
+        ++*sizes[i];
+    }
+    record[strlen(record) - 1] = '\0';
+    CHECK(same(check_record).answer != RIGZUMAL_OK);
+}
+
 static void compare_calls(void) {
-    same(make_tag);
+    struct outcome raw = same(make_tag);
     static const char *const names[] = {"argon2d", "argon2i", "argon2id", "argon2x"};
     snprintf(costs, sizeof costs, "$%s$v=%u$m=%u,t=%u,p=%u", names[numbers.kind], numbers.version,
              numbers.memory, numbers.passes, numbers.lanes);
     struct outcome made = same(make_record);
     if (made.answer != RIGZUMAL_OK)
         return;
-    strcpy(record, (const char *)made.written);
+    unsigned char tag[RIGZUMAL_TAG_SIZE_MAX];
+    CHECK_NUMBER(rigzumal_argon2(tag, tag_size, &numbers, password, inputs.password_size, salt,
+                                 inputs.salt_size, inputs.secret, inputs.secret_size,
+                                 inputs.associated, inputs.associated_size),
+                 RIGZUMAL_OK);
+    CHECK(memcmp(raw.written, tag, tag_size) == 0);
+    CHECK_NUMBER(
+        rigzumal_argon2_write(ARRAY(record), &numbers, salt, inputs.salt_size, tag, tag_size),
+        RIGZUMAL_OK);
+    CHECK(strcmp(record, (const char *)made.written) == 0);
     CHECK_NUMBER(same(check_record).answer, RIGZUMAL_OK);
-    password[0] ^= 1;
-    CHECK_NUMBER(same(check_record).answer,
-                 inputs.password_size == 0 ? RIGZUMAL_OK : RIGZUMAL_MISMATCH);
-    password[0] ^= 1;
-    record[strlen(record) - 1] = '\0';
-    CHECK(same(check_record).answer != RIGZUMAL_OK);
+    check_refusals();
 }
 
 /* More passes than eight bits count, and segments of more blocks than sixteen bits count. */
@@ -151,7 +171,7 @@ static void test_large_numbers(void) {
         {RIGZUMAL_ARGON2ID, RIGZUMAL_VERSION_13, 8 * 2 * 65536 / 2 + 24, 1, 2},
         {RIGZUMAL_ARGON2ID, RIGZUMAL_VERSION_13, 255 * 8, 2, 255},
     };
-    for (size_t i = 0; i < sizeof large / sizeof large[0]; i++) {
+    for (size_t i = 0; i < COUNT(large); i++) {
         numbers = large[i];
         tag_size = 32;
         CHECK_NUMBER(same(make_tag).answer, RIGZUMAL_OK);
@@ -161,9 +181,9 @@ static void test_large_numbers(void) {
 /* Words: whether large numbers are tried, for which a sanitizer takes too long. */
 int main(int count, char **words) {
     (void)words;
-    for (int number = 0; number < SETS; number++) {
+    for (size_t number = 0; number < SETS; number++) {
         refusals = number < SETS / 2 ? 0 : between(1, 4);
-        draw_set();
+        draw_set(number);
         compare_calls();
     }
     CHECK(started > SETS);

@@ -1,0 +1,91 @@
+"""The calls of rigzumal.h over the library that LIBRARY names in the environment, and what a call
+may write: nothing behind its end, and nothing at all with a fault."""
+
+import ctypes
+import os
+import pathlib
+import re
+import types
+
+HEADER = (pathlib.Path(__file__).parents[1] / "include/rigzumal.h").read_text()
+# The header's numbers by their names: N.OK, N.SHAPE, N.TEXT_SIZE ..
+N = types.SimpleNamespace(
+    **{name: int(number) for name, number in re.findall(r"\bRIGZUMAL_(\w+) = (\d+)\b", HEADER)}
+)
+UNTOUCHED = b"\x5a"
+LIBRARY = ctypes.CDLL(os.environ["LIBRARY"])
+LIBRARY.rigzumal_strerror.restype = LIBRARY.rigzumal_word.restype = ctypes.c_char_p
+
+# By other programs, of the password "password"; scrypt's is of another one.
+RECORD = "$argon2id$v=19$m=256,t=2,p=1$c29tZXNhbHQ$nf65EOgLrQMR/uIPnA4rEsF5h7TKyQwu9U1bMCHGi/4"
+OLD_RECORD = "$argon2i$m=256,t=2,p=1$c29tZXNhbHQ$/U3YPXYsSb3q9XxHvc0MLxur+GP960kN9j7emXX8zwY"
+SCRYPT_RECORD = "$scrypt$ln=8,r=8,p=1$YmVucyBzYWx0$+KFelNIG2qBCL4ql+mf/Ah1wLJw+NsQMbjEE0WoA3TI"
+
+
+def call(name, *given):
+    """What a call answers: bytes go with their size, as do pairs of a pointer and a size."""
+    words = []
+    for it in given:
+        if isinstance(it, (bytes, tuple)):
+            start, size = it if isinstance(it, tuple) else (it, len(it))
+            words += [start, ctypes.c_size_t(size)]
+        elif isinstance(it, int):
+            words.append(ctypes.c_size_t(it))
+        elif isinstance(it, ctypes.Structure):
+            words.append(ctypes.byref(it))
+        else:
+            words.append(it.encode("latin1") if isinstance(it, str) else it)
+    return getattr(LIBRARY, f"rigzumal_{name}")(*words)
+
+
+def written(name, room, *given):
+    """What a call answers that writes into so much room, and what it wrote there."""
+    buffer = ctypes.create_string_buffer(UNTOUCHED * (room + 1), room + 1)
+    answer = call(name, (buffer, room), *given)
+    if buffer.raw[room:] != UNTOUCHED:
+        raise AssertionError(f"{name} wrote behind its room")
+    if answer != N.OK and buffer.raw.strip(UNTOUCHED):
+        raise AssertionError(f"{name} wrote with the fault {answer}")
+    return answer, buffer.raw[:room]
+
+
+def written_text(name, room, *given):
+    """The same of a text, behind whose end nothing is written."""
+    answer, data = written(name, room, *given)
+    text, end, rest = data.partition(b"\0")
+    if answer == N.OK and (room and not end or rest.strip(UNTOUCHED)):
+        raise AssertionError(f"{name} wrote behind the text")
+    return answer, text.decode("latin1") if answer == N.OK else ""
+
+
+def numbers(*given):
+    """A structure of numbers, as rigzumal_argon2, rigzumal_scrypt and rigzumal_parts."""
+    return ctypes.byref((ctypes.c_uint32 * len(given))(*given))
+
+
+def structure(*names):
+    """A structure of pointers, of texts, of pairs of a pointer and a size, and of numbers."""
+    fields = []
+    for name in names:
+        kind = ctypes.c_uint32 if name in ("threads", "operation") else ctypes.c_char_p
+        fields.append((name, kind))
+        if name in ("password", "new_password", "salt", "secret", "associated"):
+            fields.append((f"{name}_size", ctypes.c_size_t))
+    return type("Structure", (ctypes.Structure,), {"_fields_": fields})
+
+
+Inputs = structure("password", "salt", "secret", "associated", "threads")
+StepInputs = structure(
+    "operation", "copy", "password", "new_password", "setting", "secret", "threads"
+)
+
+
+def inputs(kind=Inputs, **given):
+    """Inputs by name: those of bytes with their size, unless the size is given."""
+    made = kind()
+    for name, value in given.items():
+        value = value.encode() if isinstance(value, str) else value
+        setattr(made, name, value)
+        if hasattr(made, f"{name}_size") and value is not None and f"{name}_size" not in given:
+            setattr(made, f"{name}_size", len(value))
+    return made
